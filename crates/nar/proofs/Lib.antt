@@ -1,0 +1,14 @@
+pub mod Bytes
+pub mod Grammar
+pub mod Strings
+pub mod Machine
+pub mod Faults
+pub mod Unique
+pub mod Taking
+pub mod Trees
+pub mod Directory
+pub mod Whole
+pub mod Put
+pub mod Lines
+pub mod Decided
+pub mod Longest

@@ -1,0 +1,11 @@
+pub mod Tree
+pub mod Archive
+pub mod Fault
+pub mod String
+pub mod Steps
+pub mod Outcome
+pub mod View
+pub mod Answer
+pub mod Reading
+pub mod Writing
+pub mod Listing

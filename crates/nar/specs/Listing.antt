@@ -1,0 +1,28 @@
+-- The listing of a tree: one line a node, parents first, entries in order.
+use Rattle.std.specs.Prelude.{ℕ, ◌+◌, ◌/◌, ◌%◌, List, [], ◌∷◌, ◌++◌, length, Bool, true, false, codes, nat_lt, if◌then◌else◌, ◌||◌, ◌==◌, decimal}
+use Rattle.std.specs.List.{flat_map}
+use Rattle.nar.specs.Tree.{Tree, regular, symlink, directory, Entries, no_entries, entry}
+
+abbrev pub hex_digit : ℕ → ℕ
+hex_digit n = if nat_lt n 10 then 48 + n else 87 + n
+
+-- a byte outside 33 to 126, and a backslash, in hexadecimal behind a backslash and an x
+abbrev pub escape : ℕ → List ℕ
+escape b = if nat_lt b 33 || nat_lt 126 b || b == 92 then 92 ∷ 120 ∷ hex_digit (b / 16) ∷ hex_digit (b % 16) ∷ [] else b ∷ []
+
+abbrev pub escaped : List ℕ → List ℕ
+escaped text = flat_map escape text
+
+abbrev pub letter : Bool → List ℕ
+letter true = codes "x "
+letter false = codes "r "
+
+abbrev mutual
+  pub listing : List ℕ → Tree → List ℕ
+  listing path (regular executable contents) = letter executable ++ decimal (length contents) ++ codes " " ++ path ++ codes "\n"
+  listing path (symlink target) = codes "l " ++ path ++ codes " -> " ++ escaped target ++ codes "\n"
+  listing path (directory es) = codes "d " ++ path ++ codes "\n" ++ lines path es
+
+  pub lines : List ℕ → Entries → List ℕ
+  lines path no_entries = []
+  lines path (entry n t es) = listing (path ++ codes "/" ++ escaped n) t ++ lines path es

@@ -1,0 +1,228 @@
+ghost use Rattle.std.specs.Prelude.{◌≡◌, ◌<◌, ◌≤◌, ◌+◌, ◌-◌, ℕ, [], ◌∷◌, length, IfOk, IfErr, codes};
+ghost use Rattle.std.specs.Prelude.{◌==◌, ◌&&◌, not};
+ghost use Rattle.std.specs.List.{list_all};
+ghost use Rattle.std.specs.Option.{option_copied};
+ghost use Rattle.nar.specs.declared.error.NarError.{NarError as Cause};
+ghost use Rattle.nar.specs.Fault.{IsFault};
+ghost use Rattle.nar.specs.Tree.{Tree, is_name as name_test, rises};
+ghost use Rattle.nar.specs.Archive.{IsArchive, other, node};
+ghost use Rattle.nar.specs.Steps.{word as fixed, any, file, entries, kind, entry_name, node_word};
+ghost use Rattle.nar.specs.Reading.{Reads, ReadsKind, ReadsName, ReadsEntry, ReadsNode, FaultOf};
+ghost use Rattle.nar.specs.Answer.{IfFault};
+ghost use Rattle.nar.specs.View.{tree_of, pair_of};
+ghost use Rattle.nar.specs.declared.error.NarError.TheVariants.{Memory as memory};
+ghost use Rattle.std.specs.Prelude.{MatchResult};
+
+use crate::error::NarError;
+use crate::node::{Entry, Node};
+use crate::string::{Place, string_of, word_of};
+use crate::words::{
+    CLOSE, CONTENTS, DIRECTORY, DOT, DOTS, ENTRY, EXECUTABLE, MAGIC, NAME, NODE, NOTHING, OPEN,
+    REGULAR, SYMLINK, TARGET, TYPE,
+};
+use std::alloc::Global;
+
+const LIMIT: usize = 16_777_216;
+
+fn is_unbroken(name: &[u8]) -> bool
+    ensures { result ≡ list_all (λ b. not (b == 47) && not (b == 0)) name.now }
+{
+    name.iter().all(|b| *b != b'/' && *b != 0)
+}
+
+pub fn is_name(name: &[u8]) -> bool
+    ensures { result ≡ name_test name.now }
+{
+    !name.is_empty() && name != DOT && name != DOTS && is_unbroken(name)
+}
+
+pub fn is_above(last: Option<&[u8]>, name: &[u8]) -> bool
+    ensures { result ≡ rises (option_copied last.entry) name.now }
+{
+    match last {
+        None => true,
+        Some(last) => last.cmp(name).is_lt(),
+    }
+}
+
+/// A string, and the bracket that closes its node.
+fn text_of(at: Place<'_>) -> Result<(&[u8], Place<'_>), NarError>
+    ensures ok { IfOk result (λ x. Reads at.entry.room at.entry.rest.now (other x.0.now ∷ other (codes ")") ∷ []) x.1.room x.1.rest.now) }
+    ensures err { IfErr result (FaultOf (any ∷ fixed (codes ")") ∷ []) at.entry.room at.entry.rest.now) }
+{
+    let (text, at) = string_of(at)?;
+    let at = word_of(at, CLOSE)?;
+    Ok((text, at))
+}
+
+/// What follows the word `regular`.
+fn regular_of(at: Place<'_>) -> Result<(Node<'_>, Place<'_>), NarError>
+    ensures ok { IfOk result (λ x. (depth : ℕ) → ReadsKind (codes "regular") depth at.entry.room at.entry.rest.now (tree_of x.0) x.1.room x.1.rest.now) }
+    ensures err { IfErr result (FaultOf (file ∷ []) at.entry.room at.entry.rest.now) }
+{
+    let (word, after) = string_of(at)?;
+    if word == EXECUTABLE {
+        let empty = word_of(after, NOTHING)?;
+        let named = word_of(empty, CONTENTS)?;
+        let (contents, end) = text_of(named)?;
+        let node = Node::Regular {
+            executable: true,
+            contents,
+        };
+        Ok((node, end))
+    } else if word == CONTENTS {
+        let (contents, end) = text_of(after)?;
+        let node = Node::Regular {
+            executable: false,
+            contents,
+        };
+        Ok((node, end))
+    } else {
+        Err(NarError::BadTag)
+    }
+}
+
+/// What follows the word `symlink`.
+fn symlink_of(at: Place<'_>) -> Result<(Node<'_>, Place<'_>), NarError>
+    ensures ok { IfOk result (λ x. (depth : ℕ) → ReadsKind (codes "symlink") depth at.entry.room at.entry.rest.now (tree_of x.0) x.1.room x.1.rest.now) }
+    ensures err { IfErr result (FaultOf (fixed (codes "target") ∷ any ∷ fixed (codes ")") ∷ []) at.entry.room at.entry.rest.now) }
+{
+    let after = word_of(at, TARGET)?;
+    let (target, end) = text_of(after)?;
+    Ok((Node::Symlink { target }, end))
+}
+
+/// A name that may stand in a directory behind the last one.
+fn name_of<'a>(at: Place<'a>, last: Option<&[u8]>) -> Result<(&'a [u8], Place<'a>), NarError>
+    ensures ok { IfOk result (λ x. ReadsName (option_copied last.entry) at.entry.room at.entry.rest.now x.0.now x.1.room x.1.rest.now) }
+    ensures err { IfErr result (λ e. (depth : ℕ) → FaultOf (entry_name depth (option_copied last.entry) ∷ []) at.entry.room at.entry.rest.now e) }
+{
+    let (name, after) = string_of(at)?;
+    if !is_name(name) {
+        return Err(NarError::BadName);
+    }
+    if !is_above(last, name) {
+        return Err(NarError::NotSorted);
+    }
+    Ok((name, after))
+}
+
+/// The word `node` before a node that is the given one inside one another.
+fn node_word_of(at: Place<'_>, depth: usize) -> Result<Place<'_>, NarError>
+    ensures ok { IfOk result (λ x. (depth ≤ 256) × Reads at.entry.room at.entry.rest.now (node depth ∷ []) x.room x.rest.now) }
+    ensures err { IfErr result (FaultOf (node_word depth ∷ []) at.entry.room at.entry.rest.now) }
+{
+    let (word, after) = string_of(at)?;
+    if word != NODE {
+        return Err(NarError::BadTag);
+    }
+    if depth > 256 {
+        return Err(NarError::TooDeep);
+    }
+    Ok(after)
+}
+
+/// What follows the word `entry`, in a directory that is the given node inside one another.
+#[cycle(reader)]
+fn entry_of<'a>(
+    alloc: Global,
+    at: Place<'a>,
+    depth: usize,
+    last: Option<&[u8]>,
+) -> Result<(Entry<'a>, Place<'a>), NarError>
+    requires { depth ≤ 256 }
+    ensures ok { IfOk result (λ x. ReadsEntry (option_copied last.entry) depth at.entry.room at.entry.rest.now (pair_of x.0) x.1.room x.1.rest.now) }
+    ensures err { IfErr result (FaultOf (fixed (codes "(") ∷ fixed (codes "name") ∷ entry_name depth (option_copied last.entry) ∷ []) at.entry.room at.entry.rest.now) }
+{
+    let opened = word_of(at, OPEN)?;
+    let worded = word_of(opened, NAME)?;
+    let (name, named) = name_of(worded, last)?;
+    let noded = node_word_of(named, depth + 1)?;
+    let (node, ended) = node_of(alloc, noded, depth + 1)?;
+    let closed = word_of(ended, CLOSE)?;
+    Ok((Entry { name, node }, closed))
+}
+
+/// What follows the word `directory`, at a node that is the given one inside one another.
+#[cycle(reader)]
+fn directory_of(
+    alloc: Global,
+    at: Place<'_>,
+    depth: usize,
+) -> Result<(Node<'_>, Place<'_>), NarError>
+    requires { depth ≤ 256 }
+    ensures ok { IfOk result (λ x. ReadsKind (codes "directory") depth at.entry.room at.entry.rest.now (tree_of x.0) x.1.room x.1.rest.now) }
+    ensures err { IfErr result (FaultOf (entries depth None ∷ []) at.entry.room at.entry.rest.now) }
+{
+    let mut list: Vec<Entry<'_>> = Vec::new(alloc);
+    let mut place = at;
+    let mut last = None;
+    loop {
+        let (word, after) = string_of(place)?;
+        if word == CLOSE {
+            return Ok((Node::Directory(list), after));
+        }
+        if word != ENTRY {
+            return Err(NarError::BadTag);
+        }
+        let (entry, next) = entry_of(alloc, after, depth, last)?;
+        last = Some(entry.name);
+        list.push(entry)?;
+        place = next;
+    }
+}
+
+/// A node that is the given one inside one another.
+#[cycle(reader)]
+fn node_of(alloc: Global, at: Place<'_>, depth: usize) -> Result<(Node<'_>, Place<'_>), NarError>
+    requires { depth ≤ 256 }
+    ensures ok { IfOk result (λ x. ReadsNode depth at.entry.room at.entry.rest.now (tree_of x.0) x.1.room x.1.rest.now) }
+    ensures err { IfErr result (FaultOf (fixed (codes "(") ∷ fixed (codes "type") ∷ kind depth ∷ []) at.entry.room at.entry.rest.now) }
+{
+    let opened = word_of(at, OPEN)?;
+    let typed = word_of(opened, TYPE)?;
+    let (word, after) = string_of(typed)?;
+    if word == REGULAR {
+        let (file, end) = regular_of(after)?;
+        return Ok((file, end));
+    }
+    if word == SYMLINK {
+        let (link, end) = symlink_of(after)?;
+        return Ok((link, end));
+    }
+    if word == DIRECTORY {
+        let (folder, end) = directory_of(alloc, after, depth)?;
+        return Ok((folder, end));
+    }
+    Err(NarError::BadTag)
+}
+
+/// The tree of the archive, or the first fault.
+pub fn read(alloc: Global, input: &[u8]) -> Result<Node<'_>, NarError>
+    // What is read is the archive's tree.
+    ensures found { IfOk result (λ node. IsArchive (tree_of node) input.now) }
+    // A fault that is told is the input's.
+    ensures fault { IfErr result (λ e. IfFault e (IsFault input.now)) }
+    // An archive is read, unless memory runs out.
+    ensures each_archive { (t : Tree) → IsArchive t input.now → MatchResult result (λ node. tree_of node ≡ t) (λ e. e ≡ memory) }
+    // The input's fault is told, unless memory runs out.
+    ensures each_fault { (f : Cause) → IsFault input.now f → MatchResult result (λ _. ⊥) (λ e. IfFault e (λ g. g ≡ f)) }
+{
+    read_whole(alloc, input)
+}
+
+fn read_whole(alloc: Global, input: &[u8]) -> Result<Node<'_>, NarError>
+    ensures found { IfOk result (λ node. IsArchive (tree_of node) input.now) }
+    ensures fault { IfErr result (λ e. IfFault e (IsFault input.now)) }
+{
+    let at = Place {
+        rest: input,
+        room: LIMIT,
+    };
+    let after = word_of(at, MAGIC)?;
+    let (node, end) = node_of(alloc, after, 1)?;
+    if !end.rest.is_empty() {
+        return Err(NarError::Trailing);
+    }
+    Ok(node)
+}
