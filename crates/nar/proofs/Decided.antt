@@ -1,5 +1,5 @@
 -- Each input is an archive or has a fault, and the function says which.
-use Rattle.std.proofs.Common.{◌≡◌, ◌≢◌, ℕ, zero, suc, ◌+◌, ◌-◌, ◌<◌, ◌≤◌, Bool, true, false, ltb, List, [], ◌∷◌, ◌++◌, length, drop, Option, Some, None, Result, Ok, Err, refl, sym, ap, ap₂, ◌∙◌, subst, append-nil, append_assoc, arith, inl, inr}
+use Rattle.std.proofs.Common.{◌≡◌, ◌≢◌, ℕ, zero, suc, ◌+◌, ◌-◌, ◌<◌, ◌≤◌, Bool, true, false, ltb, List, [], ◌∷◌, ◌++◌, length, drop, Option, Some, None, Result, Ok, Err, refl, sym, ap, ap₂, ◌∙◌, subst, append-nil, append_assoc, arith, ◌⊎◌, inl, inr}
 use Rattle.std.specs.Prelude.{option_and_then, unwrap_or, MatchResult, codes, ◌↔◌}
 use Rattle.std.specs.List.{AllByRecursion}
 use Rattle.std.proofs.lemmas.Bool.{lt-ltb}
@@ -141,3 +141,10 @@ outcome_fault input e h = (λ q. rw q at (agrees input h), λ f. by_outcome (out
     by_outcome : (r : Result Tree NarError) → MatchResult r (λ t. IsArchive t input) (IsFault input) → IsFault input e → r ≡ Err e
     by_outcome (Ok u) m f = absurd (archive_has_none u input e h m f)
     by_outcome (Err g) m f = ap Err (one_cause input g e h m f)
+
+pub archive_or_fault : (input : List ℕ) → IsBytes input → ((t : Tree) × IsArchive t input) ⊎ ((e : NarError) × IsFault input e)
+archive_or_fault input h = by_outcome (outcome_of input) (agrees input h)
+  where
+    by_outcome : (r : Result Tree NarError) → MatchResult r (λ t. IsArchive t input) (IsFault input) → ((t : Tree) × IsArchive t input) ⊎ ((e : NarError) × IsFault input e)
+    by_outcome (Ok t) m = inl (t, m)
+    by_outcome (Err e) m = inr (e, m)

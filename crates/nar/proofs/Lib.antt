@@ -12,3 +12,4 @@ pub mod Put
 pub mod Lines
 pub mod Decided
 pub mod Longest
+pub mod Files

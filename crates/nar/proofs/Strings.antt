@@ -106,6 +106,16 @@ again room head s rest len fits =
     ∙ ap (drop (padded n - n)) after ∙ drop_at fill rest (padded n - n) filled in
     rw (a, b, c, body, after, gap, text, end, are_zeros (padded n - n)) refl
 
+-- the length that a string begins with
+pub length_at-string : (s rest : List ℕ) → length s < 2 ^ 64 → length_at (string s ++ rest) ≡ length s
+unfolding string
+length_at-string s rest small =
+    let n : ℕ = length s in
+    let head : List ℕ = to_le_bytes w64 n in
+    let fill : List ℕ = replicate (padded n - n) 0 in
+    let grouped : string s ++ rest ≡ head ++ (s ++ (fill ++ rest)) = append_assoc (head ++ s) fill rest ∙ append_assoc head s (fill ++ rest) in
+    ap length_at grouped ∙ ap (from_le_bytes w64) (take_at head (s ++ (fill ++ rest)) 8 refl) ∙ from_le_bytes-to_le_bytes_8 n small
+
 pub string_again : (room : ℕ) (s rest : List ℕ) → length s < 2 ^ 64 → size_of (length s) ≤ room → string_at room (string s ++ rest) ≡ Ok (s, rest)
 unfolding string
 string_again room s rest small fits =
@@ -113,7 +123,7 @@ string_again room s rest small fits =
     let head : List ℕ = to_le_bytes w64 n in
     let fill : List ℕ = replicate (padded n - n) 0 in
     let grouped : string s ++ rest ≡ head ++ (s ++ (fill ++ rest)) = append_assoc (head ++ s) fill rest ∙ append_assoc head s (fill ++ rest) in
-    let len : length_at (string s ++ rest) ≡ n = ap length_at grouped ∙ ap (from_le_bytes w64) (take_at head (s ++ (fill ++ rest)) 8 refl) ∙ from_le_bytes-to_le_bytes_8 n small in
+    let len : length_at (string s ++ rest) ≡ n = length_at-string s rest small in
     ap (λ (k : ℕ). string_of k room (string s ++ rest)) len ∙ ap (string_of n room) grouped ∙ again room head s rest refl fits
 
 -- what the code has seen where it gives a string
