@@ -1,4 +1,6 @@
-ghost use Rattle.std.specs.Prelude.{◌≡◌, ◌<◌, ◌++◌, ◌+◌, OnOk, string_bytes, codes, decimal, length};
+//! Listings.
+
+ghost use Rattle.std.specs.Prelude.{◌≡◌, ◌<◌, ◌++◌, ◌+◌, OnOk, OnErr, string_bytes, codes, decimal, length};
 ghost use Rattle.nar.specs.Tree.{regular, symlink, directory};
 ghost use Rattle.nar.specs.Listing.{hex_digit, escape, escaped, listing, lines};
 ghost use Rattle.nar.specs.View.{tree_of, pair_of, trees_of};
@@ -113,9 +115,17 @@ fn list_node(alloc: Global, out: &mut String, path: &str, node: &Node<'_>) -> Re
     }
 }
 
-/// Appends the listing of the tree.
+/// Appends the listing of the tree: a line for each node, parents first, entries in order.
+///
+/// The top node's path is `.`, and an entry's path is its parent's, `/` and its name. The lines are `r SIZE PATH`,
+/// `x SIZE PATH` for an executable file, `l PATH -> TARGET` and `d PATH`. In names and targets a byte outside 33 to
+/// 126, and a backslash, is written as `\x` and two lower-case hexadecimal digits. Where memory is refused the
+/// text stays as it was.
 pub fn list(alloc: Global, node: &Node<'_>, out: &mut String) -> Result<(), AllocError>
-    ensures { OnOk result (string_bytes out.new ≡ string_bytes out.old ++ listing (codes ".") (tree_of node.now)) }
+    ensures ok { OnOk result (string_bytes out.new ≡ string_bytes out.old ++ listing (codes ".") (tree_of node.now)) }
+    ensures err { OnErr result (string_bytes out.new ≡ string_bytes out.old) }
 {
-    list_node(alloc, out, ".", node)
+    let mut text = String::new(alloc);
+    list_node(alloc, &mut text, ".", node)?;
+    out.push_str(text.as_str())
 }

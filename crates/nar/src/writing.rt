@@ -1,9 +1,11 @@
-ghost use Rattle.std.specs.Prelude.{◌≡◌, ◌∷◌, ℕ, ◌++◌, ◌+◌, OnOk, codes};
+//! Writing.
+
+ghost use Rattle.std.specs.Prelude.{◌≡◌, ◌∷◌, ℕ, ◌++◌, ◌+◌, OnOk, OnErr, codes};
 ghost use Rattle.nar.specs.String.{string};
 ghost use Rattle.nar.specs.Tree.{regular, symlink};
-ghost use Rattle.nar.specs.Archive.{bracketed, kind_parts, entries_parts, archive, spelling, other};
+ghost use Rattle.nar.specs.Archive.{bracketed, kind_parts, entries_parts, archive, spelling, other, IsWritable};
 ghost use Rattle.nar.specs.Reading.{entry_rest};
-ghost use Rattle.nar.specs.Writing.{Writes};
+ghost use Rattle.nar.specs.Writing.{Writes, Extends, joined};
 ghost use Rattle.nar.specs.View.{tree_of, pair_of, trees_of};
 
 use crate::node::{Entry, Node};
@@ -14,7 +16,8 @@ use crate::words::{
 use std::alloc::AllocError;
 
 fn put_string(out: &mut Vec<u8>, text: &[u8]) -> Result<(), AllocError>
-    ensures { OnOk result (out.new.items ≡ out.old.items ++ string text.now) }
+    ensures ok { OnOk result (out.new.items ≡ out.old.items ++ string text.now) }
+    ensures err { OnErr result (Extends out.old.items out.new.items) }
 {
     let padding = (8 - text.len() % 8) % 8;
     out.extend_from_slice(&(text.len() as u64).to_le_bytes())?;
@@ -23,36 +26,44 @@ fn put_string(out: &mut Vec<u8>, text: &[u8]) -> Result<(), AllocError>
     Ok(())
 }
 
-fn put_regular(out: &mut Vec<u8>, executable: bool, contents: &[u8]) -> Result<(), AllocError>
-    ensures { (depth : ℕ) → OnOk result (Writes out.old.items out.new.items (kind_parts depth (regular executable contents.now))) }
+fn put_strings(out: &mut Vec<u8>, texts: &[&[u8]]) -> Result<(), AllocError>
+    ensures ok { OnOk result (out.new.items ≡ out.old.items ++ joined texts.now) }
+    ensures err { OnErr result (Extends out.old.items out.new.items) }
 {
-    put_string(out, REGULAR)?;
-    if executable {
-        put_string(out, EXECUTABLE)?;
-        put_string(out, NOTHING)?;
-        put_string(out, CONTENTS)?;
-        put_string(out, contents)?;
-        return Ok(());
+    for text in texts {
+        put_string(out, text)?;
     }
-    put_string(out, CONTENTS)?;
-    put_string(out, contents)?;
     Ok(())
 }
 
-fn put_symlink(out: &mut Vec<u8>, target: &[u8]) -> Result<(), AllocError>
-    ensures { (depth : ℕ) → OnOk result (Writes out.old.items out.new.items (kind_parts depth (symlink target.now))) }
+fn put_file(out: &mut Vec<u8>, executable: bool, contents: &[u8]) -> Result<(), AllocError>
+    ensures ok { (depth : ℕ) → OnOk result (Writes out.old.items out.new.items (bracketed (kind_parts depth (regular executable contents.now)))) }
+    ensures err { OnErr result (Extends out.old.items out.new.items) }
 {
-    put_string(out, SYMLINK)?;
-    put_string(out, TARGET)?;
-    put_string(out, target)?;
-    Ok(())
+    if executable {
+        put_strings(
+            out,
+            &[
+                OPEN, TYPE, REGULAR, EXECUTABLE, NOTHING, CONTENTS, contents, CLOSE,
+            ],
+        )
+    } else {
+        put_strings(out, &[OPEN, TYPE, REGULAR, CONTENTS, contents, CLOSE])
+    }
+}
+
+fn put_symlink(out: &mut Vec<u8>, target: &[u8]) -> Result<(), AllocError>
+    ensures ok { (depth : ℕ) → OnOk result (Writes out.old.items out.new.items (bracketed (kind_parts depth (symlink target.now)))) }
+    ensures err { OnErr result (Extends out.old.items out.new.items) }
+{
+    put_strings(out, &[OPEN, TYPE, SYMLINK, TARGET, target, CLOSE])
 }
 
 #[cycle(writer)]
 fn put_entries(out: &mut Vec<u8>, entries: &[Entry<'_>]) -> Result<(), AllocError>
-    ensures { (depth : ℕ) → OnOk result (Writes out.old.items out.new.items (other (codes "directory") ∷ entries_parts depth (trees_of entries.now))) }
+    ensures ok { (depth : ℕ) → OnOk result (Writes out.old.items out.new.items (entries_parts depth (trees_of entries.now))) }
+    ensures err { OnErr result (Extends out.old.items out.new.items) }
 {
-    put_string(out, DIRECTORY)?;
     for entry in entries {
         put_entry(out, entry)?;
     }
@@ -61,49 +72,63 @@ fn put_entries(out: &mut Vec<u8>, entries: &[Entry<'_>]) -> Result<(), AllocErro
 
 #[cycle(writer)]
 fn put_entry(out: &mut Vec<u8>, entry: &Entry<'_>) -> Result<(), AllocError>
-    ensures { (depth : ℕ) → OnOk result (Writes out.old.items out.new.items (other (codes "entry") ∷ entry_rest depth (pair_of entry.now))) }
+    ensures ok { (depth : ℕ) → OnOk result (Writes out.old.items out.new.items (other (codes "entry") ∷ entry_rest depth (pair_of entry.now))) }
+    ensures err { OnErr result (Extends out.old.items out.new.items) }
 {
-    put_string(out, ENTRY)?;
-    put_string(out, OPEN)?;
-    put_string(out, NAME)?;
-    put_string(out, entry.name)?;
-    put_string(out, NODE)?;
+    put_strings(out, &[ENTRY, OPEN, NAME, entry.name, NODE])?;
     put_node(out, &entry.node)?;
-    put_string(out, CLOSE)?;
-    Ok(())
+    put_string(out, CLOSE)
 }
 
 #[cycle(writer)]
-fn put_kind(out: &mut Vec<u8>, node: &Node<'_>) -> Result<(), AllocError>
-    ensures { (depth : ℕ) → OnOk result (Writes out.old.items out.new.items (kind_parts depth (tree_of node.now))) }
+fn put_directory(out: &mut Vec<u8>, entries: &[Entry<'_>]) -> Result<(), AllocError>
+    ensures ok { (depth : ℕ) → OnOk result (Writes out.old.items out.new.items (bracketed (other (codes "directory") ∷ entries_parts depth (trees_of entries.now)))) }
+    ensures err { OnErr result (Extends out.old.items out.new.items) }
+{
+    put_strings(out, &[OPEN, TYPE, DIRECTORY])?;
+    put_entries(out, entries)?;
+    put_string(out, CLOSE)
+}
+
+#[cycle(writer)]
+fn put_node(out: &mut Vec<u8>, node: &Node<'_>) -> Result<(), AllocError>
+    ensures ok { (depth : ℕ) → OnOk result (Writes out.old.items out.new.items (bracketed (kind_parts depth (tree_of node.now)))) }
+    ensures err { OnErr result (Extends out.old.items out.new.items) }
 {
     match node {
         Node::Regular {
             executable,
             contents,
-        } => put_regular(out, *executable, contents)?,
-        Node::Symlink { target } => put_symlink(out, target)?,
-        Node::Directory(entries) => put_entries(out, entries)?,
+        } => put_file(out, *executable, contents),
+        Node::Symlink { target } => put_symlink(out, target),
+        Node::Directory(entries) => put_directory(out, entries),
     }
-    Ok(())
 }
 
-#[cycle(writer)]
-fn put_node(out: &mut Vec<u8>, node: &Node<'_>) -> Result<(), AllocError>
-    ensures { (depth : ℕ) → OnOk result (Writes out.old.items out.new.items (bracketed (kind_parts depth (tree_of node.now)))) }
-{
-    put_string(out, OPEN)?;
-    put_string(out, TYPE)?;
-    put_kind(out, node)?;
-    put_string(out, CLOSE)?;
-    Ok(())
-}
-
-/// Appends the archive of the tree.
-pub fn write(node: &Node<'_>, out: &mut Vec<u8>) -> Result<(), AllocError>
-    ensures { OnOk result (out.new.items ≡ out.old.items ++ spelling (archive (tree_of node.now))) }
+fn put_archive(out: &mut Vec<u8>, node: &Node<'_>) -> Result<(), AllocError>
+    ensures ok { OnOk result (Writes out.old.items out.new.items (archive (tree_of node.now))) }
+    ensures err { OnErr result (Extends out.old.items out.new.items) }
 {
     put_string(out, MAGIC)?;
-    put_node(out, node)?;
-    Ok(())
+    put_node(out, node)
+}
+
+/// Appends the archive of the tree: its one spelling, of at most 16,777,216 bytes.
+///
+/// The tree's names keep the rule of names and rise strictly in each directory, at most 256 of its nodes stand
+/// inside one another, and its archive isn't too large: `is_writable` is the test. Where memory is refused the
+/// buffer's bytes stay as they were.
+pub fn write(node: &Node<'_>, out: &mut Vec<u8>) -> Result<(), AllocError>
+    requires { IsWritable (tree_of node.now) }
+    ensures ok { OnOk result (out.new.items ≡ out.old.items ++ spelling (archive (tree_of node.now))) }
+    ensures err { OnErr result (out.new.items ≡ out.old.items) }
+{
+    let len = out.len();
+    match put_archive(out, node) {
+        Ok(()) => Ok(()),
+        Err(e) => {
+            out.truncate(len);
+            Err(e)
+        }
+    }
 }
