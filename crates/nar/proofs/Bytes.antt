@@ -79,9 +79,22 @@ mutual
   entries_bytes d last no_entries h = tt
   entries_bytes d last (entry n t es) h =
       let inner = bracketed_bytes (kind_parts (d + 1) t) (kind_bytes (d + 1) t h.3) in
-      let others : AreBytes (other (codes ")") ∷ entries_parts d es) = (tested_bytes (codes ")") refl, entries_bytes d (Some n) es h.4) in
-      (tested_bytes (codes "entry") refl, (tested_bytes (codes "(") refl, (tested_bytes (codes "name") refl, (h.0, (node_bytes (d + 1),
-        (inner.0, (inner.1.0, all_append OfBytes (kind_parts (d + 1) t ++ other (codes ")") ∷ []) (other (codes ")") ∷ entries_parts d es) inner.1.1 others)))))))
+      let others : AreBytes (other (codes ")") ∷ entries_parts d es) = (tested_bytes (codes ")") refl, entries_bytes d (Some n) es h.4) in (
+        tested_bytes (codes "entry") refl,
+        (
+          tested_bytes (codes "(") refl,
+          (
+            tested_bytes (codes "name") refl,
+            (
+              h.0,
+              (
+                node_bytes (d + 1),
+                (inner.0, (inner.1.0, all_append OfBytes (kind_parts (d + 1) t ++ other (codes ")") ∷ []) (other (codes ")") ∷ entries_parts d es) inner.1.1 others)),
+              ),
+            ),
+          ),
+        ),
+      )
 
 pub archive_bytes : (t : Tree) → IsLegal t → AreBytes (archive t)
 archive_bytes t h = (tested_bytes (codes "nix-archive-1") refl, bracketed_bytes (kind_parts 1 t) (kind_bytes 1 t h))

@@ -29,7 +29,7 @@ pub record Passes (σ : List Symbol) (room : ℕ) (bytes : List ℕ) (parts : Li
 abbrev Decided : List Symbol → ℕ → List ℕ → Result (List Part) NarError → Type 0
 Decided σ room bytes r = MatchResult r (Passes σ room bytes) (FaultAt σ room bytes)
 
-short : (room : ℕ) (bytes : List ℕ) → length bytes < 8 → string_at room bytes ≡ Err Truncated
+pub short : (room : ℕ) (bytes : List ℕ) → length bytes < 8 → string_at room bytes ≡ Err Truncated
 unfolding string_of
 short room bytes h = (let few : ltb (length bytes) 8 ≡ true = lt-ltb _ _ h in rw few refl)
 

@@ -13,3 +13,7 @@ pub mod Lines
 pub mod Decided
 pub mod Longest
 pub mod Files
+pub mod Nests
+pub mod Feeding
+pub mod Counting
+pub mod Stepping

@@ -9,3 +9,8 @@ pub mod Answer
 pub mod Reading
 pub mod Writing
 pub mod Listing
+pub mod Nest
+pub mod NestView
+pub mod Feeding
+pub mod Progress
+pub mod Checking

@@ -16,22 +16,19 @@ pub fn each_input_is_an_archive_or_has_one_fault()
     ensures one_fault { (input : List ℕ) (e f : Fault) → IsBytes input → IsFault input e → IsFault input f → e ≡ f }
     // Want of memory says nothing of the input.
     ensures no_memory { (input : List ℕ) → ¬ IsFault input memory }
-{
-}
+{}
 
 /// A tree has one spelling, and an archive one tree.
 pub fn a_tree_has_one_archive()
     ensures one_spelling { (t : Tree) (a b : List ℕ) → IsArchive t a → IsArchive t b → a ≡ b }
     ensures one_tree { (input : List ℕ) (t u : Tree) → IsArchive t input → IsArchive u input → t ≡ u }
-{
-}
+{}
 
 /// The function `outcome_of` says which tree an input is the archive of, or which fault it has.
 pub fn the_outcome_is_exact()
     ensures tree { (input : List ℕ) (t : Tree) → IsBytes input → (outcome_of input ≡ Ok t) ↔ IsArchive t input }
     ensures fault { (input : List ℕ) (e : Fault) → IsBytes input → (outcome_of input ≡ Err e) ↔ IsFault input e }
-{
-}
+{}
 
 /// The archive of a regular file that isn't executable has 112 bytes beside its padded contents. It is read as
 /// that file, and is too large exactly where these pass the limit.
@@ -41,5 +38,4 @@ pub fn the_archive_of_a_file()
         → outcome_of (spelling (archive (regular false contents))) ≡ Ok (regular false contents) }
     ensures is_too_large { (contents : List ℕ) → IsBytes contents → length contents < 2 ^ 64 → limit < 112 + padded (length contents)
         → outcome_of (spelling (archive (regular false contents))) ≡ Err too_large }
-{
-}
+{}

@@ -17,12 +17,10 @@ use crate::error::NarError;
 use crate::node::{Entry, Node};
 use crate::string::{Place, string_of, word_of};
 use crate::words::{
-    CLOSE, CONTENTS, DIRECTORY, DOT, DOTS, ENTRY, EXECUTABLE, MAGIC, NAME, NODE, NOTHING, OPEN,
-    REGULAR, SYMLINK, TARGET, TYPE,
+    CLOSE, CONTENTS, DIRECTORY, DOT, DOTS, ENTRY, EXECUTABLE, LIMIT, MAGIC, NAME, NODE, NOTHING,
+    OPEN, REGULAR, SYMLINK, TARGET, TYPE,
 };
 use std::alloc::Global;
-
-const LIMIT: usize = 16_777_216;
 
 fn is_unbroken(name: &[u8]) -> bool
     ensures { result ≡ list_all (λ b. not (b == 47) && not (b == 0)) name.now }

@@ -16,14 +16,14 @@ pub struct Place<'a> {
     pub room: usize,
 }
 
-fn are_zeros(bytes: &[u8]) -> bool
+pub fn are_zeros(bytes: &[u8]) -> bool
     ensures { result ≡ list_all (λ b. b == 0) bytes.now }
 {
     bytes.iter().all(|b| *b == 0)
 }
 
 /// The number that the first 8 bytes spell.
-fn length_at(bytes: &[u8]) -> u64
+pub fn length_at(bytes: &[u8]) -> u64
     requires { 8 ≤ length bytes.now }
     ensures value { result ≡ number_at bytes.now }
     ensures bytes { (i : ℕ) → slice_index bytes.now i < 256 }

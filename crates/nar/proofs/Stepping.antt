@@ -1,0 +1,22 @@
+-- A piece taken from its front.
+use Rattle.std.proofs.Common.{◌≡◌, ◌≢◌, ℕ, ◌+◌, ◌-◌, ◌*◌, ◌<◌, ◌≤◌, min, List, [], ◌∷◌, ◌++◌, length, take, drop, Option, Some, None, refl, sym, ap, ap₂, ◌∙◌, subst, append_assoc, append-nil, arith}
+use Rattle.std.proofs.lemmas.List.{take-append-drop}
+use Rattle.nar.specs.declared.count.Count.{Count}
+use Rattle.nar.specs.declared.progress.Progress.{Progress}
+use Rattle.nar.specs.Progress.{Stands, StandsBefore, turns_by}
+
+-- the front of a piece is taken
+pub cut : (all taken piece front rest : List ℕ) (n : ℕ) → all ≡ taken ++ piece → front ≡ take n piece → rest ≡ drop n piece → all ≡ (taken ++ front) ++ rest
+cut all taken piece front rest n is a b =
+    let both : front ++ rest ≡ piece = ap₂ (λ (x y : List ℕ). x ++ y) a b ∙ take-append-drop n piece in
+    is ∙ ap (λ (v : List ℕ). taken ++ v) (sym both) ∙ sym (append_assoc taken front rest)
+
+pub stands_all : (p : Progress) (all : List ℕ) → StandsBefore p [] all → Stands p all
+stands_all p all h = subst (Stands p) (sym (h.is ∙ append-nil h.taken)) h.stands
+
+pub turns_few : (o : Option Count) → turns_by o ≤ 1
+turns_few None = omega arith
+turns_few (Some k) = omega arith
+
+pub turns_none : (o : Option Count) → o ≡ None → turns_by o ≡ 0
+turns_none o e = ap turns_by e

@@ -1,0 +1,16 @@
+-- What a nest has still to come.
+use Rattle.std.specs.Prelude.{ℕ, Bool, List, map, reverse, option_map}
+use Rattle.nar.specs.declared.nest.Nest.{Nest}
+use Rattle.nar.specs.Steps.{Symbol}
+use Rattle.nar.specs.Nest.{symbols, is_counted}
+
+-- the names of the open entries, the innermost first
+abbrev pub open_names : Nest → List (List ℕ)
+open_names n = reverse (map (λ v. v.items) n.names.items)
+
+abbrev pub symbols_of : Nest → List Symbol
+symbols_of n = symbols n.phase (option_map (λ v. v.items) n.last) (open_names n)
+
+-- whether a string of this length is counted there and not held
+abbrev pub counts_at : Nest → ℕ → Bool
+counts_at n len = is_counted n.phase len

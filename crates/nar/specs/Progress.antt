@@ -1,0 +1,23 @@
+-- How far a checker has come.
+use Rattle.std.specs.Prelude.{◌≡◌, List, ℕ, ◌++◌, Option, Some, None}
+use Rattle.nar.specs.declared.progress.Progress.{Progress}
+use Rattle.nar.specs.declared.count.Count.{Count}
+use Rattle.nar.specs.Feeding.{StandsBy}
+
+-- The bytes were taken, and are good so far.
+abbrev pub Stands : Progress → List ℕ → Type 0
+Stands p bytes = StandsBy p.count p.nest p.room p.held.items bytes
+
+-- The bytes were taken up to the rest.
+pub record StandsBefore (p : Progress) (rest all : List ℕ) : Type 0 where
+  pub taken : List ℕ
+  pub is : all ≡ taken ++ rest
+  pub stands : Stands p taken
+
+-- how many steps it may take without a byte: one, where a string is counted
+abbrev pub turns_by : Option Count → ℕ
+turns_by None = 0
+turns_by (Some k) = 1
+
+abbrev pub turns : Progress → ℕ
+turns p = turns_by p.count

@@ -1,0 +1,90 @@
+//! A checker that is fed an archive in pieces.
+
+ghost use Rattle.std.specs.Prelude.{◌≡◌, ◌≢◌, ◌++◌, ℕ, List, [], Err, OnOk, IfOk, IfErr};
+ghost use Rattle.nar.specs.declared.error.NarError.{NarError as Fault};
+ghost use Rattle.nar.specs.declared.error.NarError.TheVariants.{Truncated};
+ghost use Rattle.nar.specs.Tree.{IsBytes};
+ghost use Rattle.nar.specs.Fault.{IsFault};
+ghost use Rattle.nar.specs.Answer.{IfFault};
+
+use crate::error::NarError;
+use crate::progress::Progress;
+use std::alloc::Global;
+
+/// Checks an archive that comes in pieces, however they are cut.
+///
+/// It holds no contents: a file's bytes, a target's and those of an overlong string are counted. So its memory
+/// is bounded by the longest name and the depth.
+#[derive(Drop)]
+pub struct Checker {
+    progress: Progress,
+    failed: Option<NarError>,
+}
+
+impl Checker {
+    ghost use Rattle.nar.specs.Progress.{StandsBefore};
+    ghost use Rattle.nar.specs.Checking.{HasBeenFed, HasFailed, Ends};
+
+    /// A checker that has been fed nothing. It takes no memory yet.
+    pub fn new(alloc: Global) -> Checker
+        ensures { HasBeenFed result [] }
+    {
+        Checker {
+            progress: Progress::new(alloc),
+            failed: None,
+        }
+    }
+
+    /// Takes the next piece, and tells the fault of the pieces so far, unless they only want more. After an
+    /// error it repeats that error.
+    pub fn feed(&mut self, piece: &[u8]) -> Result<(), NarError>
+        ensures fed { (all : List ℕ) → HasBeenFed self.old all → HasBeenFed self.new (all ++ piece.now) }
+        // A fault of the pieces so far is told, unless it is the want of more.
+        ensures good { OnOk result ((all : List ℕ) (f : Fault) → HasBeenFed self.old all → IsFault (all ++ piece.now) f → f ≡ Truncated) }
+        // A fault that is told is one of the pieces so far.
+        ensures fault { IfErr result (λ e. IfFault e (λ f. (all : List ℕ) → HasBeenFed self.old all → IsFault (all ++ piece.now) f × (f ≢ Truncated))) }
+        ensures failed { IfErr result (HasFailed self.new) }
+        ensures repeats { (e : Fault) → HasFailed self.old e → (result ≡ Err e) × HasFailed self.new e }
+    {
+        match self.failed {
+            Some(e) => Err(e),
+            None => match self.take(piece) {
+                Ok(()) => Ok(()),
+                Err(e) => {
+                    self.failed = Some(e);
+                    Err(e)
+                }
+            },
+        }
+    }
+
+    fn take(&mut self, piece: &[u8]) -> Result<(), NarError>
+        ensures ok { OnOk result ((all : List ℕ) → IsBytes all → StandsBefore self.old.progress piece.now all → StandsBefore self.new.progress [] all) }
+        ensures err { IfErr result (λ e. IfFault e (λ f. (all : List ℕ) → IsBytes all → StandsBefore self.old.progress piece.now all → IsFault all f × (f ≢ Truncated))) }
+        ensures failed { self.new.failed ≡ self.old.failed }
+    {
+        let mut rest = piece;
+        'pieces: while !rest.is_empty() {
+            rest = self.progress.step(rest)?;
+        }
+        Ok(())
+    }
+
+    /// The end of the pieces: `Ok` where they are an archive, and otherwise their fault. After an error of `feed`
+    /// it repeats that error.
+    pub fn finish(self) -> Result<(), NarError>
+        ensures answer { (all : List ℕ) → HasBeenFed self all → Ends result all }
+        ensures repeats { (e : Fault) → HasFailed self e → result ≡ Err e }
+    {
+        match self.failed {
+            Some(e) => Err(e),
+            None => {
+                if self.progress.is_done() {
+                    Ok(())
+                } else {
+                    Err(NarError::Truncated)
+                }
+            }
+        }
+    }
+}
