@@ -1,0 +1,4 @@
+pub mod Names
+pub mod Base32
+pub mod Fold
+pub mod StorePath

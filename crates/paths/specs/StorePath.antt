@@ -1,0 +1,16 @@
+-- Base names of store paths, and the path texts that name them.
+use Rattle.std.specs.Prelude.{ℕ, ◌+◌, ◌==◌, ◌&&◌, nat_le, Bool, if◌then◌else◌, List, ◌++◌, length, take, drop, slice_index, codes}
+use Rattle.paths.specs.Names.{is_store_name, begins}
+use Rattle.paths.specs.Base32.{all_digits}
+
+-- a base name: 32 digits of base 32, `-`, a store name
+abbrev pub is_base_name : List ℕ → Bool
+is_base_name text = nat_le 34 (length text) && all_digits (take 32 text) && (slice_index text 32 == 45) && is_store_name (drop 33 text)
+
+-- the full path of a base name in a store directory
+abbrev pub full_path : List ℕ → List ℕ → List ℕ
+full_path dir base = dir ++ codes "/" ++ base
+
+-- what a path text says below a store directory, or all of it where it isn't below
+abbrev pub base_of : List ℕ → List ℕ → List ℕ
+base_of dir text = if begins text (dir ++ codes "/") then drop (length dir + 1) text else text

@@ -1,0 +1,151 @@
+//! Nix's base 32.
+ghost use Rattle.std.specs.Prelude.{◌≡◌, ◌⊎◌, ◌+◌, ◌*◌, ◌^◌, ◌<◌, ◌≤◌, ◌/◌, ◌%◌, ℕ, nat_lt, length, None, Some, IfOk, IfErr, string_bytes, slice_index, vec_len, replicate, true};
+ghost use Rattle.paths.specs.Base32.{value_of, number_of, digit_count, read_after, all_digits, Spells, fault_of};
+
+use std::alloc::{AllocError, Global};
+use thiserror::Error;
+
+/// Why a text spells no such bytes.
+#[derive(Clone, Copy, PartialEq, Eq, Debug, Error)]
+pub enum Base32Error {
+    /// A byte is no digit.
+    #[error("bad-digit")]
+    BadDigit,
+    /// The text has another count of digits.
+    #[error("bad-length")]
+    BadLength,
+    /// The number needs more bytes.
+    #[error("overflow")]
+    Overflow,
+    /// Memory was refused.
+    #[error("memory")]
+    Memory,
+}
+
+const DIGITS: &[u8; 32] = b"0123456789abcdfghijklmnpqrsvwxyz";
+
+fn digit_of(value: u8) -> char
+    requires { value < 32 }
+    ensures digit { value_of result ≡ value }
+    ensures ascii { result < 128 }
+{
+    DIGITS[value as usize] as char
+}
+
+/// The byte at an index, or 0 past the end.
+fn byte_or_zero(bytes: &[u8], index: usize) -> u8
+    ensures { result ≡ slice_index bytes.now index }
+{
+    match bytes.get(index) {
+        Some(byte) => *byte,
+        None => 0,
+    }
+}
+
+/// The digit at a place, counted from the least.
+fn digit_at(bytes: &[u8], place: usize) -> u8
+    requires { place < 128 }
+    ensures value { result ≡ number_of bytes.now / 32 ^ place % 32 }
+    ensures digit { result < 32 }
+{
+    let bit = place * 5;
+    let low = u16::from(byte_or_zero(bytes, bit / 8));
+    let high = u16::from(byte_or_zero(bytes, bit / 8 + 1));
+    let pair = low + 256 * high;
+    ((pair >> (bit % 8)) % 32) as u8
+}
+
+/// The base 32 text of some bytes.
+pub fn base32(alloc: Global, bytes: &[u8]) -> Result<String, AllocError>
+    requires { length bytes.now ≤ 64 }
+    ensures { IfOk result (λ text. Spells (string_bytes text) bytes.now) }
+{
+    let count = (bytes.len() * 8 + 4) / 5;
+    let mut text = String::new(alloc);
+    for place in (0..count).rev() {
+        text.push(digit_of(digit_at(bytes, place)))?;
+    }
+    Ok(text)
+}
+
+/// The value of a digit, or 32 of another byte.
+fn digit_value(digit: u8) -> usize
+    ensures { result ≡ value_of digit }
+{
+    match DIGITS.iter().position(|d| *d == digit) {
+        Some(value) => value,
+        None => DIGITS.len(),
+    }
+}
+
+fn is_digit(digit: u8) -> bool
+    ensures { result ≡ nat_lt (value_of digit) 32 }
+{
+    digit_value(digit) < 32
+}
+
+pub(crate) fn all_digits(text: &[u8]) -> bool
+    ensures { result ≡ all_digits text.now }
+{
+    text.iter().all(|digit| is_digit(*digit))
+}
+
+/// Appends a digit to a number, and gives what has no room.
+fn append_digit(bytes: &mut [u8], digit: u8) -> u8
+    requires { digit < 32 }
+    ensures { number_of bytes.new + 256 ^ length bytes.old * result ≡ number_of bytes.old * 32 + digit }
+{
+    let mut carry = digit;
+    for byte in bytes.iter_mut() {
+        let sum = u16::from(*byte) * 32 + u16::from(carry);
+        *byte = (sum % 256) as u8;
+        carry = (sum / 256) as u8;
+    }
+    carry
+}
+
+/// The n bytes that a base 32 text spells.
+pub fn unbase32(alloc: Global, text: &str, count: usize) -> Result<Vec<u8>, Base32Error>
+    requires { count ≤ 64 }
+    ensures ok { IfOk result (λ bytes. (fault_of text.now count ≡ None) × Spells text.now bytes.items × (vec_len bytes ≡ count)) }
+    ensures err { IfErr result (λ e. (e ≡ Base32Error.Memory) ⊎ (fault_of text.now count ≡ Some e)) }
+{
+    let digits = text.as_bytes();
+    if !all_digits(digits) {
+        return Err(Base32Error::BadDigit);
+    }
+    if digits.len() != (8 * count + 4) / 5 {
+        return Err(Base32Error::BadLength);
+    }
+    let mut bytes = match zeros(alloc, count) {
+        Ok(bytes) => bytes,
+        Err(_) => return Err(Base32Error::Memory),
+    };
+    if !append_digits(&mut bytes, digits) {
+        return Err(Base32Error::Overflow);
+    }
+    Ok(bytes)
+}
+
+fn zeros(alloc: Global, count: usize) -> Result<Vec<u8>, AllocError>
+    ensures len { IfOk result (λ bytes. vec_len bytes ≡ count) }
+    ensures zero { IfOk result (λ bytes. bytes.items ≡ replicate count 0) }
+{
+    vec![in alloc; 0; count]
+}
+
+/// Appends digits to the number 0, and says whether it had room.
+fn append_digits(bytes: &mut [u8], digits: &[u8]) -> bool
+    requires zero { number_of bytes.old ≡ 0 }
+    requires digits { all_digits digits.now ≡ true }
+    ensures fits { result ≡ nat_lt (read_after 0 digits.now) (256 ^ length bytes.old) }
+    ensures number { result ≡ true → number_of bytes.new ≡ read_after 0 digits.now }
+{
+    for digit in digits {
+        let value = digit_value(*digit) as u8;
+        if append_digit(bytes, value) != 0 {
+            return false;
+        }
+    }
+    true
+}

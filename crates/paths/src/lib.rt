@@ -1,0 +1,22 @@
+//! Names, store paths and content addresses of a Nix store, as the Nix manual describes them.
+//!
+//! - `is_plain_name`, `StoreDir`, `Name`, `StorePath`: the texts, each accepted exactly.
+//! - `base32`, `unbase32`, `fold20`: how a digest is written in a path.
+#![tactic(auto)]
+
+mod digits;
+mod fold;
+mod plain_name;
+mod store_dir;
+mod store_name;
+mod store_path;
+
+pub use digits::{Base32Error, base32, unbase32};
+pub use fold::fold20;
+pub use plain_name::is_plain_name;
+pub use store_dir::{StoreDir, StoreDirError};
+pub use store_name::{Name, NameError};
+pub use store_path::{StorePath, StorePathError};
+
+#[cfg(test)]
+mod tests;

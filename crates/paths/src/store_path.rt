@@ -1,0 +1,161 @@
+//! Store paths.
+ghost use Rattle.std.specs.Prelude.{◌≡◌, ◌↔◌, List, ℕ, IfOk, string_bytes, true, false, nat_eq, Some, refl};
+ghost use Rattle.std.specs.Ordering.{nat_cmp};
+ghost use Rattle.std.specs.Cmp.{partial_equiv_from_equiv};
+ghost use Rattle.std.specs.Cmp.Lexicographic.{pointwise, slice_cmp, nat_list_eq_equiv, nat_list_cmp_total, texts_ties, texts_po};
+ghost use Rattle.paths.specs.StorePath.{is_base_name, base_of};
+
+use crate::digits::all_digits;
+use crate::store_dir::StoreDir;
+use crate::store_name::is_store_name;
+use std::alloc::{AllocError, Global};
+use std::cmp::Ordering;
+use std::fmt;
+use std::marker::Model;
+use thiserror::Error;
+
+/// Whether some bytes are a base name: 32 digits, `-`, a store name.
+fn is_base_name(bytes: &[u8]) -> bool
+    ensures { result ≡ is_base_name bytes.now }
+{
+    if bytes.len() < 34 {
+        return false;
+    }
+    let (digits, _) = bytes.split_at(32);
+    let (_, name) = bytes.split_at(33);
+    if !all_digits(digits) || bytes[32] != b'-' {
+        return false;
+    }
+    is_store_name(name)
+}
+
+/// What a path text says below the store directory, or all of it where it isn't below.
+fn base_of<'a>(dir: &StoreDir, text: &'a str) -> &'a str
+    ensures { result.now ≡ base_of dir.now text.now }
+{
+    let Some(rest) = text.strip_prefix(dir.as_str()) else {
+        return text;
+    };
+    match rest.strip_prefix('/') {
+        Some(base) => base,
+        None => text,
+    }
+}
+
+/// A store path, such as `/nix/store/[32 digits]-hello`. It is its base name, the part below the store directory:
+/// 32 digits of base 32, `-`, a store name. It remembers no directory. Contracts see it as the bytes of its base
+/// name, by which paths are ordered.
+#[derive(Drop)]
+pub struct StorePath {
+    base: String,
+}
+
+impl Model for StorePath {
+    ghost Value = { List ℕ };
+
+    ghost view = { λ p. string_bytes p.base };
+
+    ghost invariant = { λ p. is_base_name (string_bytes p.base) ≡ true };
+}
+
+/// Why a text gives no store path.
+#[derive(Clone, Copy, PartialEq, Eq, Debug, Error)]
+pub enum StorePathError {
+    /// The text is neither a full path in the store directory nor a base name.
+    #[error("bad-store-path")]
+    BadStorePath,
+    /// Memory was refused.
+    #[error("memory")]
+    Memory,
+}
+
+impl StorePath {
+    /// The store path of a path text: a full path (the store directory, `/`, a base name), or a base name.
+    ///
+    /// # Errors
+    ///
+    /// `BadStorePath` exactly where the text is neither, and `Memory`.
+    pub fn parse(alloc: Global, dir: &StoreDir, text: &str) -> Result<StorePath, StorePathError>
+        ensures ok { IfOk result (λ p. (p ≡ base_of dir.now text.now) × (is_base_name p ≡ true)) }
+        ensures bad { (result ≡ Err StorePathError.BadStorePath) ↔ (is_base_name (base_of dir.now text.now) ≡ false) }
+    {
+        let base = base_of(dir, text);
+        if !is_base_name(base.as_bytes()) {
+            return Err(StorePathError::BadStorePath);
+        }
+        match String::from_str(alloc, base) {
+            Ok(base) => Ok(StorePath { base }),
+            Err(_) => Err(StorePathError::Memory),
+        }
+    }
+
+    /// The base name.
+    pub fn as_str(&self) -> &str
+        ensures value { result.now ≡ self.now }
+        ensures valid { is_base_name self.now ≡ true }
+    {
+        self.base.as_str()
+    }
+}
+
+impl Clone for StorePath {
+    ghost is_clone = { λ path copy. copy ≡ path };
+
+    fn clone(&self) -> Result<StorePath, AllocError> {
+        Ok(StorePath {
+            base: self.base.clone()?,
+        })
+    }
+}
+
+impl PartialEq for StorePath {
+    ghost eq = { pointwise nat_eq };
+
+    ghost laws = { partial_equiv_from_equiv nat_list_eq_equiv };
+
+    fn eq(&self, other: &StorePath) -> bool {
+        self.as_str() == other.as_str()
+    }
+}
+
+impl Eq for StorePath {
+    ghost laws = { nat_list_eq_equiv };
+}
+
+impl PartialOrd for StorePath {
+    ghost partial_cmp = { λ x y. Some (slice_cmp nat_cmp x y) };
+
+    ghost laws = { texts_po };
+
+    fn partial_cmp(&self, other: &StorePath) -> Option<Ordering> {
+        Some(self.cmp(other))
+    }
+}
+
+impl Ord for StorePath {
+    ghost cmp = { slice_cmp nat_cmp };
+
+    ghost total = { nat_list_cmp_total };
+
+    ghost matches_partial_cmp = { λ x y. refl };
+
+    ghost matches_eq = { texts_ties };
+
+    fn cmp(&self, other: &StorePath) -> Ordering {
+        self.as_str().cmp(other.as_str())
+    }
+}
+
+impl fmt::Debug for StorePath {
+    fn fmt<W: fmt::Write>(&self, f: &mut fmt::Formatter<W>) -> fmt::Result {
+        f.write_str(self.as_str())
+    }
+}
+
+impl fmt::Display for StorePath {
+    ghost output = { λ path. Some path };
+
+    fn fmt<W: fmt::Write>(&self, f: &mut fmt::Formatter<W>) -> fmt::Result {
+        f.write_str(self.as_str())
+    }
+}

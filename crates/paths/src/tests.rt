@@ -1,0 +1,142 @@
+use crate::{
+    Base32Error, Name, NameError, StoreDir, StoreDirError, StorePath, StorePathError, base32,
+    fold20, is_plain_name, unbase32,
+};
+use sha2::{Digest, Sha256};
+use std::test::Fail;
+
+#[test]
+fn plain_names(rt: HostRuntime) -> Result<(), Fail> {
+    let long = "a".repeat(rt.alloc(), 64)?;
+    let longer = "a".repeat(rt.alloc(), 65)?;
+    assert!(rt; is_plain_name("ann") && is_plain_name("a-b_c.9") && is_plain_name(".x"));
+    assert!(rt; is_plain_name(long.as_str()) && !is_plain_name(longer.as_str()));
+    assert!(rt;
+        !is_plain_name("") && !is_plain_name("-a") && !is_plain_name("a b") && !is_plain_name("a/b")
+    );
+    Ok(())
+}
+
+#[test]
+fn store_names(rt: HostRuntime) -> Result<(), Fail> {
+    let alloc = rt.alloc();
+    let long = "a".repeat(alloc, 211)?;
+    let longer = "a".repeat(alloc, 212)?;
+    assert_eq!(rt; Name::parse(alloc, long.as_str())?.as_str(), long.as_str());
+    assert_eq!(rt; Name::parse(alloc, ".x")?.clone()?.as_str(), ".x");
+    for bad in [
+        "",
+        ".",
+        "..",
+        ".-x",
+        "..-x",
+        "a/b",
+        "a b",
+        "é",
+        longer.as_str(),
+    ] {
+        assert_eq!(rt;
+            Name::parse(alloc, bad).err(),
+            Some(NameError::BadStoreName),
+            "{bad}"
+        );
+    }
+    Ok(())
+}
+
+#[test]
+fn store_directories(rt: HostRuntime) -> Result<(), Fail> {
+    let alloc = rt.alloc();
+    assert_eq!(rt;
+        StoreDir::parse(alloc, "/nix/store")?.clone()?.as_str(),
+        "/nix/store"
+    );
+    assert_eq!(rt; StoreDir::parse(alloc, "/.-x")?.as_str(), "/.-x");
+    for bad in [
+        "",
+        "/",
+        "nix/store",
+        "/nix/store/",
+        "/nix//store",
+        "/nix/../store",
+        "/.",
+    ] {
+        assert_eq!(rt;
+            StoreDir::parse(alloc, bad).err(),
+            Some(StoreDirError::BadStoreDir),
+            "{bad}"
+        );
+    }
+    Ok(())
+}
+
+#[test]
+fn store_paths(rt: HostRuntime) -> Result<(), Fail> {
+    let alloc = rt.alloc();
+    let dir = StoreDir::parse(alloc, "/nix/store")?;
+    let base = "xv2iccirbrvklck36f1g7vldn5v58vck-myfile";
+    let full = format!(in alloc; "/nix/store/{base}")?;
+    let path = StorePath::parse(alloc, &dir, full.as_str())?;
+    assert_eq!(rt; path.as_str(), base);
+    assert_eq!(rt; StorePath::parse(alloc, &dir, base)?, path.clone()?);
+    let low = StorePath::parse(alloc, &dir, "00000000000000000000000000000000-a")?;
+    assert!(rt; low < path);
+    for bad in [
+        "",
+        "/nix/store/",
+        "/nix/store",
+        "/nix/storexv2iccirbrvklck36f1g7vldn5v58vck-myfile",
+        "/gnu/store/xv2iccirbrvklck36f1g7vldn5v58vck-myfile",
+        "/nix/store//xv2iccirbrvklck36f1g7vldn5v58vck-myfile",
+        "xv2iccirbrvklck36f1g7vldn5v58vck",
+        "xv2iccirbrvklck36f1g7vldn5v58vck-",
+        "xv2iccirbrvklck36f1g7vldn5v58vck-.",
+        "ev2iccirbrvklck36f1g7vldn5v58vck-myfile",
+        "xv2iccirbrvklck36f1g7vldn5v58vckmmyfile",
+    ] {
+        assert_eq!(rt;
+            StorePath::parse(alloc, &dir, bad).err(),
+            Some(StorePathError::BadStorePath),
+            "{bad}"
+        );
+    }
+    Ok(())
+}
+
+#[test]
+fn digits_of_digests(rt: HostRuntime) -> Result<(), Fail> {
+    let alloc = rt.alloc();
+    let empty = Sha256::digest(b"".as_slice());
+    assert_eq!(rt;
+        base32(alloc, &empty)?.as_str(),
+        "0mdqa9w1p6cmli6976v4wi0sw9r4p5prkj7lzfd1877wk11c9c73"
+    );
+    let abc = Sha256::digest(b"abc".as_slice());
+    assert_eq!(rt;
+        base32(alloc, &abc)?.as_str(),
+        "1b8m03r63zqhnjf7l5wnldhh7c134ap5vpj0850ymkq1iyzicy5s"
+    );
+    let mut digest = [0u8; 32];
+    digest[0] = 1;
+    digest[20] = 255;
+    assert_eq!(rt; fold20(&digest)[0], 0xfe);
+    assert_eq!(rt;
+        base32(alloc, &fold20(&digest))?.as_str(),
+        "0000000000000000000000000000007y"
+    );
+    Ok(())
+}
+
+#[test]
+fn short_digits(rt: HostRuntime) -> Result<(), Fail> {
+    let alloc = rt.alloc();
+    assert_eq!(rt; base32(alloc, &[0u8; 20])?, "0".repeat(alloc, 32)?);
+    assert_eq!(rt; base32(alloc, &[255u8; 20])?, "z".repeat(alloc, 32)?);
+    assert_eq!(rt; base32(alloc, &[255u8])?.as_str(), "7z");
+    assert_eq!(rt; base32(alloc, &[])?.as_str(), "");
+    assert_eq!(rt; unbase32(alloc, "7z", 1)?.as_slice(), [255u8].as_slice());
+    assert_eq!(rt; unbase32(alloc, "zz", 1).err(), Some(Base32Error::Overflow));
+    assert_eq!(rt; unbase32(alloc, "7e", 1).err(), Some(Base32Error::BadDigit));
+    assert_eq!(rt; unbase32(alloc, "7", 1).err(), Some(Base32Error::BadLength));
+    Ok(())
+}
