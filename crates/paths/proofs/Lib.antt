@@ -1,3 +1,6 @@
 pub mod Number
+pub mod Spelling
 pub mod Folds
 pub mod PathText
+pub mod Order
+pub mod PathOrder

@@ -1,11 +1,12 @@
 -- What a path text says below a store directory.
-use Rattle.std.proofs.Common.{◌≡◌, ◌≢◌, ℕ, ◌+◌, Bool, true, false, cond, List, [], ◌∷◌, ◌++◌, length, drop, append_assoc, length-append, ap, sym, refl, ◌∙◌, arith, inl, inr}
-use Rattle.std.proofs.Math.Seq.{drop-append_seam}
-use Rattle.std.proofs.lemmas.Bool.{cases_Bool}
+use Rattle.std.proofs.Common.{◌≡◌, ◌≢◌, ℕ, ◌+◌, Bool, true, false, cond, ◌≤◌, ◌&&◌, List, [], ◌∷◌, ◌++◌, length, take, drop, get_or, append_assoc, length-append, ap, sym, refl, ◌∙◌, arith, inl, inr}
+use Rattle.std.proofs.Math.Seq.{take-append_seam, drop-append_seam, get_or-append_seam}
+use Rattle.std.proofs.lemmas.Bool.{cases_Bool, eq-eqb, le-leb}
 use Rattle.std.proofs.lemmas.Bool.Decides.{Decides-eqb}
 use Rattle.std.proofs.lemmas.Slice.Eq.{starts_is}
-use Rattle.paths.specs.Names.{begins}
-use Rattle.paths.specs.StorePath.{base_of}
+use Rattle.paths.specs.Names.{begins, is_store_name}
+use Rattle.paths.specs.Base32.{all_digits}
+use Rattle.paths.specs.StorePath.{base_of, is_base_name}
 
 -- a directory and a `/` are what is cut off
 pub base_of-below : (dir rest : List ℕ) → base_of dir (dir ++ 47 ∷ rest) ≡ rest
@@ -25,3 +26,25 @@ base_of-other dir text other =
       | inl begun ↦ absurd (other (drop (length front) text) ((starts_is Decides-eqb text front _ refl).0 begun ∙ append_assoc dir (47 ∷ []) (drop (length front) text)))
       | inr differs ↦ ap (λ b. cond b (drop (length dir + 1) text) text) differs
     ]
+
+-- a `&&` of two tests that pass
+both : (a b : Bool) → a ≡ true → b ≡ true → (a && b) ≡ true
+both a b p q = ap (λ x. x && b) p ∙ q
+
+nonempty : (name : List ℕ) → is_store_name name ≡ true → 1 ≤ length name
+nonempty [] h = let no : ⊥ = cc in absurd no
+nonempty (b ∷ name) h = omega arith
+
+-- 32 digits, `-` and a store name make a base name
+pub is_base_name-join : (digits name : List ℕ) → length digits ≡ 32 → all_digits digits ≡ true → is_store_name name ≡ true → is_base_name (digits ++ 45 ∷ [] ++ name) ≡ true
+is_base_name-join digits name count all named =
+    let front = digits ++ 45 ∷ [] in
+    let text = front ++ name in
+    let split : text ≡ digits ++ 45 ∷ name = append_assoc digits (45 ∷ []) name in
+    let fronted : length front ≡ 33 = omega (arith, length-append digits (45 ∷ [])) in
+    let one : 1 ≤ length name = nonempty name named in
+    let long : 34 ≤ length text = omega (arith, length-append front name) in
+    let taken : take 32 text ≡ digits = ap (λ n. take n text) (sym count) ∙ ap (take (length digits)) split ∙ take-append_seam digits (45 ∷ name) in
+    let dash : get_or text 32 0 ≡ 45 = ap (λ n. get_or text n 0) (sym count) ∙ ap (λ t. get_or t (length digits) 0) split ∙ get_or-append_seam digits 45 name 0 in
+    let rest : drop 33 text ≡ name = ap (λ n. drop n text) (sym fronted) ∙ drop-append_seam front name in
+    both _ _ (both _ _ (both _ _ (le-leb 34 (length text) long) (ap all_digits taken ∙ all)) (eq-eqb _ _ dash)) (ap is_store_name rest ∙ named)

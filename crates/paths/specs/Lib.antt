@@ -2,3 +2,5 @@ pub mod Names
 pub mod Base32
 pub mod Fold
 pub mod StorePath
+pub mod Root
+pub mod Path

@@ -1,6 +1,7 @@
 //! Nix's base 32.
 ghost use Rattle.std.specs.Prelude.{◌≡◌, ◌⊎◌, ◌+◌, ◌*◌, ◌^◌, ◌<◌, ◌≤◌, ◌/◌, ◌%◌, ℕ, nat_lt, length, None, Some, IfOk, IfErr, string_bytes, slice_index, vec_len, replicate, true};
-ghost use Rattle.paths.specs.Base32.{value_of, number_of, digit_count, read_after, all_digits, Spells, fault_of};
+ghost use Rattle.paths.specs.Base32 as spec;
+ghost use Rattle.paths.specs.Base32.{value_of, number_of, read_after, all_digits, Spells};
 
 use std::alloc::{AllocError, Global};
 use thiserror::Error;
@@ -58,7 +59,9 @@ fn digit_at(bytes: &[u8], place: usize) -> u8
 /// The base 32 text of some bytes.
 pub fn base32(alloc: Global, bytes: &[u8]) -> Result<String, AllocError>
     requires { length bytes.now ≤ 64 }
-    ensures { IfOk result (λ text. Spells (string_bytes text) bytes.now) }
+    ensures spells { IfOk result (λ text. Spells (string_bytes text) bytes.now) }
+    ensures value { IfOk result (λ text. string_bytes text ≡ spec.base32 bytes.now) }
+    ensures back { IfOk result (λ text. spec.unbase32 (string_bytes text) (length bytes.now) ≡ Ok bytes.now) }
 {
     let count = (bytes.len() * 8 + 4) / 5;
     let mut text = String::new(alloc);
@@ -107,8 +110,10 @@ fn append_digit(bytes: &mut [u8], digit: u8) -> u8
 /// The n bytes that a base 32 text spells.
 pub fn unbase32(alloc: Global, text: &str, count: usize) -> Result<Vec<u8>, Base32Error>
     requires { count ≤ 64 }
-    ensures ok { IfOk result (λ bytes. (fault_of text.now count ≡ None) × Spells text.now bytes.items × (vec_len bytes ≡ count)) }
-    ensures err { IfErr result (λ e. (e ≡ Base32Error.Memory) ⊎ (fault_of text.now count ≡ Some e)) }
+    ensures ok { IfOk result (λ bytes. spec.unbase32 text.now count ≡ Ok bytes.items) }
+    ensures err { IfErr result (λ e. (e ≡ Base32Error.Memory) ⊎ (spec.unbase32 text.now count ≡ Err e)) }
+    ensures spells { IfOk result (λ bytes. Spells text.now bytes.items × (vec_len bytes ≡ count)) }
+    ensures back { IfOk result (λ bytes. spec.base32 bytes.items ≡ text.now) }
 {
     let digits = text.as_bytes();
     if !all_digits(digits) {
@@ -140,6 +145,7 @@ fn append_digits(bytes: &mut [u8], digits: &[u8]) -> bool
     requires digits { all_digits digits.now ≡ true }
     ensures fits { result ≡ nat_lt (read_after 0 digits.now) (256 ^ length bytes.old) }
     ensures number { result ≡ true → number_of bytes.new ≡ read_after 0 digits.now }
+    ensures bytes { (i : ℕ) → slice_index bytes.new i < 256 }
 {
     for digit in digits {
         let value = digit_value(*digit) as u8;

@@ -2,8 +2,10 @@
 //!
 //! - `is_plain_name`, `StoreDir`, `Name`, `StorePath`: the texts, each accepted exactly.
 //! - `base32`, `unbase32`, `fold20`: how a digest is written in a path.
+//! - `text_path`, `source_path`: the path that an object is given.
 #![tactic(auto)]
 
+mod computed_path;
 mod digits;
 mod fold;
 mod plain_name;
@@ -11,6 +13,7 @@ mod store_dir;
 mod store_name;
 mod store_path;
 
+pub use computed_path::{source_path, text_path};
 pub use digits::{Base32Error, base32, unbase32};
 pub use fold::fold20;
 pub use plain_name::is_plain_name;

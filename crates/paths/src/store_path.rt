@@ -1,13 +1,14 @@
 //! Store paths.
-ghost use Rattle.std.specs.Prelude.{◌≡◌, ◌↔◌, List, ℕ, IfOk, string_bytes, true, false, nat_eq, Some, refl};
+ghost use Rattle.std.specs.Prelude.{◌≡◌, ◌↔◌, List, ℕ, IfOk, string_bytes, length, ◌++◌, codes, true, false, nat_eq, Some, refl};
 ghost use Rattle.std.specs.Ordering.{nat_cmp};
 ghost use Rattle.std.specs.Cmp.{partial_equiv_from_equiv};
 ghost use Rattle.std.specs.Cmp.Lexicographic.{pointwise, slice_cmp, nat_list_eq_equiv, nat_list_cmp_total, texts_ties, texts_po};
+ghost use Rattle.paths.specs.Base32.{all_digits};
 ghost use Rattle.paths.specs.StorePath.{is_base_name, base_of};
 
 use crate::digits::all_digits;
 use crate::store_dir::StoreDir;
-use crate::store_name::is_store_name;
+use crate::store_name::{Name, is_store_name};
 use std::alloc::{AllocError, Global};
 use std::cmp::Ordering;
 use std::fmt;
@@ -87,6 +88,18 @@ impl StorePath {
             Ok(base) => Ok(StorePath { base }),
             Err(_) => Err(StorePathError::Memory),
         }
+    }
+
+    /// The path of 32 digits and a name.
+    pub(crate) fn join(digits: String, name: &Name) -> Result<StorePath, AllocError>
+        requires count { length (string_bytes digits) ≡ 32 }
+        requires digits { all_digits (string_bytes digits) ≡ true }
+        ensures { IfOk result (λ p. p ≡ string_bytes digits ++ codes "-" ++ name.now) }
+    {
+        let mut base = digits;
+        base.push_str("-")?;
+        base.push_str(name.as_str())?;
+        Ok(StorePath { base })
     }
 
     /// The base name.

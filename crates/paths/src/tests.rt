@@ -1,6 +1,7 @@
+use crate::computed_path::{fingerprint, in_path_order};
 use crate::{
     Base32Error, Name, NameError, StoreDir, StoreDirError, StorePath, StorePathError, base32,
-    fold20, is_plain_name, unbase32,
+    fold20, is_plain_name, source_path, text_path, unbase32,
 };
 use sha2::{Digest, Sha256};
 use std::test::Fail;
@@ -138,5 +139,65 @@ fn short_digits(rt: HostRuntime) -> Result<(), Fail> {
     assert_eq!(rt; unbase32(alloc, "zz", 1).err(), Some(Base32Error::Overflow));
     assert_eq!(rt; unbase32(alloc, "7e", 1).err(), Some(Base32Error::BadDigit));
     assert_eq!(rt; unbase32(alloc, "7", 1).err(), Some(Base32Error::BadLength));
+    Ok(())
+}
+
+fn store_path(rt: &HostRuntime, text: &str) -> Result<StorePath, Fail> {
+    let alloc = rt.alloc();
+    let dir = StoreDir::parse(alloc, "/nix/store")?;
+    Ok(StorePath::parse(alloc, &dir, text)?)
+}
+
+#[test]
+fn fingerprint_of_a_set_of_references(rt: HostRuntime) -> Result<(), Fail> {
+    let alloc = rt.alloc();
+    let dir = StoreDir::parse(alloc, "/nix/store")?;
+    let name = Name::parse(alloc, "n")?;
+    let mut refs = Vec::new(alloc);
+    refs.push(store_path(&rt, "11111111111111111111111111111111-b")?)?;
+    refs.push(store_path(&rt, "/nix/store/00000000000000000000000000000000-a")?)?;
+    refs.push(store_path(&rt, "11111111111111111111111111111111-b")?)?;
+    let ordered = in_path_order(alloc, refs.as_slice())?;
+    let inner = Sha256::digest(b"abc".as_slice());
+    let text = fingerprint(alloc, "text", &dir, &name, ordered.as_slice(), &inner)?;
+    assert_eq!(rt;
+        text.as_str(),
+        "text:/nix/store/00000000000000000000000000000000-a:/nix/store/11111111111111111111111111111111-b:sha256:ba7816bf8f01cfea414140de5dae2223b00361a396177a9cb410ff61f20015ad:/nix/store:n"
+    );
+    let mut sorted = Vec::new(alloc);
+    sorted.push(store_path(&rt, "00000000000000000000000000000000-a")?)?;
+    sorted.push(store_path(&rt, "11111111111111111111111111111111-b")?)?;
+    let path = text_path(alloc, &dir, &name, refs.as_slice(), b"abc".as_slice())?;
+    assert_eq!(rt;
+        path,
+        text_path(alloc, &dir, &name, sorted.as_slice(), b"abc".as_slice())?
+    );
+    Ok(())
+}
+
+/// The archive of a regular file with the ten bytes `mycontent` and a line feed.
+pub(crate) const ARCHIVE: &[u8; 128] =
+    b"\x0d\0\0\0\0\0\0\0nix-archive-1\0\0\0\x01\0\0\0\0\0\0\0(\0\0\0\0\0\0\0\
+\x04\0\0\0\0\0\0\0type\0\0\0\0\x07\0\0\0\0\0\0\0regular\0\x08\0\0\0\0\0\0\0contents\
+\x0a\0\0\0\0\0\0\0mycontent\n\0\0\0\0\0\0\x01\0\0\0\0\0\0\0)\0\0\0\0\0\0\0";
+
+#[test]
+fn path_of_a_source(rt: HostRuntime) -> Result<(), Fail> {
+    let alloc = rt.alloc();
+    let dir = StoreDir::parse(alloc, "/nix/store")?;
+    let name = Name::parse(alloc, "myfile")?;
+    let inner = Sha256::digest(ARCHIVE.as_slice());
+    assert_eq!(rt;
+        base32(alloc, &inner)?.as_str(),
+        "1qwy7y49hyqd7kdpkyjfclz5fkfqalqapzc4v18lbibkx1yzdzib"
+    );
+    assert_eq!(rt;
+        fingerprint(alloc, "source", &dir, &name, &[], &inner)?.as_str(),
+        "source:sha256:2bfef67de873c54551d884fdab3055d84d573e654efa79db3c0d7b98883f9ee3:/nix/store:myfile"
+    );
+    let path = source_path(alloc, &dir, &name, &[], ARCHIVE.as_slice())?;
+    assert_eq!(rt; path.as_str(), "xv2iccirbrvklck36f1g7vldn5v58vck-myfile");
+    let text = text_path(alloc, &dir, &name, &[], b"mycontent\n".as_slice())?;
+    assert_ne!(rt; text, path);
     Ok(())
 }

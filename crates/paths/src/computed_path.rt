@@ -1,0 +1,120 @@
+//! The store paths that objects are given by what they are made of.
+ghost use Rattle.std.specs.Prelude.{◌≡◌, ◌++◌, List, ℕ, IfOk, OnOk, map, codes, string_bytes};
+ghost use Rattle.std.specs.List.{flat_map};
+ghost use Rattle.sha2.specs.Sha256.{sha256};
+ghost use Rattle.paths.specs.Path as spec;
+ghost use Rattle.paths.specs.Path.{InPathOrder, reference_part, fingerprint_of, HasFingerprint, IsPathOf, path_of};
+
+use crate::digits::base32;
+use crate::fold::fold20;
+use crate::store_dir::StoreDir;
+use crate::store_name::Name;
+use crate::store_path::StorePath;
+use sha2::{Digest, Sha256};
+use std::alloc::{AllocError, Global};
+
+/// The base names of references in path order, each once.
+pub(crate) fn in_path_order<'a>(
+    alloc: Global,
+    refs: &'a [StorePath],
+) -> Result<Vec<&'a str>, AllocError>
+    ensures { IfOk result (λ v. InPathOrder refs.now (map (λ s. s.now) v.items)) }
+{
+    let mut bases = Vec::with_capacity(alloc, refs.len())?;
+    for path in refs {
+        bases.push(path.as_str())?;
+    }
+    bases.sort_unstable();
+    bases.dedup();
+    Ok(bases)
+}
+
+fn push_references(text: &mut String, dir: &StoreDir, bases: &[&str]) -> Result<(), AllocError>
+    ensures { OnOk result (string_bytes text.new ≡ string_bytes text.old ++ flat_map (reference_part dir.now) (map (λ s. s.now) bases.now)) }
+{
+    for base in bases {
+        text.push_str(":")?;
+        text.push_str(dir.as_str())?;
+        text.push_str("/")?;
+        text.push_str(*base)?;
+    }
+    Ok(())
+}
+
+pub(crate) fn fingerprint(
+    alloc: Global,
+    kind: &str,
+    dir: &StoreDir,
+    name: &Name,
+    bases: &[&str],
+    inner: &[u8; 32],
+) -> Result<String, AllocError>
+    ensures { IfOk result (λ text. string_bytes text ≡ fingerprint_of kind.now dir.now (map (λ s. s.now) bases.now) inner.now name.now) }
+{
+    let mut text = String::from_str(alloc, kind)?;
+    push_references(&mut text, dir, bases)?;
+    text.push_str(":sha256:")?;
+    let digits = hex::encode(alloc, inner)?;
+    text.push_str(digits.as_str())?;
+    text.push_str(":")?;
+    text.push_str(dir.as_str())?;
+    text.push_str(":")?;
+    text.push_str(name.as_str())?;
+    Ok(text)
+}
+
+/// The path that an object of some kind is given, by its name, its references and its inner digest.
+fn path_of(
+    alloc: Global,
+    kind: &str,
+    dir: &StoreDir,
+    name: &Name,
+    refs: &[StorePath],
+    inner: &[u8; 32],
+) -> Result<StorePath, AllocError>
+    ensures fits { IfOk result (λ p. IsPathOf kind.now dir.now name.now refs.now inner.now p) }
+    ensures value { IfOk result (λ p. p ≡ path_of kind.now dir.now name.now refs.now inner.now) }
+{
+    let bases = in_path_order(alloc, refs)?;
+    let text = fingerprint(alloc, kind, dir, name, bases.as_slice(), inner)?;
+    let digest = Sha256::digest(text.as_str());
+    let digits = base32(alloc, &fold20(&digest))?;
+    StorePath::join(digits, name)
+}
+
+/// The path of a text object: a regular file that isn't executable, with these contents. The order and the
+/// repeats of `refs` make no difference.
+///
+/// # Errors
+///
+/// Memory was refused.
+pub fn text_path(
+    alloc: Global,
+    dir: &StoreDir,
+    name: &Name,
+    refs: &[StorePath],
+    contents: &[u8],
+) -> Result<StorePath, AllocError>
+    ensures fits { IfOk result (λ p. IsPathOf (codes "text") dir.now name.now refs.now (sha256 contents.now) p) }
+    ensures value { IfOk result (λ p. p ≡ spec.text_path dir.now name.now refs.now contents.now) }
+{
+    path_of(alloc, "text", dir, name, refs, &Sha256::digest(contents))
+}
+
+/// The path of a source object: any archive. The order and the repeats of `refs` make no difference.
+///
+/// # Errors
+///
+/// Memory was refused.
+pub fn source_path(
+    alloc: Global,
+    dir: &StoreDir,
+    name: &Name,
+    refs: &[StorePath],
+    nar: &[u8],
+) -> Result<StorePath, AllocError>
+    ensures fits { IfOk result (λ p. IsPathOf (codes "source") dir.now name.now refs.now (sha256 nar.now) p) }
+    ensures value { IfOk result (λ p. p ≡ spec.source_path dir.now name.now refs.now nar.now) }
+{
+    path_of(alloc, "source", dir, name, refs, &Sha256::digest(nar))
+}
