@@ -4,3 +4,4 @@ pub mod Folds
 pub mod PathText
 pub mod Order
 pub mod PathOrder
+pub mod Addresses

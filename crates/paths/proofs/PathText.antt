@@ -1,12 +1,13 @@
 -- What a path text says below a store directory.
-use Rattle.std.proofs.Common.{◌≡◌, ◌≢◌, ℕ, ◌+◌, Bool, true, false, cond, ◌≤◌, ◌&&◌, List, [], ◌∷◌, ◌++◌, length, take, drop, get_or, append_assoc, length-append, ap, sym, refl, ◌∙◌, arith, inl, inr}
+use Rattle.std.proofs.Common.{◌≡◌, ◌≢◌, ℕ, ◌+◌, Bool, true, false, cond, ◌<◌, ◌≤◌, ◌&&◌, List, [], ◌∷◌, ◌++◌, length, take, drop, get_or, drop-cons, take-append-drop, append_assoc, length-append, ap, sym, refl, ◌∙◌, arith, inl, inr}
 use Rattle.std.proofs.Math.Seq.{take-append_seam, drop-append_seam, get_or-append_seam}
-use Rattle.std.proofs.lemmas.Bool.{cases_Bool, eq-eqb, le-leb}
+use Rattle.std.proofs.lemmas.Bool.{cases_Bool, and_parts, eq-eqb, le-leb, leb-true}
 use Rattle.std.proofs.lemmas.Bool.Decides.{Decides-eqb}
 use Rattle.std.proofs.lemmas.Slice.Eq.{starts_is}
 use Rattle.paths.specs.Names.{begins, is_store_name}
-use Rattle.paths.specs.Base32.{all_digits}
-use Rattle.paths.specs.StorePath.{base_of, is_base_name}
+use Rattle.paths.specs.Base32.{value_of, all_digits}
+use Rattle.paths.specs.StorePath.{base_of, is_base_name, name_of}
+use Rattle.paths.proofs.Number.{digit-small}
 
 -- a directory and a `/` are what is cut off
 pub base_of-below : (dir rest : List ℕ) → base_of dir (dir ++ 47 ∷ rest) ≡ rest
@@ -48,3 +49,28 @@ is_base_name-join digits name count all named =
     let dash : get_or text 32 0 ≡ 45 = ap (λ n. get_or text n 0) (sym count) ∙ ap (λ t. get_or t (length digits) 0) split ∙ get_or-append_seam digits 45 name 0 in
     let rest : drop 33 text ≡ name = ap (λ n. drop n text) (sym fronted) ∙ drop-append_seam front name in
     both _ _ (both _ _ (both _ _ (le-leb 34 (length text) long) (ap all_digits taken ∙ all)) (eq-eqb _ _ dash)) (ap is_store_name rest ∙ named)
+
+-- ---- the parts of a base name
+
+dash-value : value_of 45 ≡ 32
+unfolding value_of
+dash-value = refl
+
+pub base-digits : (base : List ℕ) → is_base_name base ≡ true → all_digits (take 32 base) ≡ true
+base-digits base h = (and_parts _ _ (and_parts _ _ (and_parts _ _ h).0).0).1
+
+pub base-name : (base : List ℕ) → is_base_name base ≡ true → is_store_name (name_of base) ≡ true
+base-name base h = (and_parts _ _ h).1
+
+-- no digit is a `-`
+pub base-no_dash : (base : List ℕ) (i : ℕ) → is_base_name base ≡ true → i < length (take 32 base) → get_or (take 32 base) i 0 ≢ 45
+base-no_dash base i h below e = let small = digit-small (take 32 base) i (base-digits base h) below in absurd (omega (arith, small, ap value_of e, dash-value))
+
+-- the digits, `-`, the name
+pub base-parts : (base : List ℕ) → is_base_name base ≡ true → base ≡ take 32 base ++ 45 ∷ name_of base
+base-parts base h =
+    let rest = and_parts _ _ (and_parts _ _ h).0 in
+    let dash : get_or base 32 0 ≡ 45 = (Decides-eqb _ _).0 rest.1 in
+    let long : 34 ≤ length base = leb-true 34 (length base) (and_parts _ _ rest.0).0 in
+    let next : drop 32 base ≡ get_or base 32 0 ∷ drop 33 base = drop-cons base 32 0 (omega arith) in
+    sym (take-append-drop 32 base) ∙ ap (λ t. take 32 base ++ t) (next ∙ ap (λ d. d ∷ drop 33 base) dash)

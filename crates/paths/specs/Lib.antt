@@ -4,3 +4,4 @@ pub mod Fold
 pub mod StorePath
 pub mod Root
 pub mod Path
+pub mod ContentAddress

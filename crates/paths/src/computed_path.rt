@@ -1,7 +1,8 @@
 //! The store paths that objects are given by what they are made of.
-ghost use Rattle.std.specs.Prelude.{◌≡◌, ◌++◌, List, ℕ, IfOk, OnOk, map, codes, string_bytes};
+ghost use Rattle.std.specs.Prelude.{◌≡◌, ◌++◌, List, ℕ, IfOk, OnOk, map, codes, string_bytes, true};
 ghost use Rattle.std.specs.List.{flat_map};
 ghost use Rattle.sha2.specs.Sha256.{sha256};
+ghost use Rattle.paths.specs.Names.{is_store_name};
 ghost use Rattle.paths.specs.Path as spec;
 ghost use Rattle.paths.specs.Path.{InPathOrder, reference_part, fingerprint_of, HasFingerprint, IsPathOf, path_of};
 
@@ -45,7 +46,7 @@ pub(crate) fn fingerprint(
     alloc: Global,
     kind: &str,
     dir: &StoreDir,
-    name: &Name,
+    name: &str,
     bases: &[&str],
     inner: &[u8; 32],
 ) -> Result<String, AllocError>
@@ -59,19 +60,20 @@ pub(crate) fn fingerprint(
     text.push_str(":")?;
     text.push_str(dir.as_str())?;
     text.push_str(":")?;
-    text.push_str(name.as_str())?;
+    text.push_str(name)?;
     Ok(text)
 }
 
 /// The path that an object of some kind is given, by its name, its references and its inner digest.
-fn path_of(
+pub(crate) fn path_of(
     alloc: Global,
     kind: &str,
     dir: &StoreDir,
-    name: &Name,
+    name: &str,
     refs: &[StorePath],
     inner: &[u8; 32],
 ) -> Result<StorePath, AllocError>
+    requires { is_store_name name.now ≡ true }
     ensures fits { IfOk result (λ p. IsPathOf kind.now dir.now name.now refs.now inner.now p) }
     ensures value { IfOk result (λ p. p ≡ path_of kind.now dir.now name.now refs.now inner.now) }
 {
@@ -98,7 +100,14 @@ pub fn text_path(
     ensures fits { IfOk result (λ p. IsPathOf (codes "text") dir.now name.now refs.now (sha256 contents.now) p) }
     ensures value { IfOk result (λ p. p ≡ spec.text_path dir.now name.now refs.now contents.now) }
 {
-    path_of(alloc, "text", dir, name, refs, &Sha256::digest(contents))
+    path_of(
+        alloc,
+        "text",
+        dir,
+        name.as_str(),
+        refs,
+        &Sha256::digest(contents),
+    )
 }
 
 /// The path of a source object: any archive. The order and the repeats of `refs` make no difference.
@@ -116,5 +125,12 @@ pub fn source_path(
     ensures fits { IfOk result (λ p. IsPathOf (codes "source") dir.now name.now refs.now (sha256 nar.now) p) }
     ensures value { IfOk result (λ p. p ≡ spec.source_path dir.now name.now refs.now nar.now) }
 {
-    path_of(alloc, "source", dir, name, refs, &Sha256::digest(nar))
+    path_of(
+        alloc,
+        "source",
+        dir,
+        name.as_str(),
+        refs,
+        &Sha256::digest(nar),
+    )
 }

@@ -3,9 +3,11 @@
 //! - `is_plain_name`, `StoreDir`, `Name`, `StorePath`: the texts, each accepted exactly.
 //! - `base32`, `unbase32`, `fold20`: how a digest is written in a path.
 //! - `text_path`, `source_path`: the path that an object is given.
+//! - `Ca`: the content address that it is recorded with.
 #![tactic(auto)]
 
 mod computed_path;
+mod content_address;
 mod digits;
 mod fold;
 mod plain_name;
@@ -14,6 +16,7 @@ mod store_name;
 mod store_path;
 
 pub use computed_path::{source_path, text_path};
+pub use content_address::{Ca, CaError, Method, VerifyError};
 pub use digits::{Base32Error, base32, unbase32};
 pub use fold::fold20;
 pub use plain_name::is_plain_name;

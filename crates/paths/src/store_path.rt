@@ -4,11 +4,12 @@ ghost use Rattle.std.specs.Ordering.{nat_cmp};
 ghost use Rattle.std.specs.Cmp.{partial_equiv_from_equiv};
 ghost use Rattle.std.specs.Cmp.Lexicographic.{pointwise, slice_cmp, nat_list_eq_equiv, nat_list_cmp_total, texts_ties, texts_po};
 ghost use Rattle.paths.specs.Base32.{all_digits};
-ghost use Rattle.paths.specs.StorePath.{is_base_name, base_of};
+ghost use Rattle.paths.specs.Names.{is_store_name};
+ghost use Rattle.paths.specs.StorePath.{is_base_name, name_of, is_derivation, base_of};
 
 use crate::digits::all_digits;
 use crate::store_dir::StoreDir;
-use crate::store_name::{Name, is_store_name};
+use crate::store_name::is_store_name;
 use std::alloc::{AllocError, Global};
 use std::cmp::Ordering;
 use std::fmt;
@@ -91,14 +92,15 @@ impl StorePath {
     }
 
     /// The path of 32 digits and a name.
-    pub(crate) fn join(digits: String, name: &Name) -> Result<StorePath, AllocError>
+    pub(crate) fn join(digits: String, name: &str) -> Result<StorePath, AllocError>
+        requires name { is_store_name name.now ≡ true }
         requires count { length (string_bytes digits) ≡ 32 }
         requires digits { all_digits (string_bytes digits) ≡ true }
         ensures { IfOk result (λ p. p ≡ string_bytes digits ++ codes "-" ++ name.now) }
     {
         let mut base = digits;
         base.push_str("-")?;
-        base.push_str(name.as_str())?;
+        base.push_str(name)?;
         Ok(StorePath { base })
     }
 
@@ -108,6 +110,24 @@ impl StorePath {
         ensures valid { is_base_name self.now ≡ true }
     {
         self.base.as_str()
+    }
+
+    /// The name, which stands behind the digits and the `-`.
+    pub fn name(&self) -> &str
+        ensures value { result.now ≡ name_of self.now }
+        ensures valid { is_store_name result.now ≡ true }
+    {
+        match self.base.split_once('-') {
+            Some((_, name)) => name,
+            None => unreachable!(),
+        }
+    }
+
+    /// Whether this is the path of a derivation: its name ends in `.drv`.
+    pub fn is_derivation(&self) -> bool
+        ensures { result ≡ is_derivation self.now }
+    {
+        self.base.ends_with(".drv")
     }
 }
 

@@ -1,7 +1,7 @@
 use crate::computed_path::{fingerprint, in_path_order};
 use crate::{
-    Base32Error, Name, NameError, StoreDir, StoreDirError, StorePath, StorePathError, base32,
-    fold20, is_plain_name, source_path, text_path, unbase32,
+    Base32Error, Ca, CaError, Name, NameError, StoreDir, StoreDirError, StorePath, StorePathError,
+    VerifyError, base32, fold20, is_plain_name, source_path, text_path, unbase32,
 };
 use sha2::{Digest, Sha256};
 use std::test::Fail;
@@ -159,7 +159,14 @@ fn fingerprint_of_a_set_of_references(rt: HostRuntime) -> Result<(), Fail> {
     refs.push(store_path(&rt, "11111111111111111111111111111111-b")?)?;
     let ordered = in_path_order(alloc, refs.as_slice())?;
     let inner = Sha256::digest(b"abc".as_slice());
-    let text = fingerprint(alloc, "text", &dir, &name, ordered.as_slice(), &inner)?;
+    let text = fingerprint(
+        alloc,
+        "text",
+        &dir,
+        name.as_str(),
+        ordered.as_slice(),
+        &inner,
+    )?;
     assert_eq!(rt;
         text.as_str(),
         "text:/nix/store/00000000000000000000000000000000-a:/nix/store/11111111111111111111111111111111-b:sha256:ba7816bf8f01cfea414140de5dae2223b00361a396177a9cb410ff61f20015ad:/nix/store:n"
@@ -192,12 +199,72 @@ fn path_of_a_source(rt: HostRuntime) -> Result<(), Fail> {
         "1qwy7y49hyqd7kdpkyjfclz5fkfqalqapzc4v18lbibkx1yzdzib"
     );
     assert_eq!(rt;
-        fingerprint(alloc, "source", &dir, &name, &[], &inner)?.as_str(),
+        fingerprint(alloc, "source", &dir, name.as_str(), &[], &inner)?.as_str(),
         "source:sha256:2bfef67de873c54551d884fdab3055d84d573e654efa79db3c0d7b98883f9ee3:/nix/store:myfile"
     );
     let path = source_path(alloc, &dir, &name, &[], ARCHIVE.as_slice())?;
     assert_eq!(rt; path.as_str(), "xv2iccirbrvklck36f1g7vldn5v58vck-myfile");
     let text = text_path(alloc, &dir, &name, &[], b"mycontent\n".as_slice())?;
     assert_ne!(rt; text, path);
+    Ok(())
+}
+
+#[test]
+fn content_addresses(rt: HostRuntime) -> Result<(), Fail> {
+    let alloc = rt.alloc();
+    let digits = "1qwy7y49hyqd7kdpkyjfclz5fkfqalqapzc4v18lbibkx1yzdzib";
+    let source = format!(in alloc; "fixed:r:sha256:{digits}")?;
+    let text = format!(in alloc; "text:sha256:{digits}")?;
+    assert_eq!(rt; Ca::parse(alloc, source.as_str())?.to_text(alloc)?, source);
+    assert_eq!(rt; Ca::parse(alloc, text.as_str())?.to_text(alloc)?, text);
+    assert_eq!(rt; Ca::of_source(ARCHIVE.as_slice()).to_text(alloc)?, source);
+    for bad in [
+        "",
+        "text:sha256:",
+        "fixed:sha256:1qwy7y49hyqd7kdpkyjfclz5fkfqalqapzc4v18lbibkx1yzdzib",
+        "fixed:r:sha256:1qwy7y49hyqd7kdpkyjfclz5fkfqalqapzc4v18lbibkx1yzdzi",
+        "fixed:r:sha256:1qwy7y49hyqd7kdpkyjfclz5fkfqalqapzc4v18lbibkx1yzdzibb",
+        "fixed:r:sha256:zqwy7y49hyqd7kdpkyjfclz5fkfqalqapzc4v18lbibkx1yzdzib",
+        "text:sha256:eqwy7y49hyqd7kdpkyjfclz5fkfqalqapzc4v18lbibkx1yzdzib",
+        "source:sha256:1qwy7y49hyqd7kdpkyjfclz5fkfqalqapzc4v18lbibkx1yzdzib",
+    ] {
+        assert_eq!(rt; Ca::parse(alloc, bad).err(), Some(CaError::BadCa), "{bad}");
+    }
+    Ok(())
+}
+
+#[test]
+fn addresses_verified(rt: HostRuntime) -> Result<(), Fail> {
+    let alloc = rt.alloc();
+    let dir = StoreDir::parse(alloc, "/nix/store")?;
+    let nar = ARCHIVE.as_slice();
+    let path = store_path(&rt, "xv2iccirbrvklck36f1g7vldn5v58vck-myfile")?;
+    let other = store_path(&rt, "xv2iccirbrvklck36f1g7vldn5v58vck-myfile2")?;
+    let source = Ca::of_source(nar);
+    assert_eq!(rt; source.verify(alloc, &dir, &path, &[], nar), Ok(()));
+    assert_eq!(rt;
+        source.verify(alloc, &dir, &other, &[], nar),
+        Err(VerifyError::CaMismatch)
+    );
+    assert_eq!(rt;
+        source.verify(alloc, &dir, &path, &[], b"other"),
+        Err(VerifyError::CaMismatch)
+    );
+    let name = Name::parse(alloc, "myfile")?;
+    let contents = b"mycontent\n".as_slice();
+    let text = Ca::of_text(contents);
+    let made = text_path(alloc, &dir, &name, &[], contents)?;
+    assert_eq!(rt; text.verify(alloc, &dir, &made, &[], nar), Ok(()));
+    assert_eq!(rt;
+        text.verify(alloc, &dir, &path, &[], nar),
+        Err(VerifyError::CaMismatch)
+    );
+    assert_eq!(rt;
+        text.verify(alloc, &dir, &made, &[], contents),
+        Err(VerifyError::CaMismatch)
+    );
+    assert_eq!(rt; made.name(), "myfile");
+    assert!(rt; !made.is_derivation());
+    assert!(rt; store_path(&rt, "00000000000000000000000000000000-a.drv")?.is_derivation());
     Ok(())
 }

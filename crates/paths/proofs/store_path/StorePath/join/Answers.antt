@@ -6,4 +6,4 @@ use Rattle.paths.proofs.store_path.StorePath.join.Goals as goal
 pub invariant_of-result : goal.invariant_of-result
 invariant_of-result c =
     let joined : string_bytes c.push_str-2.new.self ≡ string_bytes c.args.digits ++ 45 ∷ [] ++ c.args.name.now = search rules in
-    ap is_base_name joined ∙ is_base_name-join _ _ c.requires.count c.requires.digits c.as_str.ensures.valid
+    ap is_base_name joined ∙ is_base_name-join _ _ c.requires.count c.requires.digits c.requires.name

@@ -1,0 +1,251 @@
+//! Content addresses.
+ghost use Rattle.std.specs.Prelude.{◌≡◌, ◌⊎◌, IfOk, IfErr, OnOk, Some, None, true, false, string_bytes};
+ghost use Rattle.std.specs.Option.{option_copied};
+ghost use Rattle.std.specs.Str.{bytes_eq};
+ghost use Rattle.nar.specs.View.{tree_of};
+ghost use Rattle.nar.specs.Outcome.{outcome_of};
+ghost use Rattle.paths.specs.Base32 as spec;
+ghost use Rattle.paths.specs.ContentAddress.{ContentAddress, address_front, address_text, address_of, with_method, text_address, source_address, plain, plain_contents, is_made_of, method_verifies, verifies};
+
+use crate::computed_path::path_of;
+use crate::digits::{Base32Error, base32, unbase32};
+use crate::store_dir::StoreDir;
+use crate::store_path::StorePath;
+use nar::{NarError, Node};
+use sha2::{Digest, Sha256};
+use std::alloc::{AllocError, Global};
+use std::marker::Model;
+use thiserror::Error;
+
+/// What an object's path is made of: the contents of a text, or the whole archive.
+#[derive(Clone, Copy, PartialEq, Eq, Debug)]
+pub enum Method {
+    /// The contents of a regular file that isn't executable.
+    Text,
+    /// The archive.
+    Source,
+}
+
+/// A content address, such as `fixed:r:sha256:1qwy7y49hyqd7kdpkyjfclz5fkfqalqapzc4v18lbibkx1yzdzib`. Contracts
+/// see it as its method and the bytes of its digest.
+#[derive(Drop)]
+pub struct Ca {
+    method: Method,
+    digest: [u8; 32],
+}
+
+impl Model for Ca {
+    ghost Value = { ContentAddress };
+
+    ghost view = { λ c. record { method = c.method; digest = c.digest } };
+}
+
+/// Why a text gives no content address.
+#[derive(Clone, Copy, PartialEq, Eq, Debug, Error)]
+pub enum CaError {
+    /// The text isn't `text:sha256:` or `fixed:r:sha256:` and 52 digits that spell 32 bytes.
+    #[error("bad-ca")]
+    BadCa,
+    /// Memory was refused.
+    #[error("memory")]
+    Memory,
+}
+
+/// Why a content address isn't that of an object.
+#[derive(Clone, Copy, PartialEq, Eq, Debug, Error)]
+pub enum VerifyError {
+    /// The digest or the path differs, or the address is of a text and the archive is none of a regular file that
+    /// isn't executable.
+    #[error("ca-mismatch")]
+    CaMismatch,
+    /// Memory was refused.
+    #[error("memory")]
+    Memory,
+}
+
+/// What the text of an address begins with.
+fn front(method: Method) -> &'static str
+    ensures { result.now ≡ address_front method }
+{
+    match method {
+        Method::Text => "text:sha256:",
+        Method::Source => "fixed:r:sha256:",
+    }
+}
+
+impl Ca {
+    /// The address that a text is: `text:sha256:` or `fixed:r:sha256:`, and 52 digits that spell 32 bytes.
+    ///
+    /// # Errors
+    ///
+    /// `BadCa` exactly where the text is no address, and `Memory`.
+    pub fn parse(alloc: Global, text: &str) -> Result<Ca, CaError>
+        ensures ok { IfOk result (λ ca. address_of text.now ≡ Some ca) }
+        ensures bad { IfErr result (λ e. (e ≡ CaError.Memory) ⊎ ((e ≡ CaError.BadCa) × (address_of text.now ≡ None))) }
+    {
+        if let Some(digits) = text.strip_prefix("text:sha256:") {
+            return Ca::with_digits(alloc, Method::Text, digits);
+        }
+        if let Some(digits) = text.strip_prefix("fixed:r:sha256:") {
+            return Ca::with_digits(alloc, Method::Source, digits);
+        }
+        Err(CaError::BadCa)
+    }
+
+    fn with_digits(alloc: Global, method: Method, digits: &str) -> Result<Ca, CaError>
+        ensures ok { IfOk result (λ ca. with_method method (spec.unbase32 digits.now 32) ≡ Some ca) }
+        ensures bad { IfErr result (λ e. (e ≡ CaError.Memory) ⊎ ((e ≡ CaError.BadCa) × (with_method method (spec.unbase32 digits.now 32) ≡ None))) }
+    {
+        match unbase32(alloc, digits, 32) {
+            Ok(bytes) => {
+                let mut digest = [0u8; 32];
+                digest.copy_from_slice(bytes.as_slice());
+                Ok(Ca { method, digest })
+            }
+            Err(Base32Error::Memory) => Err(CaError::Memory),
+            Err(_) => Err(CaError::BadCa),
+        }
+    }
+
+    /// The address of a text object with these contents.
+    pub fn of_text(contents: &[u8]) -> Ca
+        ensures { result ≡ text_address contents.now }
+    {
+        Ca {
+            method: Method::Text,
+            digest: Sha256::digest(contents),
+        }
+    }
+
+    /// The address of a source object with this archive.
+    pub fn of_source(nar: &[u8]) -> Ca
+        ensures { result ≡ source_address nar.now }
+    {
+        Ca {
+            method: Method::Source,
+            digest: Sha256::digest(nar),
+        }
+    }
+
+    /// Its text.
+    ///
+    /// # Errors
+    ///
+    /// Memory was refused.
+    pub fn to_text(&self, alloc: Global) -> Result<String, AllocError>
+        ensures { IfOk result (λ text. string_bytes text ≡ address_text self.now) }
+    {
+        let mut text = String::from_str(alloc, front(self.method))?;
+        let digits = base32(alloc, &self.digest)?;
+        text.push_str(digits.as_str())?;
+        Ok(text)
+    }
+
+    /// Tests whether this is the address of the object with a path, references and an archive. The order and the
+    /// repeats of `refs` make no difference, and `nar` may be any bytes.
+    ///
+    /// # Errors
+    ///
+    /// `CaMismatch` exactly where the digest differs from that of the contents (of a text) or the archive (of a
+    /// source), the path differs from the one made of them, or the address is of a text and `nar` isn't the archive
+    /// of a regular file that isn't executable; and `Memory`.
+    pub fn verify(
+        &self,
+        alloc: Global,
+        dir: &StoreDir,
+        path: &StorePath,
+        refs: &[StorePath],
+        nar: &[u8],
+    ) -> Result<(), VerifyError>
+        ensures ok { OnOk result (verifies self.now dir.now path.now refs.now nar.now ≡ true) }
+        ensures bad { IfErr result (λ e. (e ≡ VerifyError.Memory) ⊎ ((e ≡ VerifyError.CaMismatch) × (verifies self.now dir.now path.now refs.now nar.now ≡ false))) }
+    {
+        match self.method {
+            Method::Text => verify_text(alloc, &self.digest, dir, path, refs, nar),
+            Method::Source => {
+                let inner = Sha256::digest(nar);
+                verify_made(alloc, "source", &self.digest, &inner, dir, path, refs)
+            }
+        }
+    }
+}
+
+/// The contents of a regular file that isn't executable.
+fn plain_contents<'a>(node: &Node<'a>) -> Option<&'a [u8]>
+    ensures { option_copied result ≡ plain (tree_of node.now) }
+{
+    match node {
+        Node::Regular {
+            executable: false,
+            contents,
+        } => Some(*contents),
+        _ => None,
+    }
+}
+
+/// The contents, where some bytes are the archive of a regular file that isn't executable.
+fn contents_in(alloc: Global, nar: &[u8]) -> Result<Option<&[u8]>, AllocError>
+    ensures { IfOk result (λ found. option_copied found ≡ plain_contents (outcome_of nar.now)) }
+{
+    match nar::read(alloc, nar) {
+        Ok(node) => Ok(plain_contents(&node)),
+        Err(fault) => match fault {
+            NarError::Memory => Err(AllocError),
+            _ => Ok(None),
+        },
+    }
+}
+
+fn verify_text(
+    alloc: Global,
+    stated: &[u8; 32],
+    dir: &StoreDir,
+    path: &StorePath,
+    refs: &[StorePath],
+    nar: &[u8],
+) -> Result<(), VerifyError>
+    ensures ok { OnOk result (method_verifies Method.Text stated.now dir.now path.now refs.now nar.now ≡ true) }
+    ensures bad { IfErr result (λ e. (e ≡ VerifyError.Memory) ⊎ ((e ≡ VerifyError.CaMismatch) × (method_verifies Method.Text stated.now dir.now path.now refs.now nar.now ≡ false))) }
+{
+    let found = match contents_in(alloc, nar) {
+        Ok(found) => found,
+        Err(_) => return Err(VerifyError::Memory),
+    };
+    let Some(contents) = found else {
+        return Err(VerifyError::CaMismatch);
+    };
+    let inner = Sha256::digest(contents);
+    verify_made(alloc, "text", stated, &inner, dir, path, refs)
+}
+
+fn same_bytes(a: &[u8], b: &[u8]) -> bool
+    ensures { result ≡ bytes_eq a.now b.now }
+{
+    a == b
+}
+
+/// Tests whether a digest is the stated one, and a path is made of it.
+fn verify_made(
+    alloc: Global,
+    kind: &str,
+    stated: &[u8; 32],
+    inner: &[u8; 32],
+    dir: &StoreDir,
+    path: &StorePath,
+    refs: &[StorePath],
+) -> Result<(), VerifyError>
+    ensures ok { OnOk result (is_made_of kind.now stated.now inner.now dir.now path.now refs.now ≡ true) }
+    ensures bad { IfErr result (λ e. (e ≡ VerifyError.Memory) ⊎ ((e ≡ VerifyError.CaMismatch) × (is_made_of kind.now stated.now inner.now dir.now path.now refs.now ≡ false))) }
+{
+    if !same_bytes(stated.as_slice(), inner.as_slice()) {
+        return Err(VerifyError::CaMismatch);
+    }
+    let made = match path_of(alloc, kind, dir, path.name(), refs, inner) {
+        Ok(made) => made,
+        Err(_) => return Err(VerifyError::Memory),
+    };
+    if !same_bytes(path.as_str().as_bytes(), made.as_str().as_bytes()) {
+        return Err(VerifyError::CaMismatch);
+    }
+    Ok(())
+}
