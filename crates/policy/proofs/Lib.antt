@@ -1,0 +1,4 @@
+pub mod Documents
+pub mod TableKeys
+pub mod Entries
+pub mod Sets

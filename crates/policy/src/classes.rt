@@ -1,0 +1,52 @@
+//! The classes of callers.
+ghost use Rattle.std.specs.Prelude.{◌≡◌, map};
+ghost use Rattle.policy.specs.Class.{is_in_group, admits, matches, class_of};
+ghost use Rattle.policy.specs.View.{entry_view};
+
+use crate::caller::Caller;
+use crate::config::Config;
+use crate::entry::Entry;
+use crate::groups::Groups;
+use crate::kinds::Class;
+
+fn is_in_group(groups: &Groups, caller: &Caller, group: &str) -> bool
+    ensures { result ≡ is_in_group groups.now caller.now group.now }
+{
+    if let Some(primary) = caller.group() {
+        if primary == group {
+            return true;
+        }
+    }
+    groups.hold(group, caller.name())
+}
+
+fn admits(groups: &Groups, caller: &Caller, entry: &Entry) -> bool
+    ensures { result ≡ admits groups.now caller.now (entry_view entry.now) }
+{
+    match entry {
+        Entry::Everyone => true,
+        Entry::User(name) => name.as_str() == caller.name(),
+        Entry::Group(group) => is_in_group(groups, caller, group.as_str()),
+    }
+}
+
+fn matches(groups: &Groups, caller: &Caller, entries: &[Entry]) -> bool
+    ensures { result ≡ matches groups.now caller.now (map entry_view entries.now) }
+{
+    entries.iter().any(|entry| admits(groups, caller, entry))
+}
+
+/// The class of a caller: trusted where `trusted-users` matches, else allowed where `allowed-users`
+/// does, else a stranger. A list matches where it holds `*`, the caller's name, or `@` and a group
+/// that is the caller's primary one or has the caller among its members. Takes no memory.
+pub fn class(config: &Config, caller: &Caller) -> Class
+    ensures { result ≡ class_of config.now caller.now }
+{
+    if matches(config.groups(), caller, config.trusted_users()) {
+        return Class::Trusted;
+    }
+    if matches(config.groups(), caller, config.allowed_users()) {
+        return Class::Allowed;
+    }
+    Class::Stranger
+}

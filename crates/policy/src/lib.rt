@@ -1,0 +1,23 @@
+//! Who may do what: the configuration, callers, their classes, and the rules.
+#![tactic(auto)]
+
+mod caller;
+mod classes;
+mod config;
+mod document;
+mod entry;
+mod error;
+mod groups;
+mod keys;
+mod kinds;
+mod rules;
+#[cfg(test)]
+mod tests;
+
+pub use caller::Caller;
+pub use classes::class;
+pub use config::{Config, keep_derivations, keep_outputs, store_dir};
+pub use document::MAX_CONFIG_BYTES;
+pub use error::{CallerError, ConfigError, KeyWord};
+pub use kinds::{Class, Op, Rule};
+pub use rules::decide;
