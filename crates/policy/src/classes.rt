@@ -17,7 +17,7 @@ fn is_in_group(groups: &Groups, caller: &Caller, group: &str) -> bool
             return true;
         }
     }
-    groups.hold(group, caller.name())
+    groups.has_member(group, caller.name())
 }
 
 fn admits(groups: &Groups, caller: &Caller, entry: &Entry) -> bool

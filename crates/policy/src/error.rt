@@ -1,5 +1,5 @@
 //! Why a configuration or a caller is refused.
-ghost use Rattle.std.specs.Prelude.{◌≡◌};
+ghost use Rattle.std.specs.Prelude.{◌≡◌, Some};
 ghost use Rattle.policy.specs.Words.{key_word};
 ghost use Rattle.policy.specs.declared.error.CallerError.TheVariants.{Memory as NoMemory};
 ghost use Rattle.policy.specs.declared.error.ConfigError.TheVariants.{Memory};
@@ -48,6 +48,8 @@ impl KeyWord {
 }
 
 impl fmt::Display for KeyWord {
+    ghost output = { λ word. Some (key_word word) };
+
     fn fmt<W: fmt::Write>(&self, f: &mut fmt::Formatter<W>) -> fmt::Result {
         let word = self.as_str();
         write!(f, "{word}")

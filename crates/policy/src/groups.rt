@@ -91,7 +91,7 @@ impl Groups {
 
     /// Whether the members of a group hold a user's name. Takes a time that grows with the
     /// logarithms of the numbers of groups and members.
-    pub fn hold(&self, group: &str, user: &str) -> bool
+    pub fn has_member(&self, group: &str, user: &str) -> bool
         ensures { result ≡ holds (get self.now group.now) user.now }
     {
         match self.members.get(group) {

@@ -355,3 +355,26 @@ fn words(rt: HostRuntime) -> Result<(), Fail> {
     assert_eq!(rt; Rule::Connect.as_str(), "connect");
     Ok(())
 }
+
+// Where an allocation is refused, the answer is `Memory` or what it is otherwise: run with one refused in turn.
+#[test]
+fn memory_or_the_same_answer(rt: HostRuntime) {
+    let text =
+        "store-dir = \"/s\"\nallowed-users = [\"bob\", \"@users\"]\ntrusted-users = [\"@wheel\"]\ngroups = { users = [\"eve\"], wheel = [\"ann\", \"dan\"] }";
+    let caller = Caller::new(rt.alloc(), "dan", Some("users"));
+    assert!(rt; !matches!(&caller, Err(CallerError::BadCaller)));
+    let config = Config::from_toml(rt.alloc(), text.as_bytes());
+    assert!(rt; !matches!(&config, Err(ConfigError::Bad(_))));
+    if let (Ok(config), Ok(caller)) = (&config, &caller) {
+        assert_eq!(rt; class(config, caller), Class::Trusted);
+    }
+    let defaults = Config::from_toml(rt.alloc(), b"");
+    assert!(rt; !matches!(&defaults, Err(ConfigError::Bad(_))));
+    let refused = Config::from_toml(rt.alloc(), b"groups = { wheel = [\"ann\", \"*\"] }");
+    assert!(rt;
+        matches!(
+            &refused,
+            Err(ConfigError::Memory | ConfigError::Bad(KeyWord::Groups))
+        )
+    );
+}

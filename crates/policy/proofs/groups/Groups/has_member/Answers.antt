@@ -3,7 +3,7 @@ use Rattle.std.specs.FinMap.{get}
 use Rattle.std.specs.Option.{option_copied}
 use Rattle.policy.specs.Class.{holds}
 use Rattle.policy.proofs.Sets.{get-map_of}
-use Rattle.policy.proofs.groups.Groups.hold.Goals as goal
+use Rattle.policy.proofs.groups.Groups.has_member.Goals as goal
 
 pub returns-in-Some : goal.returns-in-Some
 returns-in-Some c =
