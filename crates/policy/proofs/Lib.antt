@@ -2,3 +2,4 @@ pub mod Documents
 pub mod TableKeys
 pub mod Entries
 pub mod Sets
+pub mod Verdicts

@@ -10,7 +10,7 @@ use Rattle.std.specs.BTreeMap.{BTreeMap, get_by_text}
 use Rattle.std.specs.BTreeSet.{BTreeSet, contains_text}
 use Rattle.std.specs.FinMap.{FinMap, find, get, insert, contains_key, from_entries, get-from_entries, get-insert, same_map, nat_cmp-IsAntisymmetric, slice_cmp-IsAntisymmetric}
 use Rattle.std.proofs.lemmas.Map.Text.{is_eq-slice_cmp}
-use Rattle.policy.specs.Settings.{Users, Groups}
+use Rattle.policy.specs.Settings.{Users}
 
 -- whether a key has the bytes q
 abbrev pub is_text : List ℕ → String Global → Bool

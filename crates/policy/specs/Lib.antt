@@ -2,7 +2,9 @@ pub mod Settings
 pub mod Toml
 pub mod Caller
 pub mod Class
+pub mod Operation
 pub mod Rules
+pub mod Laws
 pub mod Words
 pub mod View
 pub mod Codes

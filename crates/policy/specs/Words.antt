@@ -5,7 +5,7 @@ use Rattle.policy.specs.declared.error.KeyWord.TheVariants.{Syntax, UnknownKey, 
 use Rattle.policy.specs.declared.kinds.Class.{Class}
 use Rattle.policy.specs.declared.kinds.Class.TheVariants.{Stranger, Allowed, Trusted}
 use Rattle.policy.specs.declared.kinds.Rule.{Rule}
-use Rattle.policy.specs.declared.kinds.Rule.TheVariants.{Connect}
+use Rattle.policy.specs.declared.kinds.Rule.TheVariants.{Connect, TrustedImport, TrustedPermanentRoot, TrustedRuntimeRoots, OwnRoot, NoIgnoreLiveness, Live}
 
 -- the word for what is wrong with a configuration
 abbrev pub key_word : KeyWord → List ℕ
@@ -27,3 +27,9 @@ class_word Trusted = codes "trusted"
 -- the word for a rule
 abbrev pub rule_word : Rule → List ℕ
 rule_word Connect = codes "connect"
+rule_word TrustedImport = codes "trusted-import"
+rule_word TrustedPermanentRoot = codes "trusted-permanent-root"
+rule_word TrustedRuntimeRoots = codes "trusted-runtime-roots"
+rule_word OwnRoot = codes "own-root"
+rule_word NoIgnoreLiveness = codes "no-ignore-liveness"
+rule_word Live = codes "live"

@@ -26,11 +26,23 @@ impl Class {
     }
 }
 
-/// A rule that a request has to keep.
+/// A rule that a request has to keep, in the order in which the rules are tested.
 #[derive(Clone, Copy, PartialEq, Eq, Debug)]
 pub enum Rule {
     /// A stranger may not connect: whatever it asks is denied.
     Connect,
+    /// Only a trusted caller may import an object without a content address.
+    TrustedImport,
+    /// Only a trusted caller may set or drop a permanent root.
+    TrustedPermanentRoot,
+    /// Only a trusted caller may replace the runtime roots.
+    TrustedRuntimeRoots,
+    /// A root or profile is its owner's; a trusted caller may drop another's root or generation.
+    OwnRoot,
+    /// Nobody may ignore liveness.
+    NoIgnoreLiveness,
+    /// A live path may not be deleted.
+    Live,
 }
 
 impl Rule {
@@ -40,6 +52,12 @@ impl Rule {
     {
         match self {
             Rule::Connect => "connect",
+            Rule::TrustedImport => "trusted-import",
+            Rule::TrustedPermanentRoot => "trusted-permanent-root",
+            Rule::TrustedRuntimeRoots => "trusted-runtime-roots",
+            Rule::OwnRoot => "own-root",
+            Rule::NoIgnoreLiveness => "no-ignore-liveness",
+            Rule::Live => "live",
         }
     }
 }

@@ -10,6 +10,7 @@ mod error;
 mod groups;
 mod keys;
 mod kinds;
+pub mod laws;
 mod rules;
 #[cfg(test)]
 mod tests;

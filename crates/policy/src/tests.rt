@@ -338,6 +338,16 @@ fn strangers_may_not_connect(rt: HostRuntime) -> Result<(), Fail> {
     Ok(())
 }
 
+const RULES: [(Rule, &str); 7] = [
+    (Rule::Connect, "connect"),
+    (Rule::TrustedImport, "trusted-import"),
+    (Rule::TrustedPermanentRoot, "trusted-permanent-root"),
+    (Rule::TrustedRuntimeRoots, "trusted-runtime-roots"),
+    (Rule::OwnRoot, "own-root"),
+    (Rule::NoIgnoreLiveness, "no-ignore-liveness"),
+    (Rule::Live, "live"),
+];
+
 #[test]
 fn words(rt: HostRuntime) -> Result<(), Fail> {
     let alloc = rt.alloc();
@@ -352,7 +362,9 @@ fn words(rt: HostRuntime) -> Result<(), Fail> {
         "bad-caller"
     );
     assert_eq!(rt; Class::Stranger.as_str(), "stranger");
-    assert_eq!(rt; Rule::Connect.as_str(), "connect");
+    for (rule, word) in RULES {
+        assert_eq!(rt; rule.as_str(), word);
+    }
     Ok(())
 }
 

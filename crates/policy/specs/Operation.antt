@@ -1,0 +1,65 @@
+-- What the rules ask of a request: its kind, and with some kinds an owner or a flag.
+use Rattle.std.specs.Prelude.{ℕ, Bool, true, false, not, List, Option, Some, None}
+use Rattle.policy.specs.declared.kinds.Op.{Op}
+use Rattle.policy.specs.declared.kinds.Op.TheVariants.{Plain}
+
+pub data Operation : Type 0 where
+  -- what every caller who may connect may ask
+  plain : Operation
+  -- an import, and whether the object has a content address
+  import_object : Bool → Operation
+  set_permanent : Operation
+  drop_permanent : Operation
+  replace_runtime : Operation
+  -- with the owner of the root or the profile
+  set_user_root : List ℕ → Operation
+  drop_user_root : List ℕ → Operation
+  set_profile : List ℕ → Operation
+  rollback : List ℕ → Operation
+  switch : List ℕ → Operation
+  delete_generation : List ℕ → Operation
+  -- with the flag to ignore liveness
+  collect : Bool → Operation
+  delete : Bool → Operation
+
+-- the owner that an operation names
+abbrev pub owner_of : Operation → Option (List ℕ)
+owner_of (set_user_root owner) = Some owner
+owner_of (drop_user_root owner) = Some owner
+owner_of (set_profile owner) = Some owner
+owner_of (rollback owner) = Some owner
+owner_of (switch owner) = Some owner
+owner_of (delete_generation owner) = Some owner
+owner_of _ = None
+
+-- whether it drops what has an owner, a user root or a generation: a trusted caller may do so for another
+abbrev pub drops_owned : Operation → Bool
+drops_owned (drop_user_root owner) = true
+drops_owned (delete_generation owner) = true
+drops_owned _ = false
+
+-- whether it imports an object that has no content address
+abbrev pub imports_without_address : Operation → Bool
+imports_without_address (import_object has_address) = not has_address
+imports_without_address _ = false
+
+-- whether it sets or drops a permanent root
+abbrev pub changes_permanent : Operation → Bool
+changes_permanent set_permanent = true
+changes_permanent drop_permanent = true
+changes_permanent _ = false
+
+-- whether it replaces the runtime roots
+abbrev pub replaces_runtime : Operation → Bool
+replaces_runtime replace_runtime = true
+replaces_runtime _ = false
+
+-- whether it carries the flag to ignore liveness, and the flag is set
+abbrev pub ignores_liveness : Operation → Bool
+ignores_liveness (collect flag) = flag
+ignores_liveness (delete flag) = flag
+ignores_liveness _ = false
+
+-- what the code's operation stands for
+abbrev pub operation_of : Op → Operation
+operation_of Plain = plain

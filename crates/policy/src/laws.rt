@@ -1,0 +1,25 @@
+//! Laws of the rules. The functions do nothing: what counts is that their contracts are proved.
+ghost use Rattle.policy.specs.Laws.{LiveIsAskedLast, StrangersMayNotConnect, PlainIsForAllOthers, KeptForTheTrusted, KeptForTheOwner, KeptFromAll};
+
+/// The rule `Live`, the only one that needs the world, is tested last: whoever decides the others
+/// first and then looks at the world has the first rule that forbids.
+pub fn live_is_asked_last()
+    ensures { LiveIsAskedLast }
+{}
+
+/// Whatever a stranger asks is denied by `Connect`.
+pub fn strangers_may_not_connect()
+    ensures { StrangersMayNotConnect }
+{}
+
+/// What no rule but `Connect` asks about is denied to strangers alone.
+pub fn plain_is_for_all_others()
+    ensures { PlainIsForAllOthers }
+{}
+
+/// Verdicts worked by hand, one for each side of each rule.
+pub fn worked_verdicts()
+    ensures trusted { KeptForTheTrusted }
+    ensures owner { KeptForTheOwner }
+    ensures all { KeptFromAll }
+{}
