@@ -1,0 +1,66 @@
+-- From the result of a command to the answer that it gives.
+use Rattle.std.proofs.Common.{◌≡◌, ℕ, ◌⊎◌, List, take, Option, Some, None, Result, Ok, Err, String, Global, ap, sym, subst, inl, inr, ◌∙◌}
+use Rattle.std.specs.Prelude.{IfOk, IfErr, IfSome, string_bytes}
+use Rattle.tool.specs.declared.stops.Refusal.{Refusal}
+use Rattle.tool.specs.declared.stops.Failure.TheVariants.{Memory}
+use Rattle.tool.specs.declared.stops.Stop.{Stop}
+use Rattle.tool.specs.declared.stops.Stop.TheVariants.{Refused, Failed}
+use Rattle.tool.specs.Stream.{Answers, AnswersTo, IsFailure, IsResultOf, IsStopBy, result_text}
+
+-- an answer with status 1 is one to any input
+ended : (fault : Option Refusal) (answer : List ℕ → Result (List ℕ) Stop) (known : Option (List ℕ))
+    → (out out' err err' : Option (List ℕ)) (status : ℕ) → status ≡ 1 → AnswersTo fault answer known out out' err err' status
+ended (Some fault) answer known out out' err err' status one = inl one
+ended None answer None out out' err err' status one = tt
+ended None answer (Some bytes) out out' err err' status one = any (answer bytes)
+  where
+    any : (r : Result (List ℕ) Stop) → Answers r out out' err err' status
+    any (Ok text) = inl one
+    any (Err stop) = inl one
+
+-- the answer of a result by its fault or its input
+by_result : (fault : Option Refusal) (answer : List ℕ → Result (List ℕ) Stop) (known : Option (List ℕ)) (result : Result (List ℕ) Stop)
+    → (out out' err err' : Option (List ℕ)) (status : ℕ) → IsResultOf fault answer known result → Answers result out out' err err' status
+    → AnswersTo fault answer known out out' err err' status
+by_result (Some fault) answer known result out out' err err' status is given = subst (λ r. Answers r out out' err err' status) is given
+by_result None answer None result out out' err err' status is given = tt
+by_result None answer (Some bytes) result out out' err err' status is given = subst (λ r. Answers r out out' err err' status) is given
+
+-- a failure has status 1
+failed : (result : Result (List ℕ) Stop) (out out' err err' : Option (List ℕ)) (status : ℕ) → IsFailure result → Answers result out out' err err' status → status ≡ 1
+failed (Ok text) out out' err err' status fails given = absurd fails
+failed (Err (Refused refusal)) out out' err err' status fails given = absurd fails
+failed (Err (Failed failure)) out out' err err' status fails (inl one) = one
+failed (Err (Failed failure)) out out' err err' status fails (inr stops) = stops.ended
+
+pub answers_to : (fault : Option Refusal) (answer : List ℕ → Result (List ℕ) Stop) (known : Option (List ℕ)) (result : Result (List ℕ) Stop)
+    → (out out' err err' : Option (List ℕ)) (status : ℕ) → IsFailure result ⊎ IsResultOf fault answer known result → Answers result out out' err err' status
+    → AnswersTo fault answer known out out' err err' status
+answers_to fault answer known result out out' err err' status (inl fails) given =
+    ended fault answer known out out' err err' status (failed result out out' err err' status fails given)
+answers_to fault answer known result out out' err err' status (inr is) given = by_result fault answer known result out out' err err' status is given
+
+-- a stop by a fault that is there before the input is read
+pub stopped_before : (fault : Option Refusal) (answer : List ℕ → Result (List ℕ) Stop) (known : Option (List ℕ)) (stop : Stop)
+    → IsStopBy fault stop → IsFailure (Err stop) ⊎ IsResultOf fault answer known (Err stop)
+stopped_before fault answer known stop (inl memory) = rw memory (inl tt)
+stopped_before (Some fault) answer known stop (inr is) = inr (let e : Refused fault ≡ stop = cc in ap Err (sym e))
+stopped_before None answer known stop (inr is) = let h : None ≡ Some stop = is in cc
+
+-- a line that was found, as a result
+pub by_line : (r : Result (String Global) Stop) (a : Result (List ℕ) Stop) → IfOk r (λ line. a ≡ Ok (string_bytes line)) → IfErr r (λ e. (e ≡ Failed Memory) ⊎ (a ≡ Err e))
+    → IsFailure (result_text r) ⊎ (result_text r ≡ a)
+by_line (Ok line) a ok err = inr (sym ok)
+by_line (Err e) a ok (inl memory) = rw memory (inl tt)
+by_line (Err e) a ok (inr is) = inr (sym is)
+
+-- a result by a front of the input that answers as all of it
+pub of_front : (fault : Option Refusal) (answer : List ℕ → Result (List ℕ) Stop) (known : Option (List ℕ)) (result : Result (List ℕ) Stop) (most : ℕ) (bytes : List ℕ)
+    → fault ≡ None → IfSome known (λ all. bytes ≡ take most all) → ((all : List ℕ) → answer (take most all) ≡ answer all)
+    → IsFailure result ⊎ (result ≡ answer bytes) → IsFailure result ⊎ IsResultOf fault answer known result
+of_front fault answer known result most bytes none front same (inl fails) = inl fails
+of_front fault answer known result most bytes none front same (inr is) = inr (subst (λ f. IsResultOf f answer known result) (sym none) (by_known known front))
+  where
+    by_known : (known : Option (List ℕ)) → IfSome known (λ all. bytes ≡ take most all) → IsResultOf None answer known result
+    by_known None front = tt
+    by_known (Some all) front = is ∙ ap answer front ∙ same all

@@ -1,0 +1,6 @@
+pub mod Grammar
+pub mod Line
+pub mod Stop
+pub mod Who
+pub mod Stream
+pub mod Object

@@ -1,0 +1,58 @@
+-- Standard input to a bound, and an answer to the two outputs.
+use Rattle.std.specs.Prelude.{◌≡◌, ◌⊎◌, ⊤, ℕ, List, Option, Some, None, Result, Ok, Err, String, string_bytes, option_map}
+use Rattle.std.specs.Io.KnownBytes.{Appends, Keeps}
+use Rattle.std.specs.declared.alloc.Global.{Global}
+use Rattle.tool.specs.declared.stops.Failure.TheVariants.{Memory}
+use Rattle.tool.specs.declared.stops.Refusal.{Refusal}
+use Rattle.tool.specs.declared.stops.Stop.{Stop}
+use Rattle.tool.specs.declared.stops.Stop.TheVariants.{Refused, Failed}
+use Rattle.tool.specs.Stop.{stop_text, stop_status}
+
+-- the line that says why went to the writer, with its status; or the writer gave out, with status 1
+abbrev pub Says : Stop → Option (List ℕ) → Option (List ℕ) → ℕ → Type 0
+Says stop old new status = (status ≡ 1) ⊎ ((status ≡ stop_status stop) × Appends old new (stop_text stop))
+
+-- a text went to the first writer and nothing to the second, with status 0
+pub record Gives (text : List ℕ) (out out' err err' : Option (List ℕ)) (status : ℕ) : Type 0 where
+  pub done : status ≡ 0
+  pub printed : Appends out out' text
+  pub silent : Keeps err err'
+
+-- a line that says why went to the second writer and nothing to the first, with its status
+pub record Stops (stop : Stop) (out out' err err' : Option (List ℕ)) (status : ℕ) : Type 0 where
+  pub ended : status ≡ stop_status stop
+  pub nothing : Keeps out out'
+  pub said : Appends err err' (stop_text stop)
+
+-- the answer was given; or memory, the input or a writer gave out, with status 1
+abbrev pub Answers : Result (List ℕ) Stop → Option (List ℕ) → Option (List ℕ) → Option (List ℕ) → Option (List ℕ) → ℕ → Type 0
+Answers (Ok text) out out' err err' status = (status ≡ 1) ⊎ Gives text out out' err err' status
+Answers (Err stop) out out' err err' status = (status ≡ 1) ⊎ Stops stop out out' err err' status
+
+-- what was found, as bytes
+abbrev pub result_text : Result (String Global) Stop → Result (List ℕ) Stop
+result_text (Ok text) = Ok (string_bytes text)
+result_text (Err stop) = Err stop
+
+-- the answer to an input was given: a fault that is there before it is read, or what it says, where its bytes are known
+abbrev pub AnswersTo : Option Refusal → (List ℕ → Result (List ℕ) Stop) → Option (List ℕ)
+    → Option (List ℕ) → Option (List ℕ) → Option (List ℕ) → Option (List ℕ) → ℕ → Type 0
+AnswersTo (Some fault) answer known out out' err err' status = Answers (Err (Refused fault)) out out' err err' status
+AnswersTo None answer None out out' err err' status = ⊤
+AnswersTo None answer (Some bytes) out out' err err' status = Answers (answer bytes) out out' err err' status
+
+-- a result for want of memory or of a stream
+abbrev pub IsFailure : Result (List ℕ) Stop → Type 0
+IsFailure (Err (Failed failure)) = ⊤
+IsFailure (Err (Refused refusal)) = ⊥
+IsFailure (Ok text) = ⊥
+
+-- a result by the fault that is there before the input is read, or by what the input says, where its bytes are known
+abbrev pub IsResultOf : Option Refusal → (List ℕ → Result (List ℕ) Stop) → Option (List ℕ) → Result (List ℕ) Stop → Type 0
+IsResultOf (Some fault) answer known result = result ≡ Err (Refused fault)
+IsResultOf None answer None result = ⊤
+IsResultOf None answer (Some bytes) result = result ≡ answer bytes
+
+-- why arguments are refused: want of memory, or the fault
+abbrev pub IsStopBy : Option Refusal → Stop → Type 0
+IsStopBy fault stop = (stop ≡ Failed Memory) ⊎ (option_map Refused fault ≡ Some stop)

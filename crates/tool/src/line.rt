@@ -1,0 +1,28 @@
+//! What a command line asks for.
+
+/// A subcommand with its values, as they stand on the command line: nothing is tested yet.
+#[derive(Debug, Drop)]
+pub enum Task<'a> {
+    /// The class of the caller, and whether it may connect.
+    Who,
+    /// The store path of the contents on standard input.
+    TextPath {
+        /// The name of the store object.
+        name: &'a str,
+        /// The path texts of its references.
+        references: Vec<&'a str>,
+    },
+}
+
+/// The options that stand before the subcommand, and the subcommand.
+#[derive(Debug, Drop)]
+pub struct CommandLine<'a> {
+    /// The file of the configuration. Without one the configuration is the empty text.
+    pub config: Option<&'a str>,
+    /// The name of the caller.
+    pub user: Option<&'a str>,
+    /// The primary group of the caller.
+    pub group: Option<&'a str>,
+    /// What is to be done.
+    pub task: Task<'a>,
+}

@@ -1,0 +1,58 @@
+//! Standard input to a bound, and an answer to the two outputs.
+ghost use Rattle.std.specs.Prelude.{◌≡◌, ◌⊎◌, IfOk, IfSome, take};
+ghost use Rattle.tool.specs.Stream.{Says, result_text, Answers};
+
+use crate::stops::{Failure, Stop};
+use std::alloc::Global;
+use std::io;
+use std::io::{ErrorKind, Read, Write};
+
+/// The bytes of a reader, of which no more than `most` are read.
+pub(crate) fn read_at_most<R: Read>(alloc: Global, input: &mut R, most: u64) -> io::Result<Vec<u8>>
+    ensures { IfOk result (λ bytes. IfSome (R.remaining input.old) (λ all. bytes.items ≡ take most all)) }
+{
+    let mut bytes = Vec::new(alloc);
+    input.take(most).read_to_end(&mut bytes)?;
+    Ok(bytes)
+}
+
+/// What a fault of a stream ends a command with: refused memory, or the failure of the stream.
+pub(crate) fn stop_for(fault: &io::Error, failure: Failure) -> Stop
+    ensures { (result ≡ Stop.Failed Failure.Memory) ⊎ (result ≡ Stop.Failed failure) }
+{
+    Stop::Failed(match fault.kind() {
+        ErrorKind::OutOfMemory => Failure::Memory,
+        _ => failure,
+    })
+}
+
+/// Gives a text to standard output, or the line that says why there is none to standard error, and
+/// answers the exit status.
+///
+/// Where standard output fails, standard error is given `failed: output`. Where standard error
+/// fails, the status is 1.
+pub(crate) fn give<W: Write, E: Write>(
+    answer: Result<String, Stop>,
+    output: &mut W,
+    errors: &mut E,
+) -> u8
+    ensures { Answers (result_text answer) (W.contents output.old) (W.contents output.new) (E.contents errors.old) (E.contents errors.new) result }
+{
+    match answer {
+        Ok(text) => match output.write_all(text.as_str().as_bytes()) {
+            Ok(()) => 0,
+            Err(_) => say(Stop::Failed(Failure::Output), errors),
+        },
+        Err(stop) => say(stop, errors),
+    }
+}
+
+/// Says on standard error why a command ends without its result, and answers the exit status.
+pub(crate) fn say<E: Write>(stop: Stop, errors: &mut E) -> u8
+    ensures { Says stop (E.contents errors.old) (E.contents errors.new) result }
+{
+    match errors.write_all(stop.text().as_bytes()) {
+        Ok(()) => stop.status(),
+        Err(_) => 1,
+    }
+}

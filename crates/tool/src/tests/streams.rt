@@ -1,0 +1,145 @@
+//! Readers and writers that move one byte a call, and that fail at each call.
+use crate::run;
+use std::io;
+use std::io::{ErrorKind, Read, Write};
+use std::test::Fail;
+
+/// A reader that gives one byte a call, and fails at the call after `calls` of them.
+#[derive(Drop)]
+struct Drip<'a> {
+    rest: &'a [u8],
+    calls: usize,
+}
+
+impl Read for Drip<'_> {
+    fn read(&mut self, buf: &mut [u8]) -> io::Result<usize> {
+        if self.calls == 0 {
+            return Err(io::Error::from(ErrorKind::Other));
+        }
+        self.calls -= 1;
+        let [first, rest @ ..] = self.rest else {
+            return Ok(0);
+        };
+        if buf.is_empty() {
+            return Ok(0);
+        }
+        buf[0] = *first;
+        self.rest = rest;
+        Ok(1)
+    }
+}
+
+/// A writer that takes one byte a call, and fails at the call after `calls` of them.
+#[derive(Drop)]
+struct Narrow {
+    taken: Vec<u8>,
+    calls: usize,
+}
+
+impl Write for Narrow {
+    fn write(&mut self, buf: &[u8]) -> io::Result<usize> {
+        if self.calls == 0 {
+            return Err(io::Error::from(ErrorKind::Other));
+        }
+        self.calls -= 1;
+        let [first, ..] = buf else {
+            return Ok(0);
+        };
+        self.taken.push(*first)?;
+        Ok(1)
+    }
+
+    fn flush(&mut self) -> io::Result<()> {
+        Ok(())
+    }
+}
+
+const WORDS: [&str; 3] = ["nixkeep", "text-path", "myfile"];
+
+const CONTENTS: &[u8] = b"mycontent\n";
+
+const LINE: &[u8] = b"/nix/store/a0d1zlpv81nsfbam8ay3i7snrc0sgsvr-myfile\n";
+
+#[test]
+fn readers_that_fail(rt: HostRuntime) {
+    for calls in 0..12usize {
+        let mut input = Drip {
+            rest: CONTENTS,
+            calls,
+        };
+        let mut output = Vec::new(rt.alloc());
+        let mut errors = Vec::new(rt.alloc());
+        let status = run(&rt, WORDS.as_slice(), &mut input, &mut output, &mut errors);
+        if calls < 11 {
+            assert_eq!(rt; status, 1, "{calls}");
+            assert!(rt; output.is_empty(), "{calls}");
+            assert!(rt;
+                errors.as_slice() == b"failed: input\n".as_slice(),
+                "{calls}"
+            );
+        } else {
+            assert_eq!(rt; status, 0, "{calls}");
+            assert!(rt; output.as_slice() == LINE, "{calls}");
+        }
+    }
+}
+
+#[test]
+fn writers_that_fail(rt: HostRuntime) {
+    for calls in 0..52usize {
+        let mut input = CONTENTS;
+        let mut output = Narrow {
+            taken: Vec::new(rt.alloc()),
+            calls,
+        };
+        let mut errors = Vec::new(rt.alloc());
+        let status = run(&rt, WORDS.as_slice(), &mut input, &mut output, &mut errors);
+        assert!(rt; LINE.starts_with(output.taken.as_slice()), "{calls}");
+        if calls < LINE.len() {
+            assert_eq!(rt; status, 1, "{calls}");
+            assert!(rt;
+                errors.as_slice() == b"failed: output\n".as_slice(),
+                "{calls}"
+            );
+        } else {
+            assert_eq!(rt; status, 0, "{calls}");
+            assert!(rt; output.taken.as_slice() == LINE, "{calls}");
+        }
+    }
+}
+
+#[test]
+fn standard_errors_that_fail(rt: HostRuntime) {
+    let words = ["nixkeep", "text-path", "."];
+    for calls in 0..28usize {
+        let mut input = CONTENTS;
+        let mut output = Vec::new(rt.alloc());
+        let mut errors = Narrow {
+            taken: Vec::new(rt.alloc()),
+            calls,
+        };
+        let status = run(&rt, words.as_slice(), &mut input, &mut output, &mut errors);
+        let want = if calls < 27 { 1 } else { 3 };
+        assert_eq!(rt; status, want, "{calls}");
+        assert!(rt; output.is_empty(), "{calls}");
+    }
+}
+
+#[test]
+fn who_on_writers_that_fail(rt: HostRuntime) {
+    let words = ["nixkeep", "--user", "root", "who"];
+    let lines = b"class: trusted\nconnect: yes\n";
+    for calls in 0..30usize {
+        let mut input = CONTENTS;
+        let mut output = Narrow {
+            taken: Vec::new(rt.alloc()),
+            calls,
+        };
+        let mut errors = Vec::new(rt.alloc());
+        let status = run(&rt, words.as_slice(), &mut input, &mut output, &mut errors);
+        let want = if calls < 28 { 1 } else { 0 };
+        assert_eq!(rt; status, want, "{calls}");
+        assert!(rt; lines.starts_with(output.taken.as_slice()), "{calls}");
+        assert!(rt; errors.is_empty(), "{calls}");
+    }
+}
