@@ -1,4 +1,5 @@
 pub mod Documents
+pub mod KeyWords
 pub mod TableKeys
 pub mod Entries
 pub mod Sets

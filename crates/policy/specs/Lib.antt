@@ -1,5 +1,6 @@
 pub mod Settings
 pub mod Toml
+pub mod Faults
 pub mod Caller
 pub mod Class
 pub mod Operation

@@ -23,7 +23,7 @@ store_dir_of value = option_and_then (only is_store_dir) (as_str value)
 abbrev pub name_of : Data → Option (List ℕ)
 name_of value = option_and_then (only is_plain_name) (as_str value)
 
--- the entry that a text is: `*`, `@` and a plain name, or a plain name
+-- the entry that a text is: `*`, `@` (64) and a plain name, or a plain name
 abbrev pub entry_of_text : List ℕ → Option Entry
 entry_of_text text =
     if bytes_eq text (codes "*") then Some everyone

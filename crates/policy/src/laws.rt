@@ -1,5 +1,12 @@
-//! Laws of the rules. The functions do nothing: what counts is that their contracts are proved.
+//! Laws of the definitions. The functions do nothing: what counts is that their contracts are proved.
+ghost use Rattle.policy.specs.Faults.{FirstThatApplies};
 ghost use Rattle.policy.specs.Laws.{LiveIsAskedLast, StrangersMayNotConnect, PlainIsForAllOthers, KeptForTheTrusted, KeptForTheOwner, KeptFromAll};
+
+/// A text has settings where no key word applies to it, and is refused with the first that does, in
+/// the order of `KeyWord`.
+pub fn the_first_key_word_is_named()
+    ensures { FirstThatApplies }
+{}
 
 /// The rule `Live`, the only one that needs the world, is tested last: whoever decides the others
 /// first and then looks at the world has the first rule that forbids.
