@@ -5,3 +5,5 @@ pub mod PathText
 pub mod Order
 pub mod PathOrder
 pub mod Addresses
+pub mod Digests
+pub mod Made

@@ -1,8 +1,9 @@
 -- The references of a list in path order: one list fits, and it is the function's.
-use Rattle.std.proofs.Common.{◌≡◌, ◌↔◌, ℕ, Bool, true, false, List, [], ◌∷◌, ◌++◌, map, T, ap, sym, subst, refl, ◌∙◌, Less, Some, None, Option, is_some}
+use Rattle.std.proofs.Common.{◌≡◌, ◌↔◌, ℕ, Bool, true, false, List, [], ◌∷◌, ◌++◌, map, T, ap, sym, subst, refl, ◌∙◌, Less, Equal, Greater, Some, None, Option, is_some}
 use Rattle.std.specs.Prelude.{Contains, codes, ◌&&◌}
 use Rattle.std.specs.List.{AllByRecursion, list_any}
 use Rattle.std.specs.List.Sorted.{IsStrictlySortedBy}
+use Rattle.std.specs.declared.cmp.Ordering.{Ordering}
 use Rattle.std.specs.Ordering.{eq_by_cmp, is_lt}
 use Rattle.std.specs.Cmp.{eq_by_cmp_equiv, Equal-is}
 use Rattle.std.specs.Cmp.Lexicographic.{nat_list_cmp_total}
@@ -15,7 +16,8 @@ use Rattle.sha2.specs.Sha256.{sha256}
 use Rattle.paths.specs.Base32.{base32}
 use Rattle.paths.specs.Fold.{fold20}
 use Rattle.paths.specs.Path.{InPathOrder, in_path_order, fingerprint_of, IsPathOf, path_of}
-use Rattle.paths.proofs.Spelling.{spelled}
+use Rattle.paths.proofs.Spelling.{spelled, base32-spells}
+use Rattle.paths.proofs.Digests.{sha256-bytes, fold20-bytes}
 
 abbrev marked : List (List ℕ) → List (List ℕ × Unit {0})
 marked ks = map (λ k. (k, tt)) ks
@@ -80,3 +82,52 @@ path_of-is kind dir name refs inner base h =
     h.of.joined
     ∙ ap (λ ds. ds ++ codes "-" ++ name)
     (spelled _ _ h.of.spelled ∙ ap (λ os. base32 (fold20 (sha256 (fingerprint_of kind dir os inner name)))) (sym (in_path_order-is refs h.ordered h.in_order)))
+
+-- ---- and the function's list fits
+
+lesser : (r : Ordering) → T (is_lt r) → r ≡ Less
+lesser Less h = refl
+lesser Equal h = absurd h
+lesser Greater h = absurd h
+
+front : (a b : Bool) → T (a && b) → T a
+front true b h = tt
+front false b h = h
+
+back : (a b : Bool) → T (a && b) → T b
+back true b h = h
+back false b h = absurd h
+
+all-below : (k : List ℕ) (es : List (List ℕ × Unit {0})) → T (below_all bytes_cmp k es) → AllByRecursion (λ y. bytes_cmp k y ≡ Less) (map (λ e. e.0) es)
+all-below k [] h = tt
+all-below k (e ∷ es) h = (lesser _ (front _ _ h), all-below k es (back _ _ h))
+
+keys-rise : (es : List (List ℕ × Unit {0})) → T (is_sorted bytes_cmp es) → IsStrictlySortedBy bytes_cmp (map (λ e. e.0) es)
+unfolding IsStrictlySortedBy
+keys-rise [] h = tt
+keys-rise (e ∷ es) h = (all-below e.0 es (front _ _ h), keys-rise es (back _ _ h))
+
+pub in_path_order-fits : (refs : List (List ℕ)) → InPathOrder refs (in_path_order refs)
+unfolding in_path_order
+in_path_order-fits refs =
+    let laws = eq_by_cmp_equiv nat_list_cmp_total in
+    let held : (q : List ℕ) → list_any (eq_by_cmp bytes_cmp q) (finite.keys (set_of bytes_cmp refs)) ≡ list_any (eq_by_cmp bytes_cmp q) refs = λ q.
+    sym (finite.contains_key-keys (set_of bytes_cmp refs) q) ∙ ap is_some (finite.get-from_entries nat_list_cmp_total (marked refs) q) ∙ has q refs in
+    record {
+      rising = keys-rise (finite.entries (set_of bytes_cmp refs)) (finite.entries_sorted (set_of bytes_cmp refs));
+      same = λ r. (
+        λ h. Contains-from_any exact r refs (sym (held r) ∙ list_any-from_Contains laws r (finite.keys (set_of bytes_cmp refs)) h),
+        λ h. Contains-from_any exact r (finite.keys (set_of bytes_cmp refs)) (held r ∙ list_any-from_Contains laws r refs h),
+      );
+    }
+
+pub path_of-fits : (kind dir name : List ℕ) (refs : List (List ℕ)) (inner : List ℕ) → IsPathOf kind dir name refs inner (path_of kind dir name refs inner)
+unfolding path_of
+path_of-fits kind dir name refs inner =
+    let fingerprint = fingerprint_of kind dir (in_path_order refs) inner name in
+    let folded = fold20 (sha256 fingerprint) in
+    record {
+      ordered = in_path_order refs;
+      in_order = in_path_order-fits refs;
+      of = record { digits = base32 folded; spelled = base32-spells folded (fold20-bytes _ (sha256-bytes fingerprint)); joined = refl };
+    }

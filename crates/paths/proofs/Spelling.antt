@@ -1,5 +1,6 @@
 -- A text spells some bytes exactly where it is their base 32, and the two directions undo each other.
-use Rattle.std.proofs.Common.{◌≡◌, ◌≢◌, ℕ, zero, suc, ◌+◌, ◌-◌, ◌*◌, ◌/◌, ◌%◌, ◌^◌, ◌<◌, ◌≤◌, ◌==◌, nat_lt, Bool, true, false, not, cond, List, [], ◌∷◌, ◌++◌, length, take, get_or, length-append, Result, Ok, Err, sym, ap, ap₂, refl, ◌∙◌, arith, lit<, take_all}
+use Rattle.std.proofs.Common.{◌≡◌, ◌≢◌, ℕ, zero, suc, ◌+◌, ◌-◌, ◌*◌, ◌/◌, ◌%◌, ◌^◌, ◌<◌, ◌≤◌, ◌==◌, nat_lt, Bool, true, false, not, cond, List, [], ◌∷◌, ◌++◌, length, take, get_or, length-append, Result, Ok, Err, sym, subst, ap, ap₂, refl, ◌∙◌, arith, lit<, take_all}
+use Rattle.std.specs.List.{list_all, range_with_len}
 use Rattle.std.proofs.lemmas.Bool.{lt-ltb, ltb-true, eq-eqb, ne_eqb}
 use Rattle.std.proofs.lemmas.Bool.Decides.{Decides-eqb}
 use Rattle.std.proofs.lemmas.List.{take_more}
@@ -7,7 +8,7 @@ use Rattle.std.proofs.lemmas.List.Sums.{passes_at_first}
 use Rattle.std.proofs.Math.Nat.{pow-succ'}
 use Rattle.paths.specs.Base32.{digits, value_of, number_of, digit_count, read_after, all_digits, Spells, digits_of, bytes_of, base32, unbase32}
 use Rattle.paths.specs.declared.digits.Base32Error.TheVariants.{BadDigit, BadLength, Overflow}
-use Rattle.paths.proofs.Number.{AreBytes, number-lt, read-more, digit-small, digits-push, read-push}
+use Rattle.paths.proofs.Number.{AreBytes, range_passes, number-lt, number-room, read-more, digit-small, digits-push, read-push}
 
 -- the digit of a digit's value is that digit
 digit-value : (c : ℕ) → value_of c < 32 → get_or digits (value_of c) 0 ≡ c
@@ -120,3 +121,66 @@ refused-number text n e counted large =
     ap (λ x. cond (not x) (Err BadDigit) (cond (not (length text == digit_count n)) (Err BadLength) (cond (not (nat_lt (read_after 0 text) (256 ^ n))) (Err Overflow) (Ok (bytes_of n (read_after 0 text)))))) e
     ∙ ap (λ x. cond (not x) (Err BadLength) (cond (not (nat_lt (read_after 0 text) (256 ^ n))) (Err Overflow) (Ok (bytes_of n (read_after 0 text))))) (eq-eqb _ _ counted)
     ∙ ap (λ x. cond (not x) (Err Overflow) (Ok (bytes_of n (read_after 0 text)))) large
+
+-- ---- the digits of a number
+
+digit-table : list_all (λ d. value_of (get_or digits d 0) == d) (range_with_len 0 32) ≡ true
+unfolding value_of
+digit-table = refl
+
+value-digit : (v : ℕ) → v < 32 → value_of (get_or digits v 0) ≡ v
+value-digit v small = (Decides-eqb _ _).0 (range_passes (λ d. value_of (get_or digits d 0) == d) 0 32 digit-table v v small (omega arith))
+
+pub length-digits : (k n : ℕ) → length (digits_of k n) ≡ k
+unfolding digits_of
+length-digits zero n = refl
+length-digits (suc k) n = omega (arith, length-append (digits_of k (n / 32)) (get_or digits (n % 32) 0 ∷ []), length-digits k (n / 32))
+
+pub all-digits : (k n : ℕ) → all_digits (digits_of k n) ≡ true
+unfolding digits_of
+all-digits zero n = refl
+all-digits (suc k) n =
+    let last : n % 32 < 32 = omega arith in
+    let small : value_of (get_or digits (n % 32) 0) < 32 = omega (arith, value-digit (n % 32) last) in
+    digits-push (digits_of k (n / 32)) (get_or digits (n % 32) 0) (all-digits k (n / 32)) small
+
+-- digits that have room for a number are read as it
+digits-number : (k n : ℕ) → n < 32 ^ k → read_after 0 (digits_of k n) ≡ n
+unfolding digits_of
+digits-number zero n h = omega arith
+digits-number (suc k) n h =
+    let last : n % 32 < 32 = omega arith in
+    let room : n / 32 < 32 ^ k = omega (arith, pow-succ' 32 k) in
+    omega (arith, read-push 0 (digits_of k (n / 32)) (get_or digits (n % 32) 0), digits-number k (n / 32) room, value-digit (n % 32) last)
+
+-- the base 32 of bytes spells them
+pub base32-spells : (bytes : List ℕ) → AreBytes bytes → Spells (base32 bytes) bytes
+unfolding base32
+base32-spells bytes are =
+    let k = digit_count (length bytes) in
+    let n = number_of bytes in
+    record {
+      count = length-digits k n;
+      digits = all-digits k n;
+      number = digits-number k n (number-room bytes are);
+    }
+
+-- the digits of a digest folded to 20 bytes
+pub base32-count : (bytes : List ℕ) → length bytes ≡ 20 → length (base32 bytes) ≡ 32
+unfolding base32
+base32-count bytes h = length-digits (digit_count (length bytes)) (number_of bytes) ∙ ap digit_count h
+
+pub base32-digits : (bytes : List ℕ) → all_digits (base32 bytes) ≡ true
+unfolding base32
+base32-digits bytes = all-digits (digit_count (length bytes)) (number_of bytes)
+
+-- what is read is bytes
+bytes_of-bytes : (k n : ℕ) → AreBytes (bytes_of k n)
+unfolding bytes_of
+bytes_of-bytes zero n i = lit< tt
+bytes_of-bytes (suc k) n zero = omega arith
+bytes_of-bytes (suc k) n (suc i) = bytes_of-bytes k (n / 256) i
+
+pub read-bytes : (text : List ℕ) (n : ℕ) (bytes : List ℕ) → unbase32 text n ≡ Ok bytes → AreBytes bytes
+unfolding unbase32
+read-bytes text n bytes e = subst AreBytes (passed_tests _ _ _ _ _ e).3 (bytes_of-bytes n (read_after 0 text))

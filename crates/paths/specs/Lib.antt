@@ -5,3 +5,4 @@ pub mod StorePath
 pub mod Root
 pub mod Path
 pub mod ContentAddress
+pub mod Laws

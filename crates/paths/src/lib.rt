@@ -10,6 +10,7 @@ mod computed_path;
 mod content_address;
 mod digits;
 mod fold;
+pub mod laws;
 mod plain_name;
 mod store_dir;
 mod store_name;

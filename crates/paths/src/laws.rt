@@ -1,0 +1,33 @@
+//! Laws of the definitions, each the contract of a function that does nothing: the functions of `specs/` are the
+//! relations beside them.
+ghost use Rattle.paths.specs.Laws.{OneSpelling, OnePathOrder, OnePath, TextPathsAreBaseNames, SourcePathsAreBaseNames, OneAddressText, VerifyingIsExact, TextAddressesVerify, SourceAddressesVerify};
+
+/// Bytes are spelled by one text in base 32.
+pub fn bytes_have_one_spelling()
+    ensures { OneSpelling }
+{}
+
+/// An object has one path, over the references as a set.
+pub fn an_object_has_one_path()
+    ensures order { OnePathOrder }
+    ensures path { OnePath }
+{}
+
+/// A computed path is a base name.
+pub fn computed_paths_are_base_names()
+    ensures text { TextPathsAreBaseNames }
+    ensures source { SourcePathsAreBaseNames }
+{}
+
+/// A text is a content address exactly where it is that address's text.
+pub fn an_address_has_one_text()
+    ensures { OneAddressText }
+{}
+
+/// The test of a content address passes exactly where it fits the object, and it passes for the address that a
+/// text or source object is given, at its computed path.
+pub fn addresses_verify_exactly()
+    ensures exact { VerifyingIsExact }
+    ensures text { TextAddressesVerify }
+    ensures source { SourceAddressesVerify }
+{}
