@@ -88,7 +88,7 @@ text-fits digest dir path refs nar (Ok (regular false contents)) archive h =
     record { contents = contents; archive = archive (regular false contents) refl; hash = made.0; made = made.1 }
 text-fits digest dir path refs nar (Ok (regular true contents)) archive h = let no : ⊥ = cc in absurd no
 text-fits digest dir path refs nar (Ok (symlink target)) archive h = let no : ⊥ = cc in absurd no
-text-fits digest dir path refs nar (Ok (directory entries)) archive h = let no : ⊥ = cc in absurd no
+text-fits digest dir path refs nar (Ok (directory _)) archive h = let no : ⊥ = cc in absurd no
 text-fits digest dir path refs nar (Err e) archive h = let no : ⊥ = cc in absurd no
 
 verifying-by : (method : Method) (digest dir path : List ℕ) (refs : List (List ℕ)) (nar : List ℕ) → IsBytes nar → (method_verifies method digest dir path refs nar ≡ true) ↔ Fits method digest dir path refs nar

@@ -80,9 +80,9 @@ Verifies ca dir path refs nar = Fits ca.method ca.digest dir path refs nar
 -- the contents of a regular file that isn't executable
 abbrev pub plain : Tree → Option (List ℕ)
 plain (regular false contents) = Some contents
-plain (regular true contents) = None
-plain (symlink target) = None
-plain (directory entries) = None
+plain (regular true _) = None
+plain (symlink _) = None
+plain (directory _) = None
 
 -- the contents, where the archive is that of a regular file that isn't executable
 abbrev pub plain_contents : Result Tree NarError → Option (List ℕ)
