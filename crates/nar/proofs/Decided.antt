@@ -1,6 +1,6 @@
 -- Each input is an archive or has a fault, and the function says which.
 use Rattle.std.proofs.Common.{◌≡◌, ◌≢◌, ℕ, zero, suc, ◌+◌, ◌-◌, ◌<◌, ◌≤◌, Bool, true, false, ltb, List, [], ◌∷◌, ◌++◌, length, drop, Option, Some, None, Result, Ok, Err, refl, sym, ap, ap₂, ◌∙◌, subst, append-nil, append_assoc, arith, ◌⊎◌, inl, inr}
-use Rattle.std.specs.Prelude.{option_and_then, unwrap_or, MatchResult, codes, ◌↔◌}
+use Rattle.std.specs.Prelude.{option_and_then, unwrap_or, MatchResult, IfOk, IfErr, codes, ◌↔◌}
 use Rattle.std.specs.List.{AllByRecursion}
 use Rattle.std.proofs.lemmas.Bool.{lt-ltb}
 use Rattle.std.proofs.lemmas.List.{length-append}
@@ -10,6 +10,7 @@ use Rattle.nar.specs.String.{string, size_of, string_of, string_at}
 use Rattle.nar.specs.Tree.{Tree, regular, symlink, directory, Entries, no_entries, entry, IsBytes}
 use Rattle.nar.specs.Archive.{Part, name, node, other, spelled, kind_parts, entries_parts, archive, IsShallow, IsArchive, spelling, limit}
 use Rattle.nar.specs.Fault.{IsFault}
+use Rattle.nar.specs.Answer.{IfFault}
 use Rattle.nar.specs.Steps.{Symbol, taken, run, start, check, AreBytes, FaultAt, trails, stops, refuses, goes_on}
 use Rattle.nar.specs.Outcome.{and_then, parts_from, kind_from, entries_from, tree_from, outcome_of}
 use Rattle.nar.proofs.Strings.{length-string, Takes, string_takes}
@@ -148,3 +149,9 @@ archive_or_fault input h = by_outcome (outcome_of input) (agrees input h)
     by_outcome : (r : Result Tree NarError) → MatchResult r (λ t. IsArchive t input) (IsFault input) → ((t : Tree) × IsArchive t input) ⊎ ((e : NarError) × IsFault input e)
     by_outcome (Ok t) m = inl (t, m)
     by_outcome (Err e) m = inr (e, m)
+
+-- what is right by the relations is right by the function
+pub gives_outcome : {X : Type 0} (view : X → Tree) (r : Result X NarError) (input : List ℕ) → IsBytes input → IfOk r (λ x. IsArchive (view x) input) → IfErr r (λ e. IfFault e (IsFault input))
+    → MatchResult r (λ x. outcome_of input ≡ Ok (view x)) (λ e. IfFault e (λ f. outcome_of input ≡ Err f))
+gives_outcome view (Ok x) input b a f = (outcome_archive input (view x) b).1 a
+gives_outcome view (Err e) input b a f = λ fault. (outcome_fault input e b).1 (f fault)

@@ -17,3 +17,4 @@ pub mod Nests
 pub mod Feeding
 pub mod Counting
 pub mod Stepping
+pub mod Fits

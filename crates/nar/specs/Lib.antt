@@ -14,3 +14,4 @@ pub mod NestView
 pub mod Feeding
 pub mod Progress
 pub mod Checking
+pub mod Fitting

@@ -27,6 +27,7 @@ pub data Symbol : Type 0 where
 
 -- ---- what the next part leaves to come
 
+-- behind the word of a kind
 abbrev pub kind_next : ℕ → List ℕ → Option (List Symbol)
 kind_next d s =
     cond (bytes_eq s (codes "regular")) (Some (file ∷ []))
@@ -34,21 +35,25 @@ kind_next d s =
     (cond (bytes_eq s (codes "directory")) (Some (entries d None ∷ []))
     None))
 
+-- behind the first word of a file's rest
 abbrev pub file_next : List ℕ → Option (List Symbol)
 file_next s =
     cond (bytes_eq s (codes "executable")) (Some (word [] ∷ word (codes "contents") ∷ any ∷ word (codes ")") ∷ []))
     (cond (bytes_eq s (codes "contents")) (Some (any ∷ word (codes ")") ∷ []))
     None)
 
+-- behind the first word of a directory's rest
 abbrev pub entries_next : ℕ → Option (List ℕ) → List ℕ → Option (List Symbol)
 entries_next d last s =
     cond (bytes_eq s (codes ")")) (Some [])
     (cond (bytes_eq s (codes "entry")) (Some (word (codes "(") ∷ word (codes "name") ∷ entry_name d last ∷ []))
     None)
 
+-- behind the name of an entry
 abbrev pub after_name : ℕ → List ℕ → List Symbol
 after_name d n = node_word (d + 1) ∷ word (codes "(") ∷ word (codes "type") ∷ kind (d + 1) ∷ word (codes ")") ∷ entries d (Some n) ∷ []
 
+-- behind this part, where the symbol stands; none where the part may not stand there
 abbrev pub taken : Symbol → Part → Option (List Symbol)
 taken (word w) (other s) = cond (bytes_eq s w) (Some []) None
 taken any (other s) = Some []
@@ -59,11 +64,13 @@ taken (entry_name d last) (name n) = cond (is_name n && rises last n) (Some (aft
 taken (node_word d) (node e) = cond (eqb e d) (Some []) None
 taken _ _ = None
 
+-- behind these parts
 abbrev pub run : List Symbol → List Part → Option (List Symbol)
 run σ [] = Some σ
 run [] (p ∷ ps) = None
 run (x ∷ κ) (p ∷ ps) = option_and_then (λ σ. run (σ ++ κ) ps) (taken x p)
 
+-- an archive
 abbrev pub start : List Symbol
 start = word (codes "nix-archive-1") ∷ word (codes "(") ∷ word (codes "type") ∷ kind 1 ∷ []
 

@@ -1,11 +1,13 @@
-//! NAR archives, read, written and listed.
+//! Nix archives (NAR): read, written, listed, and checked in pieces.
 #![tactic(auto)]
 
 mod checking;
 mod count;
 mod error;
+mod fitting;
 pub mod laws;
 mod listing;
+mod name;
 mod nest;
 mod node;
 mod progress;
@@ -16,6 +18,7 @@ mod writing;
 
 pub use checking::Checker;
 pub use error::NarError;
+pub use fitting::is_writable;
 pub use listing::list;
 pub use node::{Entry, Node};
 pub use reading::read;

@@ -1,4 +1,4 @@
-//! Listings.
+//! Listings: one line a node.
 
 ghost use Rattle.std.specs.Prelude.{◌≡◌, ◌<◌, ◌++◌, ◌+◌, OnOk, OnErr, string_bytes, codes, decimal, length};
 ghost use Rattle.nar.specs.Tree.{regular, symlink, directory};

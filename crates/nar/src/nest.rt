@@ -8,7 +8,7 @@ ghost use Rattle.nar.specs.declared.nest.Phase.TheVariants as phases;
 ghost use Rattle.nar.specs.Nest.{symbols, Goes, next, IsWordly};
 
 use crate::error::NarError;
-use crate::reading::{is_above, is_name};
+use crate::name::{is_above, is_name};
 use crate::words::{
     CLOSE, CONTENTS, DIRECTORY, ENTRY, EXECUTABLE, MAGIC, NAME, NODE, NOTHING, OPEN, REGULAR,
     SYMLINK, TARGET, TYPE,

@@ -1,47 +1,28 @@
-ghost use Rattle.std.specs.Prelude.{◌≡◌, ◌<◌, ◌≤◌, ◌+◌, ◌-◌, ℕ, [], ◌∷◌, length, IfOk, IfErr, codes};
-ghost use Rattle.std.specs.Prelude.{◌==◌, ◌&&◌, not};
-ghost use Rattle.std.specs.List.{list_all};
+//! Reading, by recursion over what stands at the front.
+
+ghost use Rattle.std.specs.Prelude.{◌≡◌, ◌<◌, ◌≤◌, ◌+◌, ◌-◌, ℕ, [], ◌∷◌, length, Ok, Err, IfOk, IfErr, codes};
 ghost use Rattle.std.specs.Option.{option_copied};
 ghost use Rattle.nar.specs.declared.error.NarError.{NarError as Cause};
 ghost use Rattle.nar.specs.Fault.{IsFault};
-ghost use Rattle.nar.specs.Tree.{Tree, is_name as name_test, rises};
+ghost use Rattle.nar.specs.Tree.{Tree};
 ghost use Rattle.nar.specs.Archive.{IsArchive, other, node};
 ghost use Rattle.nar.specs.Steps.{word as fixed, any, file, entries, kind, entry_name, node_word};
 ghost use Rattle.nar.specs.Reading.{Reads, ReadsKind, ReadsName, ReadsEntry, ReadsNode, FaultOf};
+ghost use Rattle.nar.specs.Outcome.{outcome_of};
 ghost use Rattle.nar.specs.Answer.{IfFault};
 ghost use Rattle.nar.specs.View.{tree_of, pair_of};
 ghost use Rattle.nar.specs.declared.error.NarError.TheVariants.{Memory as memory};
 ghost use Rattle.std.specs.Prelude.{MatchResult};
 
 use crate::error::NarError;
+use crate::name::{is_above, is_name};
 use crate::node::{Entry, Node};
 use crate::string::{Place, string_of, word_of};
 use crate::words::{
-    CLOSE, CONTENTS, DIRECTORY, DOT, DOTS, ENTRY, EXECUTABLE, LIMIT, MAGIC, NAME, NODE, NOTHING,
-    OPEN, REGULAR, SYMLINK, TARGET, TYPE,
+    CLOSE, CONTENTS, DIRECTORY, ENTRY, EXECUTABLE, LIMIT, MAGIC, NAME, NODE, NOTHING, OPEN,
+    REGULAR, SYMLINK, TARGET, TYPE,
 };
 use std::alloc::Global;
-
-fn is_unbroken(name: &[u8]) -> bool
-    ensures { result ≡ list_all (λ b. not (b == 47) && not (b == 0)) name.now }
-{
-    name.iter().all(|b| *b != b'/' && *b != 0)
-}
-
-pub fn is_name(name: &[u8]) -> bool
-    ensures { result ≡ name_test name.now }
-{
-    !name.is_empty() && name != DOT && name != DOTS && is_unbroken(name)
-}
-
-pub fn is_above(last: Option<&[u8]>, name: &[u8]) -> bool
-    ensures { result ≡ rises (option_copied last.entry) name.now }
-{
-    match last {
-        None => true,
-        Some(last) => last.cmp(name).is_lt(),
-    }
-}
 
 /// A string, and the bracket that closes its node.
 fn text_of(at: Place<'_>) -> Result<(&[u8], Place<'_>), NarError>
@@ -195,12 +176,17 @@ fn node_of(alloc: Global, at: Place<'_>, depth: usize) -> Result<(Node<'_>, Plac
     Err(NarError::BadTag)
 }
 
-/// The tree of the archive, or the first fault.
+/// The tree whose archive the input is, its names, targets and contents lent from the input; or the first fault.
+///
+/// The format is the Nix archive (NAR) of the Nix manual, with at most 16,777,216 bytes and at most 256 nodes
+/// inside one another.
 pub fn read(alloc: Global, input: &[u8]) -> Result<Node<'_>, NarError>
     // What is read is the archive's tree.
     ensures found { IfOk result (λ node. IsArchive (tree_of node) input.now) }
     // A fault that is told is the input's.
     ensures fault { IfErr result (λ e. IfFault e (IsFault input.now)) }
+    // So it is the outcome of the input, unless memory is refused.
+    ensures outcome { MatchResult result (λ node. outcome_of input.now ≡ Ok (tree_of node)) (λ e. IfFault e (λ f. outcome_of input.now ≡ Err f)) }
     // An archive is read, unless memory runs out.
     ensures each_archive { (t : Tree) → IsArchive t input.now → MatchResult result (λ node. tree_of node ≡ t) (λ e. e ≡ memory) }
     // The input's fault is told, unless memory runs out.

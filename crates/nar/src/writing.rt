@@ -1,4 +1,4 @@
-//! Writing.
+//! Writing: strings one after the other, by recursion over the tree.
 
 ghost use Rattle.std.specs.Prelude.{◌≡◌, ◌∷◌, ℕ, ◌++◌, ◌+◌, OnOk, OnErr, codes};
 ghost use Rattle.nar.specs.String.{string};

@@ -1,0 +1,82 @@
+//! Whether a tree has an archive.
+
+ghost use Rattle.std.specs.Prelude.{◌≡◌, ◌↔◌, ◌+◌, ◌≤◌, ℕ, None, IsTrue, length};
+ghost use Rattle.std.specs.Option.{option_copied};
+ghost use Rattle.nar.specs.String.{size_of};
+ghost use Rattle.nar.specs.Tree.{IsBytes};
+ghost use Rattle.nar.specs.Archive.{IsWritable};
+ghost use Rattle.nar.specs.Fitting.{may_enter, room_after, entries_room};
+ghost use Rattle.nar.specs.View.{tree_of, trees_of};
+
+use crate::name::{is_above, is_name};
+use crate::node::{Entry, Node};
+
+/// How many bytes a string takes.
+fn size_of_string(text: &[u8]) -> usize
+    ensures size { result ≡ size_of (length text.now) }
+    ensures bytes { IsBytes text.now }
+{
+    8 + 8 * text.len().div_ceil(8)
+}
+
+/// Whether an entry of this name may follow the last one, in a directory that is the given node inside one another.
+fn may_follow(depth: usize, last: Option<&[u8]>, name: &[u8]) -> bool
+    ensures { result ≡ may_enter depth (option_copied last.entry) name.now }
+{
+    if !is_name(name) {
+        return false;
+    }
+    if !is_above(last, name) {
+        return false;
+    }
+    depth < 256
+}
+
+/// What the entries leave of the room, in a directory that is the given node inside one another.
+#[cycle(fitter)]
+fn room_after_entries(entries: &[Entry<'_>], depth: usize, room: usize) -> Option<usize>
+    requires { depth ≤ 256 }
+    ensures { result ≡ entries_room depth None room (trees_of entries.now) }
+{
+    let mut left = room;
+    let mut last = None;
+    for entry in entries {
+        if !may_follow(depth, last, entry.name) {
+            return None;
+        }
+        let inner = left.checked_sub(80 + size_of_string(entry.name))?;
+        left = room_after_node(&entry.node, depth + 1, inner)?;
+        last = Some(entry.name);
+    }
+    Some(left)
+}
+
+/// What the node leaves of the room, being the given one inside one another.
+#[cycle(fitter)]
+fn room_after_node(node: &Node<'_>, depth: usize, room: usize) -> Option<usize>
+    requires { depth ≤ 256 }
+    ensures { result ≡ room_after depth room (tree_of node.now) }
+{
+    match node {
+        Node::Regular {
+            executable,
+            contents,
+        } => {
+            let words = if *executable { 112 } else { 80 };
+            room.checked_sub(words + size_of_string(contents))
+        }
+        Node::Symlink { target } => room.checked_sub(80 + size_of_string(target)),
+        Node::Directory(entries) => {
+            let left = room.checked_sub(72)?;
+            room_after_entries(entries, depth, left)
+        }
+    }
+}
+
+/// Whether the tree has an archive: its names keep the rule of names and rise strictly in each directory, at most
+/// 256 of its nodes stand inside one another, and its archive has at most 16,777,216 bytes. It takes no memory.
+pub fn is_writable(node: &Node<'_>) -> bool
+    ensures { IsTrue result ↔ IsWritable (tree_of node.now) }
+{
+    room_after_node(node, 1, 16_777_192).is_some()
+}
