@@ -23,3 +23,6 @@ pub use listing::list;
 pub use node::{Entry, Node};
 pub use reading::read;
 pub use writing::write;
+
+#[cfg(test)]
+mod tests;
