@@ -2,7 +2,7 @@
 use Rattle.std.specs.Prelude.{◌≡◌, ◌⊎◌, ⊤, ℕ, List, Option, Some, None, Result, Ok, Err, String, string_bytes, option_map}
 use Rattle.std.specs.Io.KnownBytes.{Appends, Keeps}
 use Rattle.std.specs.declared.alloc.Global.{Global}
-use Rattle.tool.specs.declared.stops.Failure.TheVariants.{Memory}
+use Rattle.tool.specs.declared.stops.Failure.TheVariants.{Memory, File, Input, Output}
 use Rattle.tool.specs.declared.stops.Refusal.{Refusal}
 use Rattle.tool.specs.declared.stops.Stop.{Stop}
 use Rattle.tool.specs.declared.stops.Stop.TheVariants.{Refused, Failed}
@@ -41,9 +41,12 @@ AnswersTo (Some fault) answer known out out' err err' status = Answers (Err (Ref
 AnswersTo None answer None out out' err err' status = ⊤
 AnswersTo None answer (Some bytes) out out' err err' status = Answers (answer bytes) out out' err err' status
 
--- a result for want of memory or of a stream
+-- a result for want of memory, or of the input
 abbrev pub IsFailure : Result (List ℕ) Stop → Type 0
-IsFailure (Err (Failed failure)) = ⊤
+IsFailure (Err (Failed Memory)) = ⊤
+IsFailure (Err (Failed Input)) = ⊤
+IsFailure (Err (Failed File)) = ⊥
+IsFailure (Err (Failed Output)) = ⊥
 IsFailure (Err (Refused refusal)) = ⊥
 IsFailure (Ok text) = ⊥
 

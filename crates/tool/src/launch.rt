@@ -5,7 +5,7 @@ use crate::line::{CommandLine, Task};
 use crate::object::text_path;
 use crate::parse::command;
 use crate::stops::{Failure, Stop};
-use crate::stream::say;
+use crate::stream::{say, stop_for};
 use crate::verdicts::who;
 use policy::store_dir;
 use std::convert::AsStr;
@@ -17,7 +17,7 @@ use std::rt::Files;
 const USAGE: u8 = 2;
 
 const NO_SUBCOMMAND: &str =
-    "error: no subcommand is named\n\nUsage: nixkeep [OPTIONS] <COMMAND>\n\nFor more information, try '--help'.\n";
+    "error: no subcommand is named\n\nUsage: nixkeep [OPTIONS] [COMMAND]\n\nFor more information, try '--help'.\n";
 
 const NOT_UTF8: &str = "error: a word of the command line isn't UTF-8\n";
 
@@ -26,7 +26,7 @@ const NOT_UTF8: &str = "error: a word of the command line isn't UTF-8\n";
 ///
 /// The configuration is read from its file, if one is named. Results go to `output`; refusals,
 /// failures and what is wrong with the words go to `errors`, but for `who`, which puts everything
-/// on `output`.
+/// on `output` once its words are read.
 pub fn run<Rt: Files + AllocGlobal, S: AsStr, R: Read, W: Write, E: Write>(
     rt: &Rt,
     words: &[S],
@@ -65,14 +65,21 @@ fn execute<Rt: Files + AllocGlobal, R: Read, W: Write, E: Write>(
 
 /// Says why words are no command line, or gives the help that they ask for.
 fn explain<W: Write, E: Write>(fault: &CommandError, output: &mut W, errors: &mut E) -> u8 {
-    let (told, status) = match fault {
-        CommandError::Usage(fault) if fault.use_stderr() => (write!(errors, "{fault}"), USAGE),
-        CommandError::Usage(help) => (write!(output, "{help}"), 0),
-        CommandError::NoSubcommand => (errors.write_all(NO_SUBCOMMAND.as_bytes()), USAGE),
-        CommandError::Memory => return say(Stop::Failed(Failure::Memory), errors),
-    };
+    match fault {
+        CommandError::Usage(help) if !help.use_stderr() => match write!(output, "{help}") {
+            Ok(()) => 0,
+            Err(fault) => say(stop_for(&fault, Failure::Output), errors),
+        },
+        CommandError::Usage(fault) => usage(write!(errors, "{fault}")),
+        CommandError::NoSubcommand => usage(errors.write_all(NO_SUBCOMMAND.as_bytes())),
+        CommandError::Memory => say(Stop::Failed(Failure::Memory), errors),
+    }
+}
+
+/// The exit status of a usage fault, by whether it could be told.
+fn usage(told: io::Result<()>) -> u8 {
     match told {
-        Ok(()) => status,
+        Ok(()) => USAGE,
         Err(_) => 1,
     }
 }
@@ -83,8 +90,5 @@ pub fn refuse_words<E: Write>(fault: &io::Error, errors: &mut E) -> u8 {
     if fault.kind() == ErrorKind::OutOfMemory {
         return say(Stop::Failed(Failure::Memory), errors);
     }
-    match errors.write_all(NOT_UTF8.as_bytes()) {
-        Ok(()) => USAGE,
-        Err(_) => 1,
-    }
+    usage(errors.write_all(NOT_UTF8.as_bytes()))
 }

@@ -29,8 +29,8 @@ pub(crate) fn stop_for(fault: &io::Error, failure: Failure) -> Stop
 /// Gives a text to standard output, or the line that says why there is none to standard error, and
 /// answers the exit status.
 ///
-/// Where standard output fails, standard error is given `failed: output`. Where standard error
-/// fails, the status is 1.
+/// Where standard output fails, standard error is given `failed: output`, or `failed: memory` where it
+/// says that memory ran out. Where standard error fails, the status is 1.
 pub(crate) fn give<W: Write, E: Write>(
     answer: Result<String, Stop>,
     output: &mut W,
@@ -41,7 +41,7 @@ pub(crate) fn give<W: Write, E: Write>(
     match answer {
         Ok(text) => match output.write_all(text.as_str().as_bytes()) {
             Ok(()) => 0,
-            Err(_) => say(Stop::Failed(Failure::Output), errors),
+            Err(fault) => say(stop_for(&fault, Failure::Output), errors),
         },
         Err(stop) => say(stop, errors),
     }

@@ -2,7 +2,6 @@
 use crate::run;
 use std::io;
 use std::io::{ErrorKind, Read, Write};
-use std::test::Fail;
 
 /// A reader that gives one byte a call, and fails at the call after `calls` of them.
 #[derive(Drop)]
@@ -51,6 +50,19 @@ impl Write for Narrow {
 
     fn flush(&mut self) -> io::Result<()> {
         Ok(())
+    }
+}
+
+/// A reader that never ends, and counts the bytes that it gave.
+#[derive(Drop)]
+struct Endless {
+    given: usize,
+}
+
+impl Read for Endless {
+    fn read(&mut self, buf: &mut [u8]) -> io::Result<usize> {
+        self.given = self.given.saturating_add(buf.len());
+        Ok(buf.len())
     }
 }
 
@@ -111,6 +123,7 @@ fn writers_that_fail(rt: HostRuntime) {
 #[test]
 fn standard_errors_that_fail(rt: HostRuntime) {
     let words = ["nixkeep", "text-path", "."];
+    let line = b"refused: 12 bad-store-name\n";
     for calls in 0..28usize {
         let mut input = CONTENTS;
         let mut output = Vec::new(rt.alloc());
@@ -122,6 +135,7 @@ fn standard_errors_that_fail(rt: HostRuntime) {
         let want = if calls < 27 { 1 } else { 3 };
         assert_eq!(rt; status, want, "{calls}");
         assert!(rt; output.is_empty(), "{calls}");
+        assert!(rt; line.starts_with(errors.taken.as_slice()), "{calls}");
     }
 }
 
@@ -142,4 +156,55 @@ fn who_on_writers_that_fail(rt: HostRuntime) {
         assert!(rt; lines.starts_with(output.taken.as_slice()), "{calls}");
         assert!(rt; errors.is_empty(), "{calls}");
     }
+}
+
+#[test]
+fn one_byte_above_the_limit_and_no_more(rt: HostRuntime) {
+    let mut input = Endless { given: 0 };
+    let mut output = Vec::new(rt.alloc());
+    let mut errors = Vec::new(rt.alloc());
+    let status = run(&rt, WORDS.as_slice(), &mut input, &mut output, &mut errors);
+    assert_eq!(rt; status, 3);
+    assert_eq!(rt; input.given, 16_777_105);
+    assert!(rt; output.is_empty());
+    assert!(rt; errors.as_slice() == b"refused: 8 too-large\n".as_slice());
+}
+
+#[test]
+fn refused_before_the_input_is_read(rt: HostRuntime) {
+    let lines: [(&[&str], &[u8]); 2] = [
+        (
+            ["nixkeep", "text-path", "."].as_slice(),
+            b"refused: 12 bad-store-name\n",
+        ),
+        (
+            ["nixkeep", "text-path", "n", "x"].as_slice(),
+            b"refused: 14 bad-store-path\n",
+        ),
+    ];
+    for (words, line) in lines {
+        let mut input = Drip {
+            rest: CONTENTS,
+            calls: 0,
+        };
+        let mut output = Vec::new(rt.alloc());
+        let mut errors = Vec::new(rt.alloc());
+        let status = run(&rt, words, &mut input, &mut output, &mut errors);
+        assert_eq!(rt; status, 3, "{words:?}");
+        assert!(rt; errors.as_slice() == line, "{words:?}");
+    }
+}
+
+#[test]
+fn help_on_a_writer_that_fails(rt: HostRuntime) {
+    let mut input = CONTENTS;
+    let mut output = Narrow {
+        taken: Vec::new(rt.alloc()),
+        calls: 9,
+    };
+    let mut errors = Vec::new(rt.alloc());
+    let words = ["nixkeep", "--help"];
+    let status = run(&rt, words.as_slice(), &mut input, &mut output, &mut errors);
+    assert_eq!(rt; status, 1);
+    assert!(rt; errors.as_slice() == b"failed: output\n".as_slice());
 }

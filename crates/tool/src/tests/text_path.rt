@@ -1,5 +1,6 @@
 //! `text-path`: paths that others compute, and each refusal.
 use super::{expect, run_on};
+use std::fs;
 use std::test::Fail;
 
 const A: &str = "00000000000000000000000000000000-a";
@@ -87,5 +88,35 @@ fn references_to_the_limit(rt: HostRuntime) -> Result<(), Fail> {
     words.push("x")?;
     let bad = run_on(&rt, words.as_slice(), b"abc");
     assert!(rt; bad.errors.as_slice() == b"refused: 14 bad-store-path\n".as_slice());
+    Ok(())
+}
+
+#[test]
+fn in_another_directory(rt: HostRuntime) -> Result<(), Fail> {
+    let file = "another-directory.toml";
+    fs::write(&rt, file, "store-dir = \"/a/store\"\n")?;
+    let words = ["nixkeep", "--config", file, "text-path", "n"];
+    let path = "/a/store/xl58h5bn2f7872hffa3dkyc38abcg7zl-n\n";
+    expect(&rt, words.as_slice(), b"", 0, path, "");
+    let words = ["nixkeep", "--config", file, "text-path", "n", FULL_B];
+    expect(
+        &rt,
+        words.as_slice(),
+        b"",
+        3,
+        "",
+        "refused: 14 bad-store-path\n",
+    );
+    fs::write(&rt, file, "store-dir = \"/\"\n")?;
+    expect(
+        &rt,
+        words.as_slice(),
+        b"",
+        3,
+        "",
+        "refused: 19 bad-config store-dir\n",
+    );
+    fs::remove_file(&rt, file)?;
+    expect(&rt, words.as_slice(), b"", 1, "", "failed: file\n");
     Ok(())
 }
