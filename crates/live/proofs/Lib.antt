@@ -1,0 +1,4 @@
+pub mod Members
+pub mod Reach
+pub mod Order
+pub mod Live

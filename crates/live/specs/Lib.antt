@@ -1,0 +1,4 @@
+pub mod Graph
+pub mod Reach
+pub mod Live
+pub mod Laws
