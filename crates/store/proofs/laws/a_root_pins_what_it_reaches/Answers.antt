@@ -1,0 +1,8 @@
+use Rattle.store.proofs.Pins.{pins, pins_over_runs}
+use Rattle.store.proofs.laws.a_root_pins_what_it_reaches.Goals as goal
+
+pub returns-clause-step : goal.returns-clause-step
+returns-clause-step c = pins
+
+pub returns-clause-run : goal.returns-clause-run
+returns-clause-run c = pins_over_runs

@@ -1,0 +1,104 @@
+-- Laws of steps and runs.
+use Rattle.std.specs.Prelude.{◌≡◌, ℕ, Bool, false, List, [], ◌∷◌, Some, IsTrue, IsFalse, Contains}
+use Rattle.std.specs.FinMap as finite
+use Rattle.paths.specs.Root.{Root}
+use Rattle.live.specs.Reach.{Reaches}
+use Rattle.tables.specs.World.{Path, Pair, Object, Profile, World, has, permanent_root, user_root, generation_root, runtime_root, roots_of}
+use Rattle.policy.specs.Settings.{Settings}
+use Rattle.policy.specs.Caller.{Caller}
+use Rattle.store.specs.Request.{Request, collect, delete}
+use Rattle.store.specs.Reply.{Reply, done, denied, refused, failed, freed}
+use Rattle.store.specs.Liveness.{graph_of, keep_of, lives}
+use Rattle.store.specs.Step.{Step, Run}
+
+abbrev pub IsDone : Reply → Type 0
+IsDone (done a) = Unit {0}
+IsDone (denied rule root) = ⊥
+IsDone (refused r) = ⊥
+IsDone (failed f) = ⊥
+
+abbrev pub HasFailed : Reply → Type 0
+HasFailed (failed f) = Unit {0}
+HasFailed (done a) = ⊥
+HasFailed (denied rule root) = ⊥
+HasFailed (refused r) = ⊥
+
+-- each entry of a table of roots is a root of the world
+pub record HasEachRoot (w : World) : Type 0 where
+  pub permanent : (name : List ℕ) (t : Path) → finite.get w.permanent name ≡ Some t → Contains (roots_of w) (permanent_root (name, t))
+  pub user : (owned : Pair) (t : Path) → finite.get w.user_roots owned ≡ Some t → Contains (roots_of w) (user_root (owned, t))
+  pub generation : (owned : Pair) (p : Profile) (n : ℕ) (t : Path) → finite.get w.profiles owned ≡ Some p → finite.get p.generations n ≡ Some t
+      → Contains (roots_of w) (generation_root owned (n, t))
+  pub runtime : (r : Pair) → IsTrue (finite.contains_key w.runtime r) → Contains (roots_of w) (runtime_root r)
+
+-- a call that isn't done leaves the world
+abbrev pub LeavesUnlessDone : Type 0
+LeavesUnlessDone = (s : Settings) (w : World) (c : Caller) (q : Request) (reply : Reply) (new : World)
+    → Step s w c q reply new → (IsDone reply → ⊥) → new ≡ w
+
+-- two replies that aren't failures are one, with one world after them
+abbrev pub IsFunctional : Type 0
+IsFunctional = (s : Settings) (w : World) (c : Caller) (q : Request) (r1 r2 : Reply) (new1 new2 : World)
+    → Step s w c q r1 new1 → Step s w c q r2 new2 → (HasFailed r1 → ⊥) → (HasFailed r2 → ⊥) → (r1 ≡ r2) × (new1 ≡ new2)
+
+-- there is always a reply that isn't a failure
+abbrev pub IsAnswered : Type 0
+IsAnswered = (s : Settings) (w : World) (c : Caller) (q : Request) → (reply : Reply) × (new : World) × Step s w c q reply new × (HasFailed reply → ⊥)
+
+-- The worlds in between follow: two runs over the same calls with the same replies end alike.
+abbrev pub RunsEndAlike : Type 0
+RunsEndAlike = (s : Settings) (w new1 new2 : World) (calls : List (Caller × Request)) (replies : List Reply)
+    → Run s w calls replies new1 → Run s w calls replies new2 → new1 ≡ new2
+
+-- ---- collection and deletion
+
+-- the roots and profiles are the same
+pub record KeepsRoots (w new : World) : Type 0 where
+  pub permanent : new.permanent ≡ w.permanent
+  pub user_roots : new.user_roots ≡ w.user_roots
+  pub profiles : new.profiles ≡ w.profiles
+  pub runtime : new.runtime ≡ w.runtime
+
+-- From the one world to the other exactly the dead paths went: each live object stands unchanged, no other path is valid,
+-- roots and profiles are the same, and a further collection frees nothing.
+pub record CollectsExactly (s : Settings) (w new : World) : Type 0 where
+  pub kept : (p : Path) → IsTrue (lives s w p) → finite.get new.objects p ≡ finite.get w.objects p
+  pub gone : (p : Path) → IsFalse (lives s w p) → IsFalse (has new p)
+  pub roots : KeepsRoots w new
+  pub once : (c : Caller) (reply : Reply) (last : World) → Step s new c (collect false) reply last → IsDone reply → (reply ≡ done (freed [] 0)) × (last ≡ new)
+
+abbrev pub Collects : Type 0
+Collects = (s : Settings) (w : World) (c : Caller) (ignores : Bool) (reply : Reply) (new : World)
+    → Step s w c (collect ignores) reply new → IsDone reply → CollectsExactly s w new
+
+-- After a deletion no reference of an object that is left points at a path that went.
+abbrev pub LeavesNoReference : Type 0
+LeavesNoReference = (s : Settings) (w : World) (c : Caller) (named : List Path) (ignores : Bool) (reply : Reply) (new : World)
+    → Step s w c (delete named ignores) reply new → IsDone reply
+    → (p : Path) (o : Object) → finite.get new.objects p ≡ Some o
+    → (r : Path) → IsTrue (finite.contains_key o.references r) → IsTrue (has w r) → IsTrue (has new r)
+
+-- ---- pinning
+
+-- what a root reaches stands from the one world to the other: it is still reached, and its object is the same
+abbrev pub Stands : Settings → Root → World → World → Type 0
+Stands s r w new = (p : Path) → Reaches (keep_of s) (graph_of w) r.target p
+    → Reaches (keep_of s) (graph_of new) r.target p × (finite.get new.objects p ≡ finite.get w.objects p)
+
+-- over a step a root keeps what it reaches
+abbrev pub Pins : Type 0
+Pins = (s : Settings) (w : World) (c : Caller) (q : Request) (reply : Reply) (new : World) → Step s w c q reply new
+    → (r : Root) → Contains (roots_of w) r → Stands s r w new
+
+-- a run with a root that stands at its start and after each of its calls but, perhaps, the last
+abbrev pub RootStands : Settings → World → Root → List (Caller × Request) → List Reply → World → Type 0
+RootStands s w r [] [] new = new ≡ w
+RootStands s w r (call ∷ calls) (reply ∷ replies) new =
+    Contains (roots_of w) r × ((mid : World) × Step s w call.0 call.1 reply mid × RootStands s mid r calls replies new)
+RootStands s w r [] (reply ∷ replies) new = ⊥
+RootStands s w r (call ∷ calls) [] new = ⊥
+
+-- over a run such a root keeps what it reached at the start
+abbrev pub PinsOverRuns : Type 0
+PinsOverRuns = (s : Settings) (w new : World) (r : Root) (calls : List (Caller × Request)) (replies : List Reply)
+    → RootStands s w r calls replies new → Stands s r w new

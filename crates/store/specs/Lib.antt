@@ -1,0 +1,14 @@
+pub mod Request
+pub mod Reply
+pub mod Liveness
+pub mod Seen
+pub mod Verdict
+pub mod Adds
+pub mod Profiles
+pub mod Tests
+pub mod Effects
+pub mod Answers
+pub mod Step
+pub mod Laws
+pub mod Labels
+pub mod Soundness

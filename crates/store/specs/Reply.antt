@@ -1,0 +1,74 @@
+-- What a store replies.
+use Rattle.std.specs.Prelude.{ℕ, List, Option}
+use Rattle.nar.specs.declared.error.NarError.{NarError}
+use Rattle.tables.specs.Lower.{DrvFault}
+use Rattle.tables.specs.World.{Path, Pair, Object}
+use Rattle.policy.specs.declared.kinds.Rule.{Rule}
+
+-- why a request is refused
+pub data Refusal : Type 0 where
+  -- what is wrong with an archive
+  archive : NarError → Refusal
+  -- an archive or a path that isn't that of the content address
+  ca_mismatch : Refusal
+  -- what is wrong with a derivation text
+  derivation : DrvFault → Refusal
+  -- a path that isn't valid
+  not_valid : Refusal
+  -- a reference that isn't valid
+  missing_reference : Refusal
+  -- an archive of another digest than the given one
+  nar_hash_mismatch : Refusal
+  -- a content-addressed object that refers to itself
+  self_reference : Refusal
+  no_root : Refusal
+  no_profile : Refusal
+  no_generation : Refusal
+  -- the current generation isn't deleted
+  current_generation : Refusal
+  -- no generation below the current one
+  no_older_generation : Refusal
+  -- no number is left for a generation
+  generation_limit : Refusal
+  too_many_references : Refusal
+  -- a user, root or profile name that isn't a plain name
+  bad_root_name : Refusal
+  -- a label that isn't a runtime label
+  bad_label : Refusal
+
+-- what a call may want
+pub data Failure : Type 0 where
+  memory : Failure
+  size : Failure
+  disk : Failure
+
+-- a number of paths, and the sum of the bytes of their archives
+pub record Usage : Type 0 where
+  pub paths : ℕ
+  pub bytes : ℕ
+
+pub data Answer : Type 0 where
+  path : Path → Answer
+  record_of : Path → Object → Answer
+  -- an archive or a listing
+  bytes : List ℕ → Answer
+  paths : List Path → Answer
+  -- labels and targets
+  roots : List Pair → Answer
+  -- set, dropped or deleted
+  changed : Answer
+  -- the number of a generation
+  generation : ℕ → Answer
+  -- how many runtime roots there are
+  runtime_count : ℕ → Answer
+  -- the paths that went, and the sum of the bytes of their archives
+  freed : List Path → ℕ → Answer
+  -- of the live, the dead and all paths
+  usage : Usage → Usage → Usage → Answer
+
+pub data Reply : Type 0 where
+  done : Answer → Reply
+  -- the rule; for `Live` the label and the target of a root that keeps a path
+  denied : Rule → Option Pair → Reply
+  refused : Refusal → Reply
+  failed : Failure → Reply

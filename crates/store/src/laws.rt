@@ -1,0 +1,59 @@
+//! Laws of the definitions: each is the contract of a function that does nothing.
+ghost use Rattle.tables.specs.World.{World};
+ghost use Rattle.store.specs.Laws.{Collects, HasEachRoot, IsAnswered, IsFunctional, LeavesNoReference, LeavesUnlessDone, Pins, PinsOverRuns, RunsEndAlike};
+ghost use Rattle.store.specs.Labels.{MirrorsRuns, MirrorsSteps, RunsLookAlike};
+ghost use Rattle.store.specs.Soundness.{KeepsSound, RunsKeepSound};
+
+/// Each entry of a table of roots is a root of the world.
+pub fn every_entry_is_a_root()
+    ensures { (w : World) → HasEachRoot w }
+{}
+
+/// A call that isn't done leaves the world.
+pub fn only_done_changes()
+    ensures { LeavesUnlessDone }
+{}
+
+/// Replies that aren't failures are determined, with the world after them.
+pub fn step_is_functional()
+    ensures { IsFunctional }
+{}
+
+/// There is always a reply that isn't a failure.
+pub fn step_is_total()
+    ensures { IsAnswered }
+{}
+
+/// The first world, the calls and the replies determine the worlds of a run.
+pub fn runs_end_alike()
+    ensures { RunsEndAlike }
+{}
+
+/// A collection keeps exactly what lives, and a second one frees nothing.
+pub fn collection_is_exact()
+    ensures { Collects }
+{}
+
+/// After a deletion no reference that is left points at a path that went.
+pub fn deletion_leaves_no_reference()
+    ensures { LeavesNoReference }
+{}
+
+/// A root keeps what it reaches, over a step and over a run.
+pub fn a_root_pins_what_it_reaches()
+    ensures step { Pins }
+    ensures run { PinsOverRuns }
+{}
+
+/// No call of a caller that isn't trusted tells two worlds apart that differ in runtime labels alone.
+pub fn runtime_labels_do_not_show()
+    ensures step { MirrorsSteps }
+    ensures run { MirrorsRuns }
+    ensures any { RunsLookAlike }
+{}
+
+/// A sound world stays sound, over a step and over a run of well-formed requests.
+pub fn soundness_is_kept()
+    ensures step { KeepsSound }
+    ensures run { RunsKeepSound }
+{}

@@ -1,0 +1,10 @@
+//! What a store does with a request: the definitions, and the laws that hold of them.
+#![tactic(auto)]
+
+mod laws;
+
+pub use laws::{
+    a_root_pins_what_it_reaches, collection_is_exact, deletion_leaves_no_reference,
+    every_entry_is_a_root, only_done_changes, runs_end_alike, runtime_labels_do_not_show,
+    soundness_is_kept, step_is_functional, step_is_total,
+};

@@ -1,0 +1,4 @@
+pub mod Lower
+pub mod World
+pub mod Objects
+pub mod Sound

@@ -1,0 +1,6 @@
+//! The world that the tables hold, and when it is sound.
+#![tactic(auto)]
+
+mod laws;
+
+pub use laws::the_new_world_is_sound;
