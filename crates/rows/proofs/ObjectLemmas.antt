@@ -1,0 +1,164 @@
+-- What the statements on the objects mean and do.
+use Rattle.std.proofs.Common.{◌≡◌, ℕ, pos, negsuc, List, [], ◌∷◌, codes, true, false, not, ◌&&◌, Some, None, Option, Ok, Result, IfOk, Vec, Global, String, map, length, refl, ◌∙◌}
+use Rattle.std.specs.Ordering.{eq_by_cmp, is_lt}
+use Rattle.std.specs.List.{list_all, AllAdjacentBelow}
+use Rattle.std.specs.FinMap as finite
+use Rattle.sqlite_value.specs.declared.value.Value.{Value}
+use Rattle.sqlite_value.specs.declared.value.Value.TheVariants.{Null, Int, Text, Blob}
+use Rattle.sqlite_value.specs.declared.keys.Collation.TheVariants.{Binary}
+use Rattle.sqlite_value.specs.Keys.{ascending}
+use Rattle.sqlite_value.specs.Order.{Row, column, bytes}
+use Rattle.sqlite_trees.specs.Tree.{put_row}
+use Rattle.sqlite_sql.specs.Term.{Term, lit, col, holds}
+use Rattle.sqlite_sql.specs.Query.{Query, inner, end}
+use Rattle.sqlite_schema.specs.declared.schema.Schema.{Schema}
+use Rattle.sqlite_schema.specs.declared.program.Program.{Program}
+use Rattle.sqlite_schema.specs.declared.command.Source.TheVariants.{Values}
+use Rattle.sqlite_schema.specs.declared.command.Command.TheVariants.{Insert, Delete, Select}
+use Rattle.sqlite_draft.specs.declared.query.Draft.{Draft}
+use Rattle.sqlite_draft.specs.declared.join.Step.TheVariants.{Inner}
+use Rattle.sqlite_draft.specs.Join.{chain}
+use Rattle.sqlite_resolve.specs.declared.compiled.Compiled.{Compiled}
+use Rattle.sqlite_resolve.specs.declared.scope.Output.{Output as Out}
+use Rattle.sqlite_resolve.specs.Lowering.{max_budget}
+use Rattle.sqlite_resolve.specs.Program.{program}
+use Rattle.sqlite_resolve.specs.Write.{over}
+use Rattle.sqlite_rules.specs.Edit.{next_rowid, is_taken}
+use Rattle.sqlite_tied.specs.Compute.{everything}
+use Rattle.sqlite.specs.State.{State, ExecutesInside}
+use Rattle.rows.specs.declared.failure.Failure.{Failure}
+use Rattle.rows.specs.declared.objects.Object.{Object}
+use Rattle.rows.specs.Forms.{object}
+use Rattle.rows.specs.Standing.{IsNamed, IsKnown, tree_named}
+use Rattle.rows.specs.Contents.{contents_of, texts_cmp, is_text, is_blob, is_object, object_of, text_if_any}
+use Rattle.rows.specs.Calls.{IsUnderWay, Changes, Stays}
+use Rattle.rows.specs.Entries.{stored_of, ShowsObject, stored}
+use Rattle.rows.proofs.Orders.{texts_total, texts_antisymmetric}
+use Rattle.rows.proofs.Tests.{cast_null, free_of, and_so, and_one, text_test}
+use Rattle.rows.proofs.Optional.{IsKept, given, kept_given, bound_given, read_given, option_fits}
+use Rattle.rows.proofs.Means.{Means, insert_means, delete_means, ordered_by_one, means_command, plain_state, shown_column}
+use Rattle.rows.proofs.Conditions.{where_one, equals, select_context, filter_in}
+use Rattle.rows.proofs.Columns.{bounds_are, outputs_five, result_context, from_in, shown_in}
+use Rattle.rows.proofs.Writes.{SetsRows, inserts_in, rowids_where}
+use Rattle.rows.proofs.Scans.{shows}
+use Rattle.rows.proofs.Entries.{put_map}
+use Rattle.rows.proofs.Members.{keyed_put}
+use Rattle.rows.proofs.Places.{changed}
+use Rattle.rows.proofs.ContentsLemmas.{object_set}
+use Rattle.rows.proofs.Statements.{Compiles, Selects, reads_part, deletes_part}
+use Rattle.sqlite.specs.Values.{bound_value}
+
+-- ---- one more
+
+abbrev pub insert_text : List ℕ
+insert_text = codes "INSERT INTO object (base, nar, hash, deriver, ca) VALUES (?1, ?2, ?3, ?4, ?5)"
+
+abbrev terms : List Term
+terms = lit Null ∷ col 0 0 ∷ col 0 1 ∷ col 0 2 ∷ col 0 3 ∷ col 0 4 ∷ []
+
+insert_is : (s : Schema) (at tree : ℕ) → IsNamed s (codes "object") at (record object { tree = tree }) → (c : Compiled) × Means s insert_text c × (c.command ≡ Insert at (Values terms 6)) × (c.returning ≡ None) × (c.formats ≡ [])
+unfolding everything
+insert_is s at tree found = (_, insert_means insert_text refl s at (codes "object") object.columns object.primary tree _ found refl, refl, refl, refl)
+
+pub inserts : (old new : State) (base : List ℕ) (nar : List ℕ) (hash : List ℕ) (deriver : Value) (ca : Value) (count : ℕ) → IsKept deriver → IsKept ca → IsUnderWay old → finite.get (contents_of old.now).objects base ≡ None → ExecutesInside 0 insert_text (Text base ∷ Blob nar ∷ Blob hash ∷ deriver ∷ ca ∷ []) old new (Ok count)
+    → Changes old new (λ c. record c { objects = finite.insert c.objects base (record { nar = nar; hash = hash; deriver = text_if_any deriver; ca = text_if_any ca }) })
+inserts old new base nar hash deriver ca count d c under none h =
+    let ours = under.ours h.1.was_open in
+    let stands = ours.has.1.0 in
+    let tree = tree_named old.now.schema (codes "object") in
+    let m = means_command old.now.schema insert_text _ (insert_is old.now.schema stands.at tree stands.known.named) in
+    let it = inserts_in object.name object.columns object.primary tree stands.at 6 terms insert_text (Text base ∷ Blob nar ∷ Blob hash ∷ deriver ∷ ca ∷ []) old new count under.mode stands.known.named.1 m.0 m.1 h.0 in
+    let rows = old.now.trees tree in
+    let row : Row = Int (next_rowid rows) ∷ Text base ∷ Blob nar ∷ Blob hash ∷ deriver ∷ ca ∷ [] in
+    let fresh : (not (is_taken rows row) && true) ≡ true = rw cast_null at it.0.fresh in
+    let free = free_of _ _ fresh in
+    let sets : SetsRows old new tree (put_row row rows) = rw (cast_null, d.cast_is, c.cast_is) at it.1 in
+    changed object old new (put_row row rows) stands sets _ ours (keyed_put row rows free refl) refl (object_set old new ours.has (put_row row rows) sets _ (put_map texts_total texts_antisymmetric is_object object_of row rows free (rw (d.kind, c.kind) refl) none))
+
+pub inserts_object : (old new : State) (base nar hash : List ℕ) (deriver ca : Option (String Global)) (count : ℕ) → IsUnderWay old → finite.get (contents_of old.now).objects base ≡ None
+    → ExecutesInside 0 insert_text (Text base ∷ Blob nar ∷ Blob hash ∷ bound_value (given deriver) ∷ bound_value (given ca) ∷ []) old new (Ok count)
+    → Changes old new (λ c. record c { objects = finite.insert c.objects base (stored nar hash deriver ca) })
+inserts_object old new base nar hash deriver ca count under none h =
+    rw (← read_given deriver, ← read_given ca) (inserts old new base nar hash (given deriver) (given ca) count (kept_given deriver) (kept_given ca) under none (rw (bound_given deriver, bound_given ca) at h))
+
+-- ---- of a whole key
+
+abbrev of_one : List Term
+of_one = equals (col 1 1) (col 0 0) ∷ []
+
+said_one : (base : List ℕ) (r : Row) → is_object r ≡ true → list_all (holds ((Text base ∷ []) ∷ r ∷ [])) of_one ≡ (let k = (object_of r).0 in eq_by_cmp texts_cmp k base)
+said_one base r kind = and_one _ ∙ text_test (column r 1) base (and_so _ _ (and_so _ _ (and_so _ _ (and_so _ _ kind).0).0).0).0
+
+-- ---- those gone
+
+abbrev pub delete_text : List ℕ
+delete_text = codes "DELETE FROM object WHERE base = ?1"
+
+delete_is : Compiles object.name object.columns object.primary delete_text (λ at tree. Delete at (record { lets = []; body = rowids_where tree of_one }))
+unfolding everything
+delete_is s at tree known =
+    let there = known.named.1 in
+    (_, delete_means delete_text refl s at (codes "object") object.columns object.primary tree of_one (plain_state 99997 None) _ known.named (where_one (over s at (codes "object")) (filter_in delete_text) refl refl (codes "base") at 0 1 (col 1 1) (equals (col 1 1) (col 0 0)) None max_budget (record { left_is = refl; right_is = refl; found = rw there; column = rw there; compare = rw there }) refl refl refl) (rw (known.low, known.by_tree)), refl, refl, refl)
+
+pub deletes : (old new : State) (base : List ℕ) (count : ℕ) → IsUnderWay old → ExecutesInside 0 delete_text (Text base ∷ []) old new (Ok count)
+    → Changes old new (λ c. record c { objects = finite.retain_keys c.objects (λ k. not (eq_by_cmp texts_cmp k base)) })
+deletes old new base count under h =
+    let ours = under.ours h.1.was_open in
+    let it = deletes_part object.name object.columns object.primary texts_total texts_antisymmetric is_object object_of old new under (λ has. has.1.0) delete_text (Text base ∷ []) of_one (λ k. eq_by_cmp texts_cmp k base) (said_one base) delete_is count h ours.keyed.1.0 in
+    changed object old new it.0 ours.has.1.0 it.1 _ ours it.2 refl (object_set old new ours.has it.0 it.1 _ it.3)
+
+-- ---- reading them
+
+abbrev query : List Term → ℕ → Query
+query filter tree = record {
+  from = inner tree end;
+  filter = filter;
+  group = None;
+  project = col 1 1 ∷ col 1 2 ∷ col 1 3 ∷ col 1 4 ∷ col 1 5 ∷ [];
+  distinct = false;
+  collations = [];
+  order = (col 1 1, ascending Binary) ∷ [];
+  limit = lit (Int (negsuc 0));
+  offset = lit (Int (pos 0));
+}
+
+abbrev whole : List Term → ℕ → Program
+whole filter tree = record { lets = []; body = query filter tree }
+
+abbrev draft : List Term → ℕ → Draft
+draft filter tree = record { from = chain (Inner tree ∷ []); filter = filter; group = None; project = col 1 1 ∷ col 1 2 ∷ col 1 3 ∷ col 1 4 ∷ col 1 5 ∷ []; distinct = false; collations = []; order = (col 1 1, ascending Binary) ∷ []; limit = lit (Int (negsuc 0)); offset = lit (Int (pos 0)) }
+
+abbrev outputs : List Out
+outputs = shown_column (codes "base") 1 ∷ shown_column (codes "nar") 2 ∷ shown_column (codes "hash") 3 ∷ shown_column (codes "deriver") 4 ∷ shown_column (codes "ca") 5 ∷ []
+
+abbrev names : List (List ℕ)
+names = codes "base" ∷ codes "nar" ∷ codes "hash" ∷ codes "deriver" ∷ codes "ca" ∷ []
+
+fits : (params : Row) (filter : List Term) (tree : ℕ) (r : Row) (t : Object) → ShowsObject (shows (query filter tree) params r) t → (is_object r ≡ true) × (object_of r ≡ stored_of t)
+fits params filter tree r t h = (λ i. is_text (h.0 i) && is_blob (h.1 i) && is_blob (h.2 i) && (option_fits _ _ h.3).0 i && (option_fits _ _ h.4).0 i, λ i. (bytes (h.0 i), record { nar = bytes (h.1 i); hash = bytes (h.2 i); deriver = (option_fits _ _ h.3).1 i; ca = (option_fits _ _ h.4).1 i }))
+
+abbrev pub of_text : List ℕ
+of_text = codes "SELECT base, nar, hash, deriver, ca FROM object WHERE base = ?1 ORDER BY base"
+
+of_typed : (s : Schema) (at tree : ℕ) → IsKnown s (codes "object") at (record object { tree = tree }) → program s [] (draft of_one tree) ≡ Ok (whole of_one tree)
+unfolding everything
+of_typed s at tree known = rw (known.low, known.by_tree)
+
+of_is : Compiles object.name object.columns object.primary of_text (λ at tree. Select (whole of_one tree) names)
+unfolding everything
+of_is s at tree known =
+    let there = known.named.1 in (
+      _,
+      ordered_by_one of_text refl refl refl s (codes "object") at (record object { tree = tree }) outputs of_one (codes "base") 0 (col 1 1) None (Some Binary) (lit (Int (negsuc 0)), lit (Int (pos 0)))
+          (plain_state 100000 None) (plain_state 99995 (Some Binary)) 99992 (whole of_one tree)
+          known.named refl refl refl refl refl refl refl refl refl refl (bounds_are s (from_in of_text) refl (codes "object") at refl refl refl known.named.0) (outputs_five (result_context s (codes "object") at) (record { name = codes "object"; table = at; slot = 1; shared = [] } ∷ []) (shown_in of_text) refl refl refl refl refl refl at (codes "base") (codes "nar") (codes "hash") (codes "deriver") (codes "ca") (record { names = refl; found = rw there; term = rw there; heading = rw there }) (record { names = refl; found = rw there; term = rw there; heading = rw there }) (record { names = refl; found = rw there; term = rw there; heading = rw there }) (record { names = refl; found = rw there; term = rw there; heading = rw there }) (record { names = refl; found = rw there; term = rw there; heading = rw there }) None max_budget (refl, (refl, (refl, (refl, (refl, tt)))))) (where_one (select_context s (codes "object") at outputs) (filter_in of_text) refl refl (codes "base") at 0 1 (col 1 1) (equals (col 1 1) (col 0 0)) (Some Binary) 99995 (record { left_is = refl; right_is = refl; found = rw there; column = rw there; compare = rw there }) refl refl refl)
+          (refl, refl, refl, refl) refl refl (rw there) (rw there) refl (of_typed s at tree known),
+      refl,
+      refl,
+      refl,
+    )
+
+pub reads_of : (old new : State) (base : List ℕ) (r : Result (Vec Object Global) Failure) → IsUnderWay old → Selects ShowsObject old new of_text (Text base ∷ []) r → IfOk r (λ all. AllAdjacentBelow (λ x y. true ≡ is_lt (texts_cmp (stored_of x).0 (stored_of y).0)) all.items (length all.items))
+    → IfOk r (λ all. Stays old new × (map stored_of all.items ≡ finite.entries (finite.retain_keys (contents_of old.now).objects (λ k. eq_by_cmp texts_cmp k base))))
+reads_of old new base r under selects up =
+    reads_part object.name object.columns object.primary texts_total texts_antisymmetric is_object object_of old new under (λ has. has.1.0) of_text (Text base ∷ []) names (query of_one) (λ tree. record { from = refl; group = refl; distinct = refl; whole = λ params rows. refl }) (λ k. eq_by_cmp texts_cmp k base) (λ tree. said_one base) ShowsObject stored_of (fits (Text base ∷ []) of_one) of_is r selects up

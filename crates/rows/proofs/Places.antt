@@ -1,0 +1,91 @@
+-- That a write to one of our tables leaves each other table as it was, ours and theirs.
+use Rattle.std.proofs.Common.{◌≡◌, ◌≢◌, ℕ, List, [], ◌∷◌, Bool, true, false, not, ◌||◌, ◌==◌, Some, refl, sym, ap, subst, ◌∙◌, slice_get, bytes_eq}
+use Rattle.std.specs.List.{AllByRecursion, list_all}
+use Rattle.std.proofs.lemmas.Slice.Eq.{bytes_eq-Decides}
+use Rattle.std.proofs.lemmas.Bool.{eq-eqb}
+use Rattle.sqlite_value.specs.Order.{Row}
+use Rattle.sqlite_trees.proofs.ListLemmas.{all-slice_get}
+use Rattle.sqlite_schema.specs.declared.schema.Schema.{Schema}
+use Rattle.sqlite_schema.specs.declared.schema.Table.{Table}
+use Rattle.sqlite.specs.State.{State}
+use Rattle.rows.specs.Forms.{our_tables, is_our_name}
+use Rattle.rows.specs.Standing.{Stands, HasTables, tree_named}
+use Rattle.rows.specs.Contents.{Contents, contents_of, rows_named}
+use Rattle.rows.specs.Calls.{IsKeyed, IsOurs, KeepsTheirs, Changes}
+use Rattle.rows.proofs.Writes.{SetsRows}
+use Rattle.rows.proofs.Tests.{and_so}
+
+-- what holds of a table in the list holds at its place
+list_all_at : (p : Table → Bool) (ts : List Table) (at : ℕ) (t : Table) → slice_get ts at ≡ Some t → list_all p ts ≡ true → p t ≡ true
+list_all_at p ts at t there h = all-slice_get (λ x. p x ≡ true) ts at t there (each ts h)
+  where
+    each : (xs : List Table) → list_all p xs ≡ true → AllByRecursion (λ x. p x ≡ true) xs
+    each [] h = tt
+    each (x ∷ xs) h = let b = and_so _ _ h in (b.0, each xs b.1)
+
+bytes_same : (a b : List ℕ) → bytes_eq a b ≡ true → a ≡ b
+bytes_same a b h = (bytes_eq-Decides a b).0 h
+
+module _ (s : Schema) (a : Table) (stands : Stands s a) where
+  abbrev tree : ℕ
+  tree = tree_named s a.name
+
+  -- two of our tables have two trees
+  pub apart : (b : Table) → Stands s b → bytes_eq b.name a.name ≡ false → tree_named s b.name ≢ tree
+  apart b other names e =
+      let alone = list_all_at _ s.tables other.at _ other.known.named.1 stands.alone in
+      absurd (let f = rw (eq-eqb _ _ e, names) at alone in cc)
+
+  kept : (p : Table → Type 0) (ts : List Table) → list_all (λ t. not (t.tree == tree) || bytes_eq t.name a.name) ts ≡ true → AllByRecursion (λ t. t.tree ≢ tree → p t) ts → is_our_name a.name ≡ true → AllByRecursion (λ t. is_our_name t.name ≡ false → p t) ts
+  kept p [] alone h ours = tt
+  kept p (t ∷ ts) alone h ours = (λ other. h.0 (λ e. differs e other (and_so _ _ alone).0), kept p ts (and_so _ _ alone).1 h.1 ours)
+    where
+      differs : t.tree ≡ tree → is_our_name t.name ≡ false → (not (t.tree == tree) || bytes_eq t.name a.name) ≡ true → ⊥
+      differs e other alone =
+          let named : bytes_eq t.name a.name ≡ true = let f = alone in rw (eq-eqb _ _ e) at f in
+          let is : t.name ≡ a.name = bytes_same _ _ named in
+          absurd (let f = sym ours ∙ ap is_our_name (sym is) ∙ other in cc)
+
+  at_tree : (p : ℕ → Type 0) (b : Table) → Stands s b → AllByRecursion (λ (t : Table). t.tree ≢ tree → p t.tree) s.tables → tree_named s b.name ≢ tree → p (tree_named s b.name)
+  at_tree p b other h = all-slice_get (λ (t : Table). t.tree ≢ tree → p t.tree) s.tables other.at _ other.known.named.1 h
+
+-- after a write to the rows of one of our tables
+module _ (a : Table) (old new : State) (rows : List Row) (stands : Stands old.now.schema a) (sets : SetsRows old new (tree_named old.now.schema a.name) rows) where
+  pub own_rows : rows_named new.now a.name ≡ rows
+  own_rows = ap (λ s. new.now.trees (tree_named s a.name)) sets.schema ∙ sets.rows_are
+
+  -- each other table of ours has the rows that it had
+  pub others_kept : (b : Table) → Stands old.now.schema b → bytes_eq b.name a.name ≡ false → rows_named new.now b.name ≡ rows_named old.now b.name
+  others_kept b other names =
+      ap (λ s. new.now.trees (tree_named s b.name)) sets.schema
+      ∙ at_tree old.now.schema a stands (λ tree. new.now.trees tree ≡ old.now.trees tree) b other sets.others (apart old.now.schema a stands b other names)
+
+  -- and so has each of theirs
+  pub theirs_kept : is_our_name a.name ≡ true → KeepsTheirs old.now new.now
+  theirs_kept = kept old.now.schema a stands (λ t. new.now.trees t.tree ≡ old.now.trees t.tree) old.now.schema.tables stands.alone sets.others
+
+  keyed_after : (IsKeyed (rows_named old.now a.name) → IsKeyed rows) → (ts : List Table) → AllByRecursion (Stands old.now.schema) ts → AllByRecursion (λ t. IsKeyed (rows_named old.now t.name)) ts → AllByRecursion (λ t. IsKeyed (rows_named new.now t.name)) ts
+  keyed_after keeps [] has keyed = tt
+  keyed_after keeps (t ∷ ts) has keyed = (go (bytes_eq t.name a.name) refl, keyed_after keeps ts has.1 keyed.1)
+    where
+      go : (b : Bool) → bytes_eq t.name a.name ≡ b → IsKeyed (rows_named new.now t.name)
+      go true e =
+          let is : t.name ≡ a.name = bytes_same _ _ e in
+          subst (λ n. IsKeyed (rows_named new.now n)) (sym is) (subst IsKeyed (sym own_rows) (keeps (subst (λ n. IsKeyed (rows_named old.now n)) is keyed.0)))
+      go false e = subst IsKeyed (sym (others_kept t has.0 e)) keyed.0
+
+  pub ours_kept : IsOurs old.now → (IsKeyed (rows_named old.now a.name) → IsKeyed rows) → IsOurs new.now
+  ours_kept ours keeps = record { has = subst HasTables (sym sets.schema) ours.has; keyed = keyed_after keeps our_tables ours.has ours.keyed }
+
+  -- what the write makes of what our tables hold
+  pub changed : (change : Contents → Contents) → IsOurs old.now → (IsKeyed (rows_named old.now a.name) → IsKeyed rows) → is_our_name a.name ≡ true → contents_of new.now ≡ change (contents_of old.now) → Changes old new change
+  changed change ours keeps named contents = record {
+    was_open = sets.was_open;
+    is_open = sets.is_open;
+    schema = sets.schema;
+    contents = contents;
+    theirs = theirs_kept named;
+    ours = ours_kept ours keeps;
+    committed = sets.committed;
+    mode = sets.mode;
+  }

@@ -1,0 +1,217 @@
+-- What the statements on the profiles mean and do.
+use Rattle.std.proofs.Common.{◌≡◌, ℕ, ℤ, pos, negsuc, List, [], ◌∷◌, codes, true, false, not, ◌&&◌, Some, None, Ok, Result, IfOk, Vec, Global, map, length, refl, ◌∙◌}
+use Rattle.std.specs.Ordering.{eq_by_cmp, is_lt}
+use Rattle.std.specs.List.{list_all, AllAdjacentBelow}
+use Rattle.std.specs.FinMap as finite
+use Rattle.sqlite_value.specs.declared.value.Value.TheVariants.{Null, Int, Text}
+use Rattle.sqlite_value.specs.declared.keys.Collation.TheVariants.{Binary}
+use Rattle.sqlite_value.specs.Keys.{ascending}
+use Rattle.sqlite_value.specs.Order.{Row, column, bytes}
+use Rattle.sqlite_trees.specs.Tree.{put_row}
+use Rattle.sqlite_trees.specs.View.{is_int}
+use Rattle.sqlite_sql.specs.Term.{Term, lit, col, holds}
+use Rattle.sqlite_sql.specs.Query.{Query, inner, end}
+use Rattle.sqlite_schema.specs.declared.schema.Schema.{Schema}
+use Rattle.sqlite_schema.specs.declared.program.Program.{Program}
+use Rattle.sqlite_schema.specs.declared.command.Source.TheVariants.{Values}
+use Rattle.sqlite_schema.specs.declared.command.Command.TheVariants.{Insert, Delete, Select}
+use Rattle.sqlite_draft.specs.declared.query.Draft.{Draft}
+use Rattle.sqlite_draft.specs.declared.join.Step.TheVariants.{Inner}
+use Rattle.sqlite_draft.specs.Join.{chain}
+use Rattle.sqlite_resolve.specs.declared.compiled.Compiled.{Compiled}
+use Rattle.sqlite_resolve.specs.declared.scope.Output.{Output as Out}
+use Rattle.sqlite_resolve.specs.Lowering.{max_budget}
+use Rattle.sqlite_resolve.specs.Program.{program}
+use Rattle.sqlite_resolve.specs.Write.{over}
+use Rattle.sqlite_rules.specs.Edit.{next_rowid, is_taken, id_in}
+use Rattle.sqlite_tied.specs.Compute.{everything}
+use Rattle.sqlite.specs.State.{State, ExecutesInside}
+use Rattle.rows.specs.declared.failure.Failure.{Failure}
+use Rattle.rows.specs.declared.profiles.Profile.{Profile}
+use Rattle.rows.specs.Forms.{profile}
+use Rattle.rows.specs.Standing.{IsNamed, IsKnown, tree_named}
+use Rattle.rows.specs.Contents.{contents_of, texts_cmp, pair_cmp, is_text, is_profile, profile_of}
+use Rattle.rows.specs.Calls.{IsUnderWay, Changes, Stays}
+use Rattle.rows.specs.Entries.{current_of, ShowsProfile}
+use Rattle.rows.proofs.Orders.{pair_total, pair_antisymmetric}
+use Rattle.rows.proofs.Tests.{cast_null, cast_int, free_of, and_so, and_one, text_test, both_tests}
+use Rattle.rows.proofs.Means.{Means, insert_means, delete_means, ordered_by_two, means_command, plain_state, shown_column}
+use Rattle.rows.proofs.Conditions.{where_one, where_two, equals, select_context, filter_in}
+use Rattle.rows.proofs.Columns.{bounds_are, outputs_three, result_context, from_in, shown_in}
+use Rattle.rows.proofs.Writes.{SetsRows, inserts_in, rowids_where}
+use Rattle.rows.proofs.Scans.{shows}
+use Rattle.rows.proofs.Entries.{put_map}
+use Rattle.rows.proofs.Members.{keyed_put}
+use Rattle.rows.proofs.Places.{changed}
+use Rattle.rows.proofs.ContentsLemmas.{profile_set}
+use Rattle.rows.proofs.Statements.{Compiles, Selects, reads_part, deletes_part, whole_map}
+
+-- ---- one more
+
+abbrev pub insert_text : List ℕ
+insert_text = codes "INSERT INTO profile (owner, name, cur) VALUES (?1, ?2, ?3)"
+
+abbrev terms : List Term
+terms = lit Null ∷ col 0 0 ∷ col 0 1 ∷ col 0 2 ∷ []
+
+insert_is : (s : Schema) (at tree : ℕ) → IsNamed s (codes "profile") at (record profile { tree = tree }) → (c : Compiled) × Means s insert_text c × (c.command ≡ Insert at (Values terms 4)) × (c.returning ≡ None) × (c.formats ≡ [])
+unfolding everything
+insert_is s at tree found = (_, insert_means insert_text refl s at (codes "profile") profile.columns profile.primary tree _ found refl, refl, refl, refl)
+
+pub inserts : (old new : State) (owner : List ℕ) (name : List ℕ) (current : ℤ) (count : ℕ) → IsUnderWay old → finite.get (contents_of old.now).profiles (owner, name) ≡ None → ExecutesInside 0 insert_text (Text owner ∷ Text name ∷ Int current ∷ []) old new (Ok count)
+    → Changes old new (λ c. record c { profiles = finite.insert c.profiles (owner, name) current })
+inserts old new owner name current count under none h =
+    let ours = under.ours h.1.was_open in
+    let stands = ours.has.1.1.1.1.1.1.0 in
+    let tree = tree_named old.now.schema (codes "profile") in
+    let m = means_command old.now.schema insert_text _ (insert_is old.now.schema stands.at tree stands.known.named) in
+    let it = inserts_in profile.name profile.columns profile.primary tree stands.at 4 terms insert_text (Text owner ∷ Text name ∷ Int current ∷ []) old new count under.mode stands.known.named.1 m.0 m.1 h.0 in
+    let rows = old.now.trees tree in
+    let row : Row = Int (next_rowid rows) ∷ Text owner ∷ Text name ∷ Int current ∷ [] in
+    let fresh : (not (is_taken rows row) && true) ≡ true = rw cast_null at it.0.fresh in
+    let free = free_of _ _ fresh in
+    let sets : SetsRows old new tree (put_row row rows) = rw (cast_null, cast_int current) at it.1 in
+    changed profile old new (put_row row rows) stands sets _ ours (keyed_put row rows free refl) refl (profile_set old new ours.has (put_row row rows) sets _ (put_map pair_total pair_antisymmetric is_profile profile_of row rows free refl none))
+
+-- ---- of the first one of the key
+
+abbrev of_one : List Term
+of_one = equals (col 1 1) (col 0 0) ∷ []
+
+said_one : (owner : List ℕ) (r : Row) → is_profile r ≡ true → list_all (holds ((Text owner ∷ []) ∷ r ∷ [])) of_one ≡ (let k = (profile_of r).0 in eq_by_cmp texts_cmp k.0 owner)
+said_one owner r kind = and_one _ ∙ text_test (column r 1) owner (and_so _ _ (and_so _ _ kind).0).0
+
+-- ---- of a whole key
+
+abbrev of_two : List Term
+of_two = equals (col 1 1) (col 0 0) ∷ equals (col 1 2) (col 0 1) ∷ []
+
+said_two : (owner : List ℕ) (name : List ℕ) (r : Row) → is_profile r ≡ true → list_all (holds ((Text owner ∷ Text name ∷ []) ∷ r ∷ [])) of_two ≡ (let k = (profile_of r).0 in eq_by_cmp texts_cmp k.0 owner && eq_by_cmp texts_cmp k.1 name)
+said_two owner name r kind = both_tests _ _ _ _ (text_test (column r 1) owner (and_so _ _ (and_so _ _ kind).0).0) (text_test (column r 2) name (and_so _ _ (and_so _ _ kind).0).1)
+
+-- ---- those gone
+
+abbrev pub delete_text : List ℕ
+delete_text = codes "DELETE FROM profile WHERE owner = ?1 AND name = ?2"
+
+delete_is : Compiles profile.name profile.columns profile.primary delete_text (λ at tree. Delete at (record { lets = []; body = rowids_where tree of_two }))
+unfolding everything
+delete_is s at tree known =
+    let there = known.named.1 in
+    (_, delete_means delete_text refl s at (codes "profile") profile.columns profile.primary tree of_two (plain_state 99993 None) _ known.named (where_two (over s at (codes "profile")) (filter_in delete_text) refl refl refl refl (codes "owner") (codes "name") at 0 1 (col 1 1) (col 1 2) (equals (col 1 1) (col 0 0)) (equals (col 1 2) (col 0 1)) None max_budget (record { left_is = refl; right_is = refl; found = rw there; column = rw there; compare = rw there }) (record { left_is = refl; right_is = refl; found = rw there; column = rw there; compare = rw there }) (refl, (refl, (refl, (refl, (refl, (refl, (refl, tt)))))))) (rw (known.low, known.by_tree)), refl, refl, refl)
+
+pub deletes : (old new : State) (owner : List ℕ) (name : List ℕ) (count : ℕ) → IsUnderWay old → ExecutesInside 0 delete_text (Text owner ∷ Text name ∷ []) old new (Ok count)
+    → Changes old new (λ c. record c { profiles = finite.retain_keys c.profiles (λ k. not (eq_by_cmp texts_cmp k.0 owner && eq_by_cmp texts_cmp k.1 name)) })
+deletes old new owner name count under h =
+    let ours = under.ours h.1.was_open in
+    let it = deletes_part profile.name profile.columns profile.primary pair_total pair_antisymmetric is_profile profile_of old new under (λ has. has.1.1.1.1.1.1.0) delete_text (Text owner ∷ Text name ∷ []) of_two (λ k. eq_by_cmp texts_cmp k.0 owner && eq_by_cmp texts_cmp k.1 name) (said_two owner name) delete_is count h ours.keyed.1.1.1.1.1.1.0 in
+    changed profile old new it.0 ours.has.1.1.1.1.1.1.0 it.1 _ ours it.2 refl (profile_set old new ours.has it.0 it.1 _ it.3)
+
+-- ---- reading them
+
+abbrev query : List Term → ℕ → Query
+query filter tree = record {
+  from = inner tree end;
+  filter = filter;
+  group = None;
+  project = col 1 1 ∷ col 1 2 ∷ col 1 3 ∷ [];
+  distinct = false;
+  collations = [];
+  order = (col 1 1, ascending Binary) ∷ (col 1 2, ascending Binary) ∷ [];
+  limit = lit (Int (negsuc 0));
+  offset = lit (Int (pos 0));
+}
+
+abbrev whole : List Term → ℕ → Program
+whole filter tree = record { lets = []; body = query filter tree }
+
+abbrev draft : List Term → ℕ → Draft
+draft filter tree = record { from = chain (Inner tree ∷ []); filter = filter; group = None; project = col 1 1 ∷ col 1 2 ∷ col 1 3 ∷ []; distinct = false; collations = []; order = (col 1 1, ascending Binary) ∷ (col 1 2, ascending Binary) ∷ []; limit = lit (Int (negsuc 0)); offset = lit (Int (pos 0)) }
+
+abbrev outputs : List Out
+outputs = shown_column (codes "owner") 1 ∷ shown_column (codes "name") 2 ∷ shown_column (codes "cur") 3 ∷ []
+
+abbrev names : List (List ℕ)
+names = codes "owner" ∷ codes "name" ∷ codes "cur" ∷ []
+
+fits : (params : Row) (filter : List Term) (tree : ℕ) (r : Row) (t : Profile) → ShowsProfile (shows (query filter tree) params r) t → (is_profile r ≡ true) × (profile_of r ≡ current_of t)
+fits params filter tree r t h = (λ i. is_text (h.0 i) && is_text (h.1 i) && is_int (h.2 i), λ i. ((bytes (h.0 i), bytes (h.1 i)), id_in (h.2 i)))
+
+abbrev pub all_text : List ℕ
+all_text = codes "SELECT owner, name, cur FROM profile ORDER BY owner, name"
+
+all_typed : (s : Schema) (at tree : ℕ) → IsKnown s (codes "profile") at (record profile { tree = tree }) → program s [] (draft [] tree) ≡ Ok (whole [] tree)
+unfolding everything
+all_typed s at tree known = rw (known.low, known.by_tree)
+
+all_is : Compiles profile.name profile.columns profile.primary all_text (λ at tree. Select (whole [] tree) names)
+unfolding everything
+all_is s at tree known =
+    let there = known.named.1 in (
+      _,
+      ordered_by_two all_text refl refl refl s (codes "profile") at (record profile { tree = tree }) outputs [] (codes "owner") (codes "name") 0 1 (col 1 1) (col 1 2) (Some Binary) (Some Binary) (Some Binary) (lit (Int (negsuc 0)), lit (Int (pos 0)))
+          (plain_state 100000 None) (plain_state 99997 (Some Binary)) 99997 (whole [] tree)
+          known.named refl refl refl refl refl refl refl refl refl refl (bounds_are s (from_in all_text) refl (codes "profile") at refl refl refl known.named.0) (outputs_three (result_context s (codes "profile") at) (record { name = codes "profile"; table = at; slot = 1; shared = [] } ∷ []) (shown_in all_text) refl refl refl refl at (codes "owner") (codes "name") (codes "cur") (record { names = refl; found = rw there; term = rw there; heading = rw there }) (record { names = refl; found = rw there; term = rw there; heading = rw there }) (record { names = refl; found = rw there; term = rw there; heading = rw there }) None max_budget (refl, (refl, (refl, tt)))) refl
+          (refl, refl, refl, refl) (refl, refl, refl, refl) refl refl refl refl (rw there) (rw there) (rw there) (rw there) refl refl (all_typed s at tree known),
+      refl,
+      refl,
+      refl,
+    )
+
+pub reads_all : (old new : State) (r : Result (Vec Profile Global) Failure) → IsUnderWay old → Selects ShowsProfile old new all_text [] r → IfOk r (λ all. AllAdjacentBelow (λ x y. true ≡ is_lt (pair_cmp (current_of x).0 (current_of y).0)) all.items (length all.items))
+    → IfOk r (λ all. Stays old new × (map current_of all.items ≡ finite.entries (contents_of old.now).profiles))
+reads_all old new r under selects up =
+    whole_map pair_total pair_antisymmetric current_of r (Stays old new) (contents_of old.now).profiles
+    (reads_part profile.name profile.columns profile.primary pair_total pair_antisymmetric is_profile profile_of old new under (λ has. has.1.1.1.1.1.1.0) all_text [] names (query []) (λ tree. record { from = refl; group = refl; distinct = refl; whole = λ params rows. refl }) (λ _. true) (λ tree r kind. refl) ShowsProfile current_of (fits [] []) all_is r selects up)
+
+abbrev pub of_text : List ℕ
+of_text = codes "SELECT owner, name, cur FROM profile WHERE owner = ?1 ORDER BY owner, name"
+
+of_typed : (s : Schema) (at tree : ℕ) → IsKnown s (codes "profile") at (record profile { tree = tree }) → program s [] (draft of_one tree) ≡ Ok (whole of_one tree)
+unfolding everything
+of_typed s at tree known = rw (known.low, known.by_tree)
+
+of_is : Compiles profile.name profile.columns profile.primary of_text (λ at tree. Select (whole of_one tree) names)
+unfolding everything
+of_is s at tree known =
+    let there = known.named.1 in (
+      _,
+      ordered_by_two of_text refl refl refl s (codes "profile") at (record profile { tree = tree }) outputs of_one (codes "owner") (codes "name") 0 1 (col 1 1) (col 1 2) None (Some Binary) (Some Binary) (lit (Int (negsuc 0)), lit (Int (pos 0)))
+          (plain_state 100000 None) (plain_state 99997 (Some Binary)) 99994 (whole of_one tree)
+          known.named refl refl refl refl refl refl refl refl refl refl (bounds_are s (from_in of_text) refl (codes "profile") at refl refl refl known.named.0) (outputs_three (result_context s (codes "profile") at) (record { name = codes "profile"; table = at; slot = 1; shared = [] } ∷ []) (shown_in of_text) refl refl refl refl at (codes "owner") (codes "name") (codes "cur") (record { names = refl; found = rw there; term = rw there; heading = rw there }) (record { names = refl; found = rw there; term = rw there; heading = rw there }) (record { names = refl; found = rw there; term = rw there; heading = rw there }) None max_budget (refl, (refl, (refl, tt)))) (where_one (select_context s (codes "profile") at outputs) (filter_in of_text) refl refl (codes "owner") at 0 1 (col 1 1) (equals (col 1 1) (col 0 0)) (Some Binary) 99997 (record { left_is = refl; right_is = refl; found = rw there; column = rw there; compare = rw there }) refl refl refl)
+          (refl, refl, refl, refl) (refl, refl, refl, refl) refl refl refl refl (rw there) (rw there) (rw there) (rw there) refl refl (of_typed s at tree known),
+      refl,
+      refl,
+      refl,
+    )
+
+pub reads_of : (old new : State) (owner : List ℕ) (r : Result (Vec Profile Global) Failure) → IsUnderWay old → Selects ShowsProfile old new of_text (Text owner ∷ []) r → IfOk r (λ all. AllAdjacentBelow (λ x y. true ≡ is_lt (pair_cmp (current_of x).0 (current_of y).0)) all.items (length all.items))
+    → IfOk r (λ all. Stays old new × (map current_of all.items ≡ finite.entries (finite.retain_keys (contents_of old.now).profiles (λ k. eq_by_cmp texts_cmp k.0 owner))))
+reads_of old new owner r under selects up =
+    reads_part profile.name profile.columns profile.primary pair_total pair_antisymmetric is_profile profile_of old new under (λ has. has.1.1.1.1.1.1.0) of_text (Text owner ∷ []) names (query of_one) (λ tree. record { from = refl; group = refl; distinct = refl; whole = λ params rows. refl }) (λ k. eq_by_cmp texts_cmp k.0 owner) (λ tree. said_one owner) ShowsProfile current_of (fits (Text owner ∷ []) of_one) of_is r selects up
+
+abbrev pub at_text : List ℕ
+at_text = codes "SELECT owner, name, cur FROM profile WHERE owner = ?1 AND name = ?2 ORDER BY owner, name"
+
+at_typed : (s : Schema) (at tree : ℕ) → IsKnown s (codes "profile") at (record profile { tree = tree }) → program s [] (draft of_two tree) ≡ Ok (whole of_two tree)
+unfolding everything
+at_typed s at tree known = rw (known.low, known.by_tree)
+
+at_is : Compiles profile.name profile.columns profile.primary at_text (λ at tree. Select (whole of_two tree) names)
+unfolding everything
+at_is s at tree known =
+    let there = known.named.1 in (
+      _,
+      ordered_by_two at_text refl refl refl s (codes "profile") at (record profile { tree = tree }) outputs of_two (codes "owner") (codes "name") 0 1 (col 1 1) (col 1 2) None (Some Binary) (Some Binary) (lit (Int (negsuc 0)), lit (Int (pos 0)))
+          (plain_state 100000 None) (plain_state 99997 (Some Binary)) 99990 (whole of_two tree)
+          known.named refl refl refl refl refl refl refl refl refl refl (bounds_are s (from_in at_text) refl (codes "profile") at refl refl refl known.named.0) (outputs_three (result_context s (codes "profile") at) (record { name = codes "profile"; table = at; slot = 1; shared = [] } ∷ []) (shown_in at_text) refl refl refl refl at (codes "owner") (codes "name") (codes "cur") (record { names = refl; found = rw there; term = rw there; heading = rw there }) (record { names = refl; found = rw there; term = rw there; heading = rw there }) (record { names = refl; found = rw there; term = rw there; heading = rw there }) None max_budget (refl, (refl, (refl, tt)))) (where_two (select_context s (codes "profile") at outputs) (filter_in at_text) refl refl refl refl (codes "owner") (codes "name") at 0 1 (col 1 1) (col 1 2) (equals (col 1 1) (col 0 0)) (equals (col 1 2) (col 0 1)) (Some Binary) 99997 (record { left_is = refl; right_is = refl; found = rw there; column = rw there; compare = rw there }) (record { left_is = refl; right_is = refl; found = rw there; column = rw there; compare = rw there }) (refl, (refl, (refl, (refl, (refl, (refl, (refl, tt))))))))
+          (refl, refl, refl, refl) (refl, refl, refl, refl) refl refl refl refl (rw there) (rw there) (rw there) (rw there) refl refl (at_typed s at tree known),
+      refl,
+      refl,
+      refl,
+    )
+
+pub reads_at : (old new : State) (owner : List ℕ) (name : List ℕ) (r : Result (Vec Profile Global) Failure) → IsUnderWay old → Selects ShowsProfile old new at_text (Text owner ∷ Text name ∷ []) r → IfOk r (λ all. AllAdjacentBelow (λ x y. true ≡ is_lt (pair_cmp (current_of x).0 (current_of y).0)) all.items (length all.items))
+    → IfOk r (λ all. Stays old new × (map current_of all.items ≡ finite.entries (finite.retain_keys (contents_of old.now).profiles (λ k. eq_by_cmp texts_cmp k.0 owner && eq_by_cmp texts_cmp k.1 name))))
+reads_at old new owner name r under selects up =
+    reads_part profile.name profile.columns profile.primary pair_total pair_antisymmetric is_profile profile_of old new under (λ has. has.1.1.1.1.1.1.0) at_text (Text owner ∷ Text name ∷ []) names (query of_two) (λ tree. record { from = refl; group = refl; distinct = refl; whole = λ params rows. refl }) (λ k. eq_by_cmp texts_cmp k.0 owner && eq_by_cmp texts_cmp k.1 name) (λ tree. said_two owner name) ShowsProfile current_of (fits (Text owner ∷ Text name ∷ []) of_two) at_is r selects up

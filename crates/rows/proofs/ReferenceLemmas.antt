@@ -1,0 +1,182 @@
+-- What the statements on the references mean and do.
+use Rattle.std.proofs.Common.{◌≡◌, ℕ, pos, negsuc, List, [], ◌∷◌, codes, true, false, not, ◌&&◌, Some, None, Ok, Result, IfOk, Vec, Global, map, length, refl, ◌∙◌}
+use Rattle.std.specs.Ordering.{eq_by_cmp, is_lt}
+use Rattle.std.specs.List.{list_all, AllAdjacentBelow}
+use Rattle.std.specs.FinMap as finite
+use Rattle.sqlite_value.specs.declared.value.Value.TheVariants.{Null, Int, Text}
+use Rattle.sqlite_value.specs.declared.keys.Collation.TheVariants.{Binary}
+use Rattle.sqlite_value.specs.Keys.{ascending}
+use Rattle.sqlite_value.specs.Order.{Row, column, bytes}
+use Rattle.sqlite_trees.specs.Tree.{put_row}
+use Rattle.sqlite_sql.specs.Term.{Term, lit, col, holds}
+use Rattle.sqlite_sql.specs.Query.{Query, inner, end}
+use Rattle.sqlite_schema.specs.declared.schema.Schema.{Schema}
+use Rattle.sqlite_schema.specs.declared.program.Program.{Program}
+use Rattle.sqlite_schema.specs.declared.command.Source.TheVariants.{Values}
+use Rattle.sqlite_schema.specs.declared.command.Command.TheVariants.{Insert, Delete, Select}
+use Rattle.sqlite_draft.specs.declared.query.Draft.{Draft}
+use Rattle.sqlite_draft.specs.declared.join.Step.TheVariants.{Inner}
+use Rattle.sqlite_draft.specs.Join.{chain}
+use Rattle.sqlite_resolve.specs.declared.compiled.Compiled.{Compiled}
+use Rattle.sqlite_resolve.specs.declared.scope.Output.{Output as Out}
+use Rattle.sqlite_resolve.specs.Lowering.{max_budget}
+use Rattle.sqlite_resolve.specs.Program.{program}
+use Rattle.sqlite_resolve.specs.Write.{over}
+use Rattle.sqlite_rules.specs.Edit.{next_rowid, is_taken}
+use Rattle.sqlite_tied.specs.Compute.{everything}
+use Rattle.sqlite.specs.State.{State, ExecutesInside}
+use Rattle.rows.specs.declared.failure.Failure.{Failure}
+use Rattle.rows.specs.declared.references.Reference.{Reference}
+use Rattle.rows.specs.Forms.{refs}
+use Rattle.rows.specs.Standing.{IsNamed, IsKnown, tree_named}
+use Rattle.rows.specs.Contents.{contents_of, texts_cmp, pair_cmp, is_text, is_pair, member_of}
+use Rattle.rows.specs.Calls.{IsUnderWay, Changes, Stays}
+use Rattle.rows.specs.Entries.{reference_of, ShowsReference}
+use Rattle.rows.proofs.Orders.{pair_total, pair_antisymmetric}
+use Rattle.rows.proofs.Tests.{cast_null, free_of, and_so, and_one, text_test}
+use Rattle.rows.proofs.Means.{Means, insert_means, delete_means, ordered_by_two, means_command, plain_state, shown_column}
+use Rattle.rows.proofs.Conditions.{where_one, equals, select_context, filter_in}
+use Rattle.rows.proofs.Columns.{bounds_are, outputs_two, result_context, from_in, shown_in}
+use Rattle.rows.proofs.Writes.{SetsRows, inserts_in, rowids_where}
+use Rattle.rows.proofs.Scans.{shows}
+use Rattle.rows.proofs.Entries.{put_set}
+use Rattle.rows.proofs.Members.{keyed_put}
+use Rattle.rows.proofs.Places.{changed}
+use Rattle.rows.proofs.ContentsLemmas.{refs_set}
+use Rattle.rows.proofs.Statements.{Compiles, Selects, reads_part, deletes_part, whole_map}
+
+-- ---- one more
+
+abbrev pub insert_text : List ℕ
+insert_text = codes "INSERT INTO refs (base, target) VALUES (?1, ?2)"
+
+abbrev terms : List Term
+terms = lit Null ∷ col 0 0 ∷ col 0 1 ∷ []
+
+insert_is : (s : Schema) (at tree : ℕ) → IsNamed s (codes "refs") at (record refs { tree = tree }) → (c : Compiled) × Means s insert_text c × (c.command ≡ Insert at (Values terms 3)) × (c.returning ≡ None) × (c.formats ≡ [])
+unfolding everything
+insert_is s at tree found = (_, insert_means insert_text refl s at (codes "refs") refs.columns refs.primary tree _ found refl, refl, refl, refl)
+
+pub inserts : (old new : State) (base : List ℕ) (target : List ℕ) (count : ℕ) → IsUnderWay old → ExecutesInside 0 insert_text (Text base ∷ Text target ∷ []) old new (Ok count)
+    → Changes old new (λ c. record c { refs = finite.insert c.refs (base, target) tt })
+inserts old new base target count under h =
+    let ours = under.ours h.1.was_open in
+    let stands = ours.has.1.1.0 in
+    let tree = tree_named old.now.schema (codes "refs") in
+    let m = means_command old.now.schema insert_text _ (insert_is old.now.schema stands.at tree stands.known.named) in
+    let it = inserts_in refs.name refs.columns refs.primary tree stands.at 3 terms insert_text (Text base ∷ Text target ∷ []) old new count under.mode stands.known.named.1 m.0 m.1 h.0 in
+    let rows = old.now.trees tree in
+    let row : Row = Int (next_rowid rows) ∷ Text base ∷ Text target ∷ [] in
+    let fresh : (not (is_taken rows row) && true) ≡ true = rw cast_null at it.0.fresh in
+    let free = free_of _ _ fresh in
+    let sets : SetsRows old new tree (put_row row rows) = rw cast_null at it.1 in
+    changed refs old new (put_row row rows) stands sets _ ours (keyed_put row rows free refl) refl (refs_set old new ours.has (put_row row rows) sets _ (put_set pair_total pair_antisymmetric is_pair member_of row rows free refl))
+
+-- ---- of the first one of the key
+
+abbrev of_one : List Term
+of_one = equals (col 1 1) (col 0 0) ∷ []
+
+said_one : (base : List ℕ) (r : Row) → is_pair r ≡ true → list_all (holds ((Text base ∷ []) ∷ r ∷ [])) of_one ≡ (let k = (member_of r).0 in eq_by_cmp texts_cmp k.0 base)
+said_one base r kind = and_one _ ∙ text_test (column r 1) base (and_so _ _ kind).0
+
+-- ---- those gone
+
+abbrev pub delete_of_text : List ℕ
+delete_of_text = codes "DELETE FROM refs WHERE base = ?1"
+
+delete_of_is : Compiles refs.name refs.columns refs.primary delete_of_text (λ at tree. Delete at (record { lets = []; body = rowids_where tree of_one }))
+unfolding everything
+delete_of_is s at tree known =
+    let there = known.named.1 in
+    (_, delete_means delete_of_text refl s at (codes "refs") refs.columns refs.primary tree of_one (plain_state 99997 None) _ known.named (where_one (over s at (codes "refs")) (filter_in delete_of_text) refl refl (codes "base") at 0 1 (col 1 1) (equals (col 1 1) (col 0 0)) None max_budget (record { left_is = refl; right_is = refl; found = rw there; column = rw there; compare = rw there }) refl refl refl) (rw (known.low, known.by_tree)), refl, refl, refl)
+
+pub delete_ofs : (old new : State) (base : List ℕ) (count : ℕ) → IsUnderWay old → ExecutesInside 0 delete_of_text (Text base ∷ []) old new (Ok count)
+    → Changes old new (λ c. record c { refs = finite.retain_keys c.refs (λ k. not (eq_by_cmp texts_cmp k.0 base)) })
+delete_ofs old new base count under h =
+    let ours = under.ours h.1.was_open in
+    let it = deletes_part refs.name refs.columns refs.primary pair_total pair_antisymmetric is_pair member_of old new under (λ has. has.1.1.0) delete_of_text (Text base ∷ []) of_one (λ k. eq_by_cmp texts_cmp k.0 base) (said_one base) delete_of_is count h ours.keyed.1.1.0 in
+    changed refs old new it.0 ours.has.1.1.0 it.1 _ ours it.2 refl (refs_set old new ours.has it.0 it.1 _ it.3)
+
+-- ---- reading them
+
+abbrev query : List Term → ℕ → Query
+query filter tree = record {
+  from = inner tree end;
+  filter = filter;
+  group = None;
+  project = col 1 1 ∷ col 1 2 ∷ [];
+  distinct = false;
+  collations = [];
+  order = (col 1 1, ascending Binary) ∷ (col 1 2, ascending Binary) ∷ [];
+  limit = lit (Int (negsuc 0));
+  offset = lit (Int (pos 0));
+}
+
+abbrev whole : List Term → ℕ → Program
+whole filter tree = record { lets = []; body = query filter tree }
+
+abbrev draft : List Term → ℕ → Draft
+draft filter tree = record { from = chain (Inner tree ∷ []); filter = filter; group = None; project = col 1 1 ∷ col 1 2 ∷ []; distinct = false; collations = []; order = (col 1 1, ascending Binary) ∷ (col 1 2, ascending Binary) ∷ []; limit = lit (Int (negsuc 0)); offset = lit (Int (pos 0)) }
+
+abbrev outputs : List Out
+outputs = shown_column (codes "base") 1 ∷ shown_column (codes "target") 2 ∷ []
+
+abbrev names : List (List ℕ)
+names = codes "base" ∷ codes "target" ∷ []
+
+fits : (params : Row) (filter : List Term) (tree : ℕ) (r : Row) (t : Reference) → ShowsReference (shows (query filter tree) params r) t → (is_pair r ≡ true) × (member_of r ≡ reference_of t)
+fits params filter tree r t h = (λ i. is_text (h.0 i) && is_text (h.1 i), λ i. ((bytes (h.0 i), bytes (h.1 i)), tt))
+
+abbrev pub all_text : List ℕ
+all_text = codes "SELECT base, target FROM refs ORDER BY base, target"
+
+all_typed : (s : Schema) (at tree : ℕ) → IsKnown s (codes "refs") at (record refs { tree = tree }) → program s [] (draft [] tree) ≡ Ok (whole [] tree)
+unfolding everything
+all_typed s at tree known = rw (known.low, known.by_tree)
+
+all_is : Compiles refs.name refs.columns refs.primary all_text (λ at tree. Select (whole [] tree) names)
+unfolding everything
+all_is s at tree known =
+    let there = known.named.1 in (
+      _,
+      ordered_by_two all_text refl refl refl s (codes "refs") at (record refs { tree = tree }) outputs [] (codes "base") (codes "target") 0 1 (col 1 1) (col 1 2) (Some Binary) (Some Binary) (Some Binary) (lit (Int (negsuc 0)), lit (Int (pos 0)))
+          (plain_state 100000 None) (plain_state 99998 (Some Binary)) 99998 (whole [] tree)
+          known.named refl refl refl refl refl refl refl refl refl refl (bounds_are s (from_in all_text) refl (codes "refs") at refl refl refl known.named.0) (outputs_two (result_context s (codes "refs") at) (record { name = codes "refs"; table = at; slot = 1; shared = [] } ∷ []) (shown_in all_text) refl refl refl at (codes "base") (codes "target") (record { names = refl; found = rw there; term = rw there; heading = rw there }) (record { names = refl; found = rw there; term = rw there; heading = rw there }) None max_budget (refl, (refl, tt))) refl
+          (refl, refl, refl, refl) (refl, refl, refl, refl) refl refl refl refl (rw there) (rw there) (rw there) (rw there) refl refl (all_typed s at tree known),
+      refl,
+      refl,
+      refl,
+    )
+
+pub reads_all : (old new : State) (r : Result (Vec Reference Global) Failure) → IsUnderWay old → Selects ShowsReference old new all_text [] r → IfOk r (λ all. AllAdjacentBelow (λ x y. true ≡ is_lt (pair_cmp (reference_of x).0 (reference_of y).0)) all.items (length all.items))
+    → IfOk r (λ all. Stays old new × (map reference_of all.items ≡ finite.entries (contents_of old.now).refs))
+reads_all old new r under selects up =
+    whole_map pair_total pair_antisymmetric reference_of r (Stays old new) (contents_of old.now).refs
+    (reads_part refs.name refs.columns refs.primary pair_total pair_antisymmetric is_pair member_of old new under (λ has. has.1.1.0) all_text [] names (query []) (λ tree. record { from = refl; group = refl; distinct = refl; whole = λ params rows. refl }) (λ _. true) (λ tree r kind. refl) ShowsReference reference_of (fits [] []) all_is r selects up)
+
+abbrev pub of_text : List ℕ
+of_text = codes "SELECT base, target FROM refs WHERE base = ?1 ORDER BY base, target"
+
+of_typed : (s : Schema) (at tree : ℕ) → IsKnown s (codes "refs") at (record refs { tree = tree }) → program s [] (draft of_one tree) ≡ Ok (whole of_one tree)
+unfolding everything
+of_typed s at tree known = rw (known.low, known.by_tree)
+
+of_is : Compiles refs.name refs.columns refs.primary of_text (λ at tree. Select (whole of_one tree) names)
+unfolding everything
+of_is s at tree known =
+    let there = known.named.1 in (
+      _,
+      ordered_by_two of_text refl refl refl s (codes "refs") at (record refs { tree = tree }) outputs of_one (codes "base") (codes "target") 0 1 (col 1 1) (col 1 2) None (Some Binary) (Some Binary) (lit (Int (negsuc 0)), lit (Int (pos 0)))
+          (plain_state 100000 None) (plain_state 99998 (Some Binary)) 99995 (whole of_one tree)
+          known.named refl refl refl refl refl refl refl refl refl refl (bounds_are s (from_in of_text) refl (codes "refs") at refl refl refl known.named.0) (outputs_two (result_context s (codes "refs") at) (record { name = codes "refs"; table = at; slot = 1; shared = [] } ∷ []) (shown_in of_text) refl refl refl at (codes "base") (codes "target") (record { names = refl; found = rw there; term = rw there; heading = rw there }) (record { names = refl; found = rw there; term = rw there; heading = rw there }) None max_budget (refl, (refl, tt))) (where_one (select_context s (codes "refs") at outputs) (filter_in of_text) refl refl (codes "base") at 0 1 (col 1 1) (equals (col 1 1) (col 0 0)) (Some Binary) 99998 (record { left_is = refl; right_is = refl; found = rw there; column = rw there; compare = rw there }) refl refl refl)
+          (refl, refl, refl, refl) (refl, refl, refl, refl) refl refl refl refl (rw there) (rw there) (rw there) (rw there) refl refl (of_typed s at tree known),
+      refl,
+      refl,
+      refl,
+    )
+
+pub reads_of : (old new : State) (base : List ℕ) (r : Result (Vec Reference Global) Failure) → IsUnderWay old → Selects ShowsReference old new of_text (Text base ∷ []) r → IfOk r (λ all. AllAdjacentBelow (λ x y. true ≡ is_lt (pair_cmp (reference_of x).0 (reference_of y).0)) all.items (length all.items))
+    → IfOk r (λ all. Stays old new × (map reference_of all.items ≡ finite.entries (finite.retain_keys (contents_of old.now).refs (λ k. eq_by_cmp texts_cmp k.0 base))))
+reads_of old new base r under selects up =
+    reads_part refs.name refs.columns refs.primary pair_total pair_antisymmetric is_pair member_of old new under (λ has. has.1.1.0) of_text (Text base ∷ []) names (query of_one) (λ tree. record { from = refl; group = refl; distinct = refl; whole = λ params rows. refl }) (λ k. eq_by_cmp texts_cmp k.0 base) (λ tree. said_one base) ShowsReference reference_of (fits (Text base ∷ []) of_one) of_is r selects up

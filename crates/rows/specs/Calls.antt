@@ -1,0 +1,70 @@
+-- What a call makes of the tables that a connection shows.
+use Rattle.std.specs.Prelude.{◌≡◌, true, false, List, IsTrue}
+use Rattle.std.specs.List.{AllByRecursion}
+use Rattle.std.specs.Ordering.{is_eq}
+use Rattle.sqlite_value.specs.Order.{Row, value_cmp}
+use Rattle.sqlite_rules.specs.Lists.{Has}
+use Rattle.sqlite_trees.specs.View.{is_int}
+use Rattle.sqlite_trees.specs.Tree.{Trees, rowid}
+use Rattle.sqlite.specs.Effect.{Database}
+use Rattle.sqlite.specs.State.{State}
+use Rattle.rows.specs.Forms.{our_tables, is_our_name}
+use Rattle.rows.specs.Standing.{HasTables}
+use Rattle.rows.specs.Contents.{Contents, contents_of, rows_named}
+
+-- each row has a rowid of its own, an integer
+pub record IsKeyed (rows : List Row) : Type 0 where
+  pub ints : (a : Row) → Has rows a → IsTrue (is_int (rowid a))
+  pub once : (a b : Row) → Has rows a → Has rows b → is_eq (value_cmp (rowid a) (rowid b)) ≡ true → a ≡ b
+
+-- all nine tables stand in the schema, and their rowids are apart
+pub record IsOurs (db : Database) : Type 0 where
+  pub has : HasTables db.schema
+  pub keyed : AllByRecursion (λ t. IsKeyed (rows_named db t.name)) our_tables
+
+-- between calls, outside a transaction
+pub record IsReady (s : State) : Type 0 where
+  pub ours : IsOurs s.now
+  pub settled : s.now ≡ s.committed
+
+-- A transaction is under way over our tables, unless a fault has shut the connection.
+pub record IsUnderWay (s : State) : Type 0 where
+  pub ours : IsTrue s.is_open → IsOurs s.now
+  pub mode : s.in_transaction ≡ true
+
+-- each table with a name that is none of ours has the rows that it had
+abbrev pub KeepsTheirs : Database → Database → Type 0
+KeepsTheirs old new = AllByRecursion (λ t. is_our_name t.name ≡ false → new.trees t.tree ≡ old.trees t.tree) old.schema.tables
+
+-- what a crash may leave, or a commit: our tables hold this, and each other table has the rows that it had
+pub record Leaves (old : Database) (trees : Trees) (contents : Contents) : Type 0 where
+  pub ours : contents_of (record old { trees = trees }) ≡ contents
+  pub theirs : KeepsTheirs old (record old { trees = trees })
+
+-- Inside a transaction, which goes on: our tables hold what the change makes of what they held, and each other table has the rows that it had.
+pub record Changes (old new : State) (change : Contents → Contents) : Type 0 where
+  pub was_open : IsTrue old.is_open
+  pub is_open : IsTrue new.is_open
+  pub schema : new.now.schema ≡ old.now.schema
+  pub contents : contents_of new.now ≡ change (contents_of old.now)
+  pub theirs : KeepsTheirs old.now new.now
+  pub ours : IsOurs new.now
+  pub committed : new.committed ≡ old.committed
+  pub mode : new.in_transaction ≡ true
+
+-- Inside a transaction, which goes on: nothing changes.
+pub record Stays (old new : State) : Type 0 where
+  pub was_open : IsTrue old.is_open
+  pub is_open : IsTrue new.is_open
+  pub now : new.now ≡ old.now
+  pub ours : IsOurs new.now
+  pub committed : new.committed ≡ old.committed
+  pub mode : new.in_transaction ≡ true
+
+-- The transaction was committed: the tables hold what it saw, and so did the last commit leave them.
+pub record IsCommitted (old new : State) : Type 0 where
+  pub was_open : IsTrue old.is_open
+  pub is_open : IsTrue new.is_open
+  pub now : new.now ≡ old.now
+  pub ready : IsReady new
+  pub mode : new.in_transaction ≡ false

@@ -1,0 +1,78 @@
+-- What an entry that a call hands out stands for, and the columns of a row that shows it.
+use Rattle.std.specs.Prelude.{◌≡◌, ◌≢◌, ℕ, ℤ, List, Option, String, MatchOption, option_map, string_bytes}
+use Rattle.std.specs.declared.alloc.Global.{Global}
+use Rattle.sqlite_value.specs.declared.value.Value.{Value}
+use Rattle.sqlite_value.specs.declared.value.Value.TheVariants.{Null, Int, Text, Blob}
+use Rattle.sqlite_value.specs.Order.{Row, column}
+use Rattle.rows.specs.Contents.{Bytes, Pair, Triple, Stored}
+use Rattle.rows.specs.declared.meta.Setting.{Setting}
+use Rattle.rows.specs.declared.objects.Object.{Object}
+use Rattle.rows.specs.declared.references.Reference.{Reference}
+use Rattle.rows.specs.declared.outputs.Output.{Output}
+use Rattle.rows.specs.declared.permanent.PermanentRoot.{PermanentRoot}
+use Rattle.rows.specs.declared.user_roots.UserRoot.{UserRoot}
+use Rattle.rows.specs.declared.profiles.Profile.{Profile}
+use Rattle.rows.specs.declared.generations.Generation.{Generation}
+use Rattle.rows.specs.declared.runtime.RuntimeRoot.{RuntimeRoot}
+
+-- what is stored of an object that is handed in
+abbrev pub stored : List ℕ → List ℕ → Option (String Global) → Option (String Global) → Stored
+stored nar hash deriver ca = record { nar = nar; hash = hash; deriver = option_map string_bytes deriver; ca = option_map string_bytes ca }
+
+-- a text, or NULL
+abbrev pub ShowsOptional : Value → Option (String Global) → Type 0
+ShowsOptional v o = MatchOption o (v ≡ Null) (λ s. (v ≢ Null) × (v ≡ Text (string_bytes s)))
+
+abbrev pub setting_of : Setting → Bytes × Bytes
+setting_of e = (string_bytes e.word, string_bytes e.value)
+
+abbrev pub ShowsSetting : Row → Setting → Type 0
+ShowsSetting row e = (column row 0 ≡ Text (string_bytes e.word)) × (column row 1 ≡ Text (string_bytes e.value))
+
+abbrev pub stored_of : Object → Bytes × Stored
+stored_of e = (string_bytes e.base, stored e.nar.items e.hash.items e.deriver e.ca)
+
+abbrev pub ShowsObject : Row → Object → Type 0
+ShowsObject row e = (column row 0 ≡ Text (string_bytes e.base)) × (column row 1 ≡ Blob e.nar.items) × (column row 2 ≡ Blob e.hash.items) × ShowsOptional (column row 3) e.deriver × ShowsOptional (column row 4) e.ca
+
+abbrev pub reference_of : Reference → Pair × Unit {0}
+reference_of e = ((string_bytes e.base, string_bytes e.target), tt)
+
+abbrev pub ShowsReference : Row → Reference → Type 0
+ShowsReference row e = (column row 0 ≡ Text (string_bytes e.base)) × (column row 1 ≡ Text (string_bytes e.target))
+
+abbrev pub output_of : Output → Pair × Bytes
+output_of e = ((string_bytes e.base, string_bytes e.name), string_bytes e.target)
+
+abbrev pub ShowsOutput : Row → Output → Type 0
+ShowsOutput row e = (column row 0 ≡ Text (string_bytes e.base)) × (column row 1 ≡ Text (string_bytes e.name)) × (column row 2 ≡ Text (string_bytes e.target))
+
+abbrev pub permanent_of : PermanentRoot → Bytes × Bytes
+permanent_of e = (string_bytes e.name, string_bytes e.target)
+
+abbrev pub ShowsPermanentRoot : Row → PermanentRoot → Type 0
+ShowsPermanentRoot row e = (column row 0 ≡ Text (string_bytes e.name)) × (column row 1 ≡ Text (string_bytes e.target))
+
+abbrev pub user_root_of : UserRoot → Pair × Bytes
+user_root_of e = ((string_bytes e.owner, string_bytes e.name), string_bytes e.target)
+
+abbrev pub ShowsUserRoot : Row → UserRoot → Type 0
+ShowsUserRoot row e = (column row 0 ≡ Text (string_bytes e.owner)) × (column row 1 ≡ Text (string_bytes e.name)) × (column row 2 ≡ Text (string_bytes e.target))
+
+abbrev pub current_of : Profile → Pair × ℤ
+current_of e = ((string_bytes e.owner, string_bytes e.name), e.current)
+
+abbrev pub ShowsProfile : Row → Profile → Type 0
+ShowsProfile row e = (column row 0 ≡ Text (string_bytes e.owner)) × (column row 1 ≡ Text (string_bytes e.name)) × (column row 2 ≡ Int e.current)
+
+abbrev pub generation_in : Generation → Triple × Bytes
+generation_in e = ((string_bytes e.owner, string_bytes e.name, e.number), string_bytes e.target)
+
+abbrev pub ShowsGeneration : Row → Generation → Type 0
+ShowsGeneration row e = (column row 0 ≡ Text (string_bytes e.owner)) × (column row 1 ≡ Text (string_bytes e.name)) × (column row 2 ≡ Int e.number) × (column row 3 ≡ Text (string_bytes e.target))
+
+abbrev pub runtime_of : RuntimeRoot → Pair × Unit {0}
+runtime_of e = ((string_bytes e.label, string_bytes e.target), tt)
+
+abbrev pub ShowsRuntimeRoot : Row → RuntimeRoot → Type 0
+ShowsRuntimeRoot row e = (column row 0 ≡ Text (string_bytes e.label)) × (column row 1 ≡ Text (string_bytes e.target))

@@ -1,0 +1,57 @@
+//! Entries of a table, as the rows of an answer show them.
+
+ghost use Rattle.std.specs.Prelude.{◌≡◌, IfOk, IsTrue, List, Bool, true, length};
+ghost use Rattle.std.specs.List.{AllZip, AllAdjacentBelow};
+ghost use Rattle.sqlite_value.specs.declared.value.Value.{Value};
+
+use crate::failure::Failure;
+use sqlite::Row;
+use std::alloc::Global;
+
+/// An entry of a table, which a row shows by its columns.
+pub trait Entry: Sized + Drop {
+    // The columns of a row that shows it.
+    ghost is_shown: { List Value → Self → Type 0 };
+
+    // Whether its key is below the other's.
+    ghost is_below: { Self → Self → Bool };
+
+    fn read(row: &Row) -> Result<Self, Failure>
+        ensures { IfOk result (is_shown row.now) };
+
+    fn is_below(&self, other: &Self) -> bool
+        ensures { result ≡ is_below self.now other.now };
+}
+
+/// The entries that the rows show, which must rise: an honest disk gives no others.
+pub(crate) fn entries<T: Entry>(alloc: Global, rows: &[Row]) -> Result<Vec<T>, Failure>
+    ensures shown { IfOk result (λ all. AllZip T.is_shown rows.now all.items) }
+    ensures rises { IfOk result (λ all. AllAdjacentBelow (λ x y. true ≡ T.is_below x y) all.items (length all.items)) }
+{
+    let all = read_all(alloc, rows)?;
+    if !rises(&all) {
+        return Err(Failure::Disk);
+    }
+    Ok(all)
+}
+
+fn read_all<T: Entry>(alloc: Global, rows: &[Row]) -> Result<Vec<T>, Failure>
+    ensures { IfOk result (λ all. AllZip T.is_shown rows.now all.items) }
+{
+    let mut all = Vec::new(alloc);
+    for row in rows {
+        all.push(T::read(row)?)?;
+    }
+    Ok(all)
+}
+
+fn rises<T: Entry>(all: &[T]) -> bool
+    ensures { IsTrue result → AllAdjacentBelow (λ x y. true ≡ T.is_below x y) all.now (length all.now) }
+{
+    for at in 1..all.len() {
+        if !all[at - 1].is_below(&all[at]) {
+            return false;
+        }
+    }
+    true
+}

@@ -1,0 +1,52 @@
+//! What a call on the tables fails with.
+
+use sqlite::{Error, ErrorCode};
+use std::alloc::{AllocError, AllocFailed};
+
+/// Why a call failed. Nothing is committed by a call that fails.
+#[derive(Clone, Copy, Debug, PartialEq, Eq)]
+pub enum Failure {
+    /// Memory ran out.
+    Memory,
+    /// A row would be larger than a database can hold.
+    Size,
+    /// The disk failed, an earlier failure of it had shut the connection, or a row was not as its table has them.
+    Disk,
+}
+
+impl From<AllocError> for Failure {
+    ghost use Rattle.std.specs.Prelude.{◌≡◌};
+    ghost use Rattle.rows.specs.declared.failure.Failure.TheVariants.{Memory};
+
+    ghost from_gives = { λ _ f. f ≡ Memory };
+
+    fn from(_: AllocError) -> Failure {
+        Failure::Memory
+    }
+}
+
+impl<T: Drop> From<AllocFailed<T>> for Failure {
+    ghost use Rattle.std.specs.Prelude.{◌≡◌};
+    ghost use Rattle.rows.specs.declared.failure.Failure.TheVariants.{Memory};
+
+    ghost from_gives = { λ _ f. f ≡ Memory };
+
+    fn from(_: AllocFailed<T>) -> Failure {
+        Failure::Memory
+    }
+}
+
+impl From<Error> for Failure {
+    ghost use Rattle.std.specs.Prelude.{◌≡◌};
+    ghost use Rattle.rows.specs.Failures.{failure_of};
+
+    ghost from_gives = { λ e f. f ≡ failure_of e };
+
+    fn from(error: Error) -> Failure {
+        match error {
+            Error::SqliteFailure(ErrorCode::OutOfMemory) => Failure::Memory,
+            Error::SqliteFailure(ErrorCode::TooBig) => Failure::Size,
+            _ => Failure::Disk,
+        }
+    }
+}

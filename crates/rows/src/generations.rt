@@ -1,0 +1,136 @@
+//! The generations of profiles.
+
+ghost use Rattle.std.specs.Prelude.{◌≡◌, ◌&&◌, IfOk, OnOk, OnErr, IsTrue, None, map, not, pos};
+ghost use Rattle.std.specs.Ordering.{eq_by_cmp, is_lt, int_cmp};
+ghost use Rattle.std.specs.FinMap as finite;
+ghost use Rattle.sqlite.specs.State.{HasCleanDisk, KeepsCommit, Survives};
+ghost use Rattle.sqlite.specs.Held.{state};
+ghost use Rattle.rows.specs.Calls.{IsUnderWay, Changes, Stays};
+ghost use Rattle.rows.specs.Contents.{texts_cmp, triple_cmp, contents_of};
+ghost use Rattle.rows.specs.Entries.{generation_in, ShowsGeneration};
+
+use crate::entry::Entry;
+use crate::failure::Failure;
+use crate::statement;
+use sqlite::{Alter, Row, Transaction, params};
+use std::alloc::Global;
+use std::cmp::Ordering;
+
+/// One generation: its profile's owner and name, its number, and the base name of its target.
+#[derive(Debug, Drop)]
+pub struct Generation {
+    pub owner: String,
+    pub name: String,
+    pub number: i64,
+    pub target: String,
+}
+
+impl Entry for Generation {
+    ghost is_shown = { ShowsGeneration };
+
+    ghost is_below = { λ a b. is_lt (triple_cmp (generation_in a).0 (generation_in b).0) };
+
+    fn read(row: &Row) -> Result<Generation, Failure> {
+        Ok(Generation {
+            owner: row.get(0)?,
+            name: row.get(1)?,
+            number: row.get(2)?,
+            target: row.get(3)?,
+        })
+    }
+
+    fn is_below(&self, other: &Generation) -> bool {
+        match self.owner.cmp(&other.owner) {
+            Ordering::Less => true,
+            Ordering::Equal => match self.name.cmp(&other.name) {
+                Ordering::Less => true,
+                Ordering::Equal => self.number < other.number,
+                Ordering::Greater => false,
+            },
+            Ordering::Greater => false,
+        }
+    }
+}
+
+/// All generations, in order.
+pub fn all<S: Alter>(alloc: Global, tx: &mut Transaction<'_, S>) -> Result<Vec<Generation>, Failure>
+    requires { HasCleanDisk (state S.Store tx.old.conn.now) → IsUnderWay (state S.Store tx.old.conn.now) }
+    ensures same_reference { tx.new.conn.ghost_name ≡ tx.old.conn.ghost_name }
+    ensures reads { HasCleanDisk (state S.Store tx.new.conn.now) → IfOk result (λ all. Stays (state S.Store tx.old.conn.now) (state S.Store tx.new.conn.now)
+        × (map generation_in all.items ≡ finite.entries (contents_of (state S.Store tx.old.conn.now).now).generations)) }
+    ensures failed { HasCleanDisk (state S.Store tx.new.conn.now) → OnErr result (KeepsCommit (state S.Store tx.old.conn.now) (state S.Store tx.new.conn.now)) }
+    ensures survives { Survives (state S.Store tx.old.conn.now) (state S.Store tx.new.conn.now) (λ _. ⊥) }
+{
+    statement::select(
+        alloc,
+        tx,
+        "SELECT owner, name, num, target FROM generation ORDER BY owner, name, num",
+        &[],
+    )
+}
+
+/// The generations of this owner and this name, in order.
+pub fn of<S: Alter>(
+    alloc: Global,
+    tx: &mut Transaction<'_, S>,
+    owner: &str,
+    name: &str,
+) -> Result<Vec<Generation>, Failure>
+    requires { HasCleanDisk (state S.Store tx.old.conn.now) → IsUnderWay (state S.Store tx.old.conn.now) }
+    ensures same_reference { tx.new.conn.ghost_name ≡ tx.old.conn.ghost_name }
+    ensures reads { HasCleanDisk (state S.Store tx.new.conn.now) → IfOk result (λ all. Stays (state S.Store tx.old.conn.now) (state S.Store tx.new.conn.now)
+        × (map generation_in all.items ≡ finite.entries (finite.retain_keys (contents_of (state S.Store tx.old.conn.now).now).generations (λ k. eq_by_cmp texts_cmp k.0 owner.now && eq_by_cmp texts_cmp k.1 name.now)))) }
+    ensures failed { HasCleanDisk (state S.Store tx.new.conn.now) → OnErr result (KeepsCommit (state S.Store tx.old.conn.now) (state S.Store tx.new.conn.now)) }
+    ensures survives { Survives (state S.Store tx.old.conn.now) (state S.Store tx.new.conn.now) (λ _. ⊥) }
+{
+    statement::select(
+        alloc,
+        tx,
+        "SELECT owner, name, num, target FROM generation WHERE owner = ?1 AND name = ?2 ORDER BY owner, name, num",
+        params![owner, name],
+    )
+}
+
+/// Adds one generation, under a key that is new.
+pub fn insert<S: Alter>(
+    tx: &mut Transaction<'_, S>,
+    owner: &str,
+    name: &str,
+    number: u32,
+    target: &str,
+) -> Result<(), Failure>
+    requires under_way { HasCleanDisk (state S.Store tx.old.conn.now) → IsUnderWay (state S.Store tx.old.conn.now) }
+    requires new { HasCleanDisk (state S.Store tx.old.conn.now) → IsTrue (state S.Store tx.old.conn.now).is_open → finite.get (contents_of (state S.Store tx.old.conn.now).now).generations (owner.now, name.now, (pos number)) ≡ None }
+    ensures same_reference { tx.new.conn.ghost_name ≡ tx.old.conn.ghost_name }
+    ensures done { HasCleanDisk (state S.Store tx.new.conn.now) → OnOk result (Changes (state S.Store tx.old.conn.now) (state S.Store tx.new.conn.now)
+        (λ c. record c { generations = finite.insert c.generations (owner.now, name.now, (pos number)) target.now })) }
+    ensures failed { HasCleanDisk (state S.Store tx.new.conn.now) → OnErr result (KeepsCommit (state S.Store tx.old.conn.now) (state S.Store tx.new.conn.now)) }
+    ensures survives { Survives (state S.Store tx.old.conn.now) (state S.Store tx.new.conn.now) (λ _. ⊥) }
+{
+    statement::run(
+        tx,
+        "INSERT INTO generation (owner, name, num, target) VALUES (?1, ?2, ?3, ?4)",
+        params![owner, name, number, target],
+    )
+}
+
+/// Removes the generation of this owner and this name and this number, if there is one.
+pub fn delete<S: Alter>(
+    tx: &mut Transaction<'_, S>,
+    owner: &str,
+    name: &str,
+    number: u32,
+) -> Result<(), Failure>
+    requires { HasCleanDisk (state S.Store tx.old.conn.now) → IsUnderWay (state S.Store tx.old.conn.now) }
+    ensures same_reference { tx.new.conn.ghost_name ≡ tx.old.conn.ghost_name }
+    ensures done { HasCleanDisk (state S.Store tx.new.conn.now) → OnOk result (Changes (state S.Store tx.old.conn.now) (state S.Store tx.new.conn.now)
+        (λ c. record c { generations = finite.retain_keys c.generations (λ k. not (eq_by_cmp texts_cmp k.0 owner.now && (eq_by_cmp texts_cmp k.1 name.now && eq_by_cmp int_cmp k.2 (pos number)))) })) }
+    ensures failed { HasCleanDisk (state S.Store tx.new.conn.now) → OnErr result (KeepsCommit (state S.Store tx.old.conn.now) (state S.Store tx.new.conn.now)) }
+    ensures survives { Survives (state S.Store tx.old.conn.now) (state S.Store tx.new.conn.now) (λ _. ⊥) }
+{
+    statement::run(
+        tx,
+        "DELETE FROM generation WHERE owner = ?1 AND name = ?2 AND num = ?3",
+        params![owner, name, number],
+    )
+}

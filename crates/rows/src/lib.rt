@@ -1,0 +1,16 @@
+//! The nine tables, row by row.
+#![tactic(auto)]
+
+mod entry;
+pub mod failure;
+pub mod generations;
+pub mod meta;
+pub mod objects;
+pub mod outputs;
+pub mod permanent;
+pub mod profiles;
+pub mod references;
+pub mod runtime;
+mod statement;
+pub mod transaction;
+pub mod user_roots;

@@ -1,0 +1,81 @@
+//! The settings of the database: each a word and its value.
+
+ghost use Rattle.std.specs.Prelude.{◌≡◌, ◌&&◌, IfOk, OnOk, OnErr, IsTrue, None, map, not, pos};
+ghost use Rattle.std.specs.Ordering.{eq_by_cmp, is_lt, int_cmp};
+ghost use Rattle.std.specs.FinMap as finite;
+ghost use Rattle.sqlite.specs.State.{HasCleanDisk, KeepsCommit, Survives};
+ghost use Rattle.sqlite.specs.Held.{state};
+ghost use Rattle.rows.specs.Calls.{IsUnderWay, Changes, Stays};
+ghost use Rattle.rows.specs.Contents.{texts_cmp, contents_of};
+ghost use Rattle.rows.specs.Entries.{setting_of, ShowsSetting};
+
+use crate::entry::Entry;
+use crate::failure::Failure;
+use crate::statement;
+use sqlite::{Alter, Row, Transaction, params};
+use std::alloc::Global;
+
+/// One setting: a word, and its value.
+#[derive(Debug, Drop)]
+pub struct Setting {
+    pub word: String,
+    pub value: String,
+}
+
+impl Entry for Setting {
+    ghost is_shown = { ShowsSetting };
+
+    ghost is_below = { λ a b. is_lt (texts_cmp (setting_of a).0 (setting_of b).0) };
+
+    fn read(row: &Row) -> Result<Setting, Failure> {
+        Ok(Setting {
+            word: row.get(0)?,
+            value: row.get(1)?,
+        })
+    }
+
+    fn is_below(&self, other: &Setting) -> bool {
+        self.word < other.word
+    }
+}
+
+/// All settings, in order.
+pub fn all<S: Alter>(alloc: Global, tx: &mut Transaction<'_, S>) -> Result<Vec<Setting>, Failure>
+    requires { HasCleanDisk (state S.Store tx.old.conn.now) → IsUnderWay (state S.Store tx.old.conn.now) }
+    ensures same_reference { tx.new.conn.ghost_name ≡ tx.old.conn.ghost_name }
+    ensures reads { HasCleanDisk (state S.Store tx.new.conn.now) → IfOk result (λ all. Stays (state S.Store tx.old.conn.now) (state S.Store tx.new.conn.now)
+        × (map setting_of all.items ≡ finite.entries (contents_of (state S.Store tx.old.conn.now).now).meta)) }
+    ensures failed { HasCleanDisk (state S.Store tx.new.conn.now) → OnErr result (KeepsCommit (state S.Store tx.old.conn.now) (state S.Store tx.new.conn.now)) }
+    ensures survives { Survives (state S.Store tx.old.conn.now) (state S.Store tx.new.conn.now) (λ _. ⊥) }
+{
+    statement::select(alloc, tx, "SELECT word, val FROM meta ORDER BY word", &[])
+}
+
+/// Adds one setting, under a key that is new.
+pub fn insert<S: Alter>(tx: &mut Transaction<'_, S>, word: &str, value: &str) -> Result<(), Failure>
+    requires under_way { HasCleanDisk (state S.Store tx.old.conn.now) → IsUnderWay (state S.Store tx.old.conn.now) }
+    requires new { HasCleanDisk (state S.Store tx.old.conn.now) → IsTrue (state S.Store tx.old.conn.now).is_open → finite.get (contents_of (state S.Store tx.old.conn.now).now).meta word.now ≡ None }
+    ensures same_reference { tx.new.conn.ghost_name ≡ tx.old.conn.ghost_name }
+    ensures done { HasCleanDisk (state S.Store tx.new.conn.now) → OnOk result (Changes (state S.Store tx.old.conn.now) (state S.Store tx.new.conn.now)
+        (λ c. record c { meta = finite.insert c.meta word.now value.now })) }
+    ensures failed { HasCleanDisk (state S.Store tx.new.conn.now) → OnErr result (KeepsCommit (state S.Store tx.old.conn.now) (state S.Store tx.new.conn.now)) }
+    ensures survives { Survives (state S.Store tx.old.conn.now) (state S.Store tx.new.conn.now) (λ _. ⊥) }
+{
+    statement::run(
+        tx,
+        "INSERT INTO meta (word, val) VALUES (?1, ?2)",
+        params![word, value],
+    )
+}
+
+/// Removes the setting of this word, if there is one.
+pub fn delete<S: Alter>(tx: &mut Transaction<'_, S>, word: &str) -> Result<(), Failure>
+    requires { HasCleanDisk (state S.Store tx.old.conn.now) → IsUnderWay (state S.Store tx.old.conn.now) }
+    ensures same_reference { tx.new.conn.ghost_name ≡ tx.old.conn.ghost_name }
+    ensures done { HasCleanDisk (state S.Store tx.new.conn.now) → OnOk result (Changes (state S.Store tx.old.conn.now) (state S.Store tx.new.conn.now)
+        (λ c. record c { meta = finite.retain_keys c.meta (λ k. not (eq_by_cmp texts_cmp k word.now)) })) }
+    ensures failed { HasCleanDisk (state S.Store tx.new.conn.now) → OnErr result (KeepsCommit (state S.Store tx.old.conn.now) (state S.Store tx.new.conn.now)) }
+    ensures survives { Survives (state S.Store tx.old.conn.now) (state S.Store tx.new.conn.now) (λ _. ⊥) }
+{
+    statement::run(tx, "DELETE FROM meta WHERE word = ?1", params![word])
+}

@@ -1,0 +1,103 @@
+//! The objects, with their archives.
+
+ghost use Rattle.std.specs.Prelude.{◌≡◌, ◌&&◌, IfOk, OnOk, OnErr, IsTrue, None, map, not, pos};
+ghost use Rattle.std.specs.Ordering.{eq_by_cmp, is_lt, int_cmp};
+ghost use Rattle.std.specs.FinMap as finite;
+ghost use Rattle.sqlite.specs.State.{HasCleanDisk, KeepsCommit, Survives};
+ghost use Rattle.sqlite.specs.Held.{state};
+ghost use Rattle.rows.specs.Calls.{IsUnderWay, Changes, Stays};
+ghost use Rattle.rows.specs.Contents.{texts_cmp, contents_of};
+ghost use Rattle.rows.specs.Entries.{stored_of, ShowsObject, stored};
+
+use crate::entry::Entry;
+use crate::failure::Failure;
+use crate::statement;
+use sqlite::{Alter, Row, Transaction, params};
+use std::alloc::Global;
+
+/// One object: the base name of its path, its archive, the archive's SHA-256, and its deriver and content address where it has one.
+#[derive(Debug, Drop)]
+pub struct Object {
+    pub base: String,
+    pub nar: Vec<u8>,
+    pub hash: Vec<u8>,
+    pub deriver: Option<String>,
+    pub ca: Option<String>,
+}
+
+impl Entry for Object {
+    ghost is_shown = { ShowsObject };
+
+    ghost is_below = { λ a b. is_lt (texts_cmp (stored_of a).0 (stored_of b).0) };
+
+    fn read(row: &Row) -> Result<Object, Failure> {
+        Ok(Object {
+            base: row.get(0)?,
+            nar: row.get(1)?,
+            hash: row.get(2)?,
+            deriver: row.get(3)?,
+            ca: row.get(4)?,
+        })
+    }
+
+    fn is_below(&self, other: &Object) -> bool {
+        self.base < other.base
+    }
+}
+
+/// The object of this base, if there is one.
+pub fn of<S: Alter>(
+    alloc: Global,
+    tx: &mut Transaction<'_, S>,
+    base: &str,
+) -> Result<Vec<Object>, Failure>
+    requires { HasCleanDisk (state S.Store tx.old.conn.now) → IsUnderWay (state S.Store tx.old.conn.now) }
+    ensures same_reference { tx.new.conn.ghost_name ≡ tx.old.conn.ghost_name }
+    ensures reads { HasCleanDisk (state S.Store tx.new.conn.now) → IfOk result (λ all. Stays (state S.Store tx.old.conn.now) (state S.Store tx.new.conn.now)
+        × (map stored_of all.items ≡ finite.entries (finite.retain_keys (contents_of (state S.Store tx.old.conn.now).now).objects (λ k. eq_by_cmp texts_cmp k base.now)))) }
+    ensures failed { HasCleanDisk (state S.Store tx.new.conn.now) → OnErr result (KeepsCommit (state S.Store tx.old.conn.now) (state S.Store tx.new.conn.now)) }
+    ensures survives { Survives (state S.Store tx.old.conn.now) (state S.Store tx.new.conn.now) (λ _. ⊥) }
+{
+    statement::select(
+        alloc,
+        tx,
+        "SELECT base, nar, hash, deriver, ca FROM object WHERE base = ?1 ORDER BY base",
+        params![base],
+    )
+}
+
+/// Adds one object, under a key that is new.
+pub fn insert<S: Alter>(
+    tx: &mut Transaction<'_, S>,
+    base: &str,
+    nar: &[u8],
+    hash: &[u8],
+    deriver: &Option<String>,
+    ca: &Option<String>,
+) -> Result<(), Failure>
+    requires under_way { HasCleanDisk (state S.Store tx.old.conn.now) → IsUnderWay (state S.Store tx.old.conn.now) }
+    requires new { HasCleanDisk (state S.Store tx.old.conn.now) → IsTrue (state S.Store tx.old.conn.now).is_open → finite.get (contents_of (state S.Store tx.old.conn.now).now).objects base.now ≡ None }
+    ensures same_reference { tx.new.conn.ghost_name ≡ tx.old.conn.ghost_name }
+    ensures done { HasCleanDisk (state S.Store tx.new.conn.now) → OnOk result (Changes (state S.Store tx.old.conn.now) (state S.Store tx.new.conn.now)
+        (λ c. record c { objects = finite.insert c.objects base.now (stored nar.now hash.now deriver.now ca.now) })) }
+    ensures failed { HasCleanDisk (state S.Store tx.new.conn.now) → OnErr result (KeepsCommit (state S.Store tx.old.conn.now) (state S.Store tx.new.conn.now)) }
+    ensures survives { Survives (state S.Store tx.old.conn.now) (state S.Store tx.new.conn.now) (λ _. ⊥) }
+{
+    statement::run(
+        tx,
+        "INSERT INTO object (base, nar, hash, deriver, ca) VALUES (?1, ?2, ?3, ?4, ?5)",
+        params![base, nar, hash, deriver, ca],
+    )
+}
+
+/// Removes the object of this base, if there is one.
+pub fn delete<S: Alter>(tx: &mut Transaction<'_, S>, base: &str) -> Result<(), Failure>
+    requires { HasCleanDisk (state S.Store tx.old.conn.now) → IsUnderWay (state S.Store tx.old.conn.now) }
+    ensures same_reference { tx.new.conn.ghost_name ≡ tx.old.conn.ghost_name }
+    ensures done { HasCleanDisk (state S.Store tx.new.conn.now) → OnOk result (Changes (state S.Store tx.old.conn.now) (state S.Store tx.new.conn.now)
+        (λ c. record c { objects = finite.retain_keys c.objects (λ k. not (eq_by_cmp texts_cmp k base.now)) })) }
+    ensures failed { HasCleanDisk (state S.Store tx.new.conn.now) → OnErr result (KeepsCommit (state S.Store tx.old.conn.now) (state S.Store tx.new.conn.now)) }
+    ensures survives { Survives (state S.Store tx.old.conn.now) (state S.Store tx.new.conn.now) (λ _. ⊥) }
+{
+    statement::run(tx, "DELETE FROM object WHERE base = ?1", params![base])
+}

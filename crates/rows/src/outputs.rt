@@ -1,0 +1,119 @@
+//! The outputs of derivations.
+
+ghost use Rattle.std.specs.Prelude.{◌≡◌, ◌&&◌, IfOk, OnOk, OnErr, IsTrue, None, map, not, pos};
+ghost use Rattle.std.specs.Ordering.{eq_by_cmp, is_lt, int_cmp};
+ghost use Rattle.std.specs.FinMap as finite;
+ghost use Rattle.sqlite.specs.State.{HasCleanDisk, KeepsCommit, Survives};
+ghost use Rattle.sqlite.specs.Held.{state};
+ghost use Rattle.rows.specs.Calls.{IsUnderWay, Changes, Stays};
+ghost use Rattle.rows.specs.Contents.{texts_cmp, pair_cmp, contents_of};
+ghost use Rattle.rows.specs.Entries.{output_of, ShowsOutput};
+
+use crate::entry::Entry;
+use crate::failure::Failure;
+use crate::statement;
+use sqlite::{Alter, Row, Transaction, params};
+use std::alloc::Global;
+use std::cmp::Ordering;
+
+/// One output: the base name of a derivation's path, the output's name, and the base name of its path.
+#[derive(Debug, Drop)]
+pub struct Output {
+    pub base: String,
+    pub name: String,
+    pub target: String,
+}
+
+impl Entry for Output {
+    ghost is_shown = { ShowsOutput };
+
+    ghost is_below = { λ a b. is_lt (pair_cmp (output_of a).0 (output_of b).0) };
+
+    fn read(row: &Row) -> Result<Output, Failure> {
+        Ok(Output {
+            base: row.get(0)?,
+            name: row.get(1)?,
+            target: row.get(2)?,
+        })
+    }
+
+    fn is_below(&self, other: &Output) -> bool {
+        match self.base.cmp(&other.base) {
+            Ordering::Less => true,
+            Ordering::Equal => self.name < other.name,
+            Ordering::Greater => false,
+        }
+    }
+}
+
+/// All outputs, in order.
+pub fn all<S: Alter>(alloc: Global, tx: &mut Transaction<'_, S>) -> Result<Vec<Output>, Failure>
+    requires { HasCleanDisk (state S.Store tx.old.conn.now) → IsUnderWay (state S.Store tx.old.conn.now) }
+    ensures same_reference { tx.new.conn.ghost_name ≡ tx.old.conn.ghost_name }
+    ensures reads { HasCleanDisk (state S.Store tx.new.conn.now) → IfOk result (λ all. Stays (state S.Store tx.old.conn.now) (state S.Store tx.new.conn.now)
+        × (map output_of all.items ≡ finite.entries (contents_of (state S.Store tx.old.conn.now).now).outs)) }
+    ensures failed { HasCleanDisk (state S.Store tx.new.conn.now) → OnErr result (KeepsCommit (state S.Store tx.old.conn.now) (state S.Store tx.new.conn.now)) }
+    ensures survives { Survives (state S.Store tx.old.conn.now) (state S.Store tx.new.conn.now) (λ _. ⊥) }
+{
+    statement::select(
+        alloc,
+        tx,
+        "SELECT base, name, target FROM outs ORDER BY base, name",
+        &[],
+    )
+}
+
+/// The outputs of this base, in order.
+pub fn of<S: Alter>(
+    alloc: Global,
+    tx: &mut Transaction<'_, S>,
+    base: &str,
+) -> Result<Vec<Output>, Failure>
+    requires { HasCleanDisk (state S.Store tx.old.conn.now) → IsUnderWay (state S.Store tx.old.conn.now) }
+    ensures same_reference { tx.new.conn.ghost_name ≡ tx.old.conn.ghost_name }
+    ensures reads { HasCleanDisk (state S.Store tx.new.conn.now) → IfOk result (λ all. Stays (state S.Store tx.old.conn.now) (state S.Store tx.new.conn.now)
+        × (map output_of all.items ≡ finite.entries (finite.retain_keys (contents_of (state S.Store tx.old.conn.now).now).outs (λ k. eq_by_cmp texts_cmp k.0 base.now)))) }
+    ensures failed { HasCleanDisk (state S.Store tx.new.conn.now) → OnErr result (KeepsCommit (state S.Store tx.old.conn.now) (state S.Store tx.new.conn.now)) }
+    ensures survives { Survives (state S.Store tx.old.conn.now) (state S.Store tx.new.conn.now) (λ _. ⊥) }
+{
+    statement::select(
+        alloc,
+        tx,
+        "SELECT base, name, target FROM outs WHERE base = ?1 ORDER BY base, name",
+        params![base],
+    )
+}
+
+/// Adds one output, under a key that is new.
+pub fn insert<S: Alter>(
+    tx: &mut Transaction<'_, S>,
+    base: &str,
+    name: &str,
+    target: &str,
+) -> Result<(), Failure>
+    requires under_way { HasCleanDisk (state S.Store tx.old.conn.now) → IsUnderWay (state S.Store tx.old.conn.now) }
+    requires new { HasCleanDisk (state S.Store tx.old.conn.now) → IsTrue (state S.Store tx.old.conn.now).is_open → finite.get (contents_of (state S.Store tx.old.conn.now).now).outs (base.now, name.now) ≡ None }
+    ensures same_reference { tx.new.conn.ghost_name ≡ tx.old.conn.ghost_name }
+    ensures done { HasCleanDisk (state S.Store tx.new.conn.now) → OnOk result (Changes (state S.Store tx.old.conn.now) (state S.Store tx.new.conn.now)
+        (λ c. record c { outs = finite.insert c.outs (base.now, name.now) target.now })) }
+    ensures failed { HasCleanDisk (state S.Store tx.new.conn.now) → OnErr result (KeepsCommit (state S.Store tx.old.conn.now) (state S.Store tx.new.conn.now)) }
+    ensures survives { Survives (state S.Store tx.old.conn.now) (state S.Store tx.new.conn.now) (λ _. ⊥) }
+{
+    statement::run(
+        tx,
+        "INSERT INTO outs (base, name, target) VALUES (?1, ?2, ?3)",
+        params![base, name, target],
+    )
+}
+
+/// Removes the outputs of this base.
+pub fn delete_of<S: Alter>(tx: &mut Transaction<'_, S>, base: &str) -> Result<(), Failure>
+    requires { HasCleanDisk (state S.Store tx.old.conn.now) → IsUnderWay (state S.Store tx.old.conn.now) }
+    ensures same_reference { tx.new.conn.ghost_name ≡ tx.old.conn.ghost_name }
+    ensures done { HasCleanDisk (state S.Store tx.new.conn.now) → OnOk result (Changes (state S.Store tx.old.conn.now) (state S.Store tx.new.conn.now)
+        (λ c. record c { outs = finite.retain_keys c.outs (λ k. not (eq_by_cmp texts_cmp k.0 base.now)) })) }
+    ensures failed { HasCleanDisk (state S.Store tx.new.conn.now) → OnErr result (KeepsCommit (state S.Store tx.old.conn.now) (state S.Store tx.new.conn.now)) }
+    ensures survives { Survives (state S.Store tx.old.conn.now) (state S.Store tx.new.conn.now) (λ _. ⊥) }
+{
+    statement::run(tx, "DELETE FROM outs WHERE base = ?1", params![base])
+}

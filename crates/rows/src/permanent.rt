@@ -1,0 +1,114 @@
+//! The permanent roots.
+
+ghost use Rattle.std.specs.Prelude.{◌≡◌, ◌&&◌, IfOk, OnOk, OnErr, IsTrue, None, map, not, pos};
+ghost use Rattle.std.specs.Ordering.{eq_by_cmp, is_lt, int_cmp};
+ghost use Rattle.std.specs.FinMap as finite;
+ghost use Rattle.sqlite.specs.State.{HasCleanDisk, KeepsCommit, Survives};
+ghost use Rattle.sqlite.specs.Held.{state};
+ghost use Rattle.rows.specs.Calls.{IsUnderWay, Changes, Stays};
+ghost use Rattle.rows.specs.Contents.{texts_cmp, contents_of};
+ghost use Rattle.rows.specs.Entries.{permanent_of, ShowsPermanentRoot};
+
+use crate::entry::Entry;
+use crate::failure::Failure;
+use crate::statement;
+use sqlite::{Alter, Row, Transaction, params};
+use std::alloc::Global;
+
+/// One permanent root: its label, and the base name of its target.
+#[derive(Debug, Drop)]
+pub struct PermanentRoot {
+    pub name: String,
+    pub target: String,
+}
+
+impl Entry for PermanentRoot {
+    ghost is_shown = { ShowsPermanentRoot };
+
+    ghost is_below = { λ a b. is_lt (texts_cmp (permanent_of a).0 (permanent_of b).0) };
+
+    fn read(row: &Row) -> Result<PermanentRoot, Failure> {
+        Ok(PermanentRoot {
+            name: row.get(0)?,
+            target: row.get(1)?,
+        })
+    }
+
+    fn is_below(&self, other: &PermanentRoot) -> bool {
+        self.name < other.name
+    }
+}
+
+/// All permanent roots, in order.
+pub fn all<S: Alter>(
+    alloc: Global,
+    tx: &mut Transaction<'_, S>,
+) -> Result<Vec<PermanentRoot>, Failure>
+    requires { HasCleanDisk (state S.Store tx.old.conn.now) → IsUnderWay (state S.Store tx.old.conn.now) }
+    ensures same_reference { tx.new.conn.ghost_name ≡ tx.old.conn.ghost_name }
+    ensures reads { HasCleanDisk (state S.Store tx.new.conn.now) → IfOk result (λ all. Stays (state S.Store tx.old.conn.now) (state S.Store tx.new.conn.now)
+        × (map permanent_of all.items ≡ finite.entries (contents_of (state S.Store tx.old.conn.now).now).permanent)) }
+    ensures failed { HasCleanDisk (state S.Store tx.new.conn.now) → OnErr result (KeepsCommit (state S.Store tx.old.conn.now) (state S.Store tx.new.conn.now)) }
+    ensures survives { Survives (state S.Store tx.old.conn.now) (state S.Store tx.new.conn.now) (λ _. ⊥) }
+{
+    statement::select(
+        alloc,
+        tx,
+        "SELECT name, target FROM permanent ORDER BY name",
+        &[],
+    )
+}
+
+/// The permanent root of this name, if there is one.
+pub fn of<S: Alter>(
+    alloc: Global,
+    tx: &mut Transaction<'_, S>,
+    name: &str,
+) -> Result<Vec<PermanentRoot>, Failure>
+    requires { HasCleanDisk (state S.Store tx.old.conn.now) → IsUnderWay (state S.Store tx.old.conn.now) }
+    ensures same_reference { tx.new.conn.ghost_name ≡ tx.old.conn.ghost_name }
+    ensures reads { HasCleanDisk (state S.Store tx.new.conn.now) → IfOk result (λ all. Stays (state S.Store tx.old.conn.now) (state S.Store tx.new.conn.now)
+        × (map permanent_of all.items ≡ finite.entries (finite.retain_keys (contents_of (state S.Store tx.old.conn.now).now).permanent (λ k. eq_by_cmp texts_cmp k name.now)))) }
+    ensures failed { HasCleanDisk (state S.Store tx.new.conn.now) → OnErr result (KeepsCommit (state S.Store tx.old.conn.now) (state S.Store tx.new.conn.now)) }
+    ensures survives { Survives (state S.Store tx.old.conn.now) (state S.Store tx.new.conn.now) (λ _. ⊥) }
+{
+    statement::select(
+        alloc,
+        tx,
+        "SELECT name, target FROM permanent WHERE name = ?1 ORDER BY name",
+        params![name],
+    )
+}
+
+/// Adds one permanent root, under a key that is new.
+pub fn insert<S: Alter>(
+    tx: &mut Transaction<'_, S>,
+    name: &str,
+    target: &str,
+) -> Result<(), Failure>
+    requires under_way { HasCleanDisk (state S.Store tx.old.conn.now) → IsUnderWay (state S.Store tx.old.conn.now) }
+    requires new { HasCleanDisk (state S.Store tx.old.conn.now) → IsTrue (state S.Store tx.old.conn.now).is_open → finite.get (contents_of (state S.Store tx.old.conn.now).now).permanent name.now ≡ None }
+    ensures same_reference { tx.new.conn.ghost_name ≡ tx.old.conn.ghost_name }
+    ensures done { HasCleanDisk (state S.Store tx.new.conn.now) → OnOk result (Changes (state S.Store tx.old.conn.now) (state S.Store tx.new.conn.now)
+        (λ c. record c { permanent = finite.insert c.permanent name.now target.now })) }
+    ensures failed { HasCleanDisk (state S.Store tx.new.conn.now) → OnErr result (KeepsCommit (state S.Store tx.old.conn.now) (state S.Store tx.new.conn.now)) }
+    ensures survives { Survives (state S.Store tx.old.conn.now) (state S.Store tx.new.conn.now) (λ _. ⊥) }
+{
+    statement::run(
+        tx,
+        "INSERT INTO permanent (name, target) VALUES (?1, ?2)",
+        params![name, target],
+    )
+}
+
+/// Removes the permanent root of this name, if there is one.
+pub fn delete<S: Alter>(tx: &mut Transaction<'_, S>, name: &str) -> Result<(), Failure>
+    requires { HasCleanDisk (state S.Store tx.old.conn.now) → IsUnderWay (state S.Store tx.old.conn.now) }
+    ensures same_reference { tx.new.conn.ghost_name ≡ tx.old.conn.ghost_name }
+    ensures done { HasCleanDisk (state S.Store tx.new.conn.now) → OnOk result (Changes (state S.Store tx.old.conn.now) (state S.Store tx.new.conn.now)
+        (λ c. record c { permanent = finite.retain_keys c.permanent (λ k. not (eq_by_cmp texts_cmp k name.now)) })) }
+    ensures failed { HasCleanDisk (state S.Store tx.new.conn.now) → OnErr result (KeepsCommit (state S.Store tx.old.conn.now) (state S.Store tx.new.conn.now)) }
+    ensures survives { Survives (state S.Store tx.old.conn.now) (state S.Store tx.new.conn.now) (λ _. ⊥) }
+{
+    statement::run(tx, "DELETE FROM permanent WHERE name = ?1", params![name])
+}

@@ -1,0 +1,115 @@
+//! The references: which path an object refers to.
+
+ghost use Rattle.std.specs.Prelude.{◌≡◌, ◌&&◌, IfOk, OnOk, OnErr, IsTrue, None, map, not, pos};
+ghost use Rattle.std.specs.Ordering.{eq_by_cmp, is_lt, int_cmp};
+ghost use Rattle.std.specs.FinMap as finite;
+ghost use Rattle.sqlite.specs.State.{HasCleanDisk, KeepsCommit, Survives};
+ghost use Rattle.sqlite.specs.Held.{state};
+ghost use Rattle.rows.specs.Calls.{IsUnderWay, Changes, Stays};
+ghost use Rattle.rows.specs.Contents.{texts_cmp, pair_cmp, contents_of};
+ghost use Rattle.rows.specs.Entries.{reference_of, ShowsReference};
+
+use crate::entry::Entry;
+use crate::failure::Failure;
+use crate::statement;
+use sqlite::{Alter, Row, Transaction, params};
+use std::alloc::Global;
+use std::cmp::Ordering;
+
+/// One reference: the base name of an object's path, and that of a path that it refers to.
+#[derive(Debug, Drop)]
+pub struct Reference {
+    pub base: String,
+    pub target: String,
+}
+
+impl Entry for Reference {
+    ghost is_shown = { ShowsReference };
+
+    ghost is_below = { λ a b. is_lt (pair_cmp (reference_of a).0 (reference_of b).0) };
+
+    fn read(row: &Row) -> Result<Reference, Failure> {
+        Ok(Reference {
+            base: row.get(0)?,
+            target: row.get(1)?,
+        })
+    }
+
+    fn is_below(&self, other: &Reference) -> bool {
+        match self.base.cmp(&other.base) {
+            Ordering::Less => true,
+            Ordering::Equal => self.target < other.target,
+            Ordering::Greater => false,
+        }
+    }
+}
+
+/// All references, in order.
+pub fn all<S: Alter>(alloc: Global, tx: &mut Transaction<'_, S>) -> Result<Vec<Reference>, Failure>
+    requires { HasCleanDisk (state S.Store tx.old.conn.now) → IsUnderWay (state S.Store tx.old.conn.now) }
+    ensures same_reference { tx.new.conn.ghost_name ≡ tx.old.conn.ghost_name }
+    ensures reads { HasCleanDisk (state S.Store tx.new.conn.now) → IfOk result (λ all. Stays (state S.Store tx.old.conn.now) (state S.Store tx.new.conn.now)
+        × (map reference_of all.items ≡ finite.entries (contents_of (state S.Store tx.old.conn.now).now).refs)) }
+    ensures failed { HasCleanDisk (state S.Store tx.new.conn.now) → OnErr result (KeepsCommit (state S.Store tx.old.conn.now) (state S.Store tx.new.conn.now)) }
+    ensures survives { Survives (state S.Store tx.old.conn.now) (state S.Store tx.new.conn.now) (λ _. ⊥) }
+{
+    statement::select(
+        alloc,
+        tx,
+        "SELECT base, target FROM refs ORDER BY base, target",
+        &[],
+    )
+}
+
+/// The references of this base, in order.
+pub fn of<S: Alter>(
+    alloc: Global,
+    tx: &mut Transaction<'_, S>,
+    base: &str,
+) -> Result<Vec<Reference>, Failure>
+    requires { HasCleanDisk (state S.Store tx.old.conn.now) → IsUnderWay (state S.Store tx.old.conn.now) }
+    ensures same_reference { tx.new.conn.ghost_name ≡ tx.old.conn.ghost_name }
+    ensures reads { HasCleanDisk (state S.Store tx.new.conn.now) → IfOk result (λ all. Stays (state S.Store tx.old.conn.now) (state S.Store tx.new.conn.now)
+        × (map reference_of all.items ≡ finite.entries (finite.retain_keys (contents_of (state S.Store tx.old.conn.now).now).refs (λ k. eq_by_cmp texts_cmp k.0 base.now)))) }
+    ensures failed { HasCleanDisk (state S.Store tx.new.conn.now) → OnErr result (KeepsCommit (state S.Store tx.old.conn.now) (state S.Store tx.new.conn.now)) }
+    ensures survives { Survives (state S.Store tx.old.conn.now) (state S.Store tx.new.conn.now) (λ _. ⊥) }
+{
+    statement::select(
+        alloc,
+        tx,
+        "SELECT base, target FROM refs WHERE base = ?1 ORDER BY base, target",
+        params![base],
+    )
+}
+
+/// Adds one reference. It must not be there yet: else the answer is `Disk`.
+pub fn insert<S: Alter>(
+    tx: &mut Transaction<'_, S>,
+    base: &str,
+    target: &str,
+) -> Result<(), Failure>
+    requires { HasCleanDisk (state S.Store tx.old.conn.now) → IsUnderWay (state S.Store tx.old.conn.now) }
+    ensures same_reference { tx.new.conn.ghost_name ≡ tx.old.conn.ghost_name }
+    ensures done { HasCleanDisk (state S.Store tx.new.conn.now) → OnOk result (Changes (state S.Store tx.old.conn.now) (state S.Store tx.new.conn.now)
+        (λ c. record c { refs = finite.insert c.refs (base.now, target.now) tt })) }
+    ensures failed { HasCleanDisk (state S.Store tx.new.conn.now) → OnErr result (KeepsCommit (state S.Store tx.old.conn.now) (state S.Store tx.new.conn.now)) }
+    ensures survives { Survives (state S.Store tx.old.conn.now) (state S.Store tx.new.conn.now) (λ _. ⊥) }
+{
+    statement::run(
+        tx,
+        "INSERT INTO refs (base, target) VALUES (?1, ?2)",
+        params![base, target],
+    )
+}
+
+/// Removes the references of this base.
+pub fn delete_of<S: Alter>(tx: &mut Transaction<'_, S>, base: &str) -> Result<(), Failure>
+    requires { HasCleanDisk (state S.Store tx.old.conn.now) → IsUnderWay (state S.Store tx.old.conn.now) }
+    ensures same_reference { tx.new.conn.ghost_name ≡ tx.old.conn.ghost_name }
+    ensures done { HasCleanDisk (state S.Store tx.new.conn.now) → OnOk result (Changes (state S.Store tx.old.conn.now) (state S.Store tx.new.conn.now)
+        (λ c. record c { refs = finite.retain_keys c.refs (λ k. not (eq_by_cmp texts_cmp k.0 base.now)) })) }
+    ensures failed { HasCleanDisk (state S.Store tx.new.conn.now) → OnErr result (KeepsCommit (state S.Store tx.old.conn.now) (state S.Store tx.new.conn.now)) }
+    ensures survives { Survives (state S.Store tx.old.conn.now) (state S.Store tx.new.conn.now) (λ _. ⊥) }
+{
+    statement::run(tx, "DELETE FROM refs WHERE base = ?1", params![base])
+}

@@ -1,0 +1,97 @@
+//! The runtime roots.
+
+ghost use Rattle.std.specs.Prelude.{◌≡◌, ◌&&◌, IfOk, OnOk, OnErr, IsTrue, None, map, not, pos};
+ghost use Rattle.std.specs.Ordering.{eq_by_cmp, is_lt, int_cmp};
+ghost use Rattle.std.specs.FinMap as finite;
+ghost use Rattle.sqlite.specs.State.{HasCleanDisk, KeepsCommit, Survives};
+ghost use Rattle.sqlite.specs.Held.{state};
+ghost use Rattle.rows.specs.Calls.{IsUnderWay, Changes, Stays};
+ghost use Rattle.rows.specs.Contents.{texts_cmp, pair_cmp, contents_of};
+ghost use Rattle.rows.specs.Entries.{runtime_of, ShowsRuntimeRoot};
+
+use crate::entry::Entry;
+use crate::failure::Failure;
+use crate::statement;
+use sqlite::{Alter, Row, Transaction, params};
+use std::alloc::Global;
+use std::cmp::Ordering;
+
+/// One runtime root: its label, and the base name of its target.
+#[derive(Debug, Drop)]
+pub struct RuntimeRoot {
+    pub label: String,
+    pub target: String,
+}
+
+impl Entry for RuntimeRoot {
+    ghost is_shown = { ShowsRuntimeRoot };
+
+    ghost is_below = { λ a b. is_lt (pair_cmp (runtime_of a).0 (runtime_of b).0) };
+
+    fn read(row: &Row) -> Result<RuntimeRoot, Failure> {
+        Ok(RuntimeRoot {
+            label: row.get(0)?,
+            target: row.get(1)?,
+        })
+    }
+
+    fn is_below(&self, other: &RuntimeRoot) -> bool {
+        match self.label.cmp(&other.label) {
+            Ordering::Less => true,
+            Ordering::Equal => self.target < other.target,
+            Ordering::Greater => false,
+        }
+    }
+}
+
+/// All runtime roots, in order.
+pub fn all<S: Alter>(
+    alloc: Global,
+    tx: &mut Transaction<'_, S>,
+) -> Result<Vec<RuntimeRoot>, Failure>
+    requires { HasCleanDisk (state S.Store tx.old.conn.now) → IsUnderWay (state S.Store tx.old.conn.now) }
+    ensures same_reference { tx.new.conn.ghost_name ≡ tx.old.conn.ghost_name }
+    ensures reads { HasCleanDisk (state S.Store tx.new.conn.now) → IfOk result (λ all. Stays (state S.Store tx.old.conn.now) (state S.Store tx.new.conn.now)
+        × (map runtime_of all.items ≡ finite.entries (contents_of (state S.Store tx.old.conn.now).now).runtime)) }
+    ensures failed { HasCleanDisk (state S.Store tx.new.conn.now) → OnErr result (KeepsCommit (state S.Store tx.old.conn.now) (state S.Store tx.new.conn.now)) }
+    ensures survives { Survives (state S.Store tx.old.conn.now) (state S.Store tx.new.conn.now) (λ _. ⊥) }
+{
+    statement::select(
+        alloc,
+        tx,
+        "SELECT label, target FROM runtime ORDER BY label, target",
+        &[],
+    )
+}
+
+/// Adds one runtime root. It must not be there yet: else the answer is `Disk`.
+pub fn insert<S: Alter>(
+    tx: &mut Transaction<'_, S>,
+    label: &str,
+    target: &str,
+) -> Result<(), Failure>
+    requires { HasCleanDisk (state S.Store tx.old.conn.now) → IsUnderWay (state S.Store tx.old.conn.now) }
+    ensures same_reference { tx.new.conn.ghost_name ≡ tx.old.conn.ghost_name }
+    ensures done { HasCleanDisk (state S.Store tx.new.conn.now) → OnOk result (Changes (state S.Store tx.old.conn.now) (state S.Store tx.new.conn.now)
+        (λ c. record c { runtime = finite.insert c.runtime (label.now, target.now) tt })) }
+    ensures failed { HasCleanDisk (state S.Store tx.new.conn.now) → OnErr result (KeepsCommit (state S.Store tx.old.conn.now) (state S.Store tx.new.conn.now)) }
+    ensures survives { Survives (state S.Store tx.old.conn.now) (state S.Store tx.new.conn.now) (λ _. ⊥) }
+{
+    statement::run(
+        tx,
+        "INSERT INTO runtime (label, target) VALUES (?1, ?2)",
+        params![label, target],
+    )
+}
+
+/// Removes the runtime roots of this label.
+pub fn delete_of<S: Alter>(tx: &mut Transaction<'_, S>, label: &str) -> Result<(), Failure>
+    requires { HasCleanDisk (state S.Store tx.old.conn.now) → IsUnderWay (state S.Store tx.old.conn.now) }
+    ensures same_reference { tx.new.conn.ghost_name ≡ tx.old.conn.ghost_name }
+    ensures done { HasCleanDisk (state S.Store tx.new.conn.now) → OnOk result (Changes (state S.Store tx.old.conn.now) (state S.Store tx.new.conn.now)
+        (λ c. record c { runtime = finite.retain_keys c.runtime (λ k. not (eq_by_cmp texts_cmp k.0 label.now)) })) }
+    ensures failed { HasCleanDisk (state S.Store tx.new.conn.now) → OnErr result (KeepsCommit (state S.Store tx.old.conn.now) (state S.Store tx.new.conn.now)) }
+    ensures survives { Survives (state S.Store tx.old.conn.now) (state S.Store tx.new.conn.now) (λ _. ⊥) }
+{
+    statement::run(tx, "DELETE FROM runtime WHERE label = ?1", params![label])
+}

@@ -1,0 +1,49 @@
+//! The two ways to run a statement inside a transaction.
+
+ghost use Rattle.std.specs.Prelude.{◌≡◌, IfOk, OnOk, OnErr, Ok, List, ℕ, true, length};
+ghost use Rattle.std.specs.List.{AllZip, AllAdjacentBelow};
+ghost use Rattle.sqlite_value.specs.Order.{Row as Values};
+ghost use Rattle.sqlite.specs.State.{HasCleanDisk, KeepsCommit, Survives, Shown, ExecutesInside};
+ghost use Rattle.sqlite.specs.Held.{state};
+ghost use Rattle.sqlite.specs.Values.{bound};
+ghost use Rattle.rows.specs.Calls.{IsUnderWay};
+
+use crate::entry::{self, Entry};
+use crate::failure::Failure;
+use sqlite::types::ValueRef;
+use sqlite::{Alter, Transaction};
+use std::alloc::Global;
+
+/// The entries that a query shows.
+pub(crate) fn select<S: Alter, T: Entry>(
+    alloc: Global,
+    tx: &mut Transaction<'_, S>,
+    text: &str,
+    params: &[ValueRef<'_>],
+) -> Result<Vec<T>, Failure>
+    requires { HasCleanDisk (state S.Store tx.old.conn.now) → (state S.Store tx.old.conn.now).in_transaction ≡ true }
+    ensures same_reference { tx.new.conn.ghost_name ≡ tx.old.conn.ghost_name }
+    ensures shown { HasCleanDisk (state S.Store tx.new.conn.now) → IfOk result (λ all. (rows : List Values) × Shown text.now (bound params.now) (state S.Store tx.old.conn.now) (state S.Store tx.new.conn.now) rows × AllZip T.is_shown rows all.items) }
+    ensures rises { IfOk result (λ all. AllAdjacentBelow (λ x y. true ≡ T.is_below x y) all.items (length all.items)) }
+    ensures failed { HasCleanDisk (state S.Store tx.new.conn.now) → OnErr result (KeepsCommit (state S.Store tx.old.conn.now) (state S.Store tx.new.conn.now)) }
+    ensures survives { Survives (state S.Store tx.old.conn.now) (state S.Store tx.new.conn.now) (λ _. ⊥) }
+{
+    let rows = tx.query_all(text, params)?;
+    entry::entries(alloc, &rows)
+}
+
+/// Runs a write.
+pub(crate) fn run<S: Alter>(
+    tx: &mut Transaction<'_, S>,
+    text: &str,
+    params: &[ValueRef<'_>],
+) -> Result<(), Failure>
+    requires { HasCleanDisk (state S.Store tx.old.conn.now) → IsUnderWay (state S.Store tx.old.conn.now) }
+    ensures same_reference { tx.new.conn.ghost_name ≡ tx.old.conn.ghost_name }
+    ensures ran { HasCleanDisk (state S.Store tx.new.conn.now) → OnOk result ((count : ℕ) × ExecutesInside 0 text.now (bound params.now) (state S.Store tx.old.conn.now) (state S.Store tx.new.conn.now) (Ok count)) }
+    ensures failed { HasCleanDisk (state S.Store tx.new.conn.now) → OnErr result (KeepsCommit (state S.Store tx.old.conn.now) (state S.Store tx.new.conn.now)) }
+    ensures survives { Survives (state S.Store tx.old.conn.now) (state S.Store tx.new.conn.now) (λ _. ⊥) }
+{
+    tx.execute(text, params)?;
+    Ok(())
+}

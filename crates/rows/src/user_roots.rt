@@ -1,0 +1,123 @@
+//! The roots of users.
+
+ghost use Rattle.std.specs.Prelude.{◌≡◌, ◌&&◌, IfOk, OnOk, OnErr, IsTrue, None, map, not, pos};
+ghost use Rattle.std.specs.Ordering.{eq_by_cmp, is_lt, int_cmp};
+ghost use Rattle.std.specs.FinMap as finite;
+ghost use Rattle.sqlite.specs.State.{HasCleanDisk, KeepsCommit, Survives};
+ghost use Rattle.sqlite.specs.Held.{state};
+ghost use Rattle.rows.specs.Calls.{IsUnderWay, Changes, Stays};
+ghost use Rattle.rows.specs.Contents.{texts_cmp, pair_cmp, contents_of};
+ghost use Rattle.rows.specs.Entries.{user_root_of, ShowsUserRoot};
+
+use crate::entry::Entry;
+use crate::failure::Failure;
+use crate::statement;
+use sqlite::{Alter, Row, Transaction, params};
+use std::alloc::Global;
+use std::cmp::Ordering;
+
+/// One root of a user: its owner, its label, and the base name of its target.
+#[derive(Debug, Drop)]
+pub struct UserRoot {
+    pub owner: String,
+    pub name: String,
+    pub target: String,
+}
+
+impl Entry for UserRoot {
+    ghost is_shown = { ShowsUserRoot };
+
+    ghost is_below = { λ a b. is_lt (pair_cmp (user_root_of a).0 (user_root_of b).0) };
+
+    fn read(row: &Row) -> Result<UserRoot, Failure> {
+        Ok(UserRoot {
+            owner: row.get(0)?,
+            name: row.get(1)?,
+            target: row.get(2)?,
+        })
+    }
+
+    fn is_below(&self, other: &UserRoot) -> bool {
+        match self.owner.cmp(&other.owner) {
+            Ordering::Less => true,
+            Ordering::Equal => self.name < other.name,
+            Ordering::Greater => false,
+        }
+    }
+}
+
+/// All user roots, in order.
+pub fn all<S: Alter>(alloc: Global, tx: &mut Transaction<'_, S>) -> Result<Vec<UserRoot>, Failure>
+    requires { HasCleanDisk (state S.Store tx.old.conn.now) → IsUnderWay (state S.Store tx.old.conn.now) }
+    ensures same_reference { tx.new.conn.ghost_name ≡ tx.old.conn.ghost_name }
+    ensures reads { HasCleanDisk (state S.Store tx.new.conn.now) → IfOk result (λ all. Stays (state S.Store tx.old.conn.now) (state S.Store tx.new.conn.now)
+        × (map user_root_of all.items ≡ finite.entries (contents_of (state S.Store tx.old.conn.now).now).user_roots)) }
+    ensures failed { HasCleanDisk (state S.Store tx.new.conn.now) → OnErr result (KeepsCommit (state S.Store tx.old.conn.now) (state S.Store tx.new.conn.now)) }
+    ensures survives { Survives (state S.Store tx.old.conn.now) (state S.Store tx.new.conn.now) (λ _. ⊥) }
+{
+    statement::select(
+        alloc,
+        tx,
+        "SELECT owner, name, target FROM user_root ORDER BY owner, name",
+        &[],
+    )
+}
+
+/// The user roots of this owner, in order.
+pub fn of<S: Alter>(
+    alloc: Global,
+    tx: &mut Transaction<'_, S>,
+    owner: &str,
+) -> Result<Vec<UserRoot>, Failure>
+    requires { HasCleanDisk (state S.Store tx.old.conn.now) → IsUnderWay (state S.Store tx.old.conn.now) }
+    ensures same_reference { tx.new.conn.ghost_name ≡ tx.old.conn.ghost_name }
+    ensures reads { HasCleanDisk (state S.Store tx.new.conn.now) → IfOk result (λ all. Stays (state S.Store tx.old.conn.now) (state S.Store tx.new.conn.now)
+        × (map user_root_of all.items ≡ finite.entries (finite.retain_keys (contents_of (state S.Store tx.old.conn.now).now).user_roots (λ k. eq_by_cmp texts_cmp k.0 owner.now)))) }
+    ensures failed { HasCleanDisk (state S.Store tx.new.conn.now) → OnErr result (KeepsCommit (state S.Store tx.old.conn.now) (state S.Store tx.new.conn.now)) }
+    ensures survives { Survives (state S.Store tx.old.conn.now) (state S.Store tx.new.conn.now) (λ _. ⊥) }
+{
+    statement::select(
+        alloc,
+        tx,
+        "SELECT owner, name, target FROM user_root WHERE owner = ?1 ORDER BY owner, name",
+        params![owner],
+    )
+}
+
+/// Adds one user root, under a key that is new.
+pub fn insert<S: Alter>(
+    tx: &mut Transaction<'_, S>,
+    owner: &str,
+    name: &str,
+    target: &str,
+) -> Result<(), Failure>
+    requires under_way { HasCleanDisk (state S.Store tx.old.conn.now) → IsUnderWay (state S.Store tx.old.conn.now) }
+    requires new { HasCleanDisk (state S.Store tx.old.conn.now) → IsTrue (state S.Store tx.old.conn.now).is_open → finite.get (contents_of (state S.Store tx.old.conn.now).now).user_roots (owner.now, name.now) ≡ None }
+    ensures same_reference { tx.new.conn.ghost_name ≡ tx.old.conn.ghost_name }
+    ensures done { HasCleanDisk (state S.Store tx.new.conn.now) → OnOk result (Changes (state S.Store tx.old.conn.now) (state S.Store tx.new.conn.now)
+        (λ c. record c { user_roots = finite.insert c.user_roots (owner.now, name.now) target.now })) }
+    ensures failed { HasCleanDisk (state S.Store tx.new.conn.now) → OnErr result (KeepsCommit (state S.Store tx.old.conn.now) (state S.Store tx.new.conn.now)) }
+    ensures survives { Survives (state S.Store tx.old.conn.now) (state S.Store tx.new.conn.now) (λ _. ⊥) }
+{
+    statement::run(
+        tx,
+        "INSERT INTO user_root (owner, name, target) VALUES (?1, ?2, ?3)",
+        params![owner, name, target],
+    )
+}
+
+/// Removes the user root of this owner and this name, if there is one.
+pub fn delete<S: Alter>(tx: &mut Transaction<'_, S>, owner: &str, name: &str) -> Result<(), Failure>
+    requires { HasCleanDisk (state S.Store tx.old.conn.now) → IsUnderWay (state S.Store tx.old.conn.now) }
+    ensures same_reference { tx.new.conn.ghost_name ≡ tx.old.conn.ghost_name }
+    ensures done { HasCleanDisk (state S.Store tx.new.conn.now) → OnOk result (Changes (state S.Store tx.old.conn.now) (state S.Store tx.new.conn.now)
+        (λ c. record c { user_roots = finite.retain_keys c.user_roots (λ k. not (eq_by_cmp texts_cmp k.0 owner.now && eq_by_cmp texts_cmp k.1 name.now)) })) }
+    ensures failed { HasCleanDisk (state S.Store tx.new.conn.now) → OnErr result (KeepsCommit (state S.Store tx.old.conn.now) (state S.Store tx.new.conn.now)) }
+    ensures survives { Survives (state S.Store tx.old.conn.now) (state S.Store tx.new.conn.now) (λ _. ⊥) }
+{
+    statement::run(
+        tx,
+        "DELETE FROM user_root WHERE owner = ?1 AND name = ?2",
+        params![owner, name],
+    )
+}
