@@ -1,21 +1,21 @@
 -- What follows from the rules and their order: each is the contract of a function of `src/laws.rt`.
-use Rattle.std.specs.Prelude.{◌≡◌, ℕ, Bool, true, false, if◌then◌else◌, List, codes, Some, None}
+use Rattle.std.specs.Prelude.{◌≡◌, ℕ, Bool, true, false, if◌then◌else◌, ◌&&◌, List, codes, Some, None}
 use Rattle.std.specs.Option.{option_or}
 use Rattle.policy.specs.Caller.{Caller, caller_of}
-use Rattle.policy.specs.Operation.{Operation, plain, import_object, set_permanent, drop_permanent, replace_runtime, set_user_root, drop_user_root, set_profile, delete_generation, collect, delete}
+use Rattle.policy.specs.Operation.{Operation, plain, import_object, set_permanent, drop_permanent, replace_runtime, set_user_root, drop_user_root, set_profile, rollback, switch, delete_generation, collect, delete, deletes}
 use Rattle.policy.specs.Rules.{verdict, first_broken, is_stranger}
 use Rattle.policy.specs.declared.kinds.Class.{Class}
 use Rattle.policy.specs.declared.kinds.Class.TheVariants.{Stranger, Allowed, Trusted}
 use Rattle.policy.specs.declared.kinds.Rule.TheVariants.{Connect, TrustedImport, TrustedPermanentRoot, TrustedRuntimeRoots, OwnRoot, NoIgnoreLiveness, Live}
 
--- the world is asked last: it changes no verdict but that nothing forbids
+-- The world is asked last, and only of a deletion by name: it changes no verdict but that nothing forbids.
 abbrev pub LiveIsAskedLast : Type 0
-LiveIsAskedLast = (class : Class) (c : Caller) (op : Operation) (deletes_live : Bool)
-    → verdict class c op deletes_live ≡ option_or (first_broken class c op) (if deletes_live then Some Live else None)
+LiveIsAskedLast = (class : Class) (c : Caller) (op : Operation) (names_live : Bool)
+    → verdict class c op names_live ≡ option_or (first_broken class c op) (if names_live && deletes op then Some Live else None)
 
 -- whatever a stranger asks, the denial is `Connect`
 abbrev pub StrangersMayNotConnect : Type 0
-StrangersMayNotConnect = (c : Caller) (op : Operation) (deletes_live : Bool) → verdict Stranger c op deletes_live ≡ Some Connect
+StrangersMayNotConnect = (c : Caller) (op : Operation) (names_live : Bool) → verdict Stranger c op names_live ≡ Some Connect
 
 -- an operation with nothing that a rule asks about is denied to strangers alone
 abbrev pub PlainIsForAllOthers : Type 0
@@ -46,6 +46,10 @@ KeptForTheOwner =
     (first_broken Allowed ann (set_user_root (codes "ann")) ≡ None)
     × (first_broken Trusted ann (set_user_root bob) ≡ Some OwnRoot)
     × (first_broken Trusted ann (set_profile bob) ≡ Some OwnRoot)
+    × (first_broken Trusted ann (rollback bob) ≡ Some OwnRoot)
+    × (first_broken Trusted ann (switch bob) ≡ Some OwnRoot)
+    × (first_broken Allowed ann (rollback (codes "ann")) ≡ None)
+    × (first_broken Allowed ann (switch (codes "ann")) ≡ None)
     × (first_broken Allowed ann (drop_user_root bob) ≡ Some OwnRoot)
     × (first_broken Trusted ann (drop_user_root bob) ≡ None)
     × (first_broken Trusted ann (delete_generation bob) ≡ None)
@@ -58,5 +62,6 @@ KeptFromAll =
     × (first_broken Trusted ann (collect false) ≡ None)
     × (verdict Trusted ann (delete true) true ≡ Some NoIgnoreLiveness)
     × (verdict Trusted ann (delete false) true ≡ Some Live)
+    × (verdict Trusted ann (collect false) true ≡ None)
     × (verdict Allowed ann (delete false) false ≡ None)
     × (verdict Stranger ann (delete true) true ≡ Some Connect)

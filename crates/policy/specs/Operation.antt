@@ -60,6 +60,11 @@ ignores_liveness (collect flag) = flag
 ignores_liveness (delete flag) = flag
 ignores_liveness _ = false
 
+-- whether it deletes paths by name
+abbrev pub deletes : Operation → Bool
+deletes (delete flag) = true
+deletes _ = false
+
 -- what the code's operation stands for
 abbrev pub operation_of : Op → Operation
 operation_of Plain = plain

@@ -3,7 +3,7 @@ use Rattle.std.specs.Prelude.{ℕ, Bool, true, false, not, ◌&&◌, ◌||◌, L
 use Rattle.std.specs.List.{find}
 use Rattle.std.specs.Str.{bytes_eq}
 use Rattle.policy.specs.Caller.{Caller}
-use Rattle.policy.specs.Operation.{Operation, owner_of, drops_owned, imports_without_address, changes_permanent, replaces_runtime, ignores_liveness}
+use Rattle.policy.specs.Operation.{Operation, owner_of, drops_owned, imports_without_address, changes_permanent, replaces_runtime, ignores_liveness, deletes}
 use Rattle.policy.specs.declared.kinds.Class.{Class}
 use Rattle.policy.specs.declared.kinds.Class.TheVariants.{Stranger, Trusted}
 use Rattle.policy.specs.declared.kinds.Rule.{Rule}
@@ -23,16 +23,16 @@ abbrev pub is_own : Caller → Option (List ℕ) → Bool
 is_own c None = true
 is_own c (Some owner) = bytes_eq owner c.name
 
--- Whether a rule allows what a caller of a class asks. `deletes_live` is the world's answer: a path that is deleted by
--- name is live.
+-- Whether a rule allows what a caller of a class asks. `names_live` is the world's answer: a path that the request names
+-- is live.
 abbrev pub allows : Class → Caller → Operation → Bool → Rule → Bool
-allows class c op deletes_live Connect = not (is_stranger class)
-allows class c op deletes_live TrustedImport = not (imports_without_address op) || is_trusted class
-allows class c op deletes_live TrustedPermanentRoot = not (changes_permanent op) || is_trusted class
-allows class c op deletes_live TrustedRuntimeRoots = not (replaces_runtime op) || is_trusted class
-allows class c op deletes_live OwnRoot = is_own c (owner_of op) || (drops_owned op && is_trusted class)
-allows class c op deletes_live NoIgnoreLiveness = not (ignores_liveness op)
-allows class c op deletes_live Live = not deletes_live
+allows class c op names_live Connect = not (is_stranger class)
+allows class c op names_live TrustedImport = not (imports_without_address op) || is_trusted class
+allows class c op names_live TrustedPermanentRoot = not (changes_permanent op) || is_trusted class
+allows class c op names_live TrustedRuntimeRoots = not (replaces_runtime op) || is_trusted class
+allows class c op names_live OwnRoot = is_own c (owner_of op) || (drops_owned op && is_trusted class)
+allows class c op names_live NoIgnoreLiveness = not (ignores_liveness op)
+allows class c op names_live Live = not (names_live && deletes op)
 
 -- the rules in their order
 abbrev pub rules : List Rule
@@ -40,7 +40,7 @@ rules = Connect ∷ TrustedImport ∷ TrustedPermanentRoot ∷ TrustedRuntimeRoo
 
 -- the first rule that doesn't allow what is asked, if there is one
 abbrev pub verdict : Class → Caller → Operation → Bool → Option Rule
-verdict class c op deletes_live = find (λ rule. not (allows class c op deletes_live rule)) rules
+verdict class c op names_live = find (λ rule. not (allows class c op names_live rule)) rules
 
 -- the first rule other than `Live` that doesn't, which needs no world
 abbrev pub first_broken : Class → Caller → Operation → Option Rule

@@ -68,7 +68,7 @@ nothing_live s w c named ignores v = by (cases_Bool (list_any (lives s w) named)
     by : (list_any (lives s w) named ≡ true) ⊎ (list_any (lives s w) named ≡ false) → list_any (lives s w) named ≡ false
     by (inl e) = absurd (not_found (λ (rule : Rule). not (allows (class_of s c) c (operation_of (delete named ignores)) (list_any (lives s w) named) rule)) rules Live v
         live_listed
-        (ap (λ b. not (not b)) e))
+        (ap (λ b. not (not (b && true))) e))
     by (inr e) = e
 
 -- ---- a step

@@ -1,11 +1,12 @@
 -- From the result of a command to the answer that it gives.
-use Rattle.std.proofs.Common.{◌≡◌, ℕ, ◌⊎◌, List, take, Option, Some, None, Result, Ok, Err, String, Global, ap, sym, subst, inl, inr, ◌∙◌}
+use Rattle.std.proofs.Common.{◌≡◌, ℕ, ◌⊎◌, List, [], arith, take, Option, Some, None, Result, Ok, Err, String, Global, ap, sym, subst, inl, inr, ◌∙◌}
 use Rattle.std.specs.Prelude.{IfOk, IfErr, IfSome, string_bytes}
 use Rattle.tool.specs.declared.stops.Refusal.{Refusal}
 use Rattle.tool.specs.declared.stops.Failure.TheVariants.{Memory}
 use Rattle.tool.specs.declared.stops.Stop.{Stop}
 use Rattle.tool.specs.declared.stops.Stop.TheVariants.{Refused, Failed}
-use Rattle.tool.specs.Stream.{Answers, AnswersTo, IsFailure, IsResultOf, IsStopBy, result_text}
+use Rattle.tool.specs.Stream.{Answers, AnswersTo, IsFailure, IsResultOf, IsStopBy, ReadsFor, TakesAtMost, result_text}
+use Rattle.std.proofs.KnownBytes.{Consumes-nil, Keeps-refl}
 
 -- an answer with status 1 is one to any input
 ended : (fault : Option Refusal) (answer : List ℕ → Result (List ℕ) Stop) (known : Option (List ℕ))
@@ -64,3 +65,14 @@ of_front fault answer known result most bytes none front same (inr is) = inr (su
     by_known : (known : Option (List ℕ)) → IfSome known (λ all. bytes ≡ take most all) → IsResultOf None answer known result
     by_known None front = tt
     by_known (Some all) front = is ∙ ap answer front ∙ same all
+
+-- ---- what is read
+
+-- nothing was
+pub unread : (fault : Option Refusal) (most : ℕ) (known : Option (List ℕ)) → ReadsFor fault most known known
+unread (Some fault) most known = Keeps-refl known
+unread None most known = ([], Consumes-nil known, omega arith)
+
+-- no fault was there before
+pub read_after : (fault : Option Refusal) (most : ℕ) (old new : Option (List ℕ)) → fault ≡ None → TakesAtMost most old new → ReadsFor fault most old new
+read_after fault most old new none taken = subst (λ f. ReadsFor f most old new) (sym none) taken

@@ -1,12 +1,28 @@
--- Standard input to a bound, and an answer to the two outputs.
-use Rattle.std.specs.Prelude.{◌≡◌, ◌⊎◌, ⊤, ℕ, List, Option, Some, None, Result, Ok, Err, String, string_bytes, option_map}
-use Rattle.std.specs.Io.KnownBytes.{Appends, Keeps}
+-- What is taken from an input, and an answer to the two outputs.
+use Rattle.std.specs.Prelude.{◌≡◌, ◌⊎◌, ◌≤◌, ◌++◌, ⊤, ℕ, Bool, false, List, length, Option, Some, None, Result, Ok, Err, OnOk, String, string_bytes, option_map}
+use Rattle.std.specs.Io.KnownBytes.{Appends, Consumes, IsAtEnd, Keeps}
 use Rattle.std.specs.declared.alloc.Global.{Global}
+use Rattle.std.specs.declared.io.Error.{Error}
 use Rattle.tool.specs.declared.stops.Failure.TheVariants.{Memory, File, Input, Output}
 use Rattle.tool.specs.declared.stops.Refusal.{Refusal}
 use Rattle.tool.specs.declared.stops.Stop.{Stop}
 use Rattle.tool.specs.declared.stops.Stop.TheVariants.{Refused, Failed}
 use Rattle.tool.specs.Stop.{stop_text, stop_status}
+
+-- no more than some number of bytes were taken from an input
+abbrev pub TakesAtMost : ℕ → Option (List ℕ) → Option (List ℕ) → Type 0
+TakesAtMost most old new = (bs : List ℕ) × Consumes old new bs × (length bs ≤ most)
+
+-- an input is read to a bound, and not at all where a fault is there before
+abbrev pub ReadsFor : Option Refusal → ℕ → Option (List ℕ) → Option (List ℕ) → Type 0
+ReadsFor (Some fault) most old new = Keeps old new
+ReadsFor None most old new = TakesAtMost most old new
+
+-- One more read: what it took from the input, which has room, is appended to what was held; where nothing more may come,
+-- the input is at its end.
+pub record ReadsOn (room : ℕ) (old new : Option (List ℕ)) (held held' : List ℕ) (result : Result Bool Error) : Type 0 where
+  pub taken : (bs : List ℕ) × Consumes old new bs × (length bs ≤ room) × OnOk result (held' ≡ held ++ bs)
+  pub at_end : result ≡ Ok false → IsAtEnd new
 
 -- the line that says why went to the writer, with its status; or the writer gave out, with status 1
 abbrev pub Says : Stop → Option (List ℕ) → Option (List ℕ) → ℕ → Type 0

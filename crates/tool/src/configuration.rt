@@ -3,8 +3,9 @@ ghost use Rattle.std.specs.Prelude.{◌≡◌, ◌⊎◌, IfOk, IfErr, Ok};
 ghost use Rattle.policy.specs.Toml.{config_of};
 ghost use Rattle.tool.specs.Who.{StopsFor};
 
+use crate::input::read_at_most;
 use crate::stops::{Failure, Refusal, Stop};
-use crate::stream::{read_at_most, stop_for};
+use crate::stream::stop_for;
 use policy::{Config, ConfigError, MAX_CONFIG_BYTES};
 use std::alloc::Global;
 use std::fs::File;
@@ -12,7 +13,7 @@ use std::io;
 use std::rt::Files;
 
 /// One byte more than a configuration has at most.
-const MOST_READ: u64 = MAX_CONFIG_BYTES as u64 + 1;
+const MOST_READ: usize = MAX_CONFIG_BYTES + 1;
 
 /// The text of the configuration file, of which no more than one byte above the limit is read; the
 /// empty text where no file is named.

@@ -4,6 +4,7 @@
 mod configuration;
 mod error;
 mod grammar;
+mod input;
 mod launch;
 mod line;
 mod object;

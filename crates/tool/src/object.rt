@@ -1,13 +1,14 @@
 //! `text-path`: from contents and references to a store path.
-ghost use Rattle.std.specs.Prelude.{◌≡◌, ◌⊎◌, ◌↔◌, IfOk, IfErr, Ok, Err, Some, None, map, length, nat_lt, string_bytes, true, false};
+ghost use Rattle.std.specs.Prelude.{◌≡◌, ◌+◌, ◌⊎◌, ◌↔◌, IfOk, IfErr, Ok, Err, Some, None, map, length, nat_lt, string_bytes, true, false};
 ghost use Rattle.std.specs.List.{list_all};
 ghost use Rattle.paths.specs.Names.{is_store_name};
 ghost use Rattle.paths.specs.StorePath.{base_of};
-ghost use Rattle.tool.specs.Object.{is_path_text, object_fault, text_path_answer, path_line};
-ghost use Rattle.tool.specs.Stream.{AnswersTo, IsFailure, IsResultOf, IsStopBy, result_text};
+ghost use Rattle.tool.specs.Object.{is_path_text, max_contents, object_fault, text_path_answer, path_line};
+ghost use Rattle.tool.specs.Stream.{AnswersTo, ReadsFor, IsFailure, IsResultOf, IsStopBy, result_text};
 
+use crate::input::read_at_most;
 use crate::stops::{Failure, Refusal, Stop};
-use crate::stream::{give, read_at_most, stop_for};
+use crate::stream::{give, stop_for};
 use paths::{Name, NameError, StoreDir, StorePath, StorePathError};
 use std::alloc::{AllocError, Global};
 use std::convert::AsStr;
@@ -20,7 +21,7 @@ const MAX_REFERENCES: usize = 4_096;
 const MAX_CONTENTS: usize = 16_777_104;
 
 /// One byte more.
-const MOST_READ: u64 = 16_777_105;
+const MOST_READ: usize = 16_777_105;
 
 fn parse_name(alloc: Global, text: &str) -> Result<Name, Stop>
     ensures ok { IfOk result (λ n. (n ≡ text.now) × (is_store_name text.now ≡ true)) }
@@ -135,8 +136,9 @@ fn text_path_result<S: AsStr, R: Read>(
     references: &[S],
     input: &mut R,
 ) -> Result<String, Stop>
-    ensures { IsFailure (result_text result) ⊎ IsResultOf (object_fault dir.now name.now (map S.text references.now))
+    ensures answer { IsFailure (result_text result) ⊎ IsResultOf (object_fault dir.now name.now (map S.text references.now))
         (text_path_answer dir.now name.now (map (base_of dir.now) (map S.text references.now))) (R.remaining input.old) (result_text result) }
+    ensures reads { ReadsFor (object_fault dir.now name.now (map S.text references.now)) (max_contents + 1) (R.remaining input.old) (R.remaining input.new) }
 {
     let object = match parse_object(alloc, dir, name, references) {
         Ok(object) => object,
@@ -156,7 +158,8 @@ fn text_path_result<S: AsStr, R: Read>(
 /// first that applies: `refused: 12 bad-store-name`, `refused: 14 bad-store-path`, `refused: 33
 /// too-many-references` above 4,096 references and `refused: 8 too-large` above 16,777,104 bytes
 /// of contents, all with status 3; `failed: memory`, `failed: input` or, where `output` fails,
-/// `failed: output`, all with status 1. No more than one byte above the limit is read.
+/// `failed: output`, all with status 1. No more than one byte above the limit of contents is read, and
+/// nothing where the name or the references are refused.
 pub fn text_path<S: AsStr, R: Read, W: Write, E: Write>(
     alloc: Global,
     dir: &StoreDir,
@@ -166,9 +169,10 @@ pub fn text_path<S: AsStr, R: Read, W: Write, E: Write>(
     output: &mut W,
     errors: &mut E,
 ) -> u8
-    ensures { AnswersTo (object_fault dir.now name.now (map S.text references.now))
+    ensures answer { AnswersTo (object_fault dir.now name.now (map S.text references.now))
         (text_path_answer dir.now name.now (map (base_of dir.now) (map S.text references.now)))
         (R.remaining input.old) (W.contents output.old) (W.contents output.new) (E.contents errors.old) (E.contents errors.new) result }
+    ensures reads { ReadsFor (object_fault dir.now name.now (map S.text references.now)) (max_contents + 1) (R.remaining input.old) (R.remaining input.new) }
 {
     give(
         text_path_result(alloc, dir, name, references, input),

@@ -1,20 +1,10 @@
-//! Standard input to a bound, and an answer to the two outputs.
-ghost use Rattle.std.specs.Prelude.{◌≡◌, ◌⊎◌, IfOk, IfSome, take};
+//! An answer to the two outputs.
+ghost use Rattle.std.specs.Prelude.{◌≡◌, ◌⊎◌};
 ghost use Rattle.tool.specs.Stream.{Says, result_text, Answers};
 
 use crate::stops::{Failure, Stop};
-use std::alloc::Global;
 use std::io;
-use std::io::{ErrorKind, Read, Write};
-
-/// The bytes of a reader, of which no more than `most` are read.
-pub(crate) fn read_at_most<R: Read>(alloc: Global, input: &mut R, most: u64) -> io::Result<Vec<u8>>
-    ensures { IfOk result (λ bytes. IfSome (R.remaining input.old) (λ all. bytes.items ≡ take most all)) }
-{
-    let mut bytes = Vec::new(alloc);
-    input.take(most).read_to_end(&mut bytes)?;
-    Ok(bytes)
-}
+use std::io::{ErrorKind, Write};
 
 /// What a fault of a stream ends a command with: refused memory, or the failure of the stream.
 pub(crate) fn stop_for(fault: &io::Error, failure: Failure) -> Stop

@@ -66,11 +66,41 @@ impl Read for Endless {
     }
 }
 
+/// A reader whose every other call is interrupted.
+#[derive(Drop)]
+struct Interrupted<'a> {
+    rest: &'a [u8],
+    is_next: bool,
+}
+
+impl Read for Interrupted<'_> {
+    fn read(&mut self, buf: &mut [u8]) -> io::Result<usize> {
+        self.is_next = !self.is_next;
+        if self.is_next {
+            return Err(io::Error::from(ErrorKind::Interrupted));
+        }
+        self.rest.read(buf)
+    }
+}
+
 const WORDS: [&str; 3] = ["nixkeep", "text-path", "myfile"];
 
 const CONTENTS: &[u8] = b"mycontent\n";
 
 const LINE: &[u8] = b"/nix/store/a0d1zlpv81nsfbam8ay3i7snrc0sgsvr-myfile\n";
+
+#[test]
+fn a_reader_that_is_interrupted(rt: HostRuntime) {
+    let mut input = Interrupted {
+        rest: CONTENTS,
+        is_next: false,
+    };
+    let mut output = Vec::new(rt.alloc());
+    let mut errors = Vec::new(rt.alloc());
+    let status = run(&rt, WORDS.as_slice(), &mut input, &mut output, &mut errors);
+    assert_eq!(rt; (status, output.as_slice()), (0, LINE));
+    assert!(rt; errors.is_empty());
+}
 
 #[test]
 fn readers_that_fail(rt: HostRuntime) {
