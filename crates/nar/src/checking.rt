@@ -2,7 +2,7 @@
 
 ghost use Rattle.std.specs.Prelude.{◌≡◌, ◌≢◌, ◌++◌, ℕ, List, [], Err, OnOk, IfOk, IfErr};
 ghost use Rattle.nar.specs.declared.error.NarError.{NarError as Fault};
-ghost use Rattle.nar.specs.declared.error.NarError.TheVariants.{Truncated};
+ghost use Rattle.nar.specs.declared.error.NarError.TheVariants.{Truncated, Memory as memory};
 ghost use Rattle.nar.specs.Tree.{IsBytes};
 ghost use Rattle.nar.specs.Fault.{IsFault};
 ghost use Rattle.nar.specs.Answer.{IfFault};
@@ -27,7 +27,8 @@ impl Checker {
 
     /// A checker that has been fed nothing. It takes no memory yet.
     pub fn new(alloc: Global) -> Checker
-        ensures { HasBeenFed result [] }
+        ensures fed { HasBeenFed result [] }
+        ensures sound { (e : Fault) → ¬ HasFailed result e }
     {
         Checker {
             progress: Progress::new(alloc),
@@ -44,6 +45,8 @@ impl Checker {
         // A fault that is told is one of the pieces so far.
         ensures fault { IfErr result (λ e. IfFault e (λ f. (all : List ℕ) → HasBeenFed self.old all → IsFault (all ++ piece.now) f × (f ≢ Truncated))) }
         ensures failed { IfErr result (HasFailed self.new) }
+        // It has failed only where it told an error.
+        ensures sound { OnOk result ((e : Fault) → ¬ HasFailed self.new e) }
         ensures repeats { (e : Fault) → HasFailed self.old e → (result ≡ Err e) × HasFailed self.new e }
     {
         match self.failed {
@@ -74,6 +77,8 @@ impl Checker {
     /// it repeats that error.
     pub fn finish(self) -> Result<(), NarError>
         ensures answer { (all : List ℕ) → HasBeenFed self all → Ends result all }
+        // Want of memory is answered only where a `feed` has told it: the end takes none.
+        ensures memory { result ≡ Err memory → HasFailed self memory }
         ensures repeats { (e : Fault) → HasFailed self e → result ≡ Err e }
     {
         match self.failed {
