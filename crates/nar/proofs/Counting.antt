@@ -1,8 +1,8 @@
 -- Strings whose bytes are counted.
-use Rattle.std.proofs.Common.{◌≡◌, ◌≢◌, ℕ, ◌+◌, ◌-◌, ◌*◌, ◌/◌, ◌<◌, ◌≤◌, min, Bool, true, false, cond, ltb, eqb, ◌&&◌, List, [], ◌∷◌, ◌++◌, length, take, drop, Option, Some, None, Result, Ok, Err, refl, sym, ap, ap₂, ◌∙◌, subst, append_assoc, append-nil, arith, inl, inr, ◌⊎◌}
+use Rattle.std.proofs.Common.{◌≡◌, ◌≢◌, ℕ, ◌+◌, ◌-◌, ◌<◌, ◌≤◌, min, Bool, true, false, cond, ltb, eqb, ◌&&◌, List, [], ◌∷◌, ◌++◌, length, take, drop, Option, Some, None, Ok, Err, refl, sym, ap, ◌∙◌, subst, arith, inl, inr}
 use Rattle.std.specs.Prelude.{IsTrue}
 use Rattle.std.specs.List.{list_all}
-use Rattle.std.proofs.lemmas.Bool.{cases_lt, ltb-false, le-ltb, lt-ltb}
+use Rattle.std.proofs.lemmas.Bool.{cases_lt, le-ltb, lt-ltb}
 use Rattle.std.proofs.lemmas.List.{length-append, length-drop, length-take-le, drop-append-le, take_all, nil_from_length, drop-drop, take_rest}
 use Rattle.std.proofs.lemmas.List.Folds.{list_all-append}
 use Rattle.std.proofs.Math.Seq.{drop-append-add}
@@ -14,7 +14,6 @@ use Rattle.nar.specs.String.{padded, size_of, length_at, string_of, string_at}
 use Rattle.nar.specs.Tree.{Tree, IsBytes}
 use Rattle.nar.specs.Archive.{IsArchive}
 use Rattle.nar.specs.Fault.{IsFault}
-use Rattle.nar.specs.Answer.{IfFault}
 use Rattle.nar.specs.Steps.{Symbol, start, stops}
 use Rattle.nar.specs.Reading.{ReadsString}
 use Rattle.nar.specs.Nest.{next}

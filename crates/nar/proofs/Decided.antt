@@ -1,14 +1,14 @@
 -- Each input is an archive or has a fault, and the function says which.
-use Rattle.std.proofs.Common.{◌≡◌, ◌≢◌, ℕ, zero, suc, ◌+◌, ◌-◌, ◌<◌, ◌≤◌, Bool, true, false, ltb, List, [], ◌∷◌, ◌++◌, length, drop, Option, Some, None, Result, Ok, Err, refl, sym, ap, ap₂, ◌∙◌, subst, append-nil, append_assoc, arith, ◌⊎◌, inl, inr}
+use Rattle.std.proofs.Common.{◌≡◌, ℕ, zero, suc, ◌+◌, ◌-◌, ◌<◌, ◌≤◌, true, false, ltb, List, [], ◌∷◌, ◌++◌, length, drop, Option, Some, Result, Ok, Err, refl, sym, ap, ◌∙◌, subst, arith, ◌⊎◌, inl, inr}
 use Rattle.std.specs.Prelude.{option_and_then, unwrap_or, MatchResult, IfOk, IfErr, codes, ◌↔◌}
 use Rattle.std.specs.List.{AllByRecursion}
 use Rattle.std.proofs.lemmas.Bool.{lt-ltb}
 use Rattle.std.proofs.lemmas.List.{length-append}
 use Rattle.nar.specs.declared.error.NarError.{NarError}
-use Rattle.nar.specs.declared.error.NarError.TheVariants.{Truncated, Trailing}
+use Rattle.nar.specs.declared.error.NarError.TheVariants.{Truncated}
 use Rattle.nar.specs.String.{string, size_of, string_of, string_at}
 use Rattle.nar.specs.Tree.{Tree, regular, symlink, directory, Entries, no_entries, entry, IsBytes}
-use Rattle.nar.specs.Archive.{Part, name, node, other, spelled, kind_parts, entries_parts, archive, IsShallow, IsArchive, spelling, limit}
+use Rattle.nar.specs.Archive.{Part, other, spelled, kind_parts, entries_parts, archive, IsShallow, IsArchive, spelling, limit}
 use Rattle.nar.specs.Fault.{IsFault}
 use Rattle.nar.specs.Answer.{IfFault}
 use Rattle.nar.specs.Steps.{Symbol, taken, run, start, check, AreBytes, FaultAt, trails, stops, refuses, goes_on}

@@ -1,5 +1,5 @@
 -- A checker that is fed pieces: one step on, the fault that it finds, and its end.
-use Rattle.std.proofs.Common.{◌≡◌, ◌≢◌, ℕ, zero, suc, ◌+◌, ◌-◌, ◌≤◌, Bool, false, cond, ltb, eqb, List, [], ◌∷◌, ◌++◌, length, take, drop, Option, Some, None, Result, Ok, Err, refl, sym, ap, ◌∙◌, subst, append_assoc, append-nil, arith, inl, inr}
+use Rattle.std.proofs.Common.{◌≡◌, ◌≢◌, ℕ, ◌+◌, ◌-◌, ◌≤◌, Bool, false, cond, ltb, eqb, List, [], ◌∷◌, ◌++◌, length, take, drop, Option, Some, None, Result, Ok, Err, refl, sym, ap, ◌∙◌, subst, append_assoc, append-nil, arith, inl, inr}
 use Rattle.std.specs.Prelude.{option_and_then}
 use Rattle.std.specs.List.{AllByRecursion, list_all}
 use Rattle.std.specs.Int.{w64, from_le_bytes}
@@ -12,7 +12,6 @@ use Rattle.nar.specs.Tree.{Tree, IsBytes}
 use Rattle.nar.specs.Archive.{Part, archive, IsShallow, IsArchive, spelling, limit}
 use Rattle.nar.specs.Fault.{IsFault, Refuses}
 use Rattle.nar.specs.Steps.{Symbol, taken, start, check, FaultAt, trails, stops, refuses, goes_on}
-use Rattle.nar.specs.declared.error.NarError.TheVariants as errors
 use Rattle.nar.specs.Reading.{ReadsString}
 use Rattle.nar.specs.Answer.{IfFault}
 use Rattle.nar.specs.Feeding.{Fed, Waits, EndsIn}
@@ -89,7 +88,7 @@ waits_only (x ∷ κ) room rest bytes e f w h g = one_cause bytes e Truncated h 
 pub length_at-append : (bytes more : List ℕ) → 8 ≤ length bytes → length_at (bytes ++ more) ≡ length_at bytes
 length_at-append bytes more long = ap (from_le_bytes w64) (take-append-le 8 bytes more long)
 
-abbrev padding_of : ℕ → List ℕ → Bool
+abbrev pub padding_of : ℕ → List ℕ → Bool
 padding_of n bytes = list_all (λ b. eqb b 0) (take (padded n - n) (drop n (drop 8 bytes)))
 
 append_whole : (n room : ℕ) (bytes more : List ℕ) → 8 ≤ length bytes → size_of n ≤ room → size_of n ≤ length bytes
@@ -110,7 +109,7 @@ append_whole n room bytes more long fits whole =
     let after : drop (size_of n) (bytes ++ more) ≡ drop (size_of n) bytes ++ more = drop-append-le (size_of n) bytes more whole in
     rw (a, b, d, body, tail, gap, text, after) refl
 
-not_ok : {A : Type 0} {B : Type 0} (d : NarError) (y : A) → Err d ≡ Ok y → B
+pub not_ok : {A : Type 0} {B : Type 0} (d : NarError) (y : A) → Err d ≡ Ok y → B
 not_ok d y e = absurd cc
 
 append_ok : (n room : ℕ) (bytes more s rest : List ℕ) → string_of n room bytes ≡ Ok (s, rest) → string_of n room (bytes ++ more) ≡ Ok (s, rest ++ more)

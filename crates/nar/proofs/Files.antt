@@ -1,5 +1,5 @@
 -- The archive of a regular file that isn't executable; and that no fault is want of memory.
-use Rattle.std.proofs.Common.{◌≡◌, ◌≢◌, ℕ, ◌+◌, ◌-◌, ◌^◌, ◌<◌, ◌≤◌, Bool, true, false, ltb, eqb, List, [], ◌∷◌, ◌++◌, length, take, drop, replicate, zero, suc, Option, Some, Result, Ok, Err, refl, sym, ap, ◌∙◌, subst, append_assoc, append-nil, arith, ◌⊎◌, inl, inr}
+use Rattle.std.proofs.Common.{◌≡◌, ℕ, ◌+◌, ◌-◌, ◌^◌, ◌<◌, ◌≤◌, true, false, ltb, eqb, List, [], ◌∷◌, ◌++◌, length, take, drop, replicate, zero, suc, Result, Ok, Err, refl, sym, ap, ◌∙◌, subst, append_assoc, append-nil, arith, ◌⊎◌, inl, inr}
 use Rattle.std.specs.Prelude.{codes, MatchResult}
 use Rattle.std.specs.List.{AllByRecursion, list_all}
 use Rattle.std.specs.Int.{w64, to_le_bytes}
@@ -8,12 +8,12 @@ use Rattle.std.proofs.lemmas.List.{length-append}
 use Rattle.nar.specs.declared.error.NarError.{NarError}
 use Rattle.nar.specs.declared.error.NarError.TheVariants.{TooLarge, Truncated, BadPadding, Trailing, Memory}
 use Rattle.nar.specs.String.{padded, string, size_of, string_of, string_at}
-use Rattle.nar.specs.Tree.{Tree, regular, IsBytes}
+use Rattle.nar.specs.Tree.{regular, IsBytes}
 use Rattle.nar.specs.Archive.{Part, other, spelled, archive, IsShallow, IsArchive, spelling, limit}
 use Rattle.nar.specs.Fault.{IsFault, Refuses, Fails}
-use Rattle.nar.specs.Steps.{Symbol, word, any, run, start, AreBytes, FaultAt, stops}
+use Rattle.nar.specs.Steps.{Symbol, word, any, start, AreBytes, FaultAt, stops}
 use Rattle.nar.specs.Outcome.{outcome_of}
-use Rattle.nar.proofs.Bytes.{IsBytes-nil, IsBytes-cons, IsBytes-append, tested_bytes, archive_bytes}
+use Rattle.nar.proofs.Bytes.{IsBytes-nil, IsBytes-cons, IsBytes-append, archive_bytes}
 use Rattle.nar.proofs.Strings.{length-string, length_at-string}
 use Rattle.nar.proofs.Grammar.{chosen}
 use Rattle.nar.proofs.Faults.{before}

@@ -1,13 +1,13 @@
 -- The test of a tree is right: some room is left exactly where the tree is legal, not too deep and small enough.
-use Rattle.std.proofs.Common.{◌≡◌, ◌≢◌, ℕ, zero, suc, ◌+◌, ◌-◌, ◌<◌, ◌≤◌, Bool, true, false, cond, ltb, ◌&&◌, List, [], ◌∷◌, ◌++◌, length, take, drop, get_or, add-one, drop-cons, Option, Some, None, refl, sym, ap, ◌∙◌, subst, append_assoc, arith, inl, inr}
+use Rattle.std.proofs.Common.{◌≡◌, ℕ, suc, ◌+◌, ◌-◌, ◌<◌, ◌≤◌, Bool, true, false, cond, ltb, ◌&&◌, List, [], ◌∷◌, ◌++◌, length, drop, get_or, add-one, drop-cons, Option, Some, None, refl, sym, ap, ◌∙◌, arith, inl, inr}
 use Rattle.std.specs.Prelude.{IsTrue, codes, option_and_then, is_some, ◌↔◌}
-use Rattle.std.specs.List.{AllByRecursion, list_all}
+use Rattle.std.specs.List.{AllByRecursion}
 use Rattle.std.specs.Option.{SomeIff}
 use Rattle.std.proofs.lemmas.Bool.{cases_lt, ltb-true, ltb-false, le-ltb, lt-ltb, and_parts}
 use Rattle.std.proofs.lemmas.List.{length-append}
 use Rattle.nar.specs.String.{string, size_of}
 use Rattle.nar.specs.Tree.{Tree, regular, symlink, directory, Entries, no_entries, entry, IsBytes, is_name, rises, IsLegal, AreLegal}
-use Rattle.nar.specs.Archive.{Part, name, node, other, spelled, mark, bracketed, kind_parts, entries_parts, archive, spelling, IsShallow, limit, IsWritable}
+use Rattle.nar.specs.Archive.{Part, name, node, other, spelled, bracketed, kind_parts, entries_parts, archive, spelling, IsShallow, IsWritable}
 use Rattle.nar.specs.declared.node.Entry.{Entry}
 use Rattle.nar.specs.View.{tree_of, trees_of}
 use Rattle.nar.proofs.Trees.{pair-is}

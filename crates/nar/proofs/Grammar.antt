@@ -1,14 +1,14 @@
 -- What the step machine takes is what begins an archive.
-use Rattle.std.proofs.Common.{◌≡◌, ℕ, ◌+◌, Bool, true, false, cond, eqb, ◌&&◌, List, [], ◌∷◌, ◌++◌, Option, Some, None, refl, sym, ap, ap₂, ltb, ◌∙◌, subst, append_assoc, arith, inl, inr, ◌⊎◌}
+use Rattle.std.proofs.Common.{◌≡◌, ℕ, ◌+◌, Bool, true, false, cond, eqb, ◌&&◌, List, [], ◌∷◌, ◌++◌, Option, Some, None, refl, sym, ap, ap₂, ◌∙◌, subst, append_assoc, arith, inl, inr, ◌⊎◌}
 use Rattle.std.specs.Prelude.{IsTrue, codes, option_and_then, ⊤}
 use Rattle.std.specs.Str.{bytes_eq}
 use Rattle.std.specs.List.{AllByRecursion}
 use Rattle.std.proofs.lemmas.Slice.Eq.{bytes_eq-Decides}
-use Rattle.std.proofs.lemmas.Bool.{eqb-true, ne_eqb, lt-ltb, and_parts}
+use Rattle.std.proofs.lemmas.Bool.{eqb-true, and_parts}
 use Rattle.nar.specs.Tree.{Tree, regular, symlink, directory, Entries, no_entries, entry, IsBytes, is_name, rises, IsLegal, AreLegal}
 use Rattle.nar.specs.Archive.{Part, name, node, other, spelled, mark, bracketed, kind_parts, entries_parts, archive}
 use Rattle.nar.specs.Steps.{Symbol, word, any, kind, file, entries, entry_name, node_word, after_name, taken, run, start, AreBytes}
-use Rattle.nar.proofs.Bytes.{IsBytes-nil, tested_bytes, all_append, IsLast, a_name_above}
+use Rattle.nar.proofs.Bytes.{IsBytes-nil, all_append, IsLast, a_name_above}
 
 -- ---- the machine takes each archive
 

@@ -18,3 +18,4 @@ pub mod Feeding
 pub mod Counting
 pub mod Stepping
 pub mod Fits
+pub mod Fronts

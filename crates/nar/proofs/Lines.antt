@@ -1,8 +1,7 @@
 -- The lines of one entry more.
-use Rattle.std.proofs.Common.{◌≡◌, ℕ, ◌+◌, ◌<◌, List, [], ◌∷◌, ◌++◌, codes, length, take, get_or, refl, sym, ap, ◌∙◌, append_assoc}
+use Rattle.std.proofs.Common.{◌≡◌, ℕ, ◌+◌, ◌<◌, List, [], ◌∷◌, ◌++◌, codes, length, take, get_or, sym, ap, ◌∙◌, append_assoc}
 use Rattle.std.proofs.lemmas.List.{take_more, append-nil}
 use Rattle.nar.specs.declared.node.Entry.{Entry}
-use Rattle.nar.specs.Tree.{Tree}
 use Rattle.nar.specs.Listing.{escaped, listing, lines}
 use Rattle.nar.specs.View.{pair_of, trees_of}
 

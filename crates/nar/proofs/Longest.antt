@@ -1,12 +1,12 @@
 -- The front in a fault is the longest that is good.
-use Rattle.std.proofs.Common.{◌≡◌, ◌≢◌, ℕ, ◌+◌, ◌-◌, ◌^◌, ◌<◌, ◌≤◌, List, [], ◌∷◌, ◌++◌, length, Option, Some, None, Result, Ok, Err, refl, sym, ap, ◌∙◌, subst, append_assoc, arith, inl, inr, ◌⊎◌}
+use Rattle.std.proofs.Common.{◌≡◌, ℕ, ◌+◌, ◌-◌, ◌^◌, ◌<◌, ◌≤◌, List, [], ◌∷◌, ◌++◌, length, Some, Ok, Err, sym, ap, ◌∙◌, subst, append_assoc, arith, inl, inr}
 use Rattle.std.specs.Prelude.{MatchResult}
 use Rattle.std.specs.List.{AllByRecursion}
 use Rattle.std.proofs.lemmas.List.{length-append}
 use Rattle.nar.specs.declared.error.NarError.{NarError}
 use Rattle.nar.specs.String.{string, size_of, string_at}
 use Rattle.nar.specs.Archive.{Part, spelled, IsShallow, spelling, limit}
-use Rattle.nar.specs.Fault.{IsWhole, Begins, Refuses, Fails, IsGoodFront, IsFault}
+use Rattle.nar.specs.Fault.{Refuses, Fails, IsGoodFront, IsFault}
 use Rattle.nar.specs.Tree.{IsBytes}
 use Rattle.nar.specs.Steps.{Symbol, taken, run, start, check, AreBytes, FaultAt}
 use Rattle.nar.proofs.Bytes.{IsBytes-rest}

@@ -10,7 +10,7 @@ use Rattle.nar.specs.Tree.{IsBytes, is_name, rises}
 use Rattle.nar.specs.Archive.{Part, name, node, other, spelled, IsShallow}
 use Rattle.nar.specs.Fault.{IsWhole, Begins, NameMayFollow, Refuses}
 use Rattle.nar.specs.Steps.{Symbol, word, any, kind, file, entries, entry_name, node_word, taken, run, start, check, after_name, AreBytes}
-use Rattle.nar.proofs.Grammar.{walk, run-append, Rest, completed, back, chosen, same_bytes, none_is_some, some_is, eqb-same, and_then_some, IsOpen, AreOpen, open_from_run}
+use Rattle.nar.proofs.Grammar.{walk, run-append, Rest, completed, back, chosen, same_bytes, none_is_some, some_is, eqb-same, and_then_some, open_from_run}
 use Rattle.nar.proofs.Bytes.{all_append, all_front, archive_bytes, node_bytes, IsLast, a_name_above}
 
 -- ---- what the machine takes begins an archive, and the other way round

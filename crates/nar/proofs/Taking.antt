@@ -2,7 +2,6 @@
 use Rattle.std.proofs.Common.{◌≡◌, ℕ, ◌+◌, ◌-◌, ◌^◌, ◌<◌, false, List, [], ◌∷◌, ◌++◌, length, Some, Result, Ok, Err, refl, sym, ap, ◌∙◌, subst, append_assoc, append-nil, arith}
 use Rattle.std.specs.Prelude.{IsErrAnd, IfErr}
 use Rattle.std.specs.Str.{bytes_eq}
-use Rattle.std.specs.List.{AllByRecursion}
 use Rattle.std.proofs.lemmas.List.{length-append}
 use Rattle.std.proofs.lemmas.Grind.{flat_map-append}
 use Rattle.nar.specs.declared.error.NarError.{NarError}
@@ -12,7 +11,6 @@ use Rattle.nar.specs.Tree.{IsBytes}
 use Rattle.nar.specs.Archive.{Part, other, spelled, IsShallow, spelling}
 use Rattle.nar.specs.Steps.{Symbol, word, check, run, FaultAt, stops, refuses}
 use Rattle.nar.specs.Reading.{ReadsString, Reads, FaultOf}
-use Rattle.nar.specs.Answer.{IfFault}
 use Rattle.nar.proofs.Strings.{length-string}
 use Rattle.nar.proofs.Bytes.{all_append}
 use Rattle.nar.proofs.Faults.{before}

@@ -1,6 +1,6 @@
 //! Laws of the definitions: each is the contract of a function with an empty body.
 
-ghost use Rattle.std.specs.Prelude.{◌≡◌, ◌≢◌, ℕ, ◌+◌, ◌^◌, ◌<◌, ◌≤◌, List, length, Ok, Err, false, ◌↔◌, ◌⊎◌};
+ghost use Rattle.std.specs.Prelude.{◌≡◌, ◌≢◌, ℕ, ◌+◌, ◌^◌, ◌<◌, ◌≤◌, List, length, take, Ok, Err, false, ◌↔◌, ◌⊎◌};
 ghost use Rattle.nar.specs.declared.error.NarError.{NarError as Fault};
 ghost use Rattle.nar.specs.declared.error.NarError.TheVariants.{Memory as memory, TooLarge as too_large};
 ghost use Rattle.nar.specs.String.{padded};
@@ -38,4 +38,11 @@ pub fn the_archive_of_a_file()
         → outcome_of (spelling (archive (regular false contents))) ≡ Ok (regular false contents) }
     ensures is_too_large { (contents : List ℕ) → IsBytes contents → length contents < 2 ^ 64 → limit < 112 + padded (length contents)
         → outcome_of (spelling (archive (regular false contents))) ≡ Err too_large }
+{}
+
+/// The first 16,777,224 bytes of an input decide what it is, so a caller who has more need not hold them: these
+/// are as many as an archive may have, and 8 more, since a string that begins at the limit has a length before it
+/// is found too large.
+pub fn a_front_decides()
+    ensures { (input : List ℕ) → outcome_of (take (limit + 8) input) ≡ outcome_of input }
 {}

@@ -1,4 +1,4 @@
-use Rattle.std.proofs.Common.{◌≡◌, ◌+◌, ◌-◌, ◌≤◌, ℕ, true, false, length, sym, ap, ◌∙◌, arith, refl}
+use Rattle.std.proofs.Common.{◌≡◌, ◌+◌, ℕ, true, length, sym, ap, ◌∙◌}
 use Rattle.nar.specs.String.{size_of}
 use Rattle.nar.specs.Fitting.{are_bytes, less, file_size}
 use Rattle.nar.specs.View.{tree_of}

@@ -1,4 +1,4 @@
-use Rattle.std.proofs.Common.{◌≡◌, ◌++◌, List, ℕ, refl, sym, ◌∙◌, arith}
+use Rattle.std.proofs.Common.{◌++◌, refl, ◌∙◌, arith}
 use Rattle.nar.specs.Tree.{IsBytes}
 use Rattle.nar.specs.Progress.{StandsBefore}
 use Rattle.nar.proofs.Bytes.{IsBytes-append}

@@ -1,4 +1,4 @@
-use Rattle.std.proofs.Common.{ℕ, List, length, sym, subst}
+use Rattle.std.proofs.Common.{ℕ, sym, subst}
 use Rattle.std.specs.Prelude.{IsTrue, option_map}
 use Rattle.nar.specs.Nest.{is_counted}
 use Rattle.nar.specs.NestView.{open_names}

@@ -1,5 +1,4 @@
-use Rattle.std.proofs.Common.{arith, sym, ◌∙◌, List, ℕ}
-use Rattle.nar.specs.Feeding.{Fed, Waits}
+use Rattle.std.proofs.Common.{arith}
 use Rattle.nar.specs.NestView.{symbols_of}
 use Rattle.nar.proofs.Taking.{passed_on}
 use Rattle.nar.proofs.Counting.{counting_more, dirty_end, skip_refuses, skip_takes}

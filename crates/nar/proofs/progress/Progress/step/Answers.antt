@@ -1,15 +1,14 @@
-use Rattle.std.proofs.Common.{◌≡◌, ◌≤◌, ◌<◌, ◌+◌, ◌*◌, ◌-◌, ℕ, List, [], ◌++◌, length, eqb, take, drop, sym, ap, ◌∙◌, subst, append-nil, arith}
+use Rattle.std.proofs.Common.{◌≡◌, ℕ, List, [], ◌++◌, length, eqb, sym, ap, ◌∙◌, subst, append-nil}
 use Rattle.std.proofs.lemmas.Bool.{eqb-true}
 use Rattle.std.proofs.lemmas.List.{nil_from_length}
 use Rattle.nar.specs.Tree.{IsBytes}
 use Rattle.nar.specs.Feeding.{Fed}
 use Rattle.nar.specs.NestView.{symbols_of}
-use Rattle.nar.specs.Progress.{turns_by}
 use Rattle.nar.proofs.Bytes.{IsBytes-front}
 use Rattle.nar.proofs.Taking.{passed_on}
 use Rattle.nar.proofs.Feeding.{fed_more, fault_of_all}
 use Rattle.nar.proofs.Counting.{tail_nil}
-use Rattle.nar.proofs.Stepping.{cut, turns_few, turns_none}
+use Rattle.nar.proofs.Stepping.{cut}
 use Rattle.nar.proofs.progress.Progress.step.Goals as goal
 
 -- ---- a string that is counted
