@@ -1,2 +1,4 @@
+pub mod Answered
+pub mod Archives
 pub mod Objects
 pub mod Results

@@ -22,9 +22,9 @@ pub no_fault : (dir name : List ℕ) (refs : List (List ℕ)) → is_store_name 
 no_fault dir name refs named paths few = rw (named, paths, le-ltb max_references (length refs) few) refl
 
 -- contents that are read to one byte above the limit answer as all of them
-pub front_answers : (dir name : List ℕ) (refs : List (List ℕ)) (all : List ℕ)
+pub text_front : (dir name : List ℕ) (refs : List (List ℕ)) (all : List ℕ)
     → text_path_answer dir name refs (take 16777105 all) ≡ text_path_answer dir name refs all
-front_answers dir name refs all =
+text_front dir name refs all =
     elim (cases_lt max_contents (length all)) [
       | inl long ↦
           let cut : max_contents < length (take 16777105 all) = omega (arith, length-take 16777105 all) in

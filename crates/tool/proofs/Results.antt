@@ -1,15 +1,15 @@
 -- From the result of a command to the answer that it gives.
-use Rattle.std.proofs.Common.{◌≡◌, ℕ, ◌⊎◌, List, [], arith, take, Option, Some, None, Result, Ok, Err, String, Global, ap, sym, subst, inl, inr, ◌∙◌}
+use Rattle.std.proofs.Common.{◌≡◌, ℕ, ◌⊎◌, List, [], arith, take, Option, Some, None, Result, Ok, Err, String, Global, ap, sym, subst, inl, inr}
 use Rattle.std.specs.Prelude.{IfOk, IfErr, IfSome, string_bytes}
 use Rattle.tool.specs.declared.stops.Refusal.{Refusal}
 use Rattle.tool.specs.declared.stops.Failure.TheVariants.{Memory}
 use Rattle.tool.specs.declared.stops.Stop.{Stop}
 use Rattle.tool.specs.declared.stops.Stop.TheVariants.{Refused, Failed}
-use Rattle.tool.specs.Stream.{Answers, AnswersTo, IsFailure, IsResultOf, IsStopBy, ReadsFor, TakesAtMost, result_text}
+use Rattle.tool.specs.Stream.{Answers, AnswersTo, IsFailure, IsResultOf, IsStopAt, ReadsFor, TakesAtMost, result_text}
 use Rattle.std.proofs.KnownBytes.{Consumes-nil, Keeps-refl}
 
 -- an answer with status 1 is one to any input
-ended : (fault : Option Refusal) (answer : List ℕ → Result (List ℕ) Stop) (known : Option (List ℕ))
+pub ended : (fault : Option Refusal) (answer : List ℕ → Result (List ℕ) Stop) (known : Option (List ℕ))
     → (out out' err err' : Option (List ℕ)) (status : ℕ) → status ≡ 1 → AnswersTo fault answer known out out' err err' status
 ended (Some fault) answer known out out' err err' status one = inl one
 ended None answer None out out' err err' status one = tt
@@ -41,12 +41,12 @@ answers_to fault answer known result out out' err err' status (inl fails) given 
     ended fault answer known out out' err err' status (failed result out out' err err' status fails given)
 answers_to fault answer known result out out' err err' status (inr is) given = by_result fault answer known result out out' err err' status is given
 
--- a stop by a fault that is there before the input is read
-pub stopped_before : (fault : Option Refusal) (answer : List ℕ → Result (List ℕ) Stop) (known : Option (List ℕ)) (stop : Stop)
-    → IsStopBy fault stop → IsFailure (Err stop) ⊎ IsResultOf fault answer known (Err stop)
-stopped_before fault answer known stop (inl memory) = rw memory (inl tt)
-stopped_before (Some fault) answer known stop (inr is) = inr (let e : Refused fault ≡ stop = cc in ap Err (sym e))
-stopped_before None answer known stop (inr is) = let h : None ≡ Some stop = is in cc
+-- a stop by a fault that is there before the input is read, or for want of memory or of the input
+pub stopped_at : (fault : Option Refusal) (answer : List ℕ → Result (List ℕ) Stop) (known : Option (List ℕ)) (stop : Stop)
+    → IsStopAt fault stop → IsFailure (Err stop) ⊎ IsResultOf fault answer known (Err stop)
+stopped_at fault answer known stop (inl fails) = inl fails
+stopped_at (Some fault) answer known stop (inr is) = inr (let e : Refused fault ≡ stop = cc in ap Err (sym e))
+stopped_at None answer known stop (inr is) = let h : None ≡ Some stop = is in cc
 
 -- a line that was found, as a result
 pub by_line : (r : Result (String Global) Stop) (a : Result (List ℕ) Stop) → IfOk r (λ line. a ≡ Ok (string_bytes line)) → IfErr r (λ e. (e ≡ Failed Memory) ⊎ (a ≡ Err e))
@@ -57,14 +57,14 @@ by_line (Err e) a ok (inr is) = inr (sym is)
 
 -- a result by a front of the input that answers as all of it
 pub of_front : (fault : Option Refusal) (answer : List ℕ → Result (List ℕ) Stop) (known : Option (List ℕ)) (result : Result (List ℕ) Stop) (most : ℕ) (bytes : List ℕ)
-    → fault ≡ None → IfSome known (λ all. bytes ≡ take most all) → ((all : List ℕ) → answer (take most all) ≡ answer all)
+    → fault ≡ None → IfSome known (λ all. bytes ≡ take most all) → ((all : List ℕ) → bytes ≡ take most all → result ≡ answer bytes → result ≡ answer all)
     → IsFailure result ⊎ (result ≡ answer bytes) → IsFailure result ⊎ IsResultOf fault answer known result
 of_front fault answer known result most bytes none front same (inl fails) = inl fails
 of_front fault answer known result most bytes none front same (inr is) = inr (subst (λ f. IsResultOf f answer known result) (sym none) (by_known known front))
   where
     by_known : (known : Option (List ℕ)) → IfSome known (λ all. bytes ≡ take most all) → IsResultOf None answer known result
     by_known None front = tt
-    by_known (Some all) front = is ∙ ap answer front ∙ same all
+    by_known (Some all) front = same all front is
 
 -- ---- what is read
 
@@ -76,3 +76,8 @@ unread None most known = ([], Consumes-nil known, omega arith)
 -- no fault was there before
 pub read_after : (fault : Option Refusal) (most : ℕ) (old new : Option (List ℕ)) → fault ≡ None → TakesAtMost most old new → ReadsFor fault most old new
 read_after fault most old new none taken = subst (λ f. ReadsFor f most old new) (sym none) taken
+
+-- a fact of each text that is found is one of its bytes
+pub with_text : (r : Result (String Global) Stop) (P : Type 0) → IfOk r (λ text. P) → IfOk (result_text r) (λ bytes. P)
+with_text (Ok text) P h = h
+with_text (Err stop) P h = tt

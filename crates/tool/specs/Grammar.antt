@@ -35,13 +35,28 @@ references_argument = record (new_rule (codes "reference")) {
 abbrev pub who_app : App
 who_app = new_app (codes "who")
 
+-- `ls`
+abbrev pub ls_app : App
+ls_app = new_app (codes "ls")
+
+-- a subcommand `NAME [REF]..`
+abbrev pub object_app : Text → App
+object_app name = with_rule (with_rule (new_app name) name_argument) references_argument
+
 -- `text-path NAME [REF]..`
 unfoldable pub text_path_app : App
-text_path_app = with_rule (with_rule (new_app (codes "text-path")) name_argument) references_argument
+text_path_app = object_app (codes "text-path")
 
--- `nixkeep [--config FILE] [--user USER] [--group GROUP] SUBCOMMAND ..`
+-- `source-path NAME [REF]..`
+unfoldable pub source_path_app : App
+source_path_app = object_app (codes "source-path")
+
+-- the options that stand before the subcommand: `[--config FILE] [--user USER] [--group GROUP]`
+abbrev pub with_options : App → App
+with_options app = with_rule (with_rule (with_rule app config_option) user_option) group_option
+
+-- `nixkeep [OPTIONS] SUBCOMMAND ..`
 unfoldable pub nixkeep_app : App
 nixkeep_app =
-    with_subcommand (with_subcommand
-    (with_rule (with_rule (with_rule (new_app (codes "nixkeep")) config_option) user_option) group_option)
-    who_app.top) text_path_app.top
+    with_subcommand (with_subcommand (with_subcommand (with_subcommand
+    (with_options (new_app (codes "nixkeep"))) who_app.top) ls_app.top) text_path_app.top) source_path_app.top

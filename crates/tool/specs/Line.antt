@@ -10,13 +10,17 @@ use Rattle.tool.specs.Grammar.{nixkeep_app}
 use Rattle.tool.specs.declared.error.CommandError.{CommandError}
 use Rattle.tool.specs.declared.error.CommandError.TheVariants as error
 use Rattle.tool.specs.declared.line.CommandLine.{CommandLine}
+use Rattle.tool.specs.declared.line.ObjectArguments.{ObjectArguments}
 use Rattle.tool.specs.declared.line.Task.{Task as Subcommand}
 use Rattle.tool.specs.declared.line.Task.TheVariants as subcommand
 
 -- a subcommand with its values
 pub data Asked : Type 0 where
   who : Asked
-  text_path : Text → List Text → Asked
+  ls : Asked
+  -- with the name and the references of a store object
+  text_path : Text × List Text → Asked
+  source_path : Text × List Text → Asked
 
 -- a command line: its options and its subcommand
 pub record Line : Type 0 where
@@ -29,12 +33,17 @@ pub record Line : Type 0 where
 abbrev pub values_named : Text → List Row → List Text
 values_named id rows = unwrap_or (all_of id rows) []
 
+-- the name and the references of a store object, where a name is there
+abbrev pub object_in : List Row → Option (Text × List Text)
+object_in rows = option_map (λ name. (name, values_named (codes "reference") rows)) (first_of (codes "name") rows)
+
 -- a subcommand by its name, with the values of its arguments
 abbrev pub asked_by : Text → List Row → Option Asked
 asked_by name rows =
     if bytes_eq name (codes "who") then Some who
-    else if bytes_eq name (codes "text-path") then
-    option_map (λ object. text_path object (values_named (codes "reference") rows)) (first_of (codes "name") rows)
+    else if bytes_eq name (codes "ls") then Some ls
+    else if bytes_eq name (codes "text-path") then option_map text_path (object_in rows)
+    else if bytes_eq name (codes "source-path") then option_map source_path (object_in rows)
     else None
 
 -- the command line of the matches of its options and of its subcommand
@@ -54,10 +63,16 @@ line_of words = line_from (matches_of nixkeep_app words) (subcommand_of nixkeep_
 unfoldable pub faults_of : List Text → Kinds
 faults_of words = fault_of nixkeep_app words
 
+-- the arguments of the code that name a store object, seen as their texts
+abbrev pub object_view : ObjectArguments → Text × List Text
+object_view o = (o.name.now, texts o.references.items)
+
 -- a subcommand of the code, seen as its texts
 abbrev pub asked_view : Subcommand → Asked
 asked_view subcommand.Who = who
-asked_view (subcommand.TextPath name references) = text_path name.now (texts references.items)
+asked_view subcommand.Ls = ls
+asked_view (subcommand.TextPath object) = text_path (object_view object)
+asked_view (subcommand.SourcePath object) = source_path (object_view object)
 
 -- a command line of the code, seen as its texts
 abbrev pub line_view : CommandLine → Line

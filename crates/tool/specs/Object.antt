@@ -3,11 +3,13 @@ use Rattle.std.specs.Prelude.{ℕ, ◌++◌, Bool, not, if◌then◌else◌, nat
 use Rattle.std.specs.List.{list_all}
 use Rattle.paths.specs.Names.{is_store_name}
 use Rattle.paths.specs.StorePath.{is_base_name, base_of, full_path}
-use Rattle.paths.specs.Path.{text_path}
+use Rattle.paths.specs.Path.{text_path, source_path}
+use Rattle.nar.specs.Outcome.{outcome_of}
 use Rattle.tool.specs.declared.stops.Refusal.{Refusal}
 use Rattle.tool.specs.declared.stops.Refusal.TheVariants.{TooLarge, BadStoreName, BadStorePath, TooManyReferences}
 use Rattle.tool.specs.declared.stops.Stop.{Stop}
 use Rattle.tool.specs.declared.stops.Stop.TheVariants.{Refused}
+use Rattle.tool.specs.Archive.{by_outcome}
 
 -- whether a text is a path text: a full path in the store directory, or a base name
 abbrev pub is_path_text : List ℕ → List ℕ → Bool
@@ -38,3 +40,7 @@ abbrev pub text_path_answer : List ℕ → List ℕ → List (List ℕ) → List
 text_path_answer dir name refs contents =
     if nat_lt max_contents (length contents) then Err (Refused TooLarge)
     else Ok (path_line dir (text_path dir name refs contents))
+
+-- what `source-path` answers to an input: the path of the source object, where it is an archive
+abbrev pub source_path_answer : List ℕ → List ℕ → List (List ℕ) → List ℕ → Result (List ℕ) Stop
+source_path_answer dir name refs bytes = by_outcome (outcome_of bytes) (λ tree. path_line dir (source_path dir name refs bytes))

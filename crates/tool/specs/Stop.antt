@@ -2,7 +2,7 @@
 use Rattle.std.specs.Prelude.{ℕ, List, ◌++◌, codes}
 use Rattle.policy.specs.Words.{key_word}
 use Rattle.tool.specs.declared.stops.Refusal.{Refusal}
-use Rattle.tool.specs.declared.stops.Refusal.TheVariants.{TooLarge, BadStoreName, BadStorePath, BadConfig, BadCaller, TooManyReferences}
+use Rattle.tool.specs.declared.stops.Refusal.TheVariants.{Truncated, BadTag, BadPadding, BadName, NotSorted, TooDeep, Trailing, TooLarge, BadStoreName, BadStorePath, BadConfig, BadCaller, TooManyReferences}
 use Rattle.tool.specs.declared.stops.Failure.{Failure}
 use Rattle.tool.specs.declared.stops.Failure.TheVariants.{Memory, File, Input, Output}
 use Rattle.tool.specs.declared.stops.Stop.{Stop}
@@ -10,6 +10,13 @@ use Rattle.tool.specs.declared.stops.Stop.TheVariants.{Refused, Failed}
 
 -- the line of a refusal
 abbrev pub refusal_text : Refusal → List ℕ
+refusal_text Truncated = codes "refused: 1 truncated\n"
+refusal_text BadTag = codes "refused: 2 bad-tag\n"
+refusal_text BadPadding = codes "refused: 3 bad-padding\n"
+refusal_text BadName = codes "refused: 4 bad-name\n"
+refusal_text NotSorted = codes "refused: 5 not-sorted\n"
+refusal_text TooDeep = codes "refused: 6 too-deep\n"
+refusal_text Trailing = codes "refused: 7 trailing\n"
 refusal_text TooLarge = codes "refused: 8 too-large\n"
 refusal_text BadStoreName = codes "refused: 12 bad-store-name\n"
 refusal_text BadStorePath = codes "refused: 14 bad-store-path\n"

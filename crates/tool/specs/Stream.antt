@@ -75,3 +75,7 @@ IsResultOf None answer (Some bytes) result = result ≡ answer bytes
 -- why arguments are refused: want of memory, or the fault
 abbrev pub IsStopBy : Option Refusal → Stop → Type 0
 IsStopBy fault stop = (stop ≡ Failed Memory) ⊎ (option_map Refused fault ≡ Some stop)
+
+-- why there is nothing to answer to: memory or the input gave out, or a fault is there before
+abbrev pub IsStopAt : Option Refusal → Stop → Type 0
+IsStopAt fault stop = IsFailure (Err stop) ⊎ (option_map Refused fault ≡ Some stop)

@@ -1,5 +1,5 @@
 //! The configuration: its file, and its settings.
-ghost use Rattle.std.specs.Prelude.{◌≡◌, ◌⊎◌, IfOk, IfErr, Ok};
+ghost use Rattle.std.specs.Prelude.{◌≡◌, ◌⊎◌, IfOk, IfErr, Ok, None, []};
 ghost use Rattle.policy.specs.Toml.{config_of};
 ghost use Rattle.tool.specs.Who.{StopsFor};
 
@@ -17,7 +17,10 @@ const MOST_READ: usize = MAX_CONFIG_BYTES + 1;
 
 /// The text of the configuration file, of which no more than one byte above the limit is read; the
 /// empty text where no file is named.
-pub(crate) fn text<Rt: Files + AllocGlobal>(rt: &Rt, path: Option<&str>) -> Result<Vec<u8>, Stop> {
+pub(crate) fn text<Rt: Files + AllocGlobal>(rt: &Rt, path: Option<&str>) -> Result<Vec<u8>, Stop>
+    ensures none { IfOk result (λ text. path.entry ≡ None → text.items ≡ []) }
+    ensures err { IfErr result (λ e. (e ≡ Stop.Failed Failure.Memory) ⊎ (e ≡ Stop.Failed Failure.File)) }
+{
     match path {
         None => Ok(Vec::new(rt.alloc())),
         Some(path) => match file_text(rt, path) {
@@ -41,13 +44,5 @@ pub(crate) fn settings(alloc: Global, text: &[u8]) -> Result<Config, Stop>
         Ok(config) => Ok(config),
         Err(ConfigError::Bad(word)) => Err(Stop::Refused(Refusal::BadConfig(word))),
         Err(ConfigError::Memory) => Err(Stop::Failed(Failure::Memory)),
-    }
-}
-
-/// The settings of the configuration file; those of the empty text where no file is named.
-pub(crate) fn load<Rt: Files + AllocGlobal>(rt: &Rt, path: Option<&str>) -> Result<Config, Stop> {
-    match text(rt, path) {
-        Ok(text) => settings(rt.alloc(), text.as_slice()),
-        Err(stop) => Err(stop),
     }
 }

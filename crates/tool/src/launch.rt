@@ -1,13 +1,15 @@
 //! Runs a command line over any reader and two writers.
+ghost use Rattle.std.specs.Prelude.{◌≡◌, ◌≤◌, map};
+ghost use Rattle.tool.specs.Answer.{RunsLine};
+ghost use Rattle.tool.specs.Line.{IsLine, Line, line_view};
+
+use crate::answers::answer;
 use crate::configuration;
 use crate::error::CommandError;
 use crate::line::{CommandLine, Task};
-use crate::object::text_path;
 use crate::parse::command;
 use crate::stops::{Failure, Stop};
 use crate::stream::{say, stop_for};
-use crate::verdicts::who;
-use policy::store_dir;
 use std::convert::AsStr;
 use std::io;
 use std::io::{ErrorKind, Read, Write};
@@ -33,7 +35,11 @@ pub fn run<Rt: Files + AllocGlobal, S: AsStr, R: Read, W: Write, E: Write>(
     input: &mut R,
     output: &mut W,
     errors: &mut E,
-) -> u8 {
+) -> u8
+    ensures line { (line : Line) → IsLine (map S.text words.now) line
+        → RunsLine line (R.remaining input.old) (W.contents output.old) (W.contents output.new) (E.contents errors.old) (E.contents errors.new) result }
+    ensures usage { ¬ ((line : Line) × IsLine (map S.text words.now) line) → result ≤ 2 }
+{
     match command(rt.alloc(), words) {
         Ok(line) => execute(rt, &line, input, output, errors),
         Err(fault) => explain(&fault, output, errors),
@@ -46,25 +52,23 @@ fn execute<Rt: Files + AllocGlobal, R: Read, W: Write, E: Write>(
     input: &mut R,
     output: &mut W,
     errors: &mut E,
-) -> u8 {
-    match &line.task {
-        Task::Who => match configuration::text(rt, line.config) {
-            Ok(text) => who(rt.alloc(), text.as_slice(), line.user, line.group, output),
-            Err(stop) => say(stop, output),
-        },
-        Task::TextPath { name, references } => match configuration::load(rt, line.config) {
-            Ok(config) => {
-                let dir = store_dir(&config);
-                let references = references.as_slice();
-                text_path(rt.alloc(), dir, name, references, input, output, errors)
-            }
-            Err(stop) => say(stop, errors),
+) -> u8
+    ensures { RunsLine (line_view line.now) (R.remaining input.old) (W.contents output.old) (W.contents output.new) (E.contents errors.old) (E.contents errors.new) result }
+{
+    match configuration::text(rt, line.config) {
+        Ok(text) => answer(rt.alloc(), text.as_slice(), line, input, output, errors),
+        Err(stop) => match line.task {
+            Task::Who => say(stop, output),
+            _ => say(stop, errors),
         },
     }
 }
 
 /// Says why words are no command line, or gives the help that they ask for.
-fn explain<W: Write, E: Write>(fault: &CommandError, output: &mut W, errors: &mut E) -> u8 {
+fn explain<W: Write, E: Write>(fault: &CommandError, output: &mut W, errors: &mut E) -> u8
+    ensures usage { result ≤ 2 }
+    ensures memory { fault.now ≡ CommandError.Memory → result ≡ 1 }
+{
     match fault {
         CommandError::Usage(help) if !help.use_stderr() => match write!(output, "{help}") {
             Ok(()) => 0,
@@ -77,7 +81,9 @@ fn explain<W: Write, E: Write>(fault: &CommandError, output: &mut W, errors: &mu
 }
 
 /// The exit status of a usage fault, by whether it could be told.
-fn usage(told: io::Result<()>) -> u8 {
+fn usage(told: io::Result<()>) -> u8
+    ensures { result ≤ 2 }
+{
     match told {
         Ok(()) => USAGE,
         Err(_) => 1,
@@ -86,7 +92,9 @@ fn usage(told: io::Result<()>) -> u8 {
 
 /// Says that the words of the program could not be had, and gives the exit status: 1 where memory
 /// was refused, else 2, since a word isn't UTF-8.
-pub fn refuse_words<E: Write>(fault: &io::Error, errors: &mut E) -> u8 {
+pub fn refuse_words<E: Write>(fault: &io::Error, errors: &mut E) -> u8
+    ensures { result ≤ 2 }
+{
     if fault.kind() == ErrorKind::OutOfMemory {
         return say(Stop::Failed(Failure::Memory), errors);
     }

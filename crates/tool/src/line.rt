@@ -5,13 +5,21 @@
 pub enum Task<'a> {
     /// The class of the caller, and whether it may connect.
     Who,
-    /// The store path of the contents on standard input.
-    TextPath {
-        /// The name of the store object.
-        name: &'a str,
-        /// The path texts of its references.
-        references: Vec<&'a str>,
-    },
+    /// The listing of the archive on standard input.
+    Ls,
+    /// The store path of the text object with the contents on standard input.
+    TextPath(ObjectArguments<'a>),
+    /// The store path of the source object with the archive on standard input.
+    SourcePath(ObjectArguments<'a>),
+}
+
+/// What is said of a store object beside its contents or its archive.
+#[derive(Debug, Drop)]
+pub struct ObjectArguments<'a> {
+    /// The name of the store object.
+    pub name: &'a str,
+    /// The path texts of its references.
+    pub references: Vec<&'a str>,
 }
 
 /// The options that stand before the subcommand, and the subcommand.

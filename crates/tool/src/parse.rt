@@ -4,11 +4,11 @@ ghost use Rattle.clap.specs.Kinds.{Kinds, HasKind};
 ghost use Rattle.clap.specs.Walk.{rows_of, texts};
 ghost use Rattle.clap.specs.Matches.{found_of};
 ghost use Rattle.clap.specs.Simple.{subcommand_rows_of};
-ghost use Rattle.tool.specs.Line.{line_view, line_of, line_from, asked_by, asked_view, values_named, Misses, IsRefusal, IsLine, IsUsageFault};
+ghost use Rattle.tool.specs.Line.{line_view, line_of, line_from, asked_by, asked_view, object_in, object_view, values_named, Misses, IsRefusal, IsLine, IsUsageFault};
 
 use crate::error::CommandError;
 use crate::grammar::nixkeep;
-use crate::line::{CommandLine, Task};
+use crate::line::{CommandLine, ObjectArguments, Task};
 use clap::ArgMatches;
 use clap::error::ErrorKind;
 use std::alloc::{AllocError, Global};
@@ -23,6 +23,20 @@ fn values<'a>(alloc: Global, matches: &ArgMatches<'a>, id: &str) -> Result<Vec<&
     }
 }
 
+/// The name and the references of a store object, where a name is there.
+fn object<'a>(
+    alloc: Global,
+    matches: &ArgMatches<'a>,
+) -> Result<Option<ObjectArguments<'a>>, AllocError>
+    ensures { IfOk result (λ o. option_map object_view o ≡ object_in (rows_of (found_of matches.now))) }
+{
+    let Some(name) = matches.get_str("name") else {
+        return Ok(None);
+    };
+    let references = values(alloc, matches, "reference")?;
+    Ok(Some(ObjectArguments { name, references }))
+}
+
 /// The subcommand of this name, with the values of its arguments.
 fn task<'a>(
     alloc: Global,
@@ -33,13 +47,15 @@ fn task<'a>(
 {
     match name {
         "who" => Ok(Some(Task::Who)),
-        "text-path" => {
-            let Some(name) = matches.get_str("name") else {
-                return Ok(None);
-            };
-            let references = values(alloc, matches, "reference")?;
-            Ok(Some(Task::TextPath { name, references }))
-        }
+        "ls" => Ok(Some(Task::Ls)),
+        "text-path" => match object(alloc, matches)? {
+            Some(object) => Ok(Some(Task::TextPath(object))),
+            None => Ok(None),
+        },
+        "source-path" => match object(alloc, matches)? {
+            Some(object) => Ok(Some(Task::SourcePath(object))),
+            None => Ok(None),
+        },
         _ => Ok(None),
     }
 }

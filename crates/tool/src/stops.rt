@@ -7,7 +7,21 @@ use policy::KeyWord;
 /// What is asked can't be had.
 #[derive(Clone, Copy, PartialEq, Eq, Debug)]
 pub enum Refusal {
-    /// The archive would be longer than 16,777,216 bytes.
+    /// The archive ends before it is whole.
+    Truncated,
+    /// A string of the archive isn't one of those that may stand there.
+    BadTag,
+    /// A string of the archive is filled up by a byte that isn't zero.
+    BadPadding,
+    /// A name in the archive is empty, `.` or `..`, or holds a `/` or a zero byte.
+    BadName,
+    /// A name in the archive isn't above the one before it in its directory.
+    NotSorted,
+    /// More than 256 nodes of the archive stand inside one another.
+    TooDeep,
+    /// Bytes follow the archive.
+    Trailing,
+    /// The archive is, or would be, longer than 16,777,216 bytes.
     TooLarge,
     /// The name isn't that of a store object.
     BadStoreName,
@@ -27,6 +41,13 @@ impl Refusal {
         ensures { result.now ≡ refusal_text self }
     {
         match self {
+            Refusal::Truncated => "refused: 1 truncated\n",
+            Refusal::BadTag => "refused: 2 bad-tag\n",
+            Refusal::BadPadding => "refused: 3 bad-padding\n",
+            Refusal::BadName => "refused: 4 bad-name\n",
+            Refusal::NotSorted => "refused: 5 not-sorted\n",
+            Refusal::TooDeep => "refused: 6 too-deep\n",
+            Refusal::Trailing => "refused: 7 trailing\n",
             Refusal::TooLarge => "refused: 8 too-large\n",
             Refusal::BadStoreName => "refused: 12 bad-store-name\n",
             Refusal::BadStorePath => "refused: 14 bad-store-path\n",

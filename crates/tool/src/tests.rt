@@ -3,6 +3,7 @@ use crate::run;
 use std::process::Abort;
 use std::rt::Files;
 
+mod archives;
 mod streams;
 mod text_path;
 mod usage;

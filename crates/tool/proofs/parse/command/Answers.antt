@@ -8,13 +8,13 @@ use Rattle.clap.specs.Faults.{is_simple_and_free, fault_of}
 use Rattle.clap.proofs.OnLiterals.{clap_on_literals}
 use Rattle.tool.specs.declared.error.CommandError.{CommandError}
 use Rattle.tool.specs.declared.error.CommandError.TheVariants.{Usage, NoSubcommand, Memory}
-use Rattle.tool.specs.Grammar.{nixkeep_app, text_path_app}
+use Rattle.tool.specs.Grammar.{nixkeep_app, text_path_app, source_path_app}
 use Rattle.tool.specs.Line.{Line, line_from, line_of, faults_of, Misses, IsRefusal, IsUsageFault}
 use Rattle.tool.proofs.parse.command.Goals as goal
 
 -- the command is one whose matches and faults `clap` states
 app_is_free : is_simple_and_free nixkeep_app ≡ true
-unfolding nixkeep_app text_path_app clap_on_literals
+unfolding nixkeep_app text_path_app source_path_app clap_on_literals
 app_is_free = refl
 
 -- such a command is simple
