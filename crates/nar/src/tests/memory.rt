@@ -1,0 +1,140 @@
+//! Memory that is refused: run with each allocation refused in turn.
+use super::{MY_FILE, fault_of, spelled};
+use crate::{Checker, Entry, NarError, Node, is_writable, list, read, write};
+use std::alloc::{AllocError, Global};
+
+/// A directory with a file and a link whose names are 300 bytes long, so that a checker holds much.
+fn archive_of_two(alloc: Global, long: &[u8]) -> Result<Vec<u8>, AllocError> {
+    spelled(
+        alloc,
+        &[
+            b"nix-archive-1",
+            b"(",
+            b"type",
+            b"directory",
+            b"entry",
+            b"(",
+            b"name",
+            b"a",
+            b"node",
+            b"(",
+            b"type",
+            b"directory",
+            b")",
+            b")",
+            b"entry",
+            b"(",
+            b"name",
+            long,
+            b"node",
+            b"(",
+            b"type",
+            b"symlink",
+            b"target",
+            b"a",
+            b")",
+            b")",
+            b")",
+        ],
+    )
+}
+
+fn tree_of_two<'a>(alloc: Global, long: &'a [u8]) -> Result<Node<'a>, AllocError> {
+    let mut entries = Vec::new(alloc);
+    entries.push(Entry {
+        name: b"a",
+        node: Node::Directory(Vec::new(alloc)),
+    })?;
+    entries.push(Entry {
+        name: long,
+        node: Node::Symlink { target: b"a" },
+    })?;
+    Ok(Node::Directory(entries))
+}
+
+// What is read is the tree, or the answer is `Memory`.
+#[test]
+fn refused_while_reading(rt: HostRuntime) {
+    let alloc = rt.alloc();
+    let Ok(bytes) = archive_of_two(alloc, &[b'n'; 300]) else {
+        return;
+    };
+    match read(alloc, &bytes) {
+        Ok(node) => {
+            assert!(rt; matches!(&node, Node::Directory(entries) if entries.len() == 2));
+        }
+        Err(e) => assert_eq!(rt; e, NarError::Memory),
+    }
+    // A fault behind directories is told, or `Memory`.
+    let faulty = super::front(&bytes, 600);
+    let fault = fault_of(read(alloc, faulty));
+    assert!(rt; fault == Some(NarError::Truncated) || fault == Some(NarError::Memory));
+}
+
+// What is written is the archive, or the buffer's bytes stay.
+#[test]
+fn refused_while_writing(rt: HostRuntime) {
+    let alloc = rt.alloc();
+    let long = [b'n'; 300];
+    let Ok(bytes) = archive_of_two(alloc, &long) else {
+        return;
+    };
+    let Ok(node) = tree_of_two(alloc, &long) else {
+        return;
+    };
+    let Ok(mut out) = Vec::from_slice(alloc, b"before") else {
+        return;
+    };
+    assert!(rt; is_writable(&node));
+    match write(&node, &mut out) {
+        Ok(()) => {
+            assert!(rt; out.starts_with(b"before"));
+            assert!(rt; out.ends_with(&bytes));
+            assert_eq!(rt; out.len(), 6 + bytes.len());
+        }
+        Err(_) => assert!(rt; out.as_slice() == b"before".as_slice()),
+    }
+}
+
+// What is listed is the listing, or the text stays.
+#[test]
+fn refused_while_listing(rt: HostRuntime) {
+    let alloc = rt.alloc();
+    let Ok(node) = tree_of_two(alloc, b"b c") else {
+        return;
+    };
+    let Ok(mut text) = String::from_str(alloc, "before\n") else {
+        return;
+    };
+    match list(alloc, &node, &mut text) {
+        Ok(()) => assert_eq!(rt; text.as_str(), "before\nd .\nd ./a\nl ./b\\x20c -> a\n"),
+        Err(_) => assert_eq!(rt; text.as_str(), "before\n"),
+    }
+}
+
+// A checker takes what it is fed, or answers `Memory` from then on.
+#[test]
+fn refused_while_checking(rt: HostRuntime) {
+    let alloc = rt.alloc();
+    let Ok(bytes) = archive_of_two(alloc, &[b'n'; 300]) else {
+        return;
+    };
+    for size in [1, 7, 100, 1_000] {
+        let mut checker = Checker::new(alloc);
+        let mut failed = false;
+        for piece in bytes.chunks(size) {
+            let fault = fault_of(checker.feed(piece));
+            assert!(rt; fault.is_none() || fault == Some(NarError::Memory));
+            assert!(rt; !failed || fault.is_some());
+            failed = fault.is_some();
+        }
+        let end = fault_of(checker.finish());
+        assert_eq!(rt; end, if failed { Some(NarError::Memory) } else { None });
+    }
+    // A fault is told, or `Memory`, and either is repeated.
+    let mut checker = Checker::new(alloc);
+    let _ = checker.feed(&bytes);
+    let told = fault_of(checker.feed(MY_FILE));
+    assert!(rt; told == Some(NarError::Trailing) || told == Some(NarError::Memory));
+    assert_eq!(rt; fault_of(checker.finish()), told);
+}
