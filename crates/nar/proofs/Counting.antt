@@ -10,7 +10,7 @@ use Rattle.nar.specs.declared.error.NarError.{NarError}
 use Rattle.nar.specs.declared.error.NarError.TheVariants.{Truncated, BadPadding}
 use Rattle.nar.specs.declared.count.Count.{Count}
 use Rattle.nar.specs.declared.nest.Nest.{Nest}
-use Rattle.nar.specs.String.{padded, size_of, length_at, string_of, string_at}
+use Rattle.nar.specs.String.{padded, size_of, length_at, string_of_length, string_at}
 use Rattle.nar.specs.Tree.{Tree, IsBytes}
 use Rattle.nar.specs.Archive.{IsArchive}
 use Rattle.nar.specs.Fault.{IsFault}
@@ -75,7 +75,7 @@ counts_more k l room rest bytes text size got few clean h =
 -- ---- while a string is counted, and at its end
 
 pub count_waits : (room : ℕ) (rest : List ℕ) → 8 ≤ length rest → size_of (length_at rest) ≤ room → length rest < size_of (length_at rest) → string_at room rest ≡ Err Truncated
-unfolding string_of
+unfolding string_of_length
 count_waits room rest long fits early =
     let a : ltb (length rest) 8 ≡ false = le-ltb _ _ long in
     let b : ltb room (size_of (length_at rest)) ≡ false = le-ltb _ _ fits in
@@ -83,8 +83,8 @@ count_waits room rest long fits early =
     rw (a, b, d) refl
 
 whole_of : (n room : ℕ) (rest : List ℕ) (clean : Bool) → 8 ≤ length rest → size_of n ≤ room → length rest ≡ size_of n → clean ≡ list_all (λ b. eqb b 0) (drop (8 + n) rest)
-    → string_of n room rest ≡ cond clean (Ok (take n (drop 8 rest), [])) (Err BadPadding)
-unfolding string_of
+    → string_of_length n room rest ≡ cond clean (Ok (take n (drop 8 rest), [])) (Err BadPadding)
+unfolding string_of_length
 whole_of n room rest clean long fits whole is =
     let above = padded_le n in
     let a : ltb (length rest) 8 ≡ false = le-ltb _ _ long in

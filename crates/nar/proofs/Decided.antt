@@ -6,7 +6,7 @@ use Rattle.std.proofs.lemmas.Bool.{lt-ltb}
 use Rattle.std.proofs.lemmas.List.{length-append}
 use Rattle.nar.specs.declared.error.NarError.{NarError}
 use Rattle.nar.specs.declared.error.NarError.TheVariants.{Truncated}
-use Rattle.nar.specs.String.{string, size_of, string_of, string_at}
+use Rattle.nar.specs.String.{string, size_of, string_of_length, string_at}
 use Rattle.nar.specs.Tree.{Tree, regular, symlink, directory, Entries, no_entries, entry, IsBytes}
 use Rattle.nar.specs.Archive.{Part, other, spelled, kind_parts, entries_parts, archive, IsShallow, IsArchive, spelling, limit}
 use Rattle.nar.specs.Fault.{IsFault}
@@ -31,7 +31,7 @@ abbrev Decided : List Symbol → ℕ → List ℕ → Result (List Part) NarErro
 Decided σ room bytes r = MatchResult r (Passes σ room bytes) (FaultAt σ room bytes)
 
 pub short : (room : ℕ) (bytes : List ℕ) → length bytes < 8 → string_at room bytes ≡ Err Truncated
-unfolding string_of
+unfolding string_of_length
 short room bytes h = (let few : ltb (length bytes) 8 ≡ true = lt-ltb _ _ h in rw few refl)
 
 one_more : (x : Symbol) (κ : List Symbol) (room : ℕ) (bytes s rest : List ℕ) (p : Part) (r : Result (List Part) NarError) → string_at room bytes ≡ Ok (s, rest) → check x s ≡ Ok p → Takes room bytes s rest → (c : Checked x s p)

@@ -7,7 +7,7 @@ use Rattle.std.proofs.lemmas.Bool.{ltb-false, le-ltb}
 use Rattle.std.proofs.lemmas.List.{length-append, take-append-le, drop-append-le, length-drop}
 use Rattle.nar.specs.declared.error.NarError.{NarError}
 use Rattle.nar.specs.declared.error.NarError.TheVariants.{Truncated, TooLarge, BadPadding, Trailing}
-use Rattle.nar.specs.String.{string, padded, size_of, length_at, string_of, string_at}
+use Rattle.nar.specs.String.{string, padded, size_of, length_at, string_of_length, string_at}
 use Rattle.nar.specs.Tree.{Tree, IsBytes}
 use Rattle.nar.specs.Archive.{Part, archive, IsShallow, IsArchive, spelling, limit}
 use Rattle.nar.specs.Fault.{IsFault, Refuses}
@@ -92,8 +92,8 @@ abbrev pub padding_of : ℕ → List ℕ → Bool
 padding_of n bytes = list_all (λ b. eqb b 0) (take (padded n - n) (drop n (drop 8 bytes)))
 
 append_whole : (n room : ℕ) (bytes more : List ℕ) → 8 ≤ length bytes → size_of n ≤ room → size_of n ≤ length bytes
-    → string_of n room (bytes ++ more) ≡ cond (padding_of n bytes) (Ok (take n (drop 8 bytes), drop (size_of n) bytes ++ more)) (Err BadPadding)
-unfolding string_of
+    → string_of_length n room (bytes ++ more) ≡ cond (padding_of n bytes) (Ok (take n (drop 8 bytes), drop (size_of n) bytes ++ more)) (Err BadPadding)
+unfolding string_of_length
 append_whole n room bytes more long fits whole =
     let len = length-append bytes more in
     let above = padded_le n in
@@ -112,8 +112,8 @@ append_whole n room bytes more long fits whole =
 pub not_ok : {A : Type 0} {B : Type 0} (d : NarError) (y : A) → Err d ≡ Ok y → B
 not_ok d y e = absurd cc
 
-append_ok : (n room : ℕ) (bytes more s rest : List ℕ) → string_of n room bytes ≡ Ok (s, rest) → string_of n room (bytes ++ more) ≡ Ok (s, rest ++ more)
-unfolding string_of
+append_ok : (n room : ℕ) (bytes more s rest : List ℕ) → string_of_length n room bytes ≡ Ok (s, rest) → string_of_length n room (bytes ++ more) ≡ Ok (s, rest ++ more)
+unfolding string_of_length
 append_ok n room bytes more s rest e =
     elim (chosen (ltb (length bytes) 8) _ _ _ e) [
       | inl a ↦ not_ok Truncated (s, rest) a.1
@@ -135,8 +135,8 @@ append_ok n room bytes more s rest e =
 cut_short : {B : Type 0} (f : NarError) (r : Result (List ℕ × List ℕ) NarError) → (f ≢ Truncated) → r ≡ Err Truncated → r ≡ Err f → B
 cut_short f r other e g = (let q : Err Truncated ≡ Err f = sym e ∙ g in absurd (other (cc)))
 
-append_err : (n room : ℕ) (bytes more : List ℕ) (f : NarError) → f ≢ Truncated → string_of n room bytes ≡ Err f → string_of n room (bytes ++ more) ≡ Err f
-unfolding string_of
+append_err : (n room : ℕ) (bytes more : List ℕ) (f : NarError) → f ≢ Truncated → string_of_length n room bytes ≡ Err f → string_of_length n room (bytes ++ more) ≡ Err f
+unfolding string_of_length
 append_err n room bytes more f other e =
     elim (chosen (ltb (length bytes) 8) _ _ _ e) [
       | inl a ↦ cut_short f (Err Truncated) other refl a.1
@@ -156,16 +156,16 @@ append_err n room bytes more f other e =
           ]
     ]
 
-ok_long : (n room : ℕ) (bytes : List ℕ) (y : List ℕ × List ℕ) → string_of n room bytes ≡ Ok y → 8 ≤ length bytes
-unfolding string_of
+ok_long : (n room : ℕ) (bytes : List ℕ) (y : List ℕ × List ℕ) → string_of_length n room bytes ≡ Ok y → 8 ≤ length bytes
+unfolding string_of_length
 ok_long n room bytes y e =
     elim (chosen (ltb (length bytes) 8) _ _ _ e) [
       | inl a ↦ not_ok Truncated y a.1
       | inr a ↦ ltb-false _ _ a.0
     ]
 
-err_long : (n room : ℕ) (bytes : List ℕ) (f : NarError) → f ≢ Truncated → string_of n room bytes ≡ Err f → 8 ≤ length bytes
-unfolding string_of
+err_long : (n room : ℕ) (bytes : List ℕ) (f : NarError) → f ≢ Truncated → string_of_length n room bytes ≡ Err f → 8 ≤ length bytes
+unfolding string_of_length
 err_long n room bytes f other e =
     elim (chosen (ltb (length bytes) 8) _ _ _ e) [
       | inl a ↦ cut_short f (Err Truncated) other refl a.1
@@ -173,10 +173,10 @@ err_long n room bytes f other e =
     ]
 
 string_ok_more : (room : ℕ) (bytes more s rest : List ℕ) → string_at room bytes ≡ Ok (s, rest) → string_at room (bytes ++ more) ≡ Ok (s, rest ++ more)
-string_ok_more room bytes more s rest e = ap (λ (n : ℕ). string_of n room (bytes ++ more)) (length_at-append bytes more (ok_long (length_at bytes) room bytes (s, rest) e)) ∙ append_ok (length_at bytes) room bytes more s rest e
+string_ok_more room bytes more s rest e = ap (λ (n : ℕ). string_of_length n room (bytes ++ more)) (length_at-append bytes more (ok_long (length_at bytes) room bytes (s, rest) e)) ∙ append_ok (length_at bytes) room bytes more s rest e
 
 string_err_more : (room : ℕ) (bytes more : List ℕ) (f : NarError) → f ≢ Truncated → string_at room bytes ≡ Err f → string_at room (bytes ++ more) ≡ Err f
-string_err_more room bytes more f other e = ap (λ (n : ℕ). string_of n room (bytes ++ more)) (length_at-append bytes more (err_long (length_at bytes) room bytes f other e)) ∙ append_err (length_at bytes) room bytes more f other e
+string_err_more room bytes more f other e = ap (λ (n : ℕ). string_of_length n room (bytes ++ more)) (length_at-append bytes more (err_long (length_at bytes) room bytes f other e)) ∙ append_err (length_at bytes) room bytes more f other e
 
 some_more : (bytes more : List ℕ) → bytes ≢ [] → bytes ++ more ≢ []
 some_more [] more some e = some refl

@@ -7,7 +7,7 @@ use Rattle.std.proofs.lemmas.Bool.{le-ltb, lt-ltb, cases_lt}
 use Rattle.std.proofs.lemmas.List.{length-append}
 use Rattle.nar.specs.declared.error.NarError.{NarError}
 use Rattle.nar.specs.declared.error.NarError.TheVariants.{TooLarge, Truncated, BadPadding, Trailing, Memory}
-use Rattle.nar.specs.String.{padded, string, size_of, string_of, string_at}
+use Rattle.nar.specs.String.{padded, string, size_of, string_of_length, string_at}
 use Rattle.nar.specs.Tree.{regular, IsBytes}
 use Rattle.nar.specs.Archive.{Part, other, spelled, archive, IsShallow, IsArchive, spelling, limit}
 use Rattle.nar.specs.Fault.{IsFault, Refuses, Fails}
@@ -91,8 +91,8 @@ file_is_read c h fits =
     (outcome_archive (spelling (archive (regular false c))) (regular false c) (file_bytes c h)).1 is
 
 -- a string that would end past the room
-pub past_the_room : (room n : ℕ) (bytes : List ℕ) → 8 ≤ length bytes → room < size_of n → string_of n room bytes ≡ Err TooLarge
-unfolding string_of
+pub past_the_room : (room n : ℕ) (bytes : List ℕ) → 8 ≤ length bytes → room < size_of n → string_of_length n room bytes ≡ Err TooLarge
+unfolding string_of_length
 past_the_room room n bytes long large =
     let a : ltb (length bytes) 8 ≡ false = le-ltb _ _ long in
     let b : ltb room (size_of n) ≡ true = lt-ltb _ _ large in
@@ -101,7 +101,7 @@ past_the_room room n bytes long large =
 string_past : (room : ℕ) (s rest : List ℕ) → length s < 2 ^ 64 → room < size_of (length s) → string_at room (string s ++ rest) ≡ Err TooLarge
 string_past room s rest small large =
     let long : 8 ≤ length (string s ++ rest) = omega (arith, length-append (string s) rest, length-string s) in
-    ap (λ (n : ℕ). string_of n room (string s ++ rest)) (length_at-string s rest small) ∙ past_the_room room (length s) (string s ++ rest) long large
+    ap (λ (n : ℕ). string_of_length n room (string s ++ rest)) (length_at-string s rest small) ∙ past_the_room room (length s) (string s ++ rest) long large
 
 -- the machine behind what comes before the contents
 abbrev left : List Symbol
@@ -151,8 +151,8 @@ file_is_too_large c h small large =
 
 -- ---- no fault is want of memory
 
-string_of_memory : (n room : ℕ) (bytes : List ℕ) → string_of n room bytes ≡ Err Memory → ⊥
-unfolding string_of
+string_of_memory : (n room : ℕ) (bytes : List ℕ) → string_of_length n room bytes ≡ Err Memory → ⊥
+unfolding string_of_length
 string_of_memory n room bytes e =
     elim (chosen (ltb (length bytes) 8) _ _ _ e) [
       | inl a ↦ (let q : Err Truncated ≡ Err Memory = a.1 in absurd cc)

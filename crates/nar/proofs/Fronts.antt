@@ -7,7 +7,7 @@ use Rattle.std.proofs.lemmas.Bool.{cases_lt, ltb-false, le-ltb, lt-ltb}
 use Rattle.std.proofs.lemmas.List.{length-take, length-take-le, length-drop, take-take, drop-take}
 use Rattle.nar.specs.declared.error.NarError.{NarError}
 use Rattle.nar.specs.declared.error.NarError.TheVariants.{Truncated, TooLarge, BadPadding}
-use Rattle.nar.specs.String.{padded, size_of, length_at, string_of, string_at}
+use Rattle.nar.specs.String.{padded, size_of, length_at, string_of_length, string_at}
 use Rattle.nar.specs.Archive.{Part, limit}
 use Rattle.nar.specs.Steps.{Symbol, taken, start, check}
 use Rattle.nar.specs.Outcome.{and_then, parts_from, tree_from, outcome_of}
@@ -45,8 +45,8 @@ whole_front n room bytes fits whole =
     by_padding c true r e f = rw e f
     by_padding c false r e f = rw e refl
 
-string_front : (n room : ℕ) (bytes : List ℕ) → string_of n room (take (room + 8) bytes) ≡ cut room (string_of n room bytes)
-unfolding string_of
+string_front : (n room : ℕ) (bytes : List ℕ) → string_of_length n room (take (room + 8) bytes) ≡ cut room (string_of_length n room bytes)
+unfolding string_of_length
 string_front n room bytes =
     let len = length-take (room + 8) bytes in
     elim (cases_lt (length bytes) 8) [
@@ -77,11 +77,11 @@ string_front n room bytes =
 string_at_front : (room : ℕ) (bytes : List ℕ) → string_at room (take (room + 8) bytes) ≡ cut room (string_at room bytes)
 string_at_front room bytes =
     let same : length_at (take (room + 8) bytes) ≡ length_at bytes = ap (from_le_bytes w64) (take-take 8 (room + 8) bytes (omega arith)) in
-    ap (λ (n : ℕ). string_of n room (take (room + 8) bytes)) same ∙ string_front (length_at bytes) room bytes
+    ap (λ (n : ℕ). string_of_length n room (take (room + 8) bytes)) same ∙ string_front (length_at bytes) room bytes
 
 -- a string takes bytes
-shorter_of : (n room : ℕ) (bytes s rest : List ℕ) → string_of n room bytes ≡ Ok (s, rest) → length rest < length bytes
-unfolding string_of
+shorter_of : (n room : ℕ) (bytes s rest : List ℕ) → string_of_length n room bytes ≡ Ok (s, rest) → length rest < length bytes
+unfolding string_of_length
 shorter_of n room bytes s rest e =
     elim (chosen (ltb (length bytes) 8) _ _ _ e) [
       | inl a ↦ not_ok Truncated (s, rest) a.1

@@ -8,7 +8,7 @@ use Rattle.std.proofs.lemmas.Nat.{le_bytes_8, from_le_bytes-to_le_bytes_8}
 use Rattle.nar.specs.declared.error.NarError.{NarError}
 use Rattle.nar.specs.declared.error.NarError.TheVariants.{Truncated, TooLarge, BadPadding}
 use Rattle.nar.specs.Tree.{IsBytes}
-use Rattle.nar.specs.String.{padded, size_of, string, length_at, string_of, string_at}
+use Rattle.nar.specs.String.{padded, size_of, string, length_at, string_of_length, string_at}
 use Rattle.nar.specs.Reading.{ReadsString}
 
 pub IsBytes-drop : (n : ℕ) (bytes : List ℕ) → IsBytes bytes → IsBytes (drop n bytes)
@@ -55,8 +55,8 @@ pub record Takes (room : ℕ) (bytes s rest : List ℕ) : Type 0 where
   pub text_bytes : IsBytes s
   pub rest_bytes : IsBytes rest
 
-taken_of : (n room : ℕ) (bytes s rest : List ℕ) → IsBytes bytes → n ≡ length_at bytes → string_of n room bytes ≡ Ok (s, rest) → Takes room bytes s rest
-unfolding string_of string
+taken_of : (n room : ℕ) (bytes s rest : List ℕ) → IsBytes bytes → n ≡ length_at bytes → string_of_length n room bytes ≡ Ok (s, rest) → Takes room bytes s rest
+unfolding string_of_length string
 taken_of n room bytes s rest h is e =
     let body : List ℕ = drop 8 bytes in
     let g0 = guard_ok (ltb (length bytes) 8) Truncated _ (s, rest) e in
@@ -85,8 +85,8 @@ taken_of n room bytes s rest h is e =
 pub string_takes : (room : ℕ) (bytes s rest : List ℕ) → IsBytes bytes → string_at room bytes ≡ Ok (s, rest) → Takes room bytes s rest
 string_takes room bytes s rest h e = taken_of (length_at bytes) room bytes s rest h refl e
 
-again : (room : ℕ) (head s rest : List ℕ) → length head ≡ 8 → size_of (length s) ≤ room → string_of (length s) room (head ++ (s ++ (replicate (padded (length s) - length s) 0 ++ rest))) ≡ Ok (s, rest)
-unfolding string_of
+again : (room : ℕ) (head s rest : List ℕ) → length head ≡ 8 → size_of (length s) ≤ room → string_of_length (length s) room (head ++ (s ++ (replicate (padded (length s) - length s) 0 ++ rest))) ≡ Ok (s, rest)
+unfolding string_of_length
 again room head s rest len fits =
     let n : ℕ = length s in
     let fill : List ℕ = replicate (padded n - n) 0 in
@@ -124,13 +124,13 @@ string_again room s rest small fits =
     let fill : List ℕ = replicate (padded n - n) 0 in
     let grouped : string s ++ rest ≡ head ++ (s ++ (fill ++ rest)) = append_assoc (head ++ s) fill rest ∙ append_assoc head s (fill ++ rest) in
     let len : length_at (string s ++ rest) ≡ n = length_at-string s rest small in
-    ap (λ (k : ℕ). string_of k room (string s ++ rest)) len ∙ ap (string_of n room) grouped ∙ again room head s rest refl fits
+    ap (λ (k : ℕ). string_of_length k room (string s ++ rest)) len ∙ ap (string_of_length n room) grouped ∙ again room head s rest refl fits
 
 -- what the code has seen where it gives a string
 pub is_read : (room n : ℕ) (bytes text tail after : List ℕ) → IsBytes bytes → n ≡ length_at bytes → 8 ≤ length bytes → size_of n ≤ room → size_of n ≤ length bytes
     → text ≡ take n (take (length bytes - 8) (drop 8 bytes)) → tail ≡ drop n (take (length bytes - 8) (drop 8 bytes)) → list_all (λ b. eqb b 0) (take (size_of n - 8 - n) tail) ≡ true
     → after ≡ take (length bytes - size_of n) (drop (size_of n) bytes) → ReadsString room bytes text (room - size_of n) after
-unfolding string_of
+unfolding string_of_length
 is_read room n bytes text tail after h is long fits whole text_is tail_is zeros_are after_is =
     let body = take_rest bytes 8 in
     let a : ltb (length bytes) 8 ≡ false = le-ltb _ _ long in
@@ -141,8 +141,8 @@ is_read room n bytes text tail after h is long fits whole text_is tail_is zeros_
     let v : after ≡ drop (size_of n) bytes = after_is ∙ take_rest bytes (size_of n) in
     let gap : padded n - n ≡ size_of n - 8 - n = omega arith in
     let z : list_all (λ b. eqb b 0) (take (padded n - n) (drop n (drop 8 bytes))) ≡ true = ap (λ (k : ℕ). list_all (λ b. eqb b 0) (take k (drop n (drop 8 bytes)))) gap ∙ ap (λ (l : List ℕ). list_all (λ b. eqb b 0) (take (size_of n - 8 - n) l)) (sym u) ∙ zeros_are in
-    let at_n : string_of n room bytes ≡ Ok (take n (drop 8 bytes), drop (size_of n) bytes) = rw (a, b, d, z) refl in
-    let there : string_at room bytes ≡ Ok (text, after) = ap (λ (k : ℕ). string_of k room bytes) (sym is) ∙ at_n ∙ ap₂ (λ (x y : List ℕ). Ok (x, y)) (sym t) (sym v) in
+    let at_n : string_of_length n room bytes ≡ Ok (take n (drop 8 bytes), drop (size_of n) bytes) = rw (a, b, d, z) refl in
+    let there : string_at room bytes ≡ Ok (text, after) = ap (λ (k : ℕ). string_of_length k room bytes) (sym is) ∙ at_n ∙ ap₂ (λ (x y : List ℕ). Ok (x, y)) (sym t) (sym v) in
     let found = string_takes room bytes text after h there in
     let len : length text ≡ n = ap length t ∙ length-take-le n (drop 8 bytes) (omega (arith, length-drop 8 bytes, padded_le n)) in
     let size : size_of (length text) + (room - size_of n) ≡ room = ap (λ (k : ℕ). size_of k + (room - size_of n)) len ∙ omega arith in

@@ -23,8 +23,8 @@ length_at bytes = from_le_bytes w64 (take 8 bytes)
 
 -- The string of length n at the front of the bytes, where it may take so many of them, and the bytes after
 -- it; or the first of four tests that fails.
-unfoldable pub string_of : ℕ → ℕ → List ℕ → Result (List ℕ × List ℕ) NarError
-string_of n room bytes =
+unfoldable pub string_of_length : ℕ → ℕ → List ℕ → Result (List ℕ × List ℕ) NarError
+string_of_length n room bytes =
     if nat_lt (length bytes) 8 then Err Truncated
     else (if nat_lt room (size_of n) then Err TooLarge
     else (if nat_lt (length bytes) (size_of n) then Err Truncated
@@ -34,4 +34,4 @@ string_of n room bytes =
 
 -- the string at the front of the bytes
 abbrev pub string_at : ℕ → List ℕ → Result (List ℕ × List ℕ) NarError
-string_at room bytes = string_of (length_at bytes) room bytes
+string_at room bytes = string_of_length (length_at bytes) room bytes

@@ -35,7 +35,7 @@ pub fn length_at(bytes: &[u8]) -> u64
 }
 
 /// The next string, and the place after it.
-#[tactic(auto, unfolding(crate::specs::String::string_of))]
+#[tactic(auto, unfolding(crate::specs::String::string_of_length))]
 pub fn string_of(at: Place<'_>) -> Result<(&[u8], Place<'_>), NarError>
     ensures ok { IfOk result (λ x. ReadsString at.entry.room at.entry.rest.now x.0.now x.1.room x.1.rest.now) }
     ensures err { IfErr result (λ e. string_at at.entry.room at.entry.rest.now ≡ Err e) }
