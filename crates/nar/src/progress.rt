@@ -93,6 +93,18 @@ fn count_of(nest: &Nest, place: Place<'_>) -> Option<Count>
     })
 }
 
+/// How many bytes the string that has begun still wants: those of its length, and then the others. One at least.
+fn wanted(held: &[u8]) -> usize
+    ensures { 0 < result }
+{
+    if held.len() < 8 {
+        return 8 - held.len();
+    }
+    let size = 8 + 8 * ((u128::from(length_at(held)) + 7) / 8);
+    size.saturating_sub(held.len() as u128)
+        .clamp(1, LIMIT as u128) as usize
+}
+
 /// The open nodes, how many bytes the archive may still take, and the string that has begun: its bytes, or
 /// their count.
 #[derive(Drop)]
@@ -167,7 +179,11 @@ impl Progress {
         let mut held = mem::replace(&mut self.held, Vec::new(self.alloc));
         held.extend_from_slice(front)?;
         let rest = self.look(&held)?;
-        if rest.len() < held.len() {
+        if rest.is_empty() {
+            // What was allocated for it serves the next string.
+            held.clear();
+            self.held = held;
+        } else if rest.len() < held.len() {
             self.held.extend_from_slice(rest)?;
         } else {
             self.held = held;
@@ -215,7 +231,7 @@ impl Progress {
                     self.read_on(piece)?;
                     return Ok(&piece[piece.len()..]);
                 }
-                let (front, rest) = piece.split_at(piece.len().min(64));
+                let (front, rest) = piece.split_at(wanted(&self.held).min(piece.len()));
                 self.fill(front)?;
                 Ok(rest)
             }
