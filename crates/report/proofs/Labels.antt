@@ -1,0 +1,120 @@
+-- In a sound world no root puts a line feed into a line.
+use Rattle.std.proofs.Common.{◌≡◌, ℕ, ◌≤◌, List, ◌++◌, length, map, take, drop, slice_index, not, ◌&&◌, ◌==◌, codes, decimal, Some, None, Option, is_some, refl, sym, ap, IsTrue, subst, inl, inr, arith, nat_le, nat_lt, leb-true, eqb-true}
+use Rattle.std.specs.Prelude.{Contains}
+use Rattle.std.specs.List.{list_all, flat_map}
+use Rattle.std.specs.FinMap as finite
+use Rattle.std.specs.Cmp.Lexicographic.{nat_list_cmp_total}
+use Rattle.std.specs.Cmp.{nat_cmp_total}
+use Rattle.std.proofs.lemmas.Bool.{and_parts, false≢true}
+use Rattle.std.proofs.lemmas.List.Elements.{Contains-append_cases}
+use Rattle.paths.specs.Names.{is_plain_name, is_plain_byte, is_store_name, is_store_byte, is_dots, begins}
+use Rattle.paths.specs.StorePath.{is_base_name}
+use Rattle.paths.specs.Base32.{all_digits, value_of}
+use Rattle.paths.specs.Root.{Root, is_runtime_label, is_label_byte}
+use Rattle.live.proofs.Order.{member_ordered}
+use Rattle.tables.specs.World.{Path, Object, World, has, permanent_root, user_root, generation_root, generation_roots, runtime_root, lasting_roots, runtime_roots, roots_of}
+use Rattle.tables.specs.Sound.{IsSound}
+use Rattle.store.proofs.MapMembers.{pair_total, listed_key}
+use Rattle.store.proofs.Filtered.{from_mapped}
+use Rattle.report.specs.Laws.{lacks}
+use Rattle.report.proofs.Lacking.{lacks_failing, lacks_both, lacks-decimal, lacks_pieces}
+use Rattle.report.proofs.Entries.{from_joined, value_of as entry_at}
+
+-- ---- names
+
+pub plain_lacks : (name : List ℕ) → IsTrue (is_plain_name name) → IsTrue (lacks 10 name)
+plain_lacks name h = lacks_failing is_plain_byte 10 refl name (and_parts (nat_le 1 (length name) && nat_le (length name) 64 && not (slice_index name 0 == 45)) (list_all is_plain_byte name) h).1
+
+label_lacks : (label : List ℕ) → IsTrue (is_runtime_label label) → IsTrue (lacks 10 label)
+label_lacks label h = lacks_failing is_label_byte 10 refl label (and_parts (nat_le 1 (length label) && nat_le (length label) 256) (list_all is_label_byte label) h).1
+
+store_name_lacks : (name : List ℕ) → IsTrue (is_store_name name) → IsTrue (lacks 10 name)
+store_name_lacks name h =
+    let a = and_parts (nat_le 1 (length name) && nat_le (length name) 211 && list_all is_store_byte name && not (is_dots name) && not (begins name (codes ".-"))) (not (begins name (codes "..-"))) h in
+    let b = and_parts (nat_le 1 (length name) && nat_le (length name) 211 && list_all is_store_byte name && not (is_dots name)) (not (begins name (codes ".-"))) a.0 in
+    let c = and_parts (nat_le 1 (length name) && nat_le (length name) 211 && list_all is_store_byte name) (not (is_dots name)) b.0 in
+    lacks_failing is_store_byte 10 refl name (and_parts (nat_le 1 (length name) && nat_le (length name) 211) (list_all is_store_byte name) c.0).1
+
+digits_lack : (text : List ℕ) → IsTrue (all_digits text) → IsTrue (lacks 10 text)
+unfolding value_of
+digits_lack text h = lacks_failing (λ c. nat_lt (value_of c) 32) 10 refl text h
+
+dash : (b : ℕ) → IsTrue (b == 45) → IsTrue (not (b == 10))
+dash b h = subst (λ (c : ℕ). IsTrue (not (c == 10))) (sym (eqb-true b 45 h)) refl
+
+pub base_lacks : (p : Path) → IsTrue (is_base_name p) → IsTrue (lacks 10 p)
+base_lacks p h =
+    let a = and_parts (nat_le 34 (length p) && all_digits (take 32 p) && (slice_index p 32 == 45)) (is_store_name (drop 33 p)) h in
+    let b = and_parts (nat_le 34 (length p) && all_digits (take 32 p)) (slice_index p 32 == 45) a.0 in
+    let c = and_parts (nat_le 34 (length p)) (all_digits (take 32 p)) b.0 in
+    let long : 34 ≤ length p = leb-true 34 (length p) c.0 in
+    lacks_pieces 10 p 32 (omega (arith, long)) (digits_lack (take 32 p) c.1) (dash (slice_index p 32) b.1) (store_name_lacks (drop 33 p) a.1)
+
+-- ---- roots
+
+-- a root whose label and target lack a line feed
+abbrev pub Unbroken : Root → Type 0
+Unbroken r = IsTrue (lacks 10 r.label) × IsTrue (lacks 10 r.target)
+
+module _ (dir : List ℕ) (w : World) (sound : IsSound dir w) where
+  there : (p : Path) (o : Option Object) → finite.get w.objects p ≡ o → IsTrue (is_some o) → IsTrue (is_base_name p)
+  there p (Some o) e h = (sound.objects p o e).path
+  there p None e h = absurd (false≢true h)
+
+  target_lacks : (p : Path) → IsTrue (has w p) → IsTrue (lacks 10 p)
+  target_lacks p h = base_lacks p (there p (finite.get w.objects p) refl h)
+
+  permanents : (r : Root) → Contains (map permanent_root (finite.entries w.permanent)) r → Unbroken r
+  permanents r c =
+      let x = from_mapped permanent_root (finite.entries w.permanent) r c in
+      let at = entry_at nat_list_cmp_total w.permanent x.0 x.1 in
+      subst Unbroken x.2 (
+        lacks_both 10 (codes "gcroots/") x.0.0 refl (plain_lacks x.0.0 (sound.permanent_name x.0.0 (ap is_some at))),
+        target_lacks x.0.1 (sound.permanent_target x.0.0 x.0.1 at),
+      )
+
+  owned_lacks : (front owner name : List ℕ) → IsTrue (lacks 10 front) → IsTrue (is_plain_name owner) → IsTrue (is_plain_name name) → IsTrue (lacks 10 (front ++ owner ++ codes "/" ++ name))
+  owned_lacks front owner name f o n =
+      lacks_both 10 (front ++ owner ++ codes "/") name (lacks_both 10 (front ++ owner) (codes "/") (lacks_both 10 front owner f (plain_lacks owner o)) refl) (plain_lacks name n)
+
+  users : (r : Root) → Contains (map user_root (finite.entries w.user_roots)) r → Unbroken r
+  users r c =
+      let x = from_mapped user_root (finite.entries w.user_roots) r c in
+      let at = entry_at pair_total w.user_roots x.0 x.1 in
+      subst Unbroken x.2 (
+        owned_lacks (codes "gcroots/per-user/") x.0.0.0 x.0.0.1 refl (sound.user_root_owner x.0.0 (ap is_some at)) (sound.user_root_name x.0.0 (ap is_some at)),
+        target_lacks x.0.1 (sound.user_root_target x.0.0 x.0.1 at),
+      )
+
+  numbered : (front : List ℕ) (n : ℕ) → IsTrue (lacks 10 front) → IsTrue (lacks 10 (front ++ codes "-" ++ decimal n ++ codes "-link"))
+  numbered front n f =
+      lacks_both 10 (front ++ codes "-" ++ decimal n) (codes "-link") (lacks_both 10 (front ++ codes "-") (decimal n) (lacks_both 10 front (codes "-") f refl) (lacks-decimal 10 n (omega arith))) refl
+
+  generations : (r : Root) → Contains (flat_map generation_roots (finite.entries w.profiles)) r → Unbroken r
+  generations r c =
+      let x = from_joined generation_roots (finite.entries w.profiles) r c in
+      let y = from_mapped (generation_root x.0.0) (finite.entries x.0.1.generations) r x.2 in
+      let profile = sound.profiles x.0.0 x.0.1 (entry_at pair_total w.profiles x.0 x.1) in
+      let at = entry_at nat_cmp_total x.0.1.generations y.0 y.1 in
+      subst Unbroken y.2 (
+        numbered (codes "profiles/per-user/" ++ x.0.0.0 ++ codes "/" ++ x.0.0.1) y.0.0 (owned_lacks (codes "profiles/per-user/") x.0.0.0 x.0.0.1 refl profile.owner profile.name),
+        target_lacks y.0.1 (profile.targets y.0.0 y.0.1 at),
+      )
+
+  runtimes : (r : Root) → Contains (runtime_roots w) r → Unbroken r
+  runtimes r c =
+      let x = from_mapped runtime_root (finite.keys w.runtime) r c in
+      let at = listed_key pair_total w.runtime x.0 x.1 in
+      subst Unbroken x.2 (label_lacks x.0.0 (sound.runtime_label x.0 at), target_lacks x.0.1 (sound.runtime_target x.0 at))
+
+  pub unbroken : (r : Root) → Contains (roots_of w) r → Unbroken r
+  unbroken r c = elim (Contains-append_cases (lasting_roots w) (runtime_roots w) r (member_ordered (lasting_roots w ++ runtime_roots w) r c)) as (λ _. Unbroken r) [
+    | inl lasting ↦ elim (Contains-append_cases (map permanent_root (finite.entries w.permanent) ++ map user_root (finite.entries w.user_roots)) (flat_map generation_roots (finite.entries w.profiles)) r lasting) as (λ _. Unbroken r) [
+      | inl named ↦ elim (Contains-append_cases (map permanent_root (finite.entries w.permanent)) (map user_root (finite.entries w.user_roots)) r named) as (λ _. Unbroken r) [
+        | inl here ↦ permanents r here
+        | inr here ↦ users r here
+      ]
+      | inr here ↦ generations r here
+    ]
+    | inr here ↦ runtimes r here
+  ]

@@ -1,0 +1,8 @@
+pub mod Lacking
+pub mod Table
+pub mod Entries
+pub mod Labels
+pub mod Stops
+pub mod InTable
+pub mod Listings
+pub mod Worked

@@ -1,0 +1,51 @@
+-- Worked texts, by computation, and the usage of a store that was just made.
+use Rattle.std.proofs.Common.{◌≡◌, ℕ, List, [], ◌∷◌, length, map, not, refl, sym, ap, ◌∙◌, arith}
+use Rattle.std.specs.Fmt.{digits}
+use Rattle.std.specs.List.{filter}
+use Rattle.std.specs.FinMap as finite
+use Rattle.std.specs.declared.cmp.Ordering.{Ordering}
+use Rattle.paths.specs.Base32.{base32, digits_of}
+use Rattle.tables.specs.World.{Path, no_world, all_paths}
+use Rattle.store.specs.Reply.{usage}
+use Rattle.store.specs.Liveness.{lives, usage_of}
+use Rattle.report.specs.Replies.{answer_text}
+use Rattle.report.specs.Laws.{ANewStoreUsesNothing}
+use Rattle.report.specs.Worked.{HasWorkedDenials, HasWorkedRefusals, HasWorkedAnswers, HasWorkedUsage, HasWorkedNarinfo}
+
+pub denials : HasWorkedDenials
+denials = record { connect = refl; hidden = refl; seen = refl }
+
+pub refusals : HasWorkedRefusals
+unfolding digits
+refusals = record { not_valid = refl; archive = refl; configuration = refl; head = refl; body = refl; memory = refl; size = refl; disk = refl }
+
+pub answers : HasWorkedAnswers
+unfolding digits
+answers = record { path = refl; none = refl; two = refl; roots = refl; changed = refl; generation = refl; runtime = refl; nothing = refl; freed = refl }
+
+pub usages : HasWorkedUsage
+unfolding digits
+usages = record { two = refl; wide = refl }
+
+pub record_text : HasWorkedNarinfo
+unfolding digits base32 digits_of
+record_text = record { source = refl; derived = refl }
+
+-- ---- a store that was just made
+
+no_length : {A : Type 0} (xs : List A) → length xs ≡ 0 → xs ≡ []
+no_length [] e = refl
+no_length (x ∷ xs) e = absurd (omega arith)
+
+no_entries : {K : Type 0} (X : Type 0) (R : K → K → Ordering) → finite.entries (finite.empty {X = X} {R = R}) ≡ []
+no_entries X R = no_length (finite.entries (finite.empty {X = X} {R = R})) (sym (finite.len-entries finite.empty) ∙ finite.len-empty R X)
+
+no_paths : all_paths no_world ≡ []
+no_paths = ap (map (λ e. e.0)) (no_entries _ _)
+
+pub new_store : ANewStoreUsesNothing
+unfolding digits
+new_store s c = ap text no_paths
+  where
+    text : List Path → List ℕ
+    text ps = answer_text s.store_dir (usage (usage_of no_world (filter (lives s no_world) ps)) (usage_of no_world (filter (λ p. not (lives s no_world p)) ps)) (usage_of no_world ps))

@@ -1,0 +1,118 @@
+-- Laws of the texts.
+use Rattle.std.specs.Prelude.{◌≡◌, ℕ, Bool, not, ◌&&◌, ◌==◌, List, [], ◌∷◌, ◌++◌, codes, IsTrue, is_some}
+use Rattle.std.specs.List.{list_all}
+use Rattle.tables.specs.World.{Path, Pair, World, no_world}
+use Rattle.tables.specs.Sound.{IsSound}
+use Rattle.policy.specs.Settings.{Settings}
+use Rattle.policy.specs.Caller.{Caller}
+use Rattle.policy.specs.declared.error.KeyWord.TheVariants.{Syntax}
+use Rattle.store.specs.Request.{Request, report}
+use Rattle.store.specs.Reply.{Refusal as Refused, Reply, refused}
+use Rattle.store.specs.Answers.{answer}
+use Rattle.store.specs.Step.{Step}
+use Rattle.store.specs.Laws.{IsDone}
+use Rattle.store.specs.Soundness.{IsWellFormed}
+use Rattle.report.specs.declared.refusal.Refusal.{Refusal}
+use Rattle.report.specs.declared.refusal.Refusal.TheVariants.{Truncated, BadTag, BadPadding, BadName, NotSorted, TooDeep, Trailing, TooLarge, BadDigit, BadLength, Overflow, BadStoreName, BadStoreDir, BadStorePath, BadCa, CaMismatch, BadDerivation, DoubleOutput, BadConfig, BadCaller, BadSchema, OtherStoreDir, NotValid, MissingReference, NarHashMismatch, SelfReference, NoRoot, NoProfile, NoGeneration, CurrentGeneration, NoOlderGeneration, GenerationLimit, TooManyReferences, BadRootName, BadLabel, BadHead, BadBodyLength, BodyTooLarge, NoRoute, BadMethod, BadBodyHead}
+use Rattle.report.specs.Refusals.{refusal_line}
+use Rattle.report.specs.Stops.{entry}
+use Rattle.report.specs.Replies.{paths_text, roots_text, answer_text, reply_text}
+
+-- ---- the table
+
+-- the refusals in the order of the table
+abbrev pub refusals : List Refusal
+refusals =
+    Truncated
+    ∷ BadTag
+    ∷ BadPadding
+    ∷ BadName
+    ∷ NotSorted
+    ∷ TooDeep
+    ∷ Trailing
+    ∷ TooLarge
+    ∷ BadDigit
+    ∷ BadLength
+    ∷ Overflow
+    ∷ BadStoreName
+    ∷ BadStoreDir
+    ∷ BadStorePath
+    ∷ BadCa
+    ∷ CaMismatch
+    ∷ BadDerivation
+    ∷ DoubleOutput
+    ∷ BadConfig Syntax
+    ∷ BadCaller
+    ∷ BadSchema
+    ∷ OtherStoreDir
+    ∷ NotValid
+    ∷ MissingReference
+    ∷ NarHashMismatch
+    ∷ SelfReference
+    ∷ NoRoot
+    ∷ NoProfile
+    ∷ NoGeneration
+    ∷ CurrentGeneration
+    ∷ NoOlderGeneration
+    ∷ GenerationLimit
+    ∷ TooManyReferences
+    ∷ BadRootName
+    ∷ BadLabel
+    ∷ BadHead
+    ∷ BadBodyLength
+    ∷ BodyTooLarge
+    ∷ NoRoute
+    ∷ BadMethod
+    ∷ BadBodyHead
+    ∷ []
+
+-- two refusals with one line are the same
+abbrev pub RefusalsDiffer : Type 0
+RefusalsDiffer = (a b : Refusal) → refusal_line a ≡ refusal_line b → a ≡ b
+
+-- Every refusal of a step stands in the table: none is for want of memory.
+abbrev pub RefusalsAreInTheTable : Type 0
+RefusalsAreInTheTable = (s : Settings) (w : World) (c : Caller) (q : Request) (r : Refused) (new : World)
+    → IsWellFormed q → Step s w c q (refused r) new → IsTrue (is_some (entry r))
+
+-- ---- lines
+
+-- no byte of the text is this one
+abbrev pub lacks : ℕ → List ℕ → Bool
+lacks byte text = list_all (λ b. not (b == byte)) text
+
+-- a line: a line feed (10) ends it, and none stands before
+pub record IsLine (text : List ℕ) : Type 0 where
+  pub front : List ℕ
+  pub ends : text ≡ front ++ codes "\n"
+  pub one : IsTrue (lacks 10 front)
+
+abbrev pub RefusalsAreLines : Type 0
+RefusalsAreLines = (r : Refusal) → IsLine (refusal_line r)
+
+-- In a sound world every reply that isn't done is one line: no name, path or label puts a line feed into it.
+abbrev pub StopsAreLines : Type 0
+StopsAreLines = (s : Settings) (w : World) (c : Caller) (q : Request) (reply : Reply) (new : World)
+    → IsTrue (lacks 10 s.store_dir) → IsSound s.store_dir w → Step s w c q reply new → (IsDone reply → ⊥)
+    → IsLine (reply_text s.store_dir reply)
+
+-- ---- listings
+
+-- each path lacks a line feed
+abbrev pub are_unbroken : List Path → Bool
+are_unbroken ps = list_all (lacks 10) ps
+
+-- no label has a space (32), and no target a line feed
+abbrev pub are_plain : List Pair → Bool
+are_plain roots = list_all (λ r. lacks 32 r.0 && lacks 10 r.1) roots
+
+-- lists of paths or of roots with one text are the same
+pub record ListingsDiffer (dir : List ℕ) : Type 0 where
+  pub paths : (a b : List Path) → IsTrue (are_unbroken a) → IsTrue (are_unbroken b) → paths_text dir a ≡ paths_text dir b → a ≡ b
+  pub roots : (a b : List Pair) → IsTrue (are_plain a) → IsTrue (are_plain b) → roots_text dir a ≡ roots_text dir b → a ≡ b
+
+-- ---- a store that was just made
+
+abbrev pub ANewStoreUsesNothing : Type 0
+ANewStoreUsesNothing = (s : Settings) (c : Caller) → answer_text s.store_dir (answer s no_world c report)
+    ≡ codes "class       paths            bytes\nlive            0                0\ndead            0                0\ntotal           0                0\n"

@@ -1,0 +1,7 @@
+pub mod Refusals
+pub mod Stops
+pub mod Narinfo
+pub mod Usage
+pub mod Replies
+pub mod Laws
+pub mod Worked

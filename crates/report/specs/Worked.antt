@@ -1,0 +1,66 @@
+-- Worked texts, line by line.
+use Rattle.std.specs.Prelude.{◌≡◌, ℕ, List, [], ◌∷◌, codes, Some, None}
+use Rattle.nar.specs.declared.error.NarError.TheVariants.{NotSorted}
+use Rattle.paths.specs.declared.content_address.Method.TheVariants.{Source}
+use Rattle.policy.specs.declared.error.KeyWord.TheVariants.{StoreDir}
+use Rattle.policy.specs.declared.kinds.Rule.TheVariants.{Connect, Live}
+use Rattle.store.specs.Reply.{path, paths, roots, changed, generation, runtime_count, freed, usage, done, denied, refused, failed, archive, not_valid, memory, size, disk}
+use Rattle.report.specs.declared.refusal.Refusal.TheVariants.{BadConfig, BadHead, BadBodyLength}
+use Rattle.report.specs.Refusals.{refusal_line}
+use Rattle.report.specs.Narinfo.{narinfo}
+use Rattle.report.specs.Replies.{reply_text}
+
+-- a store directory, and two base names in it
+abbrev pub dir : List ℕ
+dir = codes "/nix/store"
+
+abbrev pub p : List ℕ
+p = codes "00000000000000000000000000000000-p"
+
+abbrev pub x : List ℕ
+x = codes "11111111111111111111111111111111-x"
+
+-- a rule; a live path, to a caller who sees no runtime label and to one who does
+pub record HasWorkedDenials : Type 0 where
+  pub connect : reply_text dir (denied Connect None) ≡ codes "denied: connect\n"
+  pub hidden : reply_text dir (denied Live (Some (codes "{censored}", x))) ≡ codes "denied: live {censored} /nix/store/11111111111111111111111111111111-x\n"
+  pub seen : reply_text dir (denied Live (Some (codes "/proc/2/exe", x))) ≡ codes "denied: live /proc/2/exe /nix/store/11111111111111111111111111111111-x\n"
+
+pub record HasWorkedRefusals : Type 0 where
+  pub not_valid : reply_text dir (refused not_valid) ≡ codes "refused: 23 not-valid\n"
+  pub archive : reply_text dir (refused (archive NotSorted)) ≡ codes "refused: 5 not-sorted\n"
+  pub configuration : refusal_line (BadConfig StoreDir) ≡ codes "refused: 19 bad-config store-dir\n"
+  pub head : refusal_line BadHead ≡ codes "refused: 36 bad-head\n"
+  pub body : refusal_line BadBodyLength ≡ codes "refused: 37 bad-length\n"
+  pub memory : reply_text dir (failed memory) ≡ codes "failed: memory\n"
+  pub size : reply_text dir (failed size) ≡ codes "failed: size\n"
+  pub disk : reply_text dir (failed disk) ≡ codes "failed: disk\n"
+
+pub record HasWorkedAnswers : Type 0 where
+  pub path : reply_text dir (done (path p)) ≡ codes "/nix/store/00000000000000000000000000000000-p\n"
+  pub none : reply_text dir (done (paths [])) ≡ []
+  pub two : reply_text dir (done (paths (p ∷ x ∷ []))) ≡ codes "/nix/store/00000000000000000000000000000000-p\n/nix/store/11111111111111111111111111111111-x\n"
+  pub roots : reply_text dir (done (roots ((codes "a", p) ∷ (codes "b", p) ∷ []))) ≡ codes "a /nix/store/00000000000000000000000000000000-p\nb /nix/store/00000000000000000000000000000000-p\n"
+  pub changed : reply_text dir (done changed) ≡ codes "done\n"
+  pub generation : reply_text dir (done (generation 2)) ≡ codes "generation 2\n"
+  pub runtime : reply_text dir (done (runtime_count 1)) ≡ codes "runtime roots 1\n"
+  pub nothing : reply_text dir (done (freed [] 0)) ≡ codes "freed 0 paths 0 bytes\n"
+  pub freed : reply_text dir (done (freed (p ∷ x ∷ []) 224)) ≡ codes "/nix/store/00000000000000000000000000000000-p\n/nix/store/11111111111111111111111111111111-x\nfreed 2 paths 224 bytes\n"
+
+-- a live path of 112 bytes beside a dead one of 208; numbers wider than their columns
+pub record HasWorkedUsage : Type 0 where
+  pub two : reply_text dir (done (usage (record { paths = 1; bytes = 112 }) (record { paths = 1; bytes = 208 }) (record { paths = 2; bytes = 320 })))
+      ≡ codes "class       paths            bytes\nlive            1              112\ndead            1              208\ntotal           2              320\n"
+  pub wide : reply_text dir (done (usage (record { paths = 12345678901; bytes = 12345678901234567 }) (record { paths = 0; bytes = 0 }) (record { paths = 12345678901; bytes = 12345678901234567 })))
+      ≡ codes "class       paths            bytes\nlive   12345678901 12345678901234567\ndead            0                0\ntotal  12345678901 12345678901234567\n"
+
+-- the digest of the archive of a file with the contents `mycontent` and a line feed
+abbrev pub digest : List ℕ
+digest = 43 ∷ 254 ∷ 246 ∷ 125 ∷ 232 ∷ 115 ∷ 197 ∷ 69 ∷ 81 ∷ 216 ∷ 132 ∷ 253 ∷ 171 ∷ 48 ∷ 85 ∷ 216 ∷ 77 ∷ 87 ∷ 62 ∷ 101 ∷ 78 ∷ 250 ∷ 121 ∷ 219 ∷ 60 ∷ 13 ∷ 123 ∷ 152 ∷ 136 ∷ 63 ∷ 158 ∷ 227 ∷ []
+
+-- that file as a source object named `myfile`; and at another path, with references and a deriver
+pub record HasWorkedNarinfo : Type 0 where
+  pub source : narinfo dir (record { path = codes "xv2iccirbrvklck36f1g7vldn5v58vck-myfile"; hash = digest; size = 128; references = []; deriver = None; ca = Some (record { method = Source; digest = digest }) })
+      ≡ codes "StorePath: /nix/store/xv2iccirbrvklck36f1g7vldn5v58vck-myfile\nURL: nar/xv2iccirbrvklck36f1g7vldn5v58vck-myfile\nCompression: none\nFileHash: sha256:1qwy7y49hyqd7kdpkyjfclz5fkfqalqapzc4v18lbibkx1yzdzib\nFileSize: 128\nNarHash: sha256:1qwy7y49hyqd7kdpkyjfclz5fkfqalqapzc4v18lbibkx1yzdzib\nNarSize: 128\nReferences: \nCA: fixed:r:sha256:1qwy7y49hyqd7kdpkyjfclz5fkfqalqapzc4v18lbibkx1yzdzib\n"
+  pub derived : narinfo dir (record { path = x; hash = digest; size = 128; references = p ∷ x ∷ []; deriver = Some (codes "22222222222222222222222222222222-y.drv"); ca = None })
+      ≡ codes "StorePath: /nix/store/11111111111111111111111111111111-x\nURL: nar/11111111111111111111111111111111-x\nCompression: none\nFileHash: sha256:1qwy7y49hyqd7kdpkyjfclz5fkfqalqapzc4v18lbibkx1yzdzib\nFileSize: 128\nNarHash: sha256:1qwy7y49hyqd7kdpkyjfclz5fkfqalqapzc4v18lbibkx1yzdzib\nNarSize: 128\nReferences: 00000000000000000000000000000000-p 11111111111111111111111111111111-x\nDeriver: 22222222222222222222222222222222-y.drv\n"

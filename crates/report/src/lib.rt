@@ -1,0 +1,12 @@
+//! The texts that answer requests: the definitions, and the laws that hold of them.
+#![tactic(auto)]
+
+mod laws;
+mod refusal;
+
+pub use laws::{
+    a_new_store_uses_nothing, listings_lose_nothing, numbers_are_one_to_forty_one,
+    refusals_are_in_the_table, refusals_differ, stops_are_lines, worked_lines, worked_narinfo,
+    worked_usage,
+};
+pub use refusal::Refusal;
