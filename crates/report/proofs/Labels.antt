@@ -14,11 +14,10 @@ use Rattle.paths.specs.Root.{Root, is_runtime_label, is_label_byte}
 use Rattle.live.proofs.Order.{member_ordered}
 use Rattle.tables.specs.World.{Path, Object, World, has, permanent_root, user_root, generation_root, generation_roots, runtime_root, lasting_roots, runtime_roots, roots_of}
 use Rattle.tables.specs.Sound.{IsSound}
-use Rattle.store.proofs.MapMembers.{pair_total, listed_key}
-use Rattle.store.proofs.Filtered.{from_mapped}
+use Rattle.store.proofs.MapMembers.{pair_total, listed_key, listed_entry}
+use Rattle.store.proofs.Filtered.{from_mapped, from_joined}
 use Rattle.report.specs.Laws.{lacks}
 use Rattle.report.proofs.Lacking.{lacks_failing, lacks_both, lacks-decimal, lacks_pieces}
-use Rattle.report.proofs.Entries.{from_joined, value_of as entry_at}
 
 -- ---- names
 
@@ -67,7 +66,7 @@ module _ (dir : List ℕ) (w : World) (sound : IsSound dir w) where
   permanents : (r : Root) → Contains (map permanent_root (finite.entries w.permanent)) r → Unbroken r
   permanents r c =
       let x = from_mapped permanent_root (finite.entries w.permanent) r c in
-      let at = entry_at nat_list_cmp_total w.permanent x.0 x.1 in
+      let at = listed_entry nat_list_cmp_total w.permanent x.0 x.1 in
       subst Unbroken x.2 (
         lacks_both 10 (codes "gcroots/") x.0.0 refl (plain_lacks x.0.0 (sound.permanent_name x.0.0 (ap is_some at))),
         target_lacks x.0.1 (sound.permanent_target x.0.0 x.0.1 at),
@@ -80,7 +79,7 @@ module _ (dir : List ℕ) (w : World) (sound : IsSound dir w) where
   users : (r : Root) → Contains (map user_root (finite.entries w.user_roots)) r → Unbroken r
   users r c =
       let x = from_mapped user_root (finite.entries w.user_roots) r c in
-      let at = entry_at pair_total w.user_roots x.0 x.1 in
+      let at = listed_entry pair_total w.user_roots x.0 x.1 in
       subst Unbroken x.2 (
         owned_lacks (codes "gcroots/per-user/") x.0.0.0 x.0.0.1 refl (sound.user_root_owner x.0.0 (ap is_some at)) (sound.user_root_name x.0.0 (ap is_some at)),
         target_lacks x.0.1 (sound.user_root_target x.0.0 x.0.1 at),
@@ -94,8 +93,8 @@ module _ (dir : List ℕ) (w : World) (sound : IsSound dir w) where
   generations r c =
       let x = from_joined generation_roots (finite.entries w.profiles) r c in
       let y = from_mapped (generation_root x.0.0) (finite.entries x.0.1.generations) r x.2 in
-      let profile = sound.profiles x.0.0 x.0.1 (entry_at pair_total w.profiles x.0 x.1) in
-      let at = entry_at nat_cmp_total x.0.1.generations y.0 y.1 in
+      let profile = sound.profiles x.0.0 x.0.1 (listed_entry pair_total w.profiles x.0 x.1) in
+      let at = listed_entry nat_cmp_total x.0.1.generations y.0 y.1 in
       subst Unbroken y.2 (
         numbered (codes "profiles/per-user/" ++ x.0.0.0 ++ codes "/" ++ x.0.0.1) y.0.0 (owned_lacks (codes "profiles/per-user/") x.0.0.0 x.0.0.1 refl profile.owner profile.name),
         target_lacks y.0.1 (profile.targets y.0.0 y.0.1 at),

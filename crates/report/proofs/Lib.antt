@@ -1,6 +1,5 @@
 pub mod Lacking
 pub mod Table
-pub mod Entries
 pub mod Labels
 pub mod Stops
 pub mod InTable

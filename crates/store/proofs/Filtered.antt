@@ -3,7 +3,7 @@ use Rattle.std.proofs.Common.{◌≡◌, List, [], ◌∷◌, ◌++◌, map, Boo
 use Rattle.std.specs.Prelude.{Contains}
 use Rattle.std.specs.List.{filter, flat_map}
 use Rattle.std.proofs.lemmas.Bool.{false≢true}
-use Rattle.std.proofs.lemmas.List.Elements.{Contains-append_left, Contains-append_right}
+use Rattle.std.proofs.lemmas.List.Elements.{Contains-append_left, Contains-append_right, Contains-append_cases}
 use Rattle.live.proofs.Members.{at_head, behind, cases, no_member}
 
 module _ {X Y : Type 0} (f : X → Y) where
@@ -26,6 +26,13 @@ in_joined f [] x y c d = absurd (no_member x c)
 in_joined f (z ∷ zs) x y c d = elim (cases z x zs c) as (λ _. Contains (f z ++ flat_map f zs) y) [
   | inl e ↦ Contains-append_left (f z) (flat_map f zs) y (subst (λ u. Contains (f u) y) (sym e) d)
   | inr later ↦ Contains-append_right (f z) (flat_map f zs) y (in_joined f zs x y later d)
+]
+
+pub from_joined : {X Y : Type 0} (f : X → List Y) (xs : List X) (y : Y) → Contains (flat_map f xs) y → (x : X) × Contains xs x × Contains (f x) y
+from_joined f [] y c = absurd (no_member y c)
+from_joined {X} {Y} f (z ∷ zs) y c = elim (Contains-append_cases (f z) (flat_map f zs) y c) as (λ _. (x : X) × Contains (z ∷ zs) x × Contains (f x) y) [
+  | inl here ↦ (z, at_head z zs, here)
+  | inr later ↦ let rest = from_joined f zs y later in (rest.0, behind z rest.0 zs rest.1, rest.2)
 ]
 
 module _ {X : Type 0} (p : X → Bool) where

@@ -1,7 +1,9 @@
-pub mod MapMembers
 pub mod Filtered
+pub mod MapMembers
 pub mod Worlds
 pub mod EveryRoot
+pub mod WorldLives
+pub mod Usages
 pub mod Answered
 pub mod Unique
 pub mod Pins

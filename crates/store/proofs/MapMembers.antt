@@ -1,17 +1,19 @@
 -- The keys and entries of finite maps as members of lists.
-use Rattle.std.proofs.Common.{◌≡◌, List, [], ◌∷◌, Bool, true, false, cond, Some, None, refl, sym, ap, ◌∙◌, IsTrue, subst, inl, inr, ◌⊎◌}
+use Rattle.std.proofs.Common.{◌≡◌, List, [], ◌∷◌, Bool, true, false, cond, Some, None, refl, sym, ap, ◌∙◌, IsTrue, subst, inl, inr, ◌⊎◌, T}
 use Rattle.std.specs.Prelude.{Contains, is_some}
 use Rattle.std.specs.declared.cmp.Ordering.{Ordering}
-use Rattle.std.specs.Ordering.{eq_by_cmp, is_eq}
+use Rattle.std.specs.declared.cmp.Ordering.TheVariants.{Less}
+use Rattle.std.specs.Ordering.{eq_by_cmp, is_eq, ordering_reverse}
 use Rattle.std.specs.Cmp.{IsTotalOrder, Equal-is, tied_itself, then_total}
 use Rattle.std.specs.Cmp.Lexicographic.{on_texts}
 use Rattle.std.specs.FinMap as finite
-use Rattle.std.specs.FinMap.Entries.{find as find_entry}
+use Rattle.std.specs.FinMap.Entries.{find as find_entry, is_sorted, below_all}
 use Rattle.std.proofs.lemmas.Bool.{false≢true}
 use Rattle.paths.specs.Root.{bytes_cmp, set_of}
 use Rattle.tables.specs.World.{Pair, pair_cmp}
-use Rattle.live.proofs.Members.{any_from, some_of_any, at_head, behind}
+use Rattle.live.proofs.Members.{any_from, some_of_any, at_head, behind, cases, no_member, both_T, below}
 use Rattle.live.proofs.Order.{both_equal, contains_key-set_of}
+use Rattle.store.proofs.Filtered.{in_mapped}
 
 -- ---- the orders of keys
 
@@ -59,6 +61,23 @@ module _ {K X : Type 0} {R : K → K → Ordering} where
 
   pub entry_listed : finite.IsAntisymmetric R → (m : finite.FinMap R X) (k : K) (x : X) → finite.get m k ≡ Some x → Contains (finite.entries m) (k, x)
   entry_listed same m k x e = entry_found same (finite.entries m) k x (sym (finite.get-entries m k) ∙ e)
+
+above : {K : Type 0} {R : K → K → Ordering} → IsTotalOrder R → (k q : K) → R q k ≡ Less → eq_by_cmp R k q ≡ false
+above o k q less = ap is_eq (o.antisymm k q ∙ ap ordering_reverse less)
+
+module _ {K X : Type 0} {R : K → K → Ordering} (o : IsTotalOrder R) where
+  entry_value : (es : List (K × X)) → T (is_sorted R es) → (e : K × X) → Contains es e → find_entry R e.0 es ≡ Some e.1
+  entry_value [] sorted e c = absurd (no_member e c)
+  entry_value (d ∷ es) sorted e c =
+      let parts = both_T (below_all R d.0 es) (is_sorted R es) sorted in
+      elim (cases d e es c) as (λ _. cond (eq_by_cmp R e.0 d.0) (Some d.1) (find_entry R e.0 es) ≡ Some e.1) [
+        | inl is ↦ subst (λ u. cond (eq_by_cmp R u.0 d.0) (Some d.1) (find_entry R u.0 es) ≡ Some u.1) is (ap (λ b. cond b (Some d.1) (find_entry R d.0 es)) (ap is_eq (tied_itself o d.0)))
+        | inr later ↦ ap (λ b. cond b (Some d.1) (find_entry R e.0 es)) (above o e.0 d.0 (below o d.0 e.0 es parts.0 (in_mapped (λ (u : K × X). u.0) es e later))) ∙ entry_value es parts.1 e later
+      ]
+
+  -- an entry that is listed is the value at its key
+  pub listed_entry : (m : finite.FinMap R X) (e : K × X) → Contains (finite.entries m) e → finite.get m e.0 ≡ Some e.1
+  listed_entry m e c = finite.get-entries m e.0 ∙ entry_value (finite.entries m) (finite.entries_sorted m) e c
 
 -- ---- what a map holds after a change
 

@@ -1,14 +1,19 @@
 -- Laws of steps and runs.
-use Rattle.std.specs.Prelude.{◌≡◌, ℕ, Bool, false, List, [], ◌∷◌, Some, IsTrue, IsFalse, Contains}
+use Rattle.std.specs.Prelude.{◌≡◌, ◌↔◌, ◌⊎◌, ℕ, ◌+◌, Bool, false, List, [], ◌∷◌, slice_get, Some, option_map, IsTrue, IsFalse, Contains}
 use Rattle.std.specs.FinMap as finite
 use Rattle.paths.specs.Root.{Root}
 use Rattle.live.specs.Reach.{Reaches}
-use Rattle.tables.specs.World.{Path, Pair, Object, Profile, World, has, permanent_root, user_root, generation_root, runtime_root, roots_of}
+use Rattle.live.specs.Live.{IsLive, IsDead}
+use Rattle.live.specs.Laws.{HasFirstRoot}
+use Rattle.tables.specs.World.{Path, Pair, Object, Profile, World, has, permanent_root, user_root, generation_root, runtime_root, roots_of, all_paths}
+use Rattle.tables.specs.Sound.{IsSound}
 use Rattle.policy.specs.Settings.{Settings}
 use Rattle.policy.specs.Caller.{Caller}
+use Rattle.policy.specs.Class.{class_of}
 use Rattle.store.specs.Request.{Request, collect, delete}
-use Rattle.store.specs.Reply.{Reply, done, denied, refused, failed, freed}
-use Rattle.store.specs.Liveness.{graph_of, keep_of, lives}
+use Rattle.store.specs.Reply.{Reply, done, denied, refused, failed, freed, Usage}
+use Rattle.store.specs.Liveness.{graph_of, keep_of, lives, live_paths, dead_paths, first_root_of, roots_that_keep}
+use Rattle.store.specs.Seen.{seen, seen_root}
 use Rattle.store.specs.Step.{Step, Run}
 
 abbrev pub IsDone : Reply → Type 0
@@ -49,6 +54,31 @@ IsAnswered = (s : Settings) (w : World) (c : Caller) (q : Request) → (reply : 
 abbrev pub RunsEndAlike : Type 0
 RunsEndAlike = (s : Settings) (w new1 new2 : World) (calls : List (Caller × Request)) (replies : List Reply)
     → Run s w calls replies new1 → Run s w calls replies new2 → new1 ≡ new2
+
+-- ---- what lives
+
+-- what is said of a path: the test of a live path is right; it is listed as live or as dead where it is, and what is valid is one
+-- of the two; a live path has a first root, whose target reaches it and that of no lesser root does, and any other has none
+pub record LivesAsSaid (s : Settings) (w : World) (p : Path) : Type 0 where
+  pub decided : IsTrue (lives s w p) ↔ IsLive (keep_of s) (graph_of w) (roots_of w) p
+  pub live : Contains (live_paths s w) p ↔ IsLive (keep_of s) (graph_of w) (roots_of w) p
+  pub dead : Contains (dead_paths s w) p ↔ IsDead (keep_of s) (graph_of w) (roots_of w) p
+  pub parts : Contains (all_paths w) p ↔ (Contains (live_paths s w) p ⊎ Contains (dead_paths s w) p)
+  pub first : HasFirstRoot (keep_of s) (graph_of w) (roots_of w) p
+
+-- In a sound world the target of each root is valid, and so it lives.
+abbrev pub TargetsLive : Type 0
+TargetsLive = (s : Settings) (w : World) → IsSound s.store_dir w → (r : Root) → Contains (roots_of w) r → IsTrue (has w r.target) × IsTrue (lives s w r.target)
+
+-- The first of the roots that a caller is shown for a path is the path's first root.
+abbrev pub FirstIsShownFirst : Type 0
+FirstIsShownFirst = (s : Settings) (w : World) (c : Caller) (p : Path)
+    → slice_get (seen (class_of s c) (roots_that_keep s w p)) 0 ≡ option_map (seen_root (class_of s c)) (first_root_of s w p)
+
+-- live and dead add up to all
+pub record UsageAddsUp (live dead total : Usage) : Type 0 where
+  pub paths : live.paths + dead.paths ≡ total.paths
+  pub bytes : live.bytes + dead.bytes ≡ total.bytes
 
 -- ---- collection and deletion
 

@@ -1,5 +1,5 @@
 -- The law of soundness: a sound world stays sound.
-use Rattle.std.specs.Prelude.{◌≡◌, ℕ, List, [], ◌∷◌, Some, IsTrue}
+use Rattle.std.specs.Prelude.{◌≡◌, List, [], ◌∷◌, Some, IsTrue}
 use Rattle.nar.specs.Tree.{IsBytes}
 use Rattle.paths.specs.Names.{is_store_name}
 use Rattle.paths.specs.StorePath.{is_base_name}

@@ -1,6 +1,8 @@
 //! Laws of the definitions: each is the contract of a function that does nothing.
-ghost use Rattle.tables.specs.World.{World};
-ghost use Rattle.store.specs.Laws.{Collects, HasEachRoot, IsAnswered, IsFunctional, LeavesNoReference, LeavesUnlessDone, Pins, PinsOverRuns, RunsEndAlike};
+ghost use Rattle.policy.specs.Settings.{Settings};
+ghost use Rattle.tables.specs.World.{Path, World, all_paths};
+ghost use Rattle.store.specs.Liveness.{dead_paths, live_paths, usage_of};
+ghost use Rattle.store.specs.Laws.{Collects, FirstIsShownFirst, HasEachRoot, IsAnswered, IsFunctional, LeavesNoReference, LeavesUnlessDone, LivesAsSaid, Pins, PinsOverRuns, RunsEndAlike, TargetsLive, UsageAddsUp};
 ghost use Rattle.store.specs.Labels.{MirrorsRuns, MirrorsSteps, RunsLookAlike};
 ghost use Rattle.store.specs.Soundness.{KeepsSound, RunsKeepSound};
 
@@ -27,6 +29,18 @@ pub fn step_is_total()
 /// The first world, the calls and the replies determine the worlds of a run.
 pub fn runs_end_alike()
     ensures { RunsEndAlike }
+{}
+
+/// What lives in a world: the tests and listings, the first root of a path, and the targets of roots.
+pub fn the_living_are_listed()
+    ensures paths { (s : Settings) (w : World) (p : Path) → LivesAsSaid s w p }
+    ensures targets { TargetsLive }
+    ensures first { FirstIsShownFirst }
+{}
+
+/// Live and dead paths, and their bytes, add up to all.
+pub fn usage_adds_up()
+    ensures { (s : Settings) (w : World) → UsageAddsUp (usage_of w (live_paths s w)) (usage_of w (dead_paths s w)) (usage_of w (all_paths w)) }
 {}
 
 /// A collection keeps exactly what lives, and a second one frees nothing.
