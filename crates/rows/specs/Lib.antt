@@ -4,3 +4,5 @@ pub mod Contents
 pub mod Calls
 pub mod Failures
 pub mod Entries
+pub mod Shapes
+pub mod Finding

@@ -4,7 +4,7 @@ use Rattle.std.specs.List.{list_all, AllByRecursion}
 use Rattle.sqlite_schema.specs.declared.schema.Schema.{Schema}
 use Rattle.sqlite_schema.specs.declared.schema.Table.{Table}
 use Rattle.sqlite_schema.specs.declared.schema.Reference.{Reference}
-use Rattle.sqlite_schema.specs.Names.{table_named, index_named, view_named}
+use Rattle.sqlite_schema.specs.Names.{table_named}
 use Rattle.rows.specs.Forms.{our_tables}
 
 -- the first table of the name is this one, at this place
@@ -29,9 +29,9 @@ is_unreferred s tree = list_all (λ t. list_all (λ r. not (points_at s tree r))
 abbrev pub is_alone : Schema → List ℕ → ℕ → Bool
 is_alone s name tree = list_all (λ t. not (t.tree == tree) || bytes_eq t.name name) s.tables
 
--- no unique index but that of the key keeps rows out of the table
+-- no unique index keeps rows out of the table but that of the key, which compares bytes
 abbrev pub is_unguarded : Schema → ℕ → List ℕ → Bool
-is_unguarded s tree key = list_all (λ i. not (i.is_unique && (i.table == tree)) || bytes_eq i.columns key) s.indexes
+is_unguarded s tree key = list_all (λ i. not (i.is_unique && (i.table == tree)) || (bytes_eq i.columns key && (i.order.digits == 0))) s.indexes
 
 -- the tree of the first table of a name
 abbrev pub tree_named : Schema → List ℕ → ℕ
@@ -48,9 +48,3 @@ pub record Stands (s : Schema) (table : Table) : Type 0 where
 -- all nine stand
 abbrev pub HasTables : Schema → Type 0
 HasTables s = AllByRecursion (Stands s) our_tables
-
--- nothing of the schema has the name
-pub record IsFree (s : Schema) (name : List ℕ) : Type 0 where
-  pub table : table_named s name ≡ None
-  pub index : index_named s name ≡ None
-  pub view : view_named s name ≡ None

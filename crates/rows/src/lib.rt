@@ -3,14 +3,18 @@
 
 mod entry;
 pub mod failure;
+pub mod finding;
+mod form;
 pub mod generations;
 pub mod meta;
+mod nine;
 pub mod objects;
 pub mod outputs;
 pub mod permanent;
 pub mod profiles;
 pub mod references;
 pub mod runtime;
+mod standing;
 mod statement;
 pub mod transaction;
 pub mod user_roots;
