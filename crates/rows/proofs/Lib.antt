@@ -22,3 +22,6 @@ pub mod UserRootLemmas
 pub mod ProfileLemmas
 pub mod GenerationLemmas
 pub mod RuntimeRootLemmas
+pub mod OwnRowids
+pub mod RowidTexts
+pub mod Opened

@@ -61,6 +61,19 @@ pub record Stays (old new : State) : Type 0 where
   pub committed : new.committed ≡ old.committed
   pub mode : new.in_transaction ≡ true
 
+-- A transaction is under way over a schema in which our tables stand, unless a fault has shut the connection.
+pub record IsInside (s : State) : Type 0 where
+  pub has : IsTrue s.is_open → HasTables s.now.schema
+  pub mode : s.in_transaction ≡ true
+
+-- nothing changes
+pub record Rests (old new : State) : Type 0 where
+  pub was_open : IsTrue old.is_open
+  pub is_open : IsTrue new.is_open
+  pub now : new.now ≡ old.now
+  pub committed : new.committed ≡ old.committed
+  pub mode : new.in_transaction ≡ old.in_transaction
+
 -- The transaction was committed: the tables hold what it saw, and so did the last commit leave them.
 pub record IsCommitted (old new : State) : Type 0 where
   pub was_open : IsTrue old.is_open

@@ -11,8 +11,24 @@ ghost use Rattle.rows.specs.Calls.{IsUnderWay};
 use crate::entry::{self, Entry};
 use crate::failure::Failure;
 use sqlite::types::ValueRef;
-use sqlite::{Alter, Transaction};
+use sqlite::{Alter, Row, Transaction};
 use std::alloc::Global;
+
+/// The rows that a query shows.
+pub(crate) fn query<S: Alter>(
+    tx: &mut Transaction<'_, S>,
+    text: &str,
+    params: &[ValueRef<'_>],
+) -> Result<Vec<Row>, Failure>
+    requires { HasCleanDisk (state S.Store tx.old.conn.now) → (state S.Store tx.old.conn.now).in_transaction ≡ true }
+    ensures same_reference { tx.new.conn.ghost_name ≡ tx.old.conn.ghost_name }
+    ensures shown { HasCleanDisk (state S.Store tx.new.conn.now) → IfOk result (λ rows. Shown text.now (bound params.now) (state S.Store tx.old.conn.now) (state S.Store tx.new.conn.now) rows.items) }
+    ensures kept { HasCleanDisk (state S.Store tx.new.conn.now) → KeepsCommit (state S.Store tx.old.conn.now) (state S.Store tx.new.conn.now) }
+    ensures survives { Survives (state S.Store tx.old.conn.now) (state S.Store tx.new.conn.now) (λ _. ⊥) }
+{
+    let rows = tx.query_all(text, params)?;
+    Ok(rows)
+}
 
 /// The entries that a query shows.
 pub(crate) fn select<S: Alter, T: Entry>(
@@ -28,7 +44,7 @@ pub(crate) fn select<S: Alter, T: Entry>(
     ensures failed { HasCleanDisk (state S.Store tx.new.conn.now) → OnErr result (KeepsCommit (state S.Store tx.old.conn.now) (state S.Store tx.new.conn.now)) }
     ensures survives { Survives (state S.Store tx.old.conn.now) (state S.Store tx.new.conn.now) (λ _. ⊥) }
 {
-    let rows = tx.query_all(text, params)?;
+    let rows = query(tx, text, params)?;
     entry::entries(alloc, &rows)
 }
 

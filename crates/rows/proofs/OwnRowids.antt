@@ -1,0 +1,209 @@
+-- That the rowids of a table, as a query shows them, are integers that differ, so each row has its own.
+use Rattle.std.proofs.Common.{◌≡◌, inl, inr, ℕ, suc, ℤ, pos, negsuc, List, [], ◌∷◌, map, flat_map, codes, Bool, true, false, Some, None, Option, Ok, IsTrue, refl, sym, ap, subst, subst₂, ◌∙◌, IsPermutation, length, Less, slice_get}
+use Rattle.std.specs.Prelude.{nat_lt, nat_le, ◌-◌, ◌^◌, option_and_then}
+use Rattle.std.specs.List.{AllByRecursion, IsDistinct, AllAdjacentBelow}
+use Rattle.std.specs.List.Sorted.{IsStrictlySortedBy}
+use Rattle.std.specs.Ordering.{is_eq, eq_by_cmp, int_cmp}
+use Rattle.std.specs.Cmp.{eq_by_cmp_equiv, int_cmp_total}
+use Rattle.std.proofs.lemmas.Bool.{leb-false, lt-ltb}
+use Rattle.std.proofs.lemmas.Map.Keys.{sorted_from_all_adjacent, IsDistinct-from_sorted, IsDistinct-IsPermutation}
+use Rattle.std.proofs.lemmas.List.Sorted.{IsPermutation-map, IsPermutation-sym}
+use Rattle.std.proofs.lemmas.Simd.{map-map}
+use Rattle.sqlite_value.specs.declared.value.Value.{Value}
+use Rattle.sqlite_value.specs.declared.value.Value.TheVariants.{Null, Int}
+use Rattle.sqlite_value.specs.declared.keys.Collation.{Collation}
+use Rattle.sqlite_value.specs.declared.keys.Key.{Key}
+use Rattle.sqlite_value.specs.Order.{Row, column, value_cmp}
+use Rattle.sqlite_value.proofs.OrderLemmas.{value_cmp_total, value_cmp-Int}
+use Rattle.sqlite_trees.specs.Tree.{Trees, rowid}
+use Rattle.sqlite_trees.specs.View.{is_int}
+use Rattle.sqlite_ast.specs.declared.Expr.{Expr, out-Expr}
+use Rattle.sqlite_ast.specs.declared.Expr.TheOpen.{Expr-F, Shown-F}
+use Rattle.sqlite_ast.specs.declared.Shown.{Shown, out-Shown}
+use Rattle.sqlite_sql.specs.Term.{Term, lit, col}
+use Rattle.sqlite_sql.specs.Query.{Query, inner, end, IsAnswer, output, Output}
+use Rattle.sqlite_sql.specs.Program.{overlay}
+use Rattle.sqlite_schema.specs.declared.schema.Column.{Column}
+use Rattle.sqlite_schema.specs.declared.schema.Schema.{Schema}
+use Rattle.sqlite_schema.specs.declared.program.Program.{Program}
+use Rattle.sqlite_schema.specs.declared.command.Command.TheVariants.{Select}
+use Rattle.sqlite_draft.specs.declared.query.Draft.{Draft}
+use Rattle.sqlite_draft.specs.declared.join.Step.TheVariants.{Inner}
+use Rattle.sqlite_draft.specs.Join.{chain}
+use Rattle.sqlite_resolve.specs.declared.scope.Bound.{Bound}
+use Rattle.sqlite_resolve.specs.declared.scope.Found.TheVariants as found_as
+use Rattle.sqlite_resolve.specs.declared.scope.Output.{Output as Out}
+use Rattle.sqlite_resolve.specs.Body.{outputs, shown, heading, is_column, declared}
+use Rattle.sqlite_resolve.specs.Expr.{lower, lower_to, node, opened, passes}
+use Rattle.sqlite_resolve.specs.Lowering.{spend, begin, finish}
+use Rattle.sqlite_resolve.specs.Scope.{Name, Context, find as found_in, column as named_column, term_of}
+use Rattle.sqlite_rules.specs.Lists.{Has}
+use Rattle.sqlite.specs.Effect.{Database}
+use Rattle.sqlite.specs.State.{State, Shown as Answered}
+use Rattle.sqlite.proofs.Callers.{reads_as}
+use Rattle.rows.specs.Forms.{strict}
+use Rattle.rows.specs.Standing.{Stands, HasTables, tree_named}
+use Rattle.rows.specs.Contents.{rows_named}
+use Rattle.rows.specs.Calls.{IsKeyed, IsInside, Rests}
+use Rattle.rows.proofs.Means.{means_command, plain_state}
+use Rattle.rows.proofs.Scans.{IsScan, scan_complete, kept, listed, shown_same}
+use Rattle.rows.proofs.Statements.{Compiles}
+use Rattle.rows.proofs.Writes.{overlay_low}
+
+-- ---- what the text means
+
+pub below : (n : ℕ) → nat_le (2 ^ 31) n ≡ false → nat_lt n (2 ^ 31) ≡ true
+below n h = lt-ltb n (2 ^ 31) (leb-false (2 ^ 31) n h)
+
+lower_to_rowid : (n : ℕ) (cx : Context) (e : Expr) (name : Name) (at : ℕ) (last : Option Collation) (budget : ℕ) → out-Expr e ≡ Expr-F.Column None name → found_in cx None name ≡ Ok (found_as.Rowid 1 at)
+    → nat_lt 1 budget ≡ true → lower_to (suc n) cx e (plain_state budget last) ≡ Ok (col 1 0, plain_state (budget - 1) None)
+unfolding lower_to node opened named_column term_of spend begin finish passes
+lower_to_rowid n cx e name at last budget is known enough = rw (enough, is, known)
+
+lower_rowid : (cx : Context) (e : Expr) (name : Name) (at : ℕ) (last : Option Collation) (budget : ℕ) → out-Expr e ≡ Expr-F.Column None name → found_in cx None name ≡ Ok (found_as.Rowid 1 at)
+    → nat_lt 1 budget ≡ true → lower cx e (plain_state budget last) ≡ Ok (col 1 0, plain_state (budget - 1) None)
+lower_rowid = lower_to_rowid 699
+
+abbrev pub rowid_column : Out
+rowid_column = record { name = codes "rowid"; is_alias = false; is_column = true; term = col 1 0; carried = record { collation = None; is_written = false } }
+
+-- an expression is the rowid of the table, which has no column of that name
+pub record IsRowid (cx : Context) (e : Expr) (at : ℕ) : Type 0 where
+  pub names : out-Expr e ≡ Expr-F.Column None (codes "rowid")
+  pub found : found_in cx None (codes "rowid") ≡ Ok (found_as.Rowid 1 at)
+  pub heading : declared cx.schema at (option_and_then (λ t. t.key) (slice_get cx.schema.tables at)) ≡ None
+
+shown_rowid : (cx : Context) (tables : List Bound) (s : Shown) (e : Expr) (text : Name) (at : ℕ) (last : Option Collation) (budget : ℕ) → out-Shown s ≡ Shown-F.One e None text → IsRowid cx e at → nat_lt 1 budget ≡ true
+    → shown lower cx tables [] s (plain_state budget last) ≡ Ok (rowid_column ∷ [], plain_state (budget - 1) None)
+unfolding shown heading is_column
+shown_rowid cx tables s e text at last budget is it enough = rw (is, lower_rowid cx e (codes "rowid") at last budget it.names it.found enough, it.names, it.found, it.heading)
+
+pub outputs_rowid : (cx : Context) (tables : List Bound) (all : List Shown) {s : Shown} → all ≡ s ∷ [] → {e : Expr} {text : Name} → out-Shown s ≡ Shown-F.One e None text → (at : ℕ) → IsRowid cx e at → (last : Option Collation) (budget : ℕ) → nat_lt 1 budget ≡ true
+    → outputs lower cx tables all (plain_state budget last) ≡ Ok (rowid_column ∷ [], plain_state (budget - 1) None)
+unfolding outputs
+outputs_rowid cx tables all {s} is {e} {text} is0 at it last budget enough = rw (is, shown_rowid cx tables s e text at last budget is0 it enough)
+
+-- ---- what the query shows
+
+abbrev pub query : List (Term × Key) → ℕ → Query
+query order tree = record {
+  from = inner tree end;
+  filter = [];
+  group = None;
+  project = col 1 0 ∷ [];
+  distinct = false;
+  collations = [];
+  order = order;
+  limit = lit (Int (negsuc 0));
+  offset = lit (Int (pos 0));
+}
+
+abbrev pub whole : List (Term × Key) → ℕ → Program
+whole order tree = record { lets = []; body = query order tree }
+
+abbrev pub draft : List (Term × Key) → ℕ → Draft
+draft order tree = record { from = chain (Inner tree ∷ []); filter = []; group = None; project = col 1 0 ∷ []; distinct = false; collations = []; order = order; limit = lit (Int (negsuc 0)); offset = lit (Int (pos 0)) }
+
+scan : (order : List (Term × Key)) (tree : ℕ) → IsScan (query order tree) tree
+scan order tree = record { from = refl; group = refl; distinct = refl; whole = λ params rows. refl }
+
+one : Unit {0}
+one = tt
+
+abbrev tie : Value → Value → Bool
+tie = eq_by_cmp value_cmp
+
+abbrev pub first : Row → Value
+first row = column row 0
+
+turned : (v w : Value) → tie v w ≡ tie w v
+turned v w = (eq_by_cmp_equiv value_cmp_total).symm v w
+
+module _ (order : List (Term × Key)) (tree : ℕ) (db : Trees) (rows : List Row) (answer : IsAnswer (query order tree) db [] rows) where
+  -- the rowids that the query shows are those of the table, in another order
+  same_rowids : IsPermutation (map rowid (db tree)) (map first rows)
+  same_rowids =
+      let shown : map first rows ≡ map (λ (o : Output). first o.1) answer.ordered = ap (map first) (listed (query order tree) tree (scan order tree) db [] rows answer) ∙ map-map first (λ (o : Output). o.1) answer.ordered in
+      let was : map (λ (o : Output). first o.1) answer.kept ≡ map rowid (db tree) = ap (map (λ (o : Output). first o.1)) (kept (query order tree) tree (scan order tree) db [] rows answer) ∙ each (db tree) in
+      subst₂ IsPermutation was (sym shown) (IsPermutation-map (λ (o : Output). first o.1) answer.kept answer.ordered answer.same)
+    where
+      each : (all : List Row) → map (λ (o : Output). first o.1) (map (output (query order tree)) (flat_map (λ (r : Row). ([] ∷ r ∷ []) ∷ []) all)) ≡ map rowid all
+      each [] = refl
+      each (r ∷ all) = ap (λ l. rowid r ∷ l) (each all)
+
+apart_ints : (n : ℤ) (ns : List ℤ) → AllByRecursion (λ m. eq_by_cmp int_cmp n m ≡ false) ns → AllByRecursion (λ v. tie (Int n) v ≡ false) (map Int ns)
+apart_ints n [] h = one
+apart_ints n (m ∷ ns) h = (ap is_eq (value_cmp-Int n m) ∙ h.0, apart_ints n ns h.1)
+
+distinct_ints : (ns : List ℤ) → IsDistinct (eq_by_cmp int_cmp) ns → IsDistinct tie (map Int ns)
+unfolding IsDistinct
+distinct_ints [] h = one
+distinct_ints (n ∷ ns) h = (apart_ints n ns h.0, distinct_ints ns h.1)
+
+apart_has : (v : Value) (rows : List Row) (b : Row) → AllByRecursion (λ w. tie v w ≡ false) (map rowid rows) → Has rows b → tie v (rowid b) ≡ false
+apart_has v [] b h g = absurd g
+apart_has v (r ∷ rows) b h (inl is) = ap (λ (x : Row). tie v (rowid x)) is ∙ h.0
+apart_has v (r ∷ rows) b h (inr there) = apart_has v rows b h.1 there
+
+once_from : (rows : List Row) → IsDistinct tie (map rowid rows) → (a b : Row) → Has rows a → Has rows b → tie (rowid a) (rowid b) ≡ true → a ≡ b
+unfolding IsDistinct
+once_from [] d a b h g e = absurd h
+once_from (r ∷ rows) d a b (inl is) (inl same) e = is ∙ sym same
+once_from (r ∷ rows) d a b (inl is) (inr there) e = absurd (let no = sym (apart_has (rowid r) rows b d.0 there) ∙ ap (λ (x : Row). tie (rowid x) (rowid b)) (sym is) ∙ e in cc)
+once_from (r ∷ rows) d a b (inr there) (inl same) e =
+    absurd (let no = sym (apart_has (rowid r) rows a d.0 there) ∙ turned (rowid r) (rowid a) ∙ ap (λ (x : Row). tie (rowid a) (rowid x)) (sym same) ∙ e in cc)
+once_from (r ∷ rows) d a b (inr here) (inr there) e = once_from rows d.1 a b here there e
+
+ints_from : (rows : List Row) (ns : List ℤ) → map first rows ≡ map Int ns → (x : Row) → Has rows x → IsTrue (is_int (first x))
+ints_from [] ns e x h = absurd h
+ints_from (r ∷ rows) [] e x h = absurd cc
+ints_from (r ∷ rows) (n ∷ ns) e x (inl is) = let at : first r ≡ Int n = cc in ap is_int (ap first is ∙ at)
+ints_from (r ∷ rows) (n ∷ ns) e x (inr there) = let rest : map first rows ≡ map Int ns = cc in ints_from rows ns rest x there
+
+keyed_from : (order : List (Term × Key)) (tree : ℕ) (db : Trees) (rows : List Row) (ns : List ℤ) → IsAnswer (query order tree) db [] rows → map first rows ≡ map Int ns → IsDistinct (eq_by_cmp int_cmp) ns → IsKeyed (db tree)
+keyed_from order tree db rows ns answer ints apart =
+    let shown : IsDistinct tie (map first rows) = subst (IsDistinct tie) (sym ints) (distinct_ints ns apart) in
+    let own : IsDistinct tie (map rowid (db tree)) = IsDistinct-IsPermutation tie turned _ _ (IsPermutation-sym _ _ (same_rowids order tree db rows answer)) shown in
+    record {
+      ints = λ a h. ints_from rows ns ints (rowid a ∷ []) (scan_complete (query order tree) tree (scan order tree) db [] rows answer a h refl);
+      once = once_from (db tree) own;
+    }
+
+-- the rows that were shown, whose first values are integers that differ
+abbrev pub ShowsApart : List ℕ → State → State → Type 0
+ShowsApart text old new = (rows : List Row) × Answered text [] old new rows × (ns : List ℤ) × (map first rows ≡ map Int ns) × IsDistinct (eq_by_cmp int_cmp) ns
+
+-- each row of the table has a rowid of its own, and nothing changes
+pub keyed_if : (name : List ℕ) (columns : List Column) (key : List ℕ) (text : List ℕ) (order : List (Term × Key)) (old new : State) → Stands old.now.schema (strict name columns key)
+    → Compiles name columns key text (λ at tree. Select (whole order tree) (codes "rowid" ∷ [])) → ShowsApart text old new → Rests old new × IsKeyed (rows_named old.now name)
+keyed_if name columns key text order old new stands is h =
+    let tree = tree_named old.now.schema name in
+    let m = means_command old.now.schema text _ (is old.now.schema stands.at tree stands.known) in
+    let got = reads_as text [] old new old.now.schema refl _ m.0 m.1 m.2 h.0 h.1 in
+    let answer : IsAnswer (query order tree) (overlay old.now.trees []) [] h.0 = got.answer Null in
+    let same = shown_same text [] old new h.0 m.1 h.1 in
+    (record { was_open = same.0.was_open; is_open = same.0.is_open; now = same.0.now_is; committed = same.0.committed_is; mode = same.0.mode }, subst IsKeyed (overlay_low old.now.trees tree stands.known.low) (keyed_from order tree (overlay old.now.trees []) h.0 h.2 answer h.3 h.4))
+
+-- ---- what a sort and a test of neighbours say of integers
+
+ints_rise : (ns : List ℤ) → AllAdjacentBelow (λ x y. int_cmp x y ≡ Less) ns (length ns) → IsStrictlySortedBy int_cmp ns
+unfolding IsStrictlySortedBy
+ints_rise [] h = tt
+ints_rise (n ∷ ns) h = sorted_from_all_adjacent int_cmp_total (n ∷ ns) n (λ k low. h k n low)
+
+swapped : (a b : ℤ) → eq_by_cmp int_cmp a b ≡ eq_by_cmp int_cmp b a
+swapped a b = (eq_by_cmp_equiv int_cmp_total).symm a b
+
+pub rising_distinct : (ns : List ℤ) → AllAdjacentBelow (λ x y. int_cmp x y ≡ Less) ns (length ns) → IsDistinct (eq_by_cmp int_cmp) ns
+rising_distinct ns up = IsDistinct-from_sorted int_cmp ns (ints_rise ns up)
+
+pub distinct_if : (ns sorted : List ℤ) → IsPermutation ns sorted → IsDistinct (eq_by_cmp int_cmp) sorted → IsDistinct (eq_by_cmp int_cmp) ns
+distinct_if ns sorted same apart = IsDistinct-IsPermutation (eq_by_cmp int_cmp) swapped sorted ns (IsPermutation-sym ns sorted same) apart
+
+-- ---- one table after another
+
+pub rests_then : (a b c : State) → Rests a b → Rests b c → Rests a c
+rests_then a b c h k = record { was_open = h.was_open; is_open = k.is_open; now = k.now ∙ h.now; committed = k.committed ∙ h.committed; mode = k.mode ∙ h.mode }
+
+pub inside_after : (a b : State) → IsInside a → Rests a b → IsInside b
+inside_after a b inside h = record { has = λ is_open. subst (λ (d : Database). HasTables d.schema) (sym h.now) (inside.has h.was_open); mode = h.mode ∙ inside.mode }
