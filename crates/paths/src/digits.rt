@@ -1,7 +1,7 @@
 //! Nix's base 32.
-ghost use Rattle.std.specs.Prelude.{◌≡◌, ◌⊎◌, ◌+◌, ◌*◌, ◌^◌, ◌<◌, ◌≤◌, ◌/◌, ◌%◌, ℕ, nat_lt, length, None, Some, IfOk, IfErr, string_bytes, slice_index, vec_len, replicate, true};
+ghost use Rattle.std.specs.Prelude.{◌≡◌, ◌≢◌, ◌⊎◌, ◌+◌, ◌*◌, ◌^◌, ◌<◌, ◌≤◌, ◌/◌, ◌%◌, ℕ, nat_lt, length, None, Some, IfOk, IfErr, string_bytes, slice_index, vec_len, replicate, true, false, Err};
 ghost use Rattle.paths.specs.Base32 as spec;
-ghost use Rattle.paths.specs.Base32.{value_of, number_of, read_after, all_digits, Spells};
+ghost use Rattle.paths.specs.Base32.{value_of, number_of, read_after, digit_count, all_digits, Spells};
 
 use std::alloc::{AllocError, Global};
 use thiserror::Error;
@@ -56,7 +56,11 @@ fn digit_at(bytes: &[u8], place: usize) -> u8
     ((pair >> (bit % 8)) % 32) as u8
 }
 
-/// The base 32 text of some bytes.
+/// The base 32 text of some bytes, 64 at most: the first byte counts least, and the first digit most.
+///
+/// # Errors
+///
+/// Memory was refused.
 pub fn base32(alloc: Global, bytes: &[u8]) -> Result<String, AllocError>
     requires { length bytes.now ≤ 64 }
     ensures spells { IfOk result (λ text. Spells (string_bytes text) bytes.now) }
@@ -107,11 +111,20 @@ fn append_digit(bytes: &mut [u8], digit: u8) -> u8
     carry
 }
 
-/// The n bytes that a base 32 text spells.
+/// The bytes that a text of base 32 spells, of which there are `count`, 64 at most.
+///
+/// # Errors
+///
+/// The first that applies of `BadDigit`, where a byte is no digit, `BadLength`, where their number isn't that of
+/// `count` bytes, and `Overflow`, where the number that they spell needs more bytes; and `Memory`, which isn't
+/// answered for the first two.
 pub fn unbase32(alloc: Global, text: &str, count: usize) -> Result<Vec<u8>, Base32Error>
     requires { count ≤ 64 }
     ensures ok { IfOk result (λ bytes. spec.unbase32 text.now count ≡ Ok bytes.items) }
     ensures err { IfErr result (λ e. (e ≡ Base32Error.Memory) ⊎ (spec.unbase32 text.now count ≡ Err e)) }
+    // The first two faults are told before memory is taken.
+    ensures digit { all_digits text.now ≡ false → result ≡ Err Base32Error.BadDigit }
+    ensures count { all_digits text.now ≡ true → length text.now ≢ digit_count count → result ≡ Err Base32Error.BadLength }
     ensures spells { IfOk result (λ bytes. Spells text.now bytes.items × (vec_len bytes ≡ count)) }
     ensures back { IfOk result (λ bytes. spec.base32 bytes.items ≡ text.now) }
 {
