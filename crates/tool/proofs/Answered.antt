@@ -1,47 +1,48 @@
--- The answer of a command line whose configuration is refused, or for which memory ran out.
-use Rattle.std.proofs.Common.{◌≡◌, ℕ, List, Option, None, Result, Ok, Err, ap, inl, inr, refl, subst, ◌∙◌}
+-- The answer of a command line whose configuration or words are refused, or for which memory ran out.
+use Rattle.std.proofs.Common.{◌≡◌, ℕ, List, Option, Result, Ok, Err, ap, inl, inr, subst, ◌∙◌}
 use Rattle.std.specs.Io.KnownBytes.{Appends}
 use Rattle.std.proofs.KnownBytes.{Keeps-refl}
 use Rattle.policy.specs.Settings.{Settings}
-use Rattle.policy.specs.Toml.{config_of}
 use Rattle.policy.specs.declared.error.KeyWord.{KeyWord}
-use Rattle.tool.specs.declared.line.Task.{Task as Subcommand}
-use Rattle.tool.specs.declared.line.Task.TheVariants as subcommand
+use Rattle.clap.specs.Kinds.{IsAmong}
+use Rattle.tool.specs.declared.error.CommandError.{CommandError}
+use Rattle.tool.specs.declared.error.CommandError.TheVariants.{Usage, NoSubcommand, Memory}
 use Rattle.tool.specs.declared.stops.Stop.{Stop}
 use Rattle.tool.specs.Stop.{stop_status, stop_text}
-use Rattle.tool.specs.Line.{Asked, who, ls, text_path, source_path, asked_view}
+use Rattle.clap.specs.Walk.{Text}
+use Rattle.policy.specs.Toml.{config_of}
+use Rattle.tool.specs.Line.{text_path, source_path, faults_of, IsUsageFault}
 use Rattle.tool.specs.Stream.{Says}
 use Rattle.tool.specs.Who.{StopsFor}
-use Rattle.tool.specs.Answer.{AnswersTask, AnswersUnder, AnswersAsked}
+use Rattle.tool.specs.Answer.{AnswersAsked, AnswersUnder, AskHelp, AsksHelp}
 use Rattle.tool.proofs.Results.{ended}
 
-module _ (known out err err' : Option (List ℕ)) (status : ℕ) where
-  -- an answer with status 1 is one to any subcommand
-  failed_task : (s : Settings) (asked : Asked) → status ≡ 1 → AnswersTask s asked known out out err err' status
-  failed_task s who one = tt
-  failed_task s ls one = ended None _ known out out err err' status one
-  failed_task s (text_path o) one = ended _ _ known out out err err' status one
-  failed_task s (source_path o) one = ended _ _ known out out err err' status one
+-- the stop of a configuration was said: the first writer got nothing
+pub stopped_under : (outcome : Result Settings KeyWord) (answered : Settings → Type 0) (stop : Stop) (out err err' : Option (List ℕ)) (status : ℕ)
+    → StopsFor outcome stop → Says stop err err' status → ((s : Settings) → status ≡ 1 → answered s) → AnswersUnder outcome answered out out err err' status
+stopped_under outcome answered stop out err err' status why said end = by outcome why said
+  where
+    failed : (outcome : Result Settings KeyWord) → status ≡ 1 → AnswersUnder outcome answered out out err err' status
+    failed (Ok s) one = end s one
+    failed (Err word) one = (Keeps-refl out, inl one)
 
-  failed_under : (outcome : Result Settings KeyWord) (asked : Asked) → status ≡ 1 → AnswersUnder outcome asked known out out err err' status
-  failed_under (Ok s) asked one = failed_task s asked one
-  failed_under (Err word) asked one = inl one
+    by : (outcome : Result Settings KeyWord) → StopsFor outcome stop → Says stop err err' status → AnswersUnder outcome answered out out err err' status
+    by outcome why (inl one) = failed outcome one
+    by outcome (inl memory) (inr said) = failed outcome (said.0 ∙ ap stop_status memory)
+    by outcome (inr why) (inr said) =
+        rw why.1 (Keeps-refl out, inr (said.0 ∙ ap stop_status why.2, subst (λ x. Appends err err' (stop_text x)) why.2 said.1))
 
-  -- the stop of a configuration was said
-  stopped_under : (outcome : Result Settings KeyWord) (asked : Asked) (stop : Stop) → StopsFor outcome stop → Says stop err err' status
-      → AnswersUnder outcome asked known out out err err' status
-  stopped_under outcome asked stop why (inl one) = failed_under outcome asked one
-  stopped_under outcome asked stop (inl memory) (inr said) = failed_under outcome asked (said.0 ∙ ap stop_status memory)
-  stopped_under outcome asked stop (inr why) (inr said) =
-      rw why.1 (inr (record {
-        ended = said.0 ∙ ap stop_status why.2;
-        nothing = Keeps-refl out;
-        said = subst (λ x. Appends err err' (stop_text x)) why.2 said.1;
-      }))
+-- what asks for help is found among the faults of the words
+pub asked_in : (words : List (List ℕ)) (e : CommandError) → IsUsageFault words e → AsksHelp e → AskHelp words
+asked_in words (Usage fault) among (inl is) = inl (subst (λ k. IsAmong k (faults_of words)) is among)
+asked_in words (Usage fault) among (inr is) = inr (subst (λ k. IsAmong k (faults_of words)) is among)
+asked_in words NoSubcommand found asks = absurd asks
+asked_in words Memory found asks = absurd asks
 
-  pub stopped_line : (config : List ℕ) (user group : Option (List ℕ)) (task : Subcommand) → ¬ (task ≡ subcommand.Who) → (stop : Stop)
-      → StopsFor (config_of config) stop → Says stop err err' status → AnswersAsked config user group (asked_view task) known out out err err' status
-  stopped_line config user group subcommand.Who other stop why said = absurd (other refl)
-  stopped_line config user group subcommand.Ls other stop why said = stopped_under (config_of config) ls stop why said
-  stopped_line config user group (subcommand.TextPath object) other stop why said = stopped_under (config_of config) _ stop why said
-  stopped_line config user group (subcommand.SourcePath object) other stop why said = stopped_under (config_of config) _ stop why said
+module _ (config : List ℕ) (user group : Option (List ℕ)) (o : Text × List Text) (known out err err' : Option (List ℕ)) (status : ℕ) (stop : Stop) where
+  -- so `text-path` and `source-path` answer a refused configuration
+  pub text_stopped : StopsFor (config_of config) stop → Says stop err err' status → AnswersAsked config user group (text_path o) known out out err err' status
+  text_stopped why said = stopped_under (config_of config) _ stop out err err' status why said (λ s one. ended _ _ known out out err err' status one (Keeps-refl out))
+
+  pub source_stopped : StopsFor (config_of config) stop → Says stop err err' status → AnswersAsked config user group (source_path o) known out out err err' status
+  source_stopped why said = stopped_under (config_of config) _ stop out err err' status why said (λ s one. ended _ _ known out out err err' status one (Keeps-refl out))

@@ -1,44 +1,49 @@
 -- From the result of a command to the answer that it gives.
-use Rattle.std.proofs.Common.{◌≡◌, ℕ, ◌⊎◌, List, [], arith, take, Option, Some, None, Result, Ok, Err, String, Global, ap, sym, subst, inl, inr}
+use Rattle.std.proofs.Common.{◌≡◌, ℕ, ◌⊎◌, ◌≤◌, List, [], arith, take, Option, Some, None, Result, Ok, Err, String, Global, ap, sym, subst, inl, inr}
 use Rattle.std.specs.Prelude.{IfOk, IfErr, IfSome, string_bytes}
 use Rattle.tool.specs.declared.stops.Refusal.{Refusal}
 use Rattle.tool.specs.declared.stops.Failure.TheVariants.{Memory}
 use Rattle.tool.specs.declared.stops.Stop.{Stop}
 use Rattle.tool.specs.declared.stops.Stop.TheVariants.{Refused, Failed}
 use Rattle.tool.specs.Stream.{Answers, AnswersTo, IsFailure, IsResultOf, IsStopAt, ReadsFor, TakesAtMost, result_text}
-use Rattle.std.proofs.KnownBytes.{Consumes-nil, Keeps-refl}
+use Rattle.std.specs.Io.KnownBytes.{Keeps}
+use Rattle.std.proofs.KnownBytes.{Consumes-nil, Consumes-kept, Keeps-refl}
 
--- an answer with status 1 is one to any input
+-- an answer with status 1 that leaves the first writer alone is one to any input
 pub ended : (fault : Option Refusal) (answer : List ℕ → Result (List ℕ) Stop) (known : Option (List ℕ))
-    → (out out' err err' : Option (List ℕ)) (status : ℕ) → status ≡ 1 → AnswersTo fault answer known out out' err err' status
-ended (Some fault) answer known out out' err err' status one = inl one
-ended None answer None out out' err err' status one = tt
-ended None answer (Some bytes) out out' err err' status one = any (answer bytes)
+    → (out out' err err' : Option (List ℕ)) (status : ℕ) → status ≡ 1 → Keeps out out' → AnswersTo fault answer known out out' err err' status
+ended fault answer known out out' err err' status one kept = to fault known
   where
     any : (r : Result (List ℕ) Stop) → Answers r out out' err err' status
     any (Ok text) = inl one
-    any (Err stop) = inl one
+    any (Err stop) = (kept, inl one)
+
+    to : (fault : Option Refusal) (known : Option (List ℕ)) → AnswersTo fault answer known out out' err err' status
+    to (Some fault) known = (kept, inl one)
+    to None None = ([], any (answer []))
+    to None (Some bytes) = any (answer bytes)
 
 -- the answer of a result by its fault or its input
 by_result : (fault : Option Refusal) (answer : List ℕ → Result (List ℕ) Stop) (known : Option (List ℕ)) (result : Result (List ℕ) Stop)
     → (out out' err err' : Option (List ℕ)) (status : ℕ) → IsResultOf fault answer known result → Answers result out out' err err' status
     → AnswersTo fault answer known out out' err err' status
 by_result (Some fault) answer known result out out' err err' status is given = subst (λ r. Answers r out out' err err' status) is given
-by_result None answer None result out out' err err' status is given = tt
+by_result None answer None result out out' err err' status is given = (is.0, subst (λ r. Answers r out out' err err' status) is.1 given)
 by_result None answer (Some bytes) result out out' err err' status is given = subst (λ r. Answers r out out' err err' status) is given
 
--- a failure has status 1
-failed : (result : Result (List ℕ) Stop) (out out' err err' : Option (List ℕ)) (status : ℕ) → IsFailure result → Answers result out out' err err' status → status ≡ 1
+-- a failure has status 1, and leaves the first writer alone
+failed : (result : Result (List ℕ) Stop) (out out' err err' : Option (List ℕ)) (status : ℕ) → IsFailure result → Answers result out out' err err' status
+    → (status ≡ 1) × Keeps out out'
 failed (Ok text) out out' err err' status fails given = absurd fails
 failed (Err (Refused refusal)) out out' err err' status fails given = absurd fails
-failed (Err (Failed failure)) out out' err err' status fails (inl one) = one
-failed (Err (Failed failure)) out out' err err' status fails (inr stops) = stops.ended
+failed (Err (Failed failure)) out out' err err' status fails (kept, inl one) = (one, kept)
+failed (Err (Failed failure)) out out' err err' status fails (kept, inr said) = (said.0, kept)
 
 pub answers_to : (fault : Option Refusal) (answer : List ℕ → Result (List ℕ) Stop) (known : Option (List ℕ)) (result : Result (List ℕ) Stop)
     → (out out' err err' : Option (List ℕ)) (status : ℕ) → IsFailure result ⊎ IsResultOf fault answer known result → Answers result out out' err err' status
     → AnswersTo fault answer known out out' err err' status
 answers_to fault answer known result out out' err err' status (inl fails) given =
-    ended fault answer known out out' err err' status (failed result out out' err err' status fails given)
+    let is = failed result out out' err err' status fails given in ended fault answer known out out' err err' status is.0 is.1
 answers_to fault answer known result out out' err err' status (inr is) given = by_result fault answer known result out out' err err' status is given
 
 -- a stop by a fault that is there before the input is read, or for want of memory or of the input
@@ -63,7 +68,7 @@ of_front fault answer known result most bytes none front same (inl fails) = inl 
 of_front fault answer known result most bytes none front same (inr is) = inr (subst (λ f. IsResultOf f answer known result) (sym none) (by_known known front))
   where
     by_known : (known : Option (List ℕ)) → IfSome known (λ all. bytes ≡ take most all) → IsResultOf None answer known result
-    by_known None front = tt
+    by_known None front = (bytes, is)
     by_known (Some all) front = same all front is
 
 -- ---- what is read
@@ -81,3 +86,11 @@ read_after fault most old new none taken = subst (λ f. ReadsFor f most old new)
 pub with_text : (r : Result (String Global) Stop) (P : Type 0) → IfOk r (λ text. P) → IfOk (result_text r) (λ bytes. P)
 with_text (Ok text) P h = h
 with_text (Err stop) P h = tt
+
+-- what is read to a bound is read to a greater one
+pub within : (fault : Option Refusal) (most bound : ℕ) (old new : Option (List ℕ)) → most ≤ bound → ReadsFor fault most old new → TakesAtMost bound old new
+within (Some fault) most bound old new fits kept = ([], Consumes-kept old old new [] (Consumes-nil old) kept, omega arith)
+within None most bound old new fits taken = (taken.0, taken.1, omega (arith, taken.2))
+
+pub nothing_taken : (most : ℕ) (known : Option (List ℕ)) → TakesAtMost most known known
+nothing_taken most known = ([], Consumes-nil known, omega arith)

@@ -34,27 +34,22 @@ pub record Gives (text : List ℕ) (out out' err err' : Option (List ℕ)) (stat
   pub printed : Appends out out' text
   pub silent : Keeps err err'
 
--- a line that says why went to the second writer and nothing to the first, with its status
-pub record Stops (stop : Stop) (out out' err err' : Option (List ℕ)) (status : ℕ) : Type 0 where
-  pub ended : status ≡ stop_status stop
-  pub nothing : Keeps out out'
-  pub said : Appends err err' (stop_text stop)
-
--- the answer was given; or memory, the input or a writer gave out, with status 1
+-- the answer was given; or memory, the input or a writer gave out, with status 1: the first writer gets nothing but a text
 abbrev pub Answers : Result (List ℕ) Stop → Option (List ℕ) → Option (List ℕ) → Option (List ℕ) → Option (List ℕ) → ℕ → Type 0
 Answers (Ok text) out out' err err' status = (status ≡ 1) ⊎ Gives text out out' err err' status
-Answers (Err stop) out out' err err' status = (status ≡ 1) ⊎ Stops stop out out' err err' status
+Answers (Err stop) out out' err err' status = Keeps out out' × Says stop err err' status
 
 -- what was found, as bytes
 abbrev pub result_text : Result (String Global) Stop → Result (List ℕ) Stop
 result_text (Ok text) = Ok (string_bytes text)
 result_text (Err stop) = Err stop
 
--- the answer to an input was given: a fault that is there before it is read, or what it says, where its bytes are known
+-- The answer to an input was given: a fault that is there before it is read, or what its bytes say. Those are some bytes,
+-- where the input doesn't tell them.
 abbrev pub AnswersTo : Option Refusal → (List ℕ → Result (List ℕ) Stop) → Option (List ℕ)
     → Option (List ℕ) → Option (List ℕ) → Option (List ℕ) → Option (List ℕ) → ℕ → Type 0
 AnswersTo (Some fault) answer known out out' err err' status = Answers (Err (Refused fault)) out out' err err' status
-AnswersTo None answer None out out' err err' status = ⊤
+AnswersTo None answer None out out' err err' status = (bytes : List ℕ) × Answers (answer bytes) out out' err err' status
 AnswersTo None answer (Some bytes) out out' err err' status = Answers (answer bytes) out out' err err' status
 
 -- a result for want of memory, or of the input
@@ -66,10 +61,10 @@ IsFailure (Err (Failed Output)) = ⊥
 IsFailure (Err (Refused refusal)) = ⊥
 IsFailure (Ok text) = ⊥
 
--- a result by the fault that is there before the input is read, or by what the input says, where its bytes are known
+-- a result by the fault that is there before the input is read, or by what its bytes say: some, where it doesn't tell them
 abbrev pub IsResultOf : Option Refusal → (List ℕ → Result (List ℕ) Stop) → Option (List ℕ) → Result (List ℕ) Stop → Type 0
 IsResultOf (Some fault) answer known result = result ≡ Err (Refused fault)
-IsResultOf None answer None result = ⊤
+IsResultOf None answer None result = (bytes : List ℕ) × (result ≡ answer bytes)
 IsResultOf None answer (Some bytes) result = result ≡ answer bytes
 
 -- why arguments are refused: want of memory, or the fault

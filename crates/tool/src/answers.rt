@@ -1,6 +1,10 @@
 //! What a command line answers, by the text of its configuration.
-ghost use Rattle.tool.specs.Answer.{AnswersLine, AnswersTask};
-ghost use Rattle.tool.specs.Line.{line_view, asked_view};
+ghost use Rattle.std.specs.Prelude.{None};
+ghost use Rattle.tool.specs.Answer.{AnswersAsked, AnswersLine};
+ghost use Rattle.tool.specs.Archive.{max_front};
+ghost use Rattle.tool.specs.Line as asked;
+ghost use Rattle.tool.specs.Line.{line_view};
+ghost use Rattle.tool.specs.Stream.{TakesAtMost};
 
 use crate::configuration::settings;
 use crate::line::{CommandLine, Task};
@@ -9,41 +13,33 @@ use crate::sources::source_path;
 use crate::stream::say;
 use crate::texts::text_path;
 use crate::verdicts::who;
-use policy::{Config, store_dir};
+use policy::store_dir;
 use std::alloc::Global;
 use std::io::{Read, Write};
 
-/// Answers a subcommand other than `who` under a configuration.
-fn compute<R: Read, W: Write, E: Write>(
+/// Answers `ls`, by the text of the configuration.
+fn ls_under<R: Read, W: Write, E: Write>(
     alloc: Global,
-    config: &Config,
-    task: &Task<'_>,
+    config: &[u8],
     input: &mut R,
     output: &mut W,
     errors: &mut E,
 ) -> u8
-    ensures { AnswersTask config.now (asked_view task.now) (R.remaining input.old) (W.contents output.old) (W.contents output.new) (E.contents errors.old) (E.contents errors.new) result }
+    ensures answer { AnswersAsked config.now None None asked.ls (R.remaining input.old) (W.contents output.old) (W.contents output.new) (E.contents errors.old) (E.contents errors.new) result }
+    ensures reads { TakesAtMost max_front (R.remaining input.old) (R.remaining input.new) }
 {
-    let dir = store_dir(config);
-    match task {
-        Task::Who => 0,
-        Task::Ls => ls(alloc, input, output, errors),
-        Task::TextPath(object) => {
-            let references = object.references.as_slice();
-            text_path(alloc, dir, object.name, references, input, output, errors)
-        }
-        Task::SourcePath(object) => {
-            let references = object.references.as_slice();
-            source_path(alloc, dir, object.name, references, input, output, errors)
-        }
+    if let Err(stop) = settings(alloc, config) {
+        return say(stop, errors);
     }
+    ls(alloc, input, output, errors)
 }
 
 /// Answers a command line by the text of its configuration, and gives the exit status: 0 done, 1
 /// failed, 3 refused, 4 denied.
 ///
 /// Results go to `output`; refusals and failures go to `errors`, but for `who`, which puts everything
-/// on `output`. The file that the command line names isn't read again.
+/// on `output`. The file that the command line names isn't read. No more than 16,777,224 bytes of the input
+/// are.
 pub fn answer<R: Read, W: Write, E: Write>(
     alloc: Global,
     config: &[u8],
@@ -52,12 +48,24 @@ pub fn answer<R: Read, W: Write, E: Write>(
     output: &mut W,
     errors: &mut E,
 ) -> u8
-    ensures { AnswersLine config.now (line_view line.now) (R.remaining input.old) (W.contents output.old) (W.contents output.new) (E.contents errors.old) (E.contents errors.new) result }
+    ensures answer { AnswersLine config.now (line_view line.now) (R.remaining input.old) (W.contents output.old) (W.contents output.new) (E.contents errors.old) (E.contents errors.new) result }
+    ensures reads { TakesAtMost max_front (R.remaining input.old) (R.remaining input.new) }
 {
     match &line.task {
         Task::Who => who(alloc, config, line.user, line.group, output),
-        task => match settings(alloc, config) {
-            Ok(config) => compute(alloc, &config, task, input, output, errors),
+        Task::Ls => ls_under(alloc, config, input, output, errors),
+        Task::TextPath(object) => match settings(alloc, config) {
+            Ok(config) => {
+                let (dir, references) = (store_dir(&config), object.references.as_slice());
+                text_path(alloc, dir, object.name, references, input, output, errors)
+            }
+            Err(stop) => say(stop, errors),
+        },
+        Task::SourcePath(object) => match settings(alloc, config) {
+            Ok(config) => {
+                let (dir, references) = (store_dir(&config), object.references.as_slice());
+                source_path(alloc, dir, object.name, references, input, output, errors)
+            }
             Err(stop) => say(stop, errors),
         },
     }

@@ -1,7 +1,9 @@
 //! Runs a command line over any reader and two writers.
-ghost use Rattle.std.specs.Prelude.{◌≡◌, ◌≤◌, map};
-ghost use Rattle.tool.specs.Answer.{RunsLine};
+ghost use Rattle.std.specs.Prelude.{◌≡◌, ◌≤◌, ◌⊎◌, map};
+ghost use Rattle.tool.specs.Answer.{AskHelp, AsksHelp, RefusesWords, RunsLine};
+ghost use Rattle.tool.specs.Archive.{max_front};
 ghost use Rattle.tool.specs.Line.{IsLine, Line, line_view};
+ghost use Rattle.tool.specs.Stream.{TakesAtMost};
 
 use crate::answers::answer;
 use crate::configuration;
@@ -38,7 +40,10 @@ pub fn run<Rt: Files + AllocGlobal, S: AsStr, R: Read, W: Write, E: Write>(
 ) -> u8
     ensures line { (line : Line) → IsLine (map S.text words.now) line
         → RunsLine line (R.remaining input.old) (W.contents output.old) (W.contents output.new) (E.contents errors.old) (E.contents errors.new) result }
-    ensures usage { ¬ ((line : Line) × IsLine (map S.text words.now) line) → result ≤ 2 }
+    ensures usage { ¬ ((line : Line) × IsLine (map S.text words.now) line) → ¬ AskHelp (map S.text words.now)
+        → RefusesWords (W.contents output.old) (W.contents output.new) result }
+    ensures help { ¬ ((line : Line) × IsLine (map S.text words.now) line) → result ≤ 2 }
+    ensures reads { TakesAtMost max_front (R.remaining input.old) (R.remaining input.new) }
 {
     match command(rt.alloc(), words) {
         Ok(line) => execute(rt, &line, input, output, errors),
@@ -53,7 +58,8 @@ fn execute<Rt: Files + AllocGlobal, R: Read, W: Write, E: Write>(
     output: &mut W,
     errors: &mut E,
 ) -> u8
-    ensures { RunsLine (line_view line.now) (R.remaining input.old) (W.contents output.old) (W.contents output.new) (E.contents errors.old) (E.contents errors.new) result }
+    ensures answer { RunsLine (line_view line.now) (R.remaining input.old) (W.contents output.old) (W.contents output.new) (E.contents errors.old) (E.contents errors.new) result }
+    ensures reads { TakesAtMost max_front (R.remaining input.old) (R.remaining input.new) }
 {
     match configuration::text(rt, line.config) {
         Ok(text) => answer(rt.alloc(), text.as_slice(), line, input, output, errors),
@@ -66,7 +72,8 @@ fn execute<Rt: Files + AllocGlobal, R: Read, W: Write, E: Write>(
 
 /// Says why words are no command line, or gives the help that they ask for.
 fn explain<W: Write, E: Write>(fault: &CommandError, output: &mut W, errors: &mut E) -> u8
-    ensures usage { result ≤ 2 }
+    ensures usage { ¬ AsksHelp fault.now → RefusesWords (W.contents output.old) (W.contents output.new) result }
+    ensures help { result ≤ 2 }
     ensures memory { fault.now ≡ CommandError.Memory → result ≡ 1 }
 {
     match fault {
@@ -82,7 +89,7 @@ fn explain<W: Write, E: Write>(fault: &CommandError, output: &mut W, errors: &mu
 
 /// The exit status of a usage fault, by whether it could be told.
 fn usage(told: io::Result<()>) -> u8
-    ensures { result ≤ 2 }
+    ensures { (result ≡ 1) ⊎ (result ≡ 2) }
 {
     match told {
         Ok(()) => USAGE,
@@ -93,7 +100,7 @@ fn usage(told: io::Result<()>) -> u8
 /// Says that the words of the program could not be had, and gives the exit status: 1 where memory
 /// was refused, else 2, since a word isn't UTF-8.
 pub fn refuse_words<E: Write>(fault: &io::Error, errors: &mut E) -> u8
-    ensures { result ≤ 2 }
+    ensures { (result ≡ 1) ⊎ (result ≡ 2) }
 {
     if fault.kind() == ErrorKind::OutOfMemory {
         return say(Stop::Failed(Failure::Memory), errors);
