@@ -1,6 +1,6 @@
 -- The test of a tree is right: some room is left exactly where the tree is legal, not too deep and small enough.
 use Rattle.std.proofs.Common.{◌≡◌, ℕ, suc, ◌+◌, ◌-◌, ◌<◌, ◌≤◌, Bool, true, false, cond, ltb, ◌&&◌, List, [], ◌∷◌, ◌++◌, length, drop, get_or, add-one, drop-cons, Option, Some, None, refl, sym, ap, ◌∙◌, arith, inl, inr}
-use Rattle.std.specs.Prelude.{IsTrue, codes, option_and_then, is_some, ◌↔◌}
+use Rattle.std.specs.Prelude.{IsTrue, codes, option_and_then, is_some, unwrap_or, ◌↔◌}
 use Rattle.std.specs.List.{AllByRecursion}
 use Rattle.std.specs.Option.{SomeIff}
 use Rattle.std.proofs.lemmas.Bool.{cases_lt, ltb-true, ltb-false, le-ltb, lt-ltb, and_parts}
@@ -224,9 +224,19 @@ mutual
       ∙ ap (option_and_then (λ left. option_and_then (λ more. entries_room d (Some n) more es) (room_after (d + 1) left t))) first
       ∙ ap (option_and_then (λ more. entries_room d (Some n) more es)) middle ∙ last_one
 
+-- what the archive of a tree leaves
+room_of : (t : Tree) → IsWritable t → room_after 1 16777192 t ≡ Some (16777192 - length (spelling (bracketed (kind_parts 1 t))))
+room_of t w =
+    let small : length (spelling (archive t)) ≤ 16777216 = w.small in
+    fitted 1 16777192 (16777192 - length (spelling (bracketed (kind_parts 1 t)))) t (record {
+      legal = w.legal;
+      shallow = all_front IsShallow (kind_parts 1 t) (other (codes ")") ∷ []) w.shallow.1.1.1;
+      size = omega (arith, archive_size t);
+    })
+
 -- the test of a tree
 pub writable : (t : Tree) (b : Bool) → b ≡ is_some (room_after 1 16777192 t) → IsTrue b ↔ IsWritable t
-writable t b is = (λ e. by_room (room_after 1 16777192 t) refl (sym is ∙ e), λ w. is ∙ ap is_some (of_tree w))
+writable t b is = (λ e. by_room (room_after 1 16777192 t) refl (sym is ∙ e), λ w. is ∙ ap is_some (room_of t w))
   where
     by_room : (o : Option ℕ) → room_after 1 16777192 t ≡ o → is_some o ≡ true → IsWritable t
     by_room None at e = absurd (let q : false ≡ true = e in cc)
@@ -235,14 +245,12 @@ writable t b is = (λ e. by_room (room_after 1 16777192 t) refl (sym is ∙ e), 
         let size : length (spelling (bracketed (kind_parts 1 t))) + left ≡ 16777192 = h.size in
         record { legal = h.legal; shallow = (tt, bracketed_shallow (kind_parts 1 t) h.shallow); small = omega (arith, archive_size t) }
 
-    of_tree : (w : IsWritable t) → room_after 1 16777192 t ≡ Some (16777192 - length (spelling (bracketed (kind_parts 1 t))))
-    of_tree w =
-        let small : length (spelling (archive t)) ≤ 16777216 = w.small in
-        fitted 1 16777192 (16777192 - length (spelling (bracketed (kind_parts 1 t)))) t (record {
-          legal = w.legal;
-          shallow = all_front IsShallow (kind_parts 1 t) (other (codes ")") ∷ []) w.shallow.1.1.1;
-          size = omega (arith, archive_size t);
-        })
+-- the size of its archive
+pub size_by_room : (t : Tree) (left size : ℕ) → IsWritable t → left ≡ unwrap_or (room_after 1 16777192 t) 0 → size ≡ 16777216 - left → size ≡ length (spelling (archive t))
+size_by_room t left size w is sized =
+    let small : length (spelling (archive t)) ≤ 16777216 = w.small in
+    let same : left ≡ 16777192 - length (spelling (bracketed (kind_parts 1 t))) = is ∙ ap (λ (o : Option ℕ). unwrap_or o 0) (room_of t w) in
+    omega (arith, archive_size t)
 
 -- one entry more
 pub entry_room : (d : ℕ) (last : Option (List ℕ)) (room : ℕ) (es : List Entry) (i : ℕ) (e : Entry) (inner : Option ℕ) → i < length es → e ≡ get_or es i e → may_enter d last e.name.now ≡ true → inner ≡ less room (80 + size_of (length e.name.now))

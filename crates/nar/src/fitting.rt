@@ -4,7 +4,7 @@ ghost use Rattle.std.specs.Prelude.{◌≡◌, ◌↔◌, ◌+◌, ◌≤◌, �
 ghost use Rattle.std.specs.Option.{option_copied};
 ghost use Rattle.nar.specs.String.{size_of};
 ghost use Rattle.nar.specs.Tree.{IsBytes};
-ghost use Rattle.nar.specs.Archive.{IsWritable};
+ghost use Rattle.nar.specs.Archive.{IsWritable, archive, spelling};
 ghost use Rattle.nar.specs.Fitting.{may_enter, room_after, entries_room};
 ghost use Rattle.nar.specs.View.{tree_of, trees_of};
 
@@ -79,4 +79,13 @@ pub fn is_writable(node: &Node<'_>) -> bool
     ensures { IsTrue result ↔ IsWritable (tree_of node.now) }
 {
     room_after_node(node, 1, 16_777_192).is_some()
+}
+
+/// How many bytes the archive of a tree has that has one.
+pub fn archive_size(node: &Node<'_>) -> usize
+    requires { IsWritable (tree_of node.now) }
+    ensures { result ≡ length (spelling (archive (tree_of node.now))) }
+{
+    let left = room_after_node(node, 1, 16_777_192).unwrap_or(0);
+    16_777_216usize.saturating_sub(left)
 }

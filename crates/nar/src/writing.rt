@@ -8,6 +8,7 @@ ghost use Rattle.nar.specs.Reading.{entry_rest};
 ghost use Rattle.nar.specs.Writing.{Writes, Extends, joined};
 ghost use Rattle.nar.specs.View.{tree_of, pair_of, trees_of};
 
+use crate::fitting::archive_size;
 use crate::node::{Entry, Node};
 use crate::words::{
     CLOSE, CONTENTS, DIRECTORY, ENTRY, EXECUTABLE, MAGIC, NAME, NODE, NOTHING, OPEN, REGULAR,
@@ -124,6 +125,7 @@ pub fn write(node: &Node<'_>, out: &mut Vec<u8>) -> Result<(), AllocError>
     ensures err { OnErr result (out.new.items ≡ out.old.items) }
 {
     let len = out.len();
+    out.reserve(archive_size(node))?;
     match put_archive(out, node) {
         Ok(()) => Ok(()),
         Err(e) => {
