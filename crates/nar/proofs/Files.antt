@@ -151,6 +151,9 @@ file_is_too_large c h small large =
 
 -- ---- no fault is want of memory
 
+not_err : {A B : Type 0} (y : A) (d : NarError) → Ok y ≡ Err d → B
+not_err y d e = absurd cc
+
 string_of_memory : (n room : ℕ) (bytes : List ℕ) → string_of_length n room bytes ≡ Err Memory → ⊥
 unfolding string_of_length
 string_of_memory n room bytes e =
@@ -161,7 +164,7 @@ string_of_memory n room bytes e =
         | inr b ↦ elim (chosen (ltb (length bytes) (size_of n)) _ _ _ b.1) [
           | inl d ↦ (let q : Err Truncated ≡ Err Memory = d.1 in absurd cc)
           | inr d ↦ elim (chosen (list_all (λ b. eqb b 0) (take (padded n - n) (drop n (drop 8 bytes)))) (Ok (take n (drop 8 bytes), drop (size_of n) bytes)) (Err BadPadding) (Err Memory) d.1) [
-            | inl z ↦ (let q : Ok (take n (drop 8 bytes), drop (size_of n) bytes) ≡ Err Memory = z.1 in absurd cc)
+            | inl z ↦ not_err (take n (drop 8 bytes), drop (size_of n) bytes) Memory z.1
             | inr z ↦ (let q : Err BadPadding ≡ Err Memory = z.1 in absurd cc)
           ]
         ]
