@@ -1,0 +1,4 @@
+pub mod Written
+pub mod Derivation
+pub mod Reading
+pub mod Answer
