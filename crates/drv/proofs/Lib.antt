@@ -1,1 +1,4 @@
 pub mod Bodies
+pub mod Steps
+pub mod Strings
+pub mod Lists

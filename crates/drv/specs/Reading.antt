@@ -70,8 +70,12 @@ list_at item text =
     after 91 text >>= λ t. closed_or (after 93 t) (item t >>= λ x. with_item x.0 (more_at item (length x.1) x.1))
 
 -- the same where the items aren't asked for
+abbrev pub bare : Option (List ℕ) → Option (Unit {0} × List ℕ)
+bare (Some rest) = Some (tt, rest)
+bare None = None
+
 abbrev pub alone : (List ℕ → Option (List ℕ)) → List ℕ → Option (Unit {0} × List ℕ)
-alone item text = option_map (λ rest. (tt, rest)) (item text)
+alone item text = bare (item text)
 
 unfoldable pub list_end : (List ℕ → Option (List ℕ)) → List ℕ → Option (List ℕ)
 list_end item text = rest_of (list_at (alone item) text)

@@ -1,0 +1,7 @@
+//! Laws.
+ghost use Rattle.std.specs.Prelude.{◌≡◌, ℕ};
+
+/// Tried.
+pub fn tried()
+    ensures { (n : ℕ) → n ≡ n }
+{}
