@@ -3,6 +3,7 @@
 
 mod error;
 pub mod laws;
+mod skipping;
 mod string;
 
 pub use error::DrvError;
