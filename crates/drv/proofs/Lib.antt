@@ -4,3 +4,4 @@ pub mod Strings
 pub mod Lists
 pub mod Loops
 pub mod Parts
+pub mod Texts

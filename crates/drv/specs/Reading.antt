@@ -98,8 +98,11 @@ unfoldable pub input_end : List ℕ → Option (List ℕ)
 input_end = after 40 >=> string_end >=> further (list_end string_end) >=> after 41
 
 -- a store name
+abbrev pub name_in : List ℕ → Option (List ℕ)
+name_in bytes = if is_store_name bytes then Some bytes else None
+
 unfoldable pub name_at : List ℕ → Option (List ℕ × List ℕ)
-name_at text = string_at text >>= λ x. if is_store_name x.0 then Some x else None
+name_at text = string_at text >>= λ x. name_in x.0 >>= λ name. Some (name, x.1)
 
 -- the base name of a full path in the store directory
 unfoldable pub base_in : List ℕ → List ℕ → Option (List ℕ)

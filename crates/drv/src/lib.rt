@@ -3,6 +3,7 @@
 
 mod error;
 pub mod laws;
+mod output;
 mod skipping;
 mod string;
 

@@ -1,0 +1,10 @@
+-- Outputs as contracts see them.
+use Rattle.std.specs.Prelude.{ℕ, List, map, Option, string_bytes}
+use Rattle.drv.specs.declared.output.Output.{Output}
+
+-- the name, and the base name of the path
+abbrev pub view : Output → List ℕ × Option (List ℕ)
+view o = (string_bytes o.name, o.path)
+
+abbrev pub views : List Output → List (List ℕ × Option (List ℕ))
+views os = map view os
