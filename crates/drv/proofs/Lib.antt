@@ -5,3 +5,5 @@ pub mod Lists
 pub mod Loops
 pub mod Parts
 pub mod Texts
+pub mod Outputs
+pub mod Answering

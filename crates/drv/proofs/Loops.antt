@@ -1,7 +1,8 @@
 -- The steps of a loop over the items of a list.
 use Rattle.std.proofs.Common.{◌≡◌, ℕ, zero, suc, ◌+◌, ◌<◌, ◌≤◌, List, [], ◌∷◌, ◌++◌, length, Option, Some, None, refl, sym, ap, subst, ◌∙◌, append_assoc, arith}
+use Rattle.std.proofs.lemmas.List.{append-nil}
 use Rattle.drv.specs.Written.{Written, string}
-use Rattle.drv.specs.Reading.{◌>>=◌, after, rest_of, bare, closed_or, with_item, more_at, list_at, list_end, alone, string_end}
+use Rattle.drv.specs.Reading.{◌>>=◌, after, rest_of, bare, closed_or, with_item, with_items, more_at, list_at, list_end, alone, string_end}
 use Rattle.drv.proofs.Steps.{after_is, Reads, Skips, Reads-alone}
 use Rattle.drv.proofs.Lists.{Opens, shrinks, enough}
 use Rattle.drv.proofs.Strings.{string_skips}
@@ -86,3 +87,31 @@ left_shrinks item spell is t u rest f g =
 pub string_item : Item string_end string
 unfolding string
 string_item = record { skips = string_skips; opens = λ ws rest. refl }
+
+-- ---- with the items before
+
+with_items-more : {A : Type 0} (front : List A) (x : A) (read : Option (List A × List ℕ)) → with_items front (with_item x read) ≡ with_items (front ++ x ∷ []) read
+with_items-more {A} front x (Some y) = ap (λ (xs : List A). Some (xs, y.1)) (sym (append_assoc front (x ∷ []) y.0))
+with_items-more front x None = refl
+
+pub items_closed : {Y : Type 0} (item : List ℕ → Option (Y × List ℕ)) (front : List Y) (t end : List ℕ) (total : Option (List Y × List ℕ)) → Some end ≡ after 93 t
+    → with_items front (more_at item (length t) t) ≡ total → total ≡ Some (front, end)
+items_closed {Y} item front t end total e so_far =
+    sym so_far ∙ ap (with_items front) (more_closed item t end (sym e)) ∙ ap (λ (ys : List Y). Some (ys, end)) (append-nil front)
+
+pub items_stop : {Y : Type 0} (item : List ℕ → Option (Y × List ℕ)) (front : List Y) (t : List ℕ) (total : Option (List Y × List ℕ)) → None ≡ after 93 t → None ≡ after 44 t
+    → with_items front (more_at item (length t) t) ≡ total → total ≡ None
+items_stop item front t total e f so_far = sym so_far ∙ ap (with_items front) (more_stops item t (sym e) (sym f))
+
+pub items_fail : {Y : Type 0} (item : List ℕ → Option (Y × List ℕ)) (front : List Y) (t u : List ℕ) (total : Option (List Y × List ℕ)) → None ≡ after 93 t → Some u ≡ after 44 t
+    → with_items front (more_at item (length t) t) ≡ total → item u ≡ None → total ≡ None
+items_fail item front t u total e f so_far g = sym so_far ∙ ap (with_items front) (more_fails item t u (sym e) (sym f) g)
+
+pub items_go_on : {X Y : Type 0} (item : List ℕ → Option (Y × List ℕ)) (spell : X → List ℕ) (Means : X → Y → Type 0) → Reads item spell Means → Opens spell
+    → (front now : List Y) (t u : List ℕ) (y : Y) (rest : List ℕ) (total : Option (List Y × List ℕ)) → None ≡ after 93 t → Some u ≡ after 44 t → item u ≡ Some (y, rest)
+    → now ≡ front ++ y ∷ [] → with_items front (more_at item (length t) t) ≡ total → with_items now (more_at item (length rest) rest) ≡ total
+items_go_on item spell Means reads opens front now t u y rest total e f g is so_far =
+    ap (λ ys. with_items ys (more_at item (length rest) rest)) is
+    ∙ sym (with_items-more front y (more_at item (length rest) rest))
+    ∙ sym (ap (with_items front) (more_goes_on item spell Means reads opens t u y rest (sym e) (sym f) g))
+    ∙ so_far

@@ -79,7 +79,7 @@ pub none_if : {A : Type 0} (o : Option A) → ((x : A) → o ≡ Some x → ⊥)
 none_if (Some x) h = absurd (h x refl)
 none_if None h = refl
 
-name_takes : (bytes name : List ℕ) → name_in bytes ≡ Some name → (is_store_name name ≡ true) × (bytes ≡ name)
+pub name_takes : (bytes name : List ℕ) → name_in bytes ≡ Some name → (is_store_name name ≡ true) × (bytes ≡ name)
 name_takes bytes name e =
     let found = cond_some (is_store_name bytes) bytes name e in
     (subst (λ b. is_store_name b ≡ true) found.1 found.0, found.1)

@@ -59,6 +59,11 @@ abbrev pub with_item : {A : Type 0} → A → Option (List A × List ℕ) → Op
 with_item x (Some y) = Some (x ∷ y.0, y.1)
 with_item x None = None
 
+-- with items in front
+abbrev pub with_items : {A : Type 0} → List A → Option (List A × List ℕ) → Option (List A × List ℕ)
+with_items front (Some y) = Some (front ++ y.0, y.1)
+with_items front None = None
+
 -- the items that come with a comma before each, up to the closing bracket; at most as many as are counted
 unfoldable pub more_at : {A : Type 0} → (List ℕ → Option (A × List ℕ)) → ℕ → List ℕ → Option (List A × List ℕ)
 more_at item zero text = None

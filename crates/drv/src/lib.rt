@@ -4,6 +4,7 @@
 mod error;
 pub mod laws;
 mod output;
+mod reading;
 mod skipping;
 mod string;
 

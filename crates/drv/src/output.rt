@@ -87,7 +87,7 @@ fn path_of<'a>(
 
 /// An output, and what follows it.
 #[tactic(auto, unfolding(crate::specs::Reading::output_at))]
-fn output_of<'a>(
+pub fn output_of<'a>(
     alloc: Global,
     text: &'a [u8],
     dir: &StoreDir,
