@@ -7,3 +7,6 @@ pub mod Parts
 pub mod Texts
 pub mod Outputs
 pub mod Answering
+pub mod Whole
+pub mod Outcomes
+pub mod OwnNames

@@ -1,6 +1,6 @@
 -- Derivations, and the text that each is written as.
-use Rattle.std.specs.Prelude.{◌≡◌, ℕ, List, [], ◌∷◌, ◌++◌, map, codes, Option, Some, None, true}
-use Rattle.std.specs.List.{flat_map, AllZip}
+use Rattle.std.specs.Prelude.{◌≡◌, ◌≢◌, ℕ, List, [], ◌∷◌, ◌++◌, map, codes, Option, Some, None, option_map, true}
+use Rattle.std.specs.List.{flat_map, filter_map, AllZip, AllPairs}
 use Rattle.paths.specs.Names.{is_store_name}
 use Rattle.paths.specs.StorePath.{is_base_name, full_path}
 use Rattle.drv.specs.Written.{Written, string, value}
@@ -74,3 +74,32 @@ pub record HasOutputs (dir text : List ℕ) (outputs : List (List ℕ × Option 
   pub of : Derivation
   pub written : text ≡ derivation of
   pub outputs_are : AllZip (IsOutput dir) of.outputs outputs
+
+-- no two outputs share a name
+abbrev pub HaveOwnNames : List (List ℕ × Option (List ℕ)) → Type 0
+HaveOwnNames outputs = AllPairs (λ x y. x.0 ≢ y.0) outputs
+
+-- an output with a path, with it
+abbrev pub with_path : List ℕ × Option (List ℕ) → Option (List ℕ × List ℕ)
+with_path x = option_map (λ base. (x.0, base)) x.1
+
+-- the outputs that have a path, in order
+unfoldable pub recorded : List (List ℕ × Option (List ℕ)) → List (List ℕ × List ℕ)
+recorded outputs = filter_map with_path outputs
+
+-- the recorded outputs of a whole text
+pub record Records (dir text : List ℕ) (found : List (List ℕ × List ℕ)) : Type 0 where
+  pub outputs : List (List ℕ × Option (List ℕ))
+  pub of : HasOutputs dir text outputs
+  pub own : HaveOwnNames outputs
+  pub are : found ≡ recorded outputs
+
+-- the text is that of no derivation with outputs in the store directory
+abbrev pub IsBad : List ℕ → List ℕ → Type 0
+IsBad dir text = (outputs : List (List ℕ × Option (List ℕ))) → ¬ (HasOutputs dir text outputs)
+
+-- it is, and two of the outputs share a name
+pub record SharesName (dir text : List ℕ) : Type 0 where
+  pub outputs : List (List ℕ × Option (List ℕ))
+  pub of : HasOutputs dir text outputs
+  pub shared : ¬ (HaveOwnNames outputs)

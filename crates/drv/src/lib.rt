@@ -1,6 +1,7 @@
 //! The outputs of Nix derivation texts.
 #![tactic(auto)]
 
+mod distinct;
 mod error;
 pub mod laws;
 mod output;
