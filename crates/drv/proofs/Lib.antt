@@ -5,7 +5,7 @@ pub mod Lists
 pub mod Loops
 pub mod Parts
 pub mod Texts
-pub mod Outputs
+pub mod OneOutput
 pub mod Answering
 pub mod Whole
 pub mod Outcomes

@@ -10,6 +10,8 @@ use Rattle.std.proofs.lemmas.Bool.{cases_Bool, eqb-true, eq-eqb, both_ways, true
 use Rattle.std.proofs.lemmas.Slice.Eq.{bytes_eq-Decides}
 use Rattle.std.proofs.lemmas.List.Sorted.{IsPermutation-sym, length_permutation}
 use Rattle.std.proofs.lemmas.Map.Keys.{IsDistinct-IsPermutation, IsDistinct-from_sorted}
+use Rattle.drv.specs.declared.output.Output.{Output}
+use Rattle.drv.specs.View.{views}
 use Rattle.drv.specs.Outcome.{have_own_names}
 use Rattle.drv.proofs.Outcomes.{Named, same_name, distinct_if_own, own_if_distinct}
 
@@ -145,3 +147,8 @@ count_tells refs sorted xs is moved rising =
               both_ways (have_own_names xs) shared (own_if_distinct xs (names_if refs xs is before)))
           ∙ sym shared
     ]
+
+-- the names of outputs are those of their views
+pub names_of_views : (outputs : List Output) → map (λ (o : Output). string_bytes o.name) outputs ≡ map (λ (x : Named). x.0) (views outputs)
+names_of_views [] = refl
+names_of_views (o ∷ outputs) = ap (λ (names : List Text). string_bytes o.name ∷ names) (names_of_views outputs)

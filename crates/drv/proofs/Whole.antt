@@ -10,7 +10,7 @@ use Rattle.drv.proofs.Steps.{bind_some, Reads, Skips, Skips-then, Skips-byte, Sk
 use Rattle.drv.proofs.Lists.{Reads-list, Skips-list}
 use Rattle.drv.proofs.Strings.{string_skips}
 use Rattle.drv.proofs.Parts.{strings_skip, variable_item, input_item}
-use Rattle.drv.proofs.Outputs.{outputs_read, outputs_open}
+use Rattle.drv.proofs.OneOutput.{outputs_read, outputs_open}
 
 -- ---- the front
 

@@ -6,7 +6,7 @@ use Rattle.drv.specs.Reading.{output_at}
 use Rattle.drv.specs.View.{view, views}
 use Rattle.drv.proofs.Answering.{fails_then}
 use Rattle.drv.proofs.Loops.{items_closed, items_stop, items_fail, items_go_on, more_shrinks}
-use Rattle.drv.proofs.Outputs.{outputs_read, outputs_open}
+use Rattle.drv.proofs.OneOutput.{outputs_read, outputs_open}
 use Rattle.drv.proofs.reading.more_outputs.Goals as goal
 
 pub returns-in-Some : goal.returns-in-Some
