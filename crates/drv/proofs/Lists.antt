@@ -87,10 +87,11 @@ more_takes item spell Means reads (suc count) t ys rest e =
           let y = bind_some (item u.0) (λ x. with_item x.0 (more_at item count x.1)) (ys, rest) u.2 in
           let more = with_item_some y.0.0 (more_at item count y.0.1) ys rest y.2 in
           let x = reads.takes u.0 y.0.0 y.0.1 y.1 in
-          let xs = more_takes item spell Means reads count y.0.1 more.0 rest more.1 in
-          (x.0 ∷ xs.0,
+          let xs = more_takes item spell Means reads count y.0.1 more.0 rest more.1 in (
+            x.0 ∷ xs.0,
             subst (λ zs. AllZip Means (x.0 ∷ xs.0) zs) more.2 (x.1, xs.1),
-            after_is 44 t u.0 u.1 ∙ ap (λ (r : List ℕ). 44 ∷ r) (x.2 ∙ ap (λ (r : List ℕ). spell x.0 ++ r) xs.2 ∙ sym (append_assoc (spell x.0) (others (map spell xs.0)) (93 ∷ rest))))
+            after_is 44 t u.0 u.1 ∙ ap (λ (r : List ℕ). 44 ∷ r) (x.2 ∙ ap (λ (r : List ℕ). spell x.0 ++ r) xs.2 ∙ sym (append_assoc (spell x.0) (others (map spell xs.0)) (93 ∷ rest))),
+          )
     ]
 
 -- any count that isn't too small gives the same
@@ -104,12 +105,12 @@ enough item spell Means reads opens (suc m) zero [] le le' = refl
 enough item spell Means reads opens (suc m) zero (b ∷ t) le le' = absurd (omega arith)
 enough {Y = Y} item spell Means reads opens (suc m) (suc n) t le le' =
     ap (λ o. closed_or (after 93 t) o)
-        (bind_same (after 44 t) (λ u. item u >>= λ x. with_item x.0 (more_at item m x.1)) (λ u. item u >>= λ x. with_item x.0 (more_at item n x.1))
-            (λ u e. bind_same (item u) (λ x. with_item x.0 (more_at item m x.1)) (λ x. with_item x.0 (more_at item n x.1))
-                (λ x f.
-                    let one = ap length (after_is 44 t u e) in
-                    let two = shrinks item spell Means reads opens u x.0 x.1 f in
-                    ap (with_item x.0) (enough item spell Means reads opens m n x.1 (omega arith) (omega arith)))))
+    (bind_same (after 44 t) (λ u. item u >>= λ x. with_item x.0 (more_at item m x.1)) (λ u. item u >>= λ x. with_item x.0 (more_at item n x.1))
+    (λ u e. bind_same (item u) (λ x. with_item x.0 (more_at item m x.1)) (λ x. with_item x.0 (more_at item n x.1))
+    (λ x f.
+    let one = ap length (after_is 44 t u e) in
+    let two = shrinks item spell Means reads opens u x.0 x.1 f in
+    ap (with_item x.0) (enough item spell Means reads opens m n x.1 (omega arith) (omega arith)))))
 
 -- ---- the whole list
 
@@ -122,7 +123,7 @@ list_again item spell Means reads opens (x ∷ xs) [] rest m = absurd m
 list_again {Y = Y} item spell Means reads opens (x ∷ xs) (y ∷ ys) rest m =
     let tail = others (map spell xs) ++ 93 ∷ rest in
     let is : spell x ++ others (map spell xs) ++ 93 ∷ [] ++ rest ≡ spell x ++ tail =
-        append_assoc (spell x ++ others (map spell xs)) (93 ∷ []) rest ∙ append_assoc (spell x) (others (map spell xs)) (93 ∷ rest) in
+    append_assoc (spell x ++ others (map spell xs)) (93 ∷ []) rest ∙ append_assoc (spell x) (others (map spell xs)) (93 ∷ rest) in
     let one : item (spell x ++ tail) ≡ Some (y, tail) = reads.again x y tail m.0 in
     let more = more_again item spell Means reads opens (length tail) xs ys rest m.1 (omega arith) in
     ap (λ (t : List ℕ). closed_or (after 93 t) (item t >>= λ z. with_item z.0 (more_at item (length z.1) z.1))) is
@@ -141,12 +142,13 @@ list_takes item spell Means reads t ys rest e =
           let y = bind_some (item u.0) (λ x. with_item x.0 (more_at item (length x.1) x.1)) (ys, rest) h.1 in
           let more = with_item_some y.0.0 (more_at item (length y.0.1) y.0.1) ys rest y.2 in
           let x = reads.takes u.0 y.0.0 y.0.1 y.1 in
-          let xs = more_takes item spell Means reads (length y.0.1) y.0.1 more.0 rest more.1 in
-          (x.0 ∷ xs.0,
+          let xs = more_takes item spell Means reads (length y.0.1) y.0.1 more.0 rest more.1 in (
+            x.0 ∷ xs.0,
             subst (λ zs. AllZip Means (x.0 ∷ xs.0) zs) more.2 (x.1, xs.1),
             after_is 91 t u.0 u.1 ∙ ap (λ (r : List ℕ). 91 ∷ r)
                 (x.2 ∙ ap (λ (r : List ℕ). spell x.0 ++ r) xs.2 ∙ sym (append_assoc (spell x.0) (others (map spell xs.0)) (93 ∷ rest))
-                ∙ sym (append_assoc (spell x.0 ++ others (map spell xs.0)) (93 ∷ []) rest)))
+                ∙ sym (append_assoc (spell x.0 ++ others (map spell xs.0)) (93 ∷ []) rest)),
+          )
     ]
 
 pub Reads-list : {X Y : Type 0} (item : List ℕ → Option (Y × List ℕ)) (spell : X → List ℕ) (Means : X → Y → Type 0) → Reads item spell Means → Opens spell
@@ -170,4 +172,4 @@ pub Skips-list : {X : Type 0} (item : List ℕ → Option (List ℕ)) (spell : X
 unfolding list_end
 Skips-list item spell skips opens =
     Skips-rest_of (list_at (alone item)) (λ xs. list (map spell xs)) (AllZip (λ x y. Unit {0}))
-        (Reads-list (alone item) spell (λ x y. Unit {0}) (Reads-alone item spell skips) opens) (λ xs. (units xs, all_units xs))
+    (Reads-list (alone item) spell (λ x y. Unit {0}) (Reads-alone item spell skips) opens) (λ xs. (units xs, all_units xs))

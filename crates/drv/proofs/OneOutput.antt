@@ -82,8 +82,8 @@ hash_skips : Skips hash_end hash_spelled
 unfolding hash_end
 hash_skips =
     Skips-then (further string_end >=> further string_end) (after 41) _ _
-        (Skips-then (further string_end) (further string_end) _ _ (Skips-further string_end string string_skips) (Skips-further string_end string string_skips))
-        (Skips-byte 41)
+    (Skips-then (further string_end) (further string_end) _ _ (Skips-further string_end string string_skips) (Skips-further string_end string string_skips))
+    (Skips-byte 41)
 
 regroup : (n p m h rest : List ℕ) → (n ++ 44 ∷ (p ++ 44 ∷ (m ++ 44 ∷ (h ++ []))) ++ 41 ∷ []) ++ rest ≡ n ++ 44 ∷ (p ++ (((44 ∷ m) ++ 44 ∷ h ++ 41 ∷ []) ++ rest))
 regroup n p m h rest = simp (append_assoc, append-nil) refl

@@ -45,12 +45,12 @@ own_if_distinct (x ∷ xs) h =
 own_names : (xs : List Named) → have_own_names xs ≡ true → HaveOwnNames xs
 own_names xs h i j d lt in_list same =
     both_ways (same_name (get_or xs i d) (get_or xs j d)) (apart_from_distinct same_name xs i j d (distinct_if_own xs h) lt in_list)
-        ((bytes_eq-Decides (get_or xs i d).0 (get_or xs j d).0).1 same)
+    ((bytes_eq-Decides (get_or xs i d).0 (get_or xs j d).0).1 same)
 
 names_own : (xs : List Named) → HaveOwnNames xs → have_own_names xs ≡ true
 names_own xs h =
     own_if_distinct xs (IsDistinct-from_apart same_name xs (λ i j d lt in_list.
-        false_from_ne_true (same_name (get_or xs i d) (get_or xs j d)) (λ e. h i j d lt in_list ((bytes_eq-Decides (get_or xs i d).0 (get_or xs j d).0).0 e))))
+    false_from_ne_true (same_name (get_or xs i d) (get_or xs j d)) (λ e. h i j d lt in_list ((bytes_eq-Decides (get_or xs i d).0 (get_or xs j d).0).0 e))))
 
 abbrev Recorded : Type 0
 Recorded = List (List ℕ × List ℕ)
@@ -93,10 +93,10 @@ outcome_from dir text None e own h =
     λ all has. let both : None ≡ Some all = sym e ∙ listed_again dir text all has in Rattle.std.proofs.lemmas.Option.none-some all both
 outcome_from dir text (Some all) e true h =
     subst (λ b. IsOutcome dir text (cond b (Ok (recorded all)) (Err DoubleOutput))) (sym (h all refl))
-        (record { outputs = all; of = listed_takes dir text all e; own = own_names all (h all refl); are = refl })
+    (record { outputs = all; of = listed_takes dir text all e; own = own_names all (h all refl); are = refl })
 outcome_from dir text (Some all) e false h =
     subst (λ b. IsOutcome dir text (cond b (Ok (recorded all)) (Err DoubleOutput))) (sym (h all refl))
-        (record { outputs = all; of = listed_takes dir text all e; shared = λ own. both_ways (have_own_names all) (h all refl) (names_own all own) })
+    (record { outputs = all; of = listed_takes dir text all e; shared = λ own. both_ways (have_own_names all) (h all refl) (names_own all own) })
 
 own_of : Option (List Named) → Bool
 own_of (Some all) = have_own_names all

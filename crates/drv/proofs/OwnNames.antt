@@ -141,10 +141,10 @@ count_tells refs sorted xs is moved rising =
           eq-eqb (length (dedup same_text sorted)) (length xs) (ap length (distinct_kept sorted apart) ∙ many) ∙ sym own
       | inr shared ↦
           false_from_ne_true (eqb (length (dedup same_text sorted)) (length xs)) (λ e.
-              let kept : dedup same_text sorted ≡ sorted = all_kept sorted (eqb-true (length (dedup same_text sorted)) (length xs) e ∙ sym many) in
-              let apart : IsDistinct same_text sorted = distinct_as (eq_by_cmp order) sorted (λ x y. sym (texts_ties x.now y.now)) (IsDistinct-from_sorted order sorted (subst (λ ys. IsStrictlySortedBy order ys) kept rising)) in
-              let before : IsDistinct same_text refs = IsDistinct-IsPermutation same_text flips sorted refs (IsPermutation-sym refs sorted moved) apart in
-              both_ways (have_own_names xs) shared (own_if_distinct xs (names_if refs xs is before)))
+          let kept : dedup same_text sorted ≡ sorted = all_kept sorted (eqb-true (length (dedup same_text sorted)) (length xs) e ∙ sym many) in
+          let apart : IsDistinct same_text sorted = distinct_as (eq_by_cmp order) sorted (λ x y. sym (texts_ties x.now y.now)) (IsDistinct-from_sorted order sorted (subst (λ ys. IsStrictlySortedBy order ys) kept rising)) in
+          let before : IsDistinct same_text refs = IsDistinct-IsPermutation same_text flips sorted refs (IsPermutation-sym refs sorted moved) apart in
+          both_ways (have_own_names xs) shared (own_if_distinct xs (names_if refs xs is before)))
           ∙ sym shared
     ]
 

@@ -36,13 +36,13 @@ variable_skips : Skips variable_end variable
 unfolding variable_end
 variable_skips =
     Skips-as (after 40 >=> string_end >=> further string_end >=> after 41) variable_spelled variable
-        (λ z. record { name = z.0.0.1; value = z.0.1 }) (λ v. (((tt, v.name), v.value), tt))
-        (λ z. variable_is z.0.0.1 z.0.1) (λ v. sym (variable_is v.name v.value))
-        (Skips-then (after 40 >=> string_end >=> further string_end) (after 41) _ _
-            (Skips-then (after 40 >=> string_end) (further string_end) _ _
-                (Skips-then (after 40) string_end _ _ (Skips-byte 40) string_skips)
-                (Skips-further string_end string string_skips))
-            (Skips-byte 41))
+    (λ z. record { name = z.0.0.1; value = z.0.1 }) (λ v. (((tt, v.name), v.value), tt))
+    (λ z. variable_is z.0.0.1 z.0.1) (λ v. sym (variable_is v.name v.value))
+    (Skips-then (after 40 >=> string_end >=> further string_end) (after 41) _ _
+    (Skips-then (after 40 >=> string_end) (further string_end) _ _
+    (Skips-then (after 40) string_end _ _ (Skips-byte 40) string_skips)
+    (Skips-further string_end string string_skips))
+    (Skips-byte 41))
 
 pub variable_item : Item variable_end variable
 unfolding variable tuple
@@ -62,13 +62,13 @@ input_skips : Skips input_end input
 unfolding input_end
 input_skips =
     Skips-as (after 40 >=> string_end >=> further (list_end string_end) >=> after 41) input_spelled input
-        (λ z. record { path = z.0.0.1; names = z.0.1 }) (λ i. (((tt, i.path), i.names), tt))
-        (λ z. input_is z.0.0.1 z.0.1) (λ i. sym (input_is i.path i.names))
-        (Skips-then (after 40 >=> string_end >=> further (list_end string_end)) (after 41) _ _
-            (Skips-then (after 40 >=> string_end) (further (list_end string_end)) _ _
-                (Skips-then (after 40) string_end _ _ (Skips-byte 40) string_skips)
-                (Skips-further (list_end string_end) _ strings_skip))
-            (Skips-byte 41))
+    (λ z. record { path = z.0.0.1; names = z.0.1 }) (λ i. (((tt, i.path), i.names), tt))
+    (λ z. input_is z.0.0.1 z.0.1) (λ i. sym (input_is i.path i.names))
+    (Skips-then (after 40 >=> string_end >=> further (list_end string_end)) (after 41) _ _
+    (Skips-then (after 40 >=> string_end) (further (list_end string_end)) _ _
+    (Skips-then (after 40) string_end _ _ (Skips-byte 40) string_skips)
+    (Skips-further (list_end string_end) _ strings_skip))
+    (Skips-byte 41))
 
 pub input_item : Item input_end input
 unfolding input tuple

@@ -54,11 +54,12 @@ body_takes true (c ∷ t) v rest e =
     let byte = bind_some (unescaped c) (λ byte. with_byte byte (body_at false t)) (v, rest) e in
     let w = escape_of c byte.0 byte.1 in
     let more = with_byte_some byte.0 (body_at false t) v rest byte.2 in
-    let others = body_takes false t more.0 rest more.1 in
-    (w.0 ∷ others.0,
+    let others = body_takes false t more.0 rest more.1 in (
+      w.0 ∷ others.0,
       ap (λ (m : List ℕ). meant w.0 ∷ m) others.1 ∙ ap (λ m. m ∷ more.0) w.2 ∙ more.2,
       ap (λ (r : List ℕ). 92 ∷ c ∷ r) others.2 ∙ ap (λ (f : List ℕ). f ++ (flat_map written others.0 ++ 34 ∷ rest)) (sym w.1)
-      ∙ sym (append_assoc (written w.0) (flat_map written others.0) (34 ∷ rest)))
+          ∙ sym (append_assoc (written w.0) (flat_map written others.0) (34 ∷ rest)),
+    )
 body_takes false (c ∷ t) v rest e =
     elim (chosen (eqb c 34) _ _ (Some (v, rest)) e) [
       | inl h ↦

@@ -106,9 +106,10 @@ unfolding base_in
 base_takes dir text base e =
     let front = dir ++ 47 ∷ [] in
     let found = cond_some (begins text front && is_base_name (drop (length dir + 1) text)) (drop (length dir + 1) text) base e in
-    let tests = and_parts (begins text front) (is_base_name (drop (length dir + 1) text)) found.0 in
-    (subst (λ b. is_base_name b ≡ true) found.1 tests.1,
-      split_at front text tests.0 ∙ ap (λ n. front ++ drop n text) (front_len dir) ∙ ap (λ (b : List ℕ). front ++ b) found.1)
+    let tests = and_parts (begins text front) (is_base_name (drop (length dir + 1) text)) found.0 in (
+      subst (λ b. is_base_name b ≡ true) found.1 tests.1,
+      split_at front text tests.0 ∙ ap (λ n. front ++ drop n text) (front_len dir) ∙ ap (λ (b : List ℕ). front ++ b) found.1,
+    )
 
 pub base_again : (dir base : List ℕ) → is_base_name base ≡ true → base_in dir (full_path dir base) ≡ Some base
 unfolding base_in
@@ -124,24 +125,24 @@ base_again dir base h =
 pub base_not_below : (dir text : List ℕ) → begins text dir ≡ false → base_in dir text ≡ None
 base_not_below dir text h =
     none_if (base_in dir text) (λ base e.
-        let found = base_takes dir text base e in
-        both_ways (begins text dir) h (begun dir text (47 ∷ base) (found.1 ∙ full_path_is dir base)))
+    let found = base_takes dir text base e in
+    both_ways (begins text dir) h (begun dir text (47 ∷ base) (found.1 ∙ full_path_is dir base)))
 
 -- bytes that are no text
 pub base_not_text : (dir text : List ℕ) → IsUtf8 dir → (IsUtf8 text → ⊥) → base_in dir text ≡ None
 base_not_text dir text dir_text h =
     none_if (base_in dir text) (λ base e.
-        let found = base_takes dir text base e in
-        let front = IsUtf8-append dir (47 ∷ []) dir_text (IsUtf8-from_ascii (47 ∷ []) (IsAscii-cons 47 [] (omega arith) IsAscii-nil)) in
-        h (subst IsUtf8 (sym found.1) (IsUtf8-append (dir ++ 47 ∷ []) base front (IsUtf8-from_ascii base (base_ascii base found.0)))))
+    let found = base_takes dir text base e in
+    let front = IsUtf8-append dir (47 ∷ []) dir_text (IsUtf8-from_ascii (47 ∷ []) (IsAscii-cons 47 [] (omega arith) IsAscii-nil)) in
+    h (subst IsUtf8 (sym found.1) (IsUtf8-append (dir ++ 47 ∷ []) base front (IsUtf8-from_ascii base (base_ascii base found.0)))))
 
 -- a text below which no base name stands
 pub base_not_base : (dir text : List ℕ) → is_base_name (base_of dir text) ≡ false → base_in dir text ≡ None
 base_not_base dir text h =
     none_if (base_in dir text) (λ base e.
-        let found = base_takes dir text base e in
-        let below : base_of dir text ≡ base = ap (base_of dir) (found.1 ∙ full_path_is dir base) ∙ base_of-below dir base in
-        both_ways (is_base_name base) (ap is_base_name (sym below) ∙ h) found.0)
+    let found = base_takes dir text base e in
+    let below : base_of dir text ≡ base = ap (base_of dir) (found.1 ∙ full_path_is dir base) ∙ base_of-below dir base in
+    both_ways (is_base_name base) (ap is_base_name (sym below) ∙ h) found.0)
 
 slash_no_base : (text : List ℕ) → is_base_name (47 ∷ text) ≡ true → ⊥
 unfolding value_of

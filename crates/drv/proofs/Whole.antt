@@ -21,16 +21,16 @@ front_skips : Skips front_end (λ (z : FrontParts). codes "Derive(")
 unfolding front_end
 front_skips =
     Skips-then (after 68 >=> after 101 >=> after 114 >=> after 105 >=> after 118 >=> after 101) (after 40) _ _
-        (Skips-then (after 68 >=> after 101 >=> after 114 >=> after 105 >=> after 118) (after 101) _ _
-            (Skips-then (after 68 >=> after 101 >=> after 114 >=> after 105) (after 118) _ _
-                (Skips-then (after 68 >=> after 101 >=> after 114) (after 105) _ _
-                    (Skips-then (after 68 >=> after 101) (after 114) _ _
-                        (Skips-then (after 68) (after 101) _ _ (Skips-byte 68) (Skips-byte 101))
-                        (Skips-byte 114))
-                    (Skips-byte 105))
-                (Skips-byte 118))
-            (Skips-byte 101))
-        (Skips-byte 40)
+    (Skips-then (after 68 >=> after 101 >=> after 114 >=> after 105 >=> after 118) (after 101) _ _
+    (Skips-then (after 68 >=> after 101 >=> after 114 >=> after 105) (after 118) _ _
+    (Skips-then (after 68 >=> after 101 >=> after 114) (after 105) _ _
+    (Skips-then (after 68 >=> after 101) (after 114) _ _
+    (Skips-then (after 68) (after 101) _ _ (Skips-byte 68) (Skips-byte 101))
+    (Skips-byte 114))
+    (Skips-byte 105))
+    (Skips-byte 118))
+    (Skips-byte 101))
+    (Skips-byte 40)
 
 -- ---- behind the outputs
 
@@ -47,8 +47,8 @@ inputs_skip : Skips inputs_end inputs_spelled
 unfolding inputs_end
 inputs_skip =
     Skips-then (further (list_end input_end)) (further (list_end string_end)) _ _
-        (Skips-further (list_end input_end) _ (Skips-list input_end input input_item.skips input_item.opens))
-        (Skips-further (list_end string_end) _ strings_skip)
+    (Skips-further (list_end input_end) _ (Skips-list input_end input input_item.skips input_item.opens))
+    (Skips-further (list_end string_end) _ strings_skip)
 
 abbrev ProcessParts : Type 0
 ProcessParts = (((List Written × List Written) × Strings) × List Variable) × Unit {0}
@@ -60,12 +60,12 @@ process_skips : Skips process_end process_spelled
 unfolding process_end
 process_skips =
     Skips-then (further string_end >=> further string_end >=> further (list_end string_end) >=> further (list_end variable_end)) (after 41) _ _
-        (Skips-then (further string_end >=> further string_end >=> further (list_end string_end)) (further (list_end variable_end)) _ _
-            (Skips-then (further string_end >=> further string_end) (further (list_end string_end)) _ _
-                (Skips-then (further string_end) (further string_end) _ _ (Skips-further string_end string string_skips) (Skips-further string_end string string_skips))
-                (Skips-further (list_end string_end) _ strings_skip))
-            (Skips-further (list_end variable_end) _ (Skips-list variable_end variable variable_item.skips variable_item.opens)))
-        (Skips-byte 41)
+    (Skips-then (further string_end >=> further string_end >=> further (list_end string_end)) (further (list_end variable_end)) _ _
+    (Skips-then (further string_end >=> further string_end) (further (list_end string_end)) _ _
+    (Skips-then (further string_end) (further string_end) _ _ (Skips-further string_end string string_skips) (Skips-further string_end string string_skips))
+    (Skips-further (list_end string_end) _ strings_skip))
+    (Skips-further (list_end variable_end) _ (Skips-list variable_end variable variable_item.skips variable_item.opens)))
+    (Skips-byte 41)
 
 -- ---- the whole text
 
@@ -120,5 +120,5 @@ listed_takes dir text all e =
     let tail : c.0 ≡ process_spelled process.0 ++ [] = process.1 ∙ ap (λ (r : List ℕ). process_spelled process.0 ++ r) end.0 in
     let mid : b.0.1 ≡ inputs_spelled inputs.0 ++ (process_spelled process.0 ++ []) = inputs.1 ∙ ap (λ (r : List ℕ). inputs_spelled inputs.0 ++ r) tail in
     let whole : text ≡ codes "Derive(" ++ (list (map output xs.0) ++ (inputs_spelled inputs.0 ++ (process_spelled process.0 ++ []))) =
-        front.1 ∙ ap (λ (r : List ℕ). codes "Derive(" ++ r) (xs.2 ∙ ap (λ (r : List ℕ). list (map output xs.0) ++ r) mid) in
+    front.1 ∙ ap (λ (r : List ℕ). codes "Derive(" ++ r) (xs.2 ∙ ap (λ (r : List ℕ). list (map output xs.0) ++ r) mid) in
     record { of = d; written = whole ∙ sym (whole_is d); outputs_are = subst (λ ys. AllZip (IsOutput dir) xs.0 ys) end.1 xs.1 }

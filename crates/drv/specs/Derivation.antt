@@ -54,7 +54,7 @@ unfoldable pub derivation : Derivation → List ℕ
 derivation d =
     codes "Derive"
     ++ tuple (list (map output d.outputs) ∷ list (map input d.inputs) ∷ list (map string d.sources)
-        ∷ string d.platform ∷ string d.builder ∷ list (map string d.arguments) ∷ list (map variable d.environment) ∷ [])
+    ∷ string d.platform ∷ string d.builder ∷ list (map string d.arguments) ∷ list (map variable d.environment) ∷ [])
 
 -- ---- its outputs
 

@@ -12,3 +12,6 @@ mod string;
 
 pub use error::DrvError;
 pub use recording::outputs;
+
+#[cfg(test)]
+mod tests;

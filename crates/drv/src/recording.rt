@@ -16,10 +16,7 @@ use paths::{StoreDir, StorePath};
 use std::alloc::{AllocError, Global};
 
 /// The outputs that have a path, in order.
-fn recorded(
-    alloc: Global,
-    outputs: Vec<Output>,
-) -> Result<Vec<(String, StorePath)>, AllocError>
+fn recorded(alloc: Global, outputs: Vec<Output>) -> Result<Vec<(String, StorePath)>, AllocError>
     ensures { IfOk result (λ v. pairs v.items ≡ derivation.recorded (views outputs.items)) }
 {
     let mut found = Vec::new(alloc);
@@ -31,11 +28,7 @@ fn recorded(
     Ok(found)
 }
 
-fn outcome(
-    alloc: Global,
-    text: &[u8],
-    dir: &StoreDir,
-) -> Result<Vec<(String, StorePath)>, DrvError>
+fn outcome(alloc: Global, text: &[u8], dir: &StoreDir) -> Result<Vec<(String, StorePath)>, DrvError>
     ensures { MatchResult result (λ v. outputs_of dir.now text.now ≡ Ok (pairs v.items)) (λ e. e ≢ memory → outputs_of dir.now text.now ≡ Err e) }
 {
     let outputs = read(alloc, text, dir)?;

@@ -15,13 +15,7 @@ pub fn after(text: &[u8], byte: u8) -> Option<&[u8]>
 {
     match text {
         [] => None,
-        [first, rest @ ..] => {
-            if *first == byte {
-                Some(rest)
-            } else {
-                None
-            }
-        }
+        [first, rest @ ..] => { if *first == byte { Some(rest) } else { None } }
     }
 }
 

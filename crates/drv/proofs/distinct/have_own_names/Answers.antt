@@ -20,4 +20,4 @@ returns c =
     let many : length outputs ≡ length (views outputs) = sym (length-map outputs view) in
     ap (λ n. eqb n (length outputs)) count ∙ ap (λ n. eqb (length (dedup same_text sorted)) n) many
     ∙ count_tells names sorted (views outputs) refer c.sort_unstable.ensures.permutation
-        (IsStrictlySortedBy-dedup (on_texts read) (λ x y. texts_ties x.now y.now) _ c.sort_unstable.ensures.sorted)
+    (IsStrictlySortedBy-dedup (on_texts read) (λ x y. texts_ties x.now y.now) _ c.sort_unstable.ensures.sorted)

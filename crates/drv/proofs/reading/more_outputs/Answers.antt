@@ -21,16 +21,16 @@ pub returns-in_err-output : goal.returns-in_err-output
 returns-in_err-output c =
     let p = err_from_is_err_and c.from_residual.result c.from_residual.ensures.1 in
     rw (p.1, p.2) (fails_then c.in_err-output.field-0.0 (output_at c.args.dir.now c.in-Some-after.item.now) _ c.in_err-output.ensures
-        (items_fail (output_at c.args.dir.now) (views c.loop-end.outputs.items) c.loop-end.rest.now c.in-Some-after.item.now _ c.in_default.ensures c.in-Some-after.ensures c.loop-end.invariant))
+    (items_fail (output_at c.args.dir.now) (views c.loop-end.outputs.items) c.loop-end.rest.now c.in-Some-after.item.now _ c.in_default.ensures c.in-Some-after.ensures c.loop-end.invariant))
 
 pub loop-end-preserved : goal.loop-end-preserved
 loop-end-preserved c =
     items_go_on (output_at c.args.dir.now) output (IsOutput c.args.dir.now) (outputs_read c.args.dir.now) outputs_open
-        (views c.loop-end.outputs.items) (views c.push.new.self.items) c.loop-end.rest.now c.in-Some-after.item.now (view c.in_ok-output.output) c.in_ok-output.next.now _
-        c.in_default.ensures c.in-Some-after.ensures c.in_ok-output.ensures
-        (ap views c.in_ok-push.ensures.items ∙ map_push view c.loop-end.outputs.items c.in_ok-output.output) c.loop-end.invariant
+    (views c.loop-end.outputs.items) (views c.push.new.self.items) c.loop-end.rest.now c.in-Some-after.item.now (view c.in_ok-output.output) c.in_ok-output.next.now _
+    c.in_default.ensures c.in-Some-after.ensures c.in_ok-output.ensures
+    (ap views c.in_ok-push.ensures.items ∙ map_push view c.loop-end.outputs.items c.in_ok-output.output) c.loop-end.invariant
 
 pub loop-end-smaller : goal.loop-end-smaller
 loop-end-smaller c =
     more_shrinks (output_at c.args.dir.now) output (IsOutput c.args.dir.now) (outputs_read c.args.dir.now) outputs_open
-        c.loop-end.rest.now c.in-Some-after.item.now (view c.in_ok-output.output) c.in_ok-output.next.now (sym c.in-Some-after.ensures) c.in_ok-output.ensures
+    c.loop-end.rest.now c.in-Some-after.item.now (view c.in_ok-output.output) c.in_ok-output.next.now (sym c.in-Some-after.ensures) c.in_ok-output.ensures

@@ -13,10 +13,10 @@ returns-in_err-outputs c =
 pub returns-then-not-branch : goal.returns-then-not-branch
 returns-then-not-branch c =
     λ other. outcome_shared c.args.dir.now c.args.text.now (views c.in_ok-outputs.outputs.items) c.in_ok-outputs.ensures
-        (ap (λ items. have_own_names (views items)) (sym c.deref.ensures.value) ∙ sym c.in_ok-have_own_names.ensures ∙ c.if-not-branch.true)
+    (ap (λ items. have_own_names (views items)) (sym c.deref.ensures.value) ∙ sym c.in_ok-have_own_names.ensures ∙ c.if-not-branch.true)
 
 pub returns : goal.returns
 returns c =
     outcome_found c.args.dir.now c.args.text.now (views c.in_ok-outputs.outputs.items) (pairs c.in_ok-recorded.field-0.items) c.in_ok-outputs.ensures
-        (ap (λ items. have_own_names (views items)) (sym c.deref.ensures.value) ∙ sym c.in_ok-have_own_names.ensures ∙ c.if-not-branch.false)
-        c.in_ok-recorded.ensures
+    (ap (λ items. have_own_names (views items)) (sym c.deref.ensures.value) ∙ sym c.in_ok-have_own_names.ensures ∙ c.if-not-branch.false)
+    c.in_ok-recorded.ensures
