@@ -1,15 +1,14 @@
 -- What a function answers, and at the exit of a step that failed.
-use Rattle.std.proofs.Common.{◌≡◌, ◌≢◌, ℕ, Bool, true, false, cond, List, [], ◌∷◌, ◌++◌, map, Option, Some, None, Result, Ok, Err, refl, sym, ap, subst, ◌∙◌, append_assoc, inl, inr, ◌⊎◌}
+use Rattle.std.proofs.Common.{◌≡◌, ◌≢◌, ℕ, true, false, cond, List, [], ◌∷◌, ◌++◌, Option, Some, None, Result, Ok, Err, refl, sym, ap, ◌∙◌, append_assoc}
 use Rattle.std.specs.Prelude.{MatchResult, IfOk, IfErr}
-use Rattle.std.specs.Option.{option_map}
 use Rattle.std.proofs.lemmas.List.{append-nil}
 use Rattle.drv.specs.declared.error.DrvError.{DrvError}
 use Rattle.drv.specs.declared.error.DrvError.TheVariants.{BadDerivation, DoubleOutput, Memory}
 use Rattle.drv.specs.Answer.{Fails}
-use Rattle.drv.specs.Derivation.{with_path, recorded, Records}
+use Rattle.drv.specs.Derivation.{recorded, Records}
 use Rattle.drv.specs.Outcome.{IsFault, IsOutcome, have_own_names, answered, outputs_of}
 use Rattle.drv.specs.Reading.{listed}
-use Rattle.drv.proofs.Outcomes.{Named, one_outcome, outcome_is}
+use Rattle.drv.proofs.Outcomes.{Named, one_outcome}
 
 -- where a step gives nothing, the whole gives nothing
 pub fails_then : {A B : Type 0} (e : DrvError) (step : Option A) (whole : Option B) → Fails e step → (step ≡ None → whole ≡ None) → Fails e whole

@@ -1,10 +1,10 @@
 -- A list that is read is one that is written, and what is written is read.
-use Rattle.std.proofs.Common.{◌≡◌, ℕ, zero, suc, ◌+◌, ◌<◌, ◌≤◌, List, [], ◌∷◌, ◌++◌, length, map, Option, Some, None, refl, sym, ap, subst, ◌∙◌, append_assoc, arith, inl, inr, ◌⊎◌}
+use Rattle.std.proofs.Common.{◌≡◌, ℕ, zero, suc, ◌<◌, ◌≤◌, List, [], ◌∷◌, ◌++◌, length, map, Option, Some, None, refl, sym, ap, subst, ◌∙◌, append_assoc, arith, inl, inr, ◌⊎◌}
 use Rattle.std.specs.List.{flat_map, AllZip}
 use Rattle.std.proofs.lemmas.List.{length-append}
 use Rattle.std.proofs.lemmas.Option.{some_pair_parts}
 use Rattle.drv.specs.Derivation.{commas, list}
-use Rattle.drv.specs.Reading.{◌>>=◌, after, rest_of, closed_or, with_item, more_at, list_at, list_end, alone}
+use Rattle.drv.specs.Reading.{◌>>=◌, after, closed_or, with_item, more_at, list_at, list_end, alone}
 use Rattle.drv.proofs.Steps.{bind_some, bind_same, after_is, Reads, Skips, Skips-rest_of, Reads-alone}
 
 -- what is written isn't empty and doesn't begin with a closing bracket

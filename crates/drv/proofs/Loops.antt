@@ -1,8 +1,8 @@
 -- The steps of a loop over the items of a list.
-use Rattle.std.proofs.Common.{◌≡◌, ℕ, zero, suc, ◌+◌, ◌<◌, ◌≤◌, List, [], ◌∷◌, ◌++◌, length, Option, Some, None, refl, sym, ap, subst, ◌∙◌, append_assoc, arith}
+use Rattle.std.proofs.Common.{◌≡◌, ℕ, ◌<◌, List, [], ◌∷◌, ◌++◌, length, Option, Some, None, refl, sym, ap, ◌∙◌, append_assoc, arith}
 use Rattle.std.proofs.lemmas.List.{append-nil}
-use Rattle.drv.specs.Written.{Written, string}
-use Rattle.drv.specs.Reading.{◌>>=◌, after, rest_of, bare, closed_or, with_item, with_items, more_at, list_at, list_end, alone, string_end}
+use Rattle.drv.specs.Written.{string}
+use Rattle.drv.specs.Reading.{◌>>=◌, after, rest_of, bare, closed_or, with_item, with_items, more_at, alone, string_end}
 use Rattle.drv.proofs.Steps.{after_is, Reads, Skips, Reads-alone}
 use Rattle.drv.proofs.Lists.{Opens, shrinks, enough}
 use Rattle.drv.proofs.Strings.{string_skips}

@@ -1,14 +1,13 @@
 -- An output that is read is one that is written, and what is written is read.
-use Rattle.std.proofs.Common.{◌≡◌, ℕ, ◌+◌, ◌<◌, ◌≤◌, Bool, true, cond, List, [], ◌∷◌, ◌++◌, length, map, Option, Some, None, refl, sym, ap, subst, ◌∙◌, append_assoc, length-append, arith}
+use Rattle.std.proofs.Common.{◌≡◌, ℕ, true, cond, List, [], ◌∷◌, ◌++◌, length, Option, Some, None, refl, sym, ap, subst, ◌∙◌, append_assoc, length-append, arith}
 use Rattle.std.specs.Option.{option_map}
 use Rattle.std.proofs.lemmas.List.{append-nil}
 use Rattle.std.proofs.lemmas.Option.{some_pair_parts, same_Some}
 use Rattle.paths.specs.Names.{is_store_name}
-use Rattle.paths.specs.StorePath.{is_base_name, full_path}
 use Rattle.drv.specs.Written.{Written, string, value}
 use Rattle.drv.specs.Derivation.{Output, commas, tuple, output, IsPathText, IsOutput}
 use Rattle.drv.specs.Reading.{◌>>=◌, after, string_at, string_end, ◌>=>◌, further, name_in, name_at, base_in, path_in, path_at, hash_end, output_at}
-use Rattle.drv.proofs.Steps.{bind_some, after_is, after_same, Reads, Skips, Skips-then, Skips-byte, Skips-further}
+use Rattle.drv.proofs.Steps.{bind_some, after_is, Reads, Skips, Skips-then, Skips-byte, Skips-further}
 use Rattle.drv.proofs.Lists.{Opens}
 use Rattle.drv.proofs.Strings.{strings, string_skips}
 use Rattle.drv.proofs.Texts.{name_takes, base_takes, base_again}

@@ -1,15 +1,15 @@
 -- The outcome of a text is its function's.
-use Rattle.std.proofs.Common.{◌≡◌, ◌≢◌, ◌↔◌, ℕ, suc, ◌+◌, ◌<◌, ◌≤◌, Bool, true, false, cond, not, ◌&&◌, List, [], ◌∷◌, length, map, get_or, Option, Some, None, Result, Ok, Err, refl, sym, ap, subst, ◌∙◌, arith, inl, inr, ◌⊎◌}
-use Rattle.std.specs.List.{list_any, AllByRecursion, AllPairs, IsDistinct}
+use Rattle.std.proofs.Common.{◌≡◌, ℕ, Bool, true, false, cond, not, List, [], ◌∷◌, get_or, Option, Some, None, Result, Ok, Err, refl, sym, ap, subst, ◌∙◌}
+use Rattle.std.specs.List.{list_any, AllByRecursion, IsDistinct}
 use Rattle.std.specs.Str.{bytes_eq}
-use Rattle.std.proofs.lemmas.Bool.{cases_Bool, and_parts, and_from, not-true, not_from_false, both_ways, or_parts, or_from, false_from_ne_true}
+use Rattle.std.proofs.lemmas.Bool.{and_parts, and_from, not-true, not_from_false, both_ways, or_parts, or_from, false_from_ne_true}
 use Rattle.std.proofs.lemmas.Option.{same_Some}
 use Rattle.std.proofs.lemmas.Slice.Eq.{bytes_eq-Decides}
-use Rattle.std.proofs.lemmas.Map.Keys.{apart_from_distinct, IsDistinct-from_apart, IsDistinct-cons, IsDistinct-head, IsDistinct-tail}
+use Rattle.std.proofs.lemmas.Map.Keys.{apart_from_distinct, IsDistinct-from_apart}
 use Rattle.drv.specs.declared.error.DrvError.{DrvError}
 use Rattle.drv.specs.declared.error.DrvError.TheVariants.{BadDerivation, DoubleOutput, Memory}
-use Rattle.drv.specs.Derivation.{HasOutputs, HaveOwnNames, recorded, Records, IsBad, SharesName}
-use Rattle.drv.specs.Outcome.{IsFault, IsOutcome, have_own_names, answered, outputs_of}
+use Rattle.drv.specs.Derivation.{HaveOwnNames, recorded, Records, IsBad, SharesName}
+use Rattle.drv.specs.Outcome.{IsOutcome, have_own_names, answered, outputs_of}
 use Rattle.drv.specs.Reading.{listed}
 use Rattle.drv.specs.Laws.{OneOutcome}
 use Rattle.drv.proofs.Whole.{listed_again, listed_takes}

@@ -1,11 +1,11 @@
 -- Each part of a derivation that is skipped is one that is written, and what is written is skipped.
-use Rattle.std.proofs.Common.{◌≡◌, ℕ, List, [], ◌∷◌, ◌++◌, length, map, Option, Some, None, refl, sym, ap, subst, ◌∙◌, append_assoc, arith}
+use Rattle.std.proofs.Common.{◌≡◌, ℕ, List, [], ◌∷◌, ◌++◌, map, Option, refl, sym, ap, ◌∙◌}
 use Rattle.std.proofs.lemmas.List.{append-nil}
 use Rattle.drv.specs.Written.{Written, string}
-use Rattle.drv.specs.Derivation.{Input, Variable, commas, tuple, list, input, variable}
+use Rattle.drv.specs.Derivation.{commas, tuple, list, input, variable}
 use Rattle.drv.specs.Reading.{after, ◌>=>◌, further, string_end, list_end, variable_end, input_end}
 use Rattle.drv.proofs.Steps.{Skips, Skips-then, Skips-byte, Skips-further}
-use Rattle.drv.proofs.Lists.{Opens, Skips-list}
+use Rattle.drv.proofs.Lists.{Skips-list}
 use Rattle.drv.proofs.Strings.{string_skips}
 use Rattle.drv.proofs.Loops.{Item, string_item}
 

@@ -1,9 +1,9 @@
 -- A string that is read is one that is written, and what is written is read.
-use Rattle.std.proofs.Common.{◌≡◌, ℕ, Bool, true, false, cond, eqb, not, List, [], ◌∷◌, ◌++◌, map, Option, Some, None, refl, sym, ap, subst, ◌∙◌, append_assoc, arith, inl, inr, ◌&&◌}
+use Rattle.std.proofs.Common.{◌≡◌, ℕ, Bool, true, false, eqb, not, List, [], ◌∷◌, ◌++◌, map, Option, Some, None, refl, sym, ap, ◌∙◌, append_assoc, inl, inr}
 use Rattle.std.specs.List.{flat_map}
 use Rattle.std.proofs.lemmas.Bool.{eqb-true, and_parts, and_from, not-true, not_from_false}
 use Rattle.drv.specs.Written.{Written, itself, quote, backslash, line_feed, carriage_return, tab, is_plain, written, meant, string, value}
-use Rattle.drv.specs.Reading.{◌>>=◌, after, unescaped, with_byte, body_at, string_at, string_end, rest_of}
+use Rattle.drv.specs.Reading.{after, unescaped, with_byte, body_at, string_at, string_end}
 use Rattle.drv.proofs.Steps.{bind_some, chosen, after_is, Reads, Skips, Skips-rest_of}
 
 abbrev Spelled : ℕ → ℕ → Type 0

@@ -1,12 +1,12 @@
 -- A whole text: its outputs are listed exactly where it is that of a derivation with these outputs.
-use Rattle.std.proofs.Common.{◌≡◌, ℕ, List, [], ◌∷◌, ◌++◌, length, map, Option, Some, None, refl, sym, ap, subst, ◌∙◌, append_assoc, arith}
+use Rattle.std.proofs.Common.{◌≡◌, ℕ, List, [], ◌∷◌, ◌++◌, map, Option, Some, refl, sym, ap, subst, ◌∙◌, append_assoc}
 use Rattle.std.specs.Prelude.{codes}
 use Rattle.std.specs.List.{AllZip}
 use Rattle.std.proofs.lemmas.List.{append-nil}
 use Rattle.drv.specs.Written.{Written, string}
-use Rattle.drv.specs.Derivation.{Output, Input, Variable, Derivation, commas, tuple, list, output, input, variable, derivation, IsOutput, HasOutputs}
+use Rattle.drv.specs.Derivation.{Input, Variable, Derivation, commas, tuple, list, output, input, variable, derivation, IsOutput, HasOutputs}
 use Rattle.drv.specs.Reading.{◌>>=◌, after, ◌>=>◌, further, string_end, list_at, list_end, variable_end, input_end, output_at, front_end, inputs_end, process_end, if_ended, listed}
-use Rattle.drv.proofs.Steps.{bind_some, Reads, Skips, Skips-then, Skips-byte, Skips-further}
+use Rattle.drv.proofs.Steps.{bind_some, Skips, Skips-then, Skips-byte, Skips-further}
 use Rattle.drv.proofs.Lists.{Reads-list, Skips-list}
 use Rattle.drv.proofs.Strings.{string_skips}
 use Rattle.drv.proofs.Parts.{strings_skip, variable_item, input_item}

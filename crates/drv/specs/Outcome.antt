@@ -1,6 +1,6 @@
 -- The recorded outputs of a whole text, or what is wrong with it: as a relation, and as a function on bytes that
 -- nobody needs to believe, since a law says that it is the relation.
-use Rattle.std.specs.Prelude.{◌≡◌, ℕ, ◌&&◌, Bool, true, not, List, [], ◌∷◌, Option, Some, None, Result, Ok, Err, if◌then◌else◌}
+use Rattle.std.specs.Prelude.{ℕ, ◌&&◌, Bool, true, not, List, [], ◌∷◌, Option, Some, None, Result, Ok, Err, if◌then◌else◌}
 use Rattle.std.specs.List.{list_any}
 use Rattle.std.specs.Str.{bytes_eq}
 use Rattle.drv.specs.declared.error.DrvError.{DrvError}

@@ -1,4 +1,4 @@
-use Rattle.std.proofs.Common.{◌∙◌, sym, ap, Some, Err}
+use Rattle.std.proofs.Common.{◌∙◌, sym, ap, Err}
 use Rattle.paths.specs.Names.{begins}
 use Rattle.paths.specs.StorePath.{base_of, is_base_name}
 use Rattle.drv.proofs.Texts.{base_not_below, base_not_text_at, base_not_base, base_found_at}

@@ -1,4 +1,4 @@
-use Rattle.std.proofs.Common.{◌∙◌, ◌+◌, sym, ap, arith, Some, take, drop, get_or, length, ◌-◌}
+use Rattle.std.proofs.Common.{◌∙◌, ◌+◌, sym, ap, arith, Some, drop, get_or}
 use Rattle.std.proofs.lemmas.List.{take_rest, append-nil}
 use Rattle.drv.specs.Reading.{body_at}
 use Rattle.drv.proofs.Bodies.{with_bytes, body_none, escape_fails, escape_goes_on, quote_ends, backslash_goes_on, plain_goes_on, pushed}
