@@ -34,7 +34,7 @@ use Rattle.rows.specs.Contents.{contents_of, texts_cmp, triple_cmp, is_text, is_
 use Rattle.rows.specs.Calls.{IsUnderWay, Changes, Stays}
 use Rattle.rows.specs.Entries.{generation_in, ShowsGeneration}
 use Rattle.rows.proofs.Orders.{triple_total, triple_antisymmetric}
-use Rattle.rows.proofs.Tests.{cast_null, cast_int, free_of, and_so, text_test, int_test, both_tests, all_tests}
+use Rattle.rows.proofs.Truths.{cast_null, cast_int, free_of, and_so, text_test, int_test, both_tests, all_tests}
 use Rattle.rows.proofs.Means.{Means, insert_means, delete_means, ordered_by_three, means_command, plain_state, shown_column}
 use Rattle.rows.proofs.Conditions.{where_two, where_three, equals, select_context, filter_in}
 use Rattle.rows.proofs.Columns.{bounds_are, outputs_four, result_context, from_in, shown_in}

@@ -1,5 +1,5 @@
 pub mod Orders
-pub mod Tests
+pub mod Truths
 pub mod Optional
 pub mod Scans
 pub mod Finds
@@ -25,3 +25,5 @@ pub mod RuntimeRootLemmas
 pub mod OwnRowids
 pub mod RowidTexts
 pub mod Opened
+pub mod Gone
+pub mod Under

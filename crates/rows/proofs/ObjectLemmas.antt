@@ -34,7 +34,7 @@ use Rattle.rows.specs.Contents.{contents_of, texts_cmp, is_text, is_blob, is_obj
 use Rattle.rows.specs.Calls.{IsUnderWay, Changes, Stays}
 use Rattle.rows.specs.Entries.{stored_of, ShowsObject, stored}
 use Rattle.rows.proofs.Orders.{texts_total, texts_antisymmetric}
-use Rattle.rows.proofs.Tests.{cast_null, free_of, and_so, and_one, text_test}
+use Rattle.rows.proofs.Truths.{cast_null, free_of, and_so, and_one, text_test}
 use Rattle.rows.proofs.Optional.{IsKept, given, kept_given, bound_given, read_given, option_fits}
 use Rattle.rows.proofs.Means.{Means, insert_means, delete_means, ordered_by_one, means_command, plain_state, shown_column}
 use Rattle.rows.proofs.Conditions.{where_one, equals, select_context, filter_in}

@@ -33,7 +33,7 @@ use Rattle.rows.specs.Contents.{contents_of, texts_cmp, pair_cmp, is_text, is_tr
 use Rattle.rows.specs.Calls.{IsUnderWay, Changes, Stays}
 use Rattle.rows.specs.Entries.{output_of, ShowsOutput}
 use Rattle.rows.proofs.Orders.{pair_total, pair_antisymmetric}
-use Rattle.rows.proofs.Tests.{cast_null, free_of, and_so, and_one, text_test}
+use Rattle.rows.proofs.Truths.{cast_null, free_of, and_so, and_one, text_test}
 use Rattle.rows.proofs.Means.{Means, insert_means, delete_means, ordered_by_two, means_command, plain_state, shown_column}
 use Rattle.rows.proofs.Conditions.{where_one, equals, select_context, filter_in}
 use Rattle.rows.proofs.Columns.{bounds_are, outputs_three, result_context, from_in, shown_in}

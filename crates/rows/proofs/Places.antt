@@ -13,7 +13,7 @@ use Rattle.rows.specs.Standing.{Stands, HasTables, tree_named}
 use Rattle.rows.specs.Contents.{Contents, contents_of, rows_named}
 use Rattle.rows.specs.Calls.{IsKeyed, IsOurs, KeepsTheirs, Changes}
 use Rattle.rows.proofs.Writes.{SetsRows}
-use Rattle.rows.proofs.Tests.{and_so}
+use Rattle.rows.proofs.Truths.{and_so}
 
 -- what holds of a table in the list holds at its place
 list_all_at : (p : Table → Bool) (ts : List Table) (at : ℕ) (t : Table) → slice_get ts at ≡ Some t → list_all p ts ≡ true → p t ≡ true

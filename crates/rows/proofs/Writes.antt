@@ -32,7 +32,7 @@ use Rattle.sqlite_schema.specs.Rules.{ParentKey, key_in, key_places, declared_or
 use Rattle.sqlite_rules.specs.declared.action.Deed.{Deed}
 use Rattle.sqlite_rules.specs.Action.{Work, work_by, work_for, works, deed_for, pairs}
 use Rattle.rows.specs.Standing.{points_at, is_unreferred}
-use Rattle.rows.proofs.Tests.{and_so}
+use Rattle.rows.proofs.Truths.{and_so}
 use Rattle.rows.proofs.Finds.{found_by_place}
 
 -- inside a transaction: one table has these rows, and each other table, ours or theirs, has those that it had

@@ -19,5 +19,7 @@ mod rowids;
 pub mod runtime;
 mod standing;
 mod statement;
+#[cfg(test)]
+mod tests;
 pub mod transaction;
 pub mod user_roots;

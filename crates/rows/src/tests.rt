@@ -1,0 +1,603 @@
+ghost use Rattle.std.specs.Prelude.{◌≡◌, false, OnOk};
+ghost use Rattle.sqlite.specs.State.{HasCleanDisk};
+ghost use Rattle.sqlite.specs.Held.{state};
+ghost use Rattle.rows.specs.Calls.{IsUnderWay};
+
+use crate::failure::Failure;
+use crate::finding::{self, Finding};
+use crate::{
+    generations, meta, objects, opening, outputs, permanent, profiles, references, runtime,
+    transaction, user_roots,
+};
+use sqlite::{Alter, Connection, Error, Transaction};
+use std::alloc::Global;
+use std::fs;
+use std::test::Fail;
+
+/// The nine tables, as the texts that make them.
+const TABLES: [&str; 9] = [
+    "CREATE TABLE meta (word TEXT NOT NULL, val TEXT NOT NULL, PRIMARY KEY (word)) STRICT",
+    "CREATE TABLE object (base TEXT NOT NULL, nar BLOB NOT NULL, hash BLOB NOT NULL, deriver TEXT, ca TEXT, PRIMARY KEY (base)) STRICT",
+    "CREATE TABLE refs (base TEXT NOT NULL, target TEXT NOT NULL, PRIMARY KEY (base, target)) STRICT",
+    "CREATE TABLE outs (base TEXT NOT NULL, name TEXT NOT NULL, target TEXT NOT NULL, PRIMARY KEY (base, name)) STRICT",
+    "CREATE TABLE permanent (name TEXT NOT NULL, target TEXT NOT NULL, PRIMARY KEY (name)) STRICT",
+    "CREATE TABLE user_root (owner TEXT NOT NULL, name TEXT NOT NULL, target TEXT NOT NULL, PRIMARY KEY (owner, name)) STRICT",
+    "CREATE TABLE profile (owner TEXT NOT NULL, name TEXT NOT NULL, cur INTEGER NOT NULL, PRIMARY KEY (owner, name)) STRICT",
+    "CREATE TABLE generation (owner TEXT NOT NULL, name TEXT NOT NULL, num INTEGER NOT NULL, target TEXT NOT NULL, PRIMARY KEY (owner, name, num)) STRICT",
+    "CREATE TABLE runtime (label TEXT NOT NULL, target TEXT NOT NULL, PRIMARY KEY (label, target)) STRICT",
+];
+
+// Each row is put in place of one of its key, so that a test needs no proof that the key is new.
+
+fn put_setting<S: Alter>(
+    tx: &mut Transaction<'_, S>,
+    word: &str,
+    value: &str,
+) -> Result<(), Failure>
+    requires { HasCleanDisk (state S.Store tx.old.conn.now) → IsUnderWay (state S.Store tx.old.conn.now) }
+    ensures same_reference { tx.new.conn.ghost_name ≡ tx.old.conn.ghost_name }
+    ensures goes_on { HasCleanDisk (state S.Store tx.new.conn.now) → OnOk result (IsUnderWay (state S.Store tx.new.conn.now)) }
+    ensures clean { HasCleanDisk (state S.Store tx.new.conn.now) → HasCleanDisk (state S.Store tx.old.conn.now) }
+{
+    meta::delete(tx, word)?;
+    meta::insert(tx, word, value)
+}
+
+fn put_object<S: Alter>(
+    tx: &mut Transaction<'_, S>,
+    base: &str,
+    nar: &[u8],
+    deriver: &Option<String>,
+) -> Result<(), Failure>
+    requires { HasCleanDisk (state S.Store tx.old.conn.now) → IsUnderWay (state S.Store tx.old.conn.now) }
+    ensures same_reference { tx.new.conn.ghost_name ≡ tx.old.conn.ghost_name }
+    ensures goes_on { HasCleanDisk (state S.Store tx.new.conn.now) → OnOk result (IsUnderWay (state S.Store tx.new.conn.now)) }
+    ensures clean { HasCleanDisk (state S.Store tx.new.conn.now) → HasCleanDisk (state S.Store tx.old.conn.now) }
+{
+    objects::delete(tx, base)?;
+    objects::insert(tx, base, nar, b"h", deriver, &None)
+}
+
+fn put_output<S: Alter>(
+    tx: &mut Transaction<'_, S>,
+    base: &str,
+    name: &str,
+    target: &str,
+) -> Result<(), Failure>
+    requires { HasCleanDisk (state S.Store tx.old.conn.now) → IsUnderWay (state S.Store tx.old.conn.now) }
+    ensures same_reference { tx.new.conn.ghost_name ≡ tx.old.conn.ghost_name }
+    ensures goes_on { HasCleanDisk (state S.Store tx.new.conn.now) → OnOk result (IsUnderWay (state S.Store tx.new.conn.now)) }
+    ensures clean { HasCleanDisk (state S.Store tx.new.conn.now) → HasCleanDisk (state S.Store tx.old.conn.now) }
+{
+    outputs::delete_of(tx, base)?;
+    outputs::insert(tx, base, name, target)
+}
+
+fn put_permanent<S: Alter>(
+    tx: &mut Transaction<'_, S>,
+    name: &str,
+    target: &str,
+) -> Result<(), Failure>
+    requires { HasCleanDisk (state S.Store tx.old.conn.now) → IsUnderWay (state S.Store tx.old.conn.now) }
+    ensures same_reference { tx.new.conn.ghost_name ≡ tx.old.conn.ghost_name }
+    ensures goes_on { HasCleanDisk (state S.Store tx.new.conn.now) → OnOk result (IsUnderWay (state S.Store tx.new.conn.now)) }
+    ensures clean { HasCleanDisk (state S.Store tx.new.conn.now) → HasCleanDisk (state S.Store tx.old.conn.now) }
+{
+    permanent::delete(tx, name)?;
+    permanent::insert(tx, name, target)
+}
+
+fn put_user_root<S: Alter>(
+    tx: &mut Transaction<'_, S>,
+    owner: &str,
+    name: &str,
+    target: &str,
+) -> Result<(), Failure>
+    requires { HasCleanDisk (state S.Store tx.old.conn.now) → IsUnderWay (state S.Store tx.old.conn.now) }
+    ensures same_reference { tx.new.conn.ghost_name ≡ tx.old.conn.ghost_name }
+    ensures goes_on { HasCleanDisk (state S.Store tx.new.conn.now) → OnOk result (IsUnderWay (state S.Store tx.new.conn.now)) }
+    ensures clean { HasCleanDisk (state S.Store tx.new.conn.now) → HasCleanDisk (state S.Store tx.old.conn.now) }
+{
+    user_roots::delete(tx, owner, name)?;
+    user_roots::insert(tx, owner, name, target)
+}
+
+fn put_profile<S: Alter>(
+    tx: &mut Transaction<'_, S>,
+    owner: &str,
+    name: &str,
+    current: u32,
+) -> Result<(), Failure>
+    requires { HasCleanDisk (state S.Store tx.old.conn.now) → IsUnderWay (state S.Store tx.old.conn.now) }
+    ensures same_reference { tx.new.conn.ghost_name ≡ tx.old.conn.ghost_name }
+    ensures goes_on { HasCleanDisk (state S.Store tx.new.conn.now) → OnOk result (IsUnderWay (state S.Store tx.new.conn.now)) }
+    ensures clean { HasCleanDisk (state S.Store tx.new.conn.now) → HasCleanDisk (state S.Store tx.old.conn.now) }
+{
+    profiles::delete(tx, owner, name)?;
+    profiles::insert(tx, owner, name, current)
+}
+
+fn put_generation<S: Alter>(
+    tx: &mut Transaction<'_, S>,
+    owner: &str,
+    name: &str,
+    number: u32,
+    target: &str,
+) -> Result<(), Failure>
+    requires { HasCleanDisk (state S.Store tx.old.conn.now) → IsUnderWay (state S.Store tx.old.conn.now) }
+    ensures same_reference { tx.new.conn.ghost_name ≡ tx.old.conn.ghost_name }
+    ensures goes_on { HasCleanDisk (state S.Store tx.new.conn.now) → OnOk result (IsUnderWay (state S.Store tx.new.conn.now)) }
+    ensures clean { HasCleanDisk (state S.Store tx.new.conn.now) → HasCleanDisk (state S.Store tx.old.conn.now) }
+{
+    generations::delete(tx, owner, name, number)?;
+    generations::insert(tx, owner, name, number, target)
+}
+
+fn put_objects<S: Alter>(alloc: Global, tx: &mut Transaction<'_, S>) -> Result<(), Failure>
+    requires { HasCleanDisk (state S.Store tx.old.conn.now) → IsUnderWay (state S.Store tx.old.conn.now) }
+    ensures same_reference { tx.new.conn.ghost_name ≡ tx.old.conn.ghost_name }
+    ensures goes_on { HasCleanDisk (state S.Store tx.new.conn.now) → OnOk result (IsUnderWay (state S.Store tx.new.conn.now)) }
+    ensures clean { HasCleanDisk (state S.Store tx.new.conn.now) → HasCleanDisk (state S.Store tx.old.conn.now) }
+{
+    put_object(tx, "a", b"one", &None)?;
+    put_object(tx, "b", b"", &Some(String::from_str(alloc, "a")?))?;
+    put_setting(tx, "schema", "1")?;
+    references::insert(tx, "b", "a")
+}
+
+fn put_more<S: Alter>(tx: &mut Transaction<'_, S>) -> Result<(), Failure>
+    requires { HasCleanDisk (state S.Store tx.old.conn.now) → IsUnderWay (state S.Store tx.old.conn.now) }
+    ensures same_reference { tx.new.conn.ghost_name ≡ tx.old.conn.ghost_name }
+    ensures goes_on { HasCleanDisk (state S.Store tx.new.conn.now) → OnOk result (IsUnderWay (state S.Store tx.new.conn.now)) }
+    ensures clean { HasCleanDisk (state S.Store tx.new.conn.now) → HasCleanDisk (state S.Store tx.old.conn.now) }
+{
+    references::insert(tx, "b", "b")?;
+    put_output(tx, "a", "out", "b")?;
+    put_permanent(tx, "p", "a")?;
+    runtime::insert(tx, "r", "a")
+}
+
+fn put_roots<S: Alter>(tx: &mut Transaction<'_, S>) -> Result<(), Failure>
+    requires { HasCleanDisk (state S.Store tx.old.conn.now) → IsUnderWay (state S.Store tx.old.conn.now) }
+    ensures same_reference { tx.new.conn.ghost_name ≡ tx.old.conn.ghost_name }
+    ensures goes_on { HasCleanDisk (state S.Store tx.new.conn.now) → OnOk result (IsUnderWay (state S.Store tx.new.conn.now)) }
+    ensures clean { HasCleanDisk (state S.Store tx.new.conn.now) → HasCleanDisk (state S.Store tx.old.conn.now) }
+{
+    put_user_root(tx, "1000", "x", "a")?;
+    put_profile(tx, "1000", "q", 2)?;
+    put_generation(tx, "1000", "q", 1, "a")?;
+    put_generation(tx, "1000", "q", 2, "b")
+}
+
+fn put_all<S: Alter>(alloc: Global, tx: &mut Transaction<'_, S>) -> Result<(), Failure>
+    requires { HasCleanDisk (state S.Store tx.old.conn.now) → IsUnderWay (state S.Store tx.old.conn.now) }
+    ensures same_reference { tx.new.conn.ghost_name ≡ tx.old.conn.ghost_name }
+    ensures goes_on { HasCleanDisk (state S.Store tx.new.conn.now) → OnOk result (IsUnderWay (state S.Store tx.new.conn.now)) }
+    ensures clean { HasCleanDisk (state S.Store tx.new.conn.now) → HasCleanDisk (state S.Store tx.old.conn.now) }
+{
+    put_objects(alloc, tx)?;
+    put_more(tx)?;
+    put_roots(tx)
+}
+
+fn first_shown<S: Alter>(alloc: Global, tx: &mut Transaction<'_, S>) -> Result<String, Failure>
+    requires { HasCleanDisk (state S.Store tx.old.conn.now) → IsUnderWay (state S.Store tx.old.conn.now) }
+    ensures same_reference { tx.new.conn.ghost_name ≡ tx.old.conn.ghost_name }
+    ensures goes_on { HasCleanDisk (state S.Store tx.new.conn.now) → OnOk result (IsUnderWay (state S.Store tx.new.conn.now)) }
+    ensures clean { HasCleanDisk (state S.Store tx.new.conn.now) → HasCleanDisk (state S.Store tx.old.conn.now) }
+{
+    let settings = meta::all(alloc, tx)?;
+    let objects = objects::of(alloc, tx, "b")?;
+    let references = references::all(alloc, tx)?;
+    Ok(format!(in alloc; "{settings:?}{objects:?}{references:?}")?)
+}
+
+fn next_shown<S: Alter>(alloc: Global, tx: &mut Transaction<'_, S>) -> Result<String, Failure>
+    requires { HasCleanDisk (state S.Store tx.old.conn.now) → IsUnderWay (state S.Store tx.old.conn.now) }
+    ensures same_reference { tx.new.conn.ghost_name ≡ tx.old.conn.ghost_name }
+    ensures goes_on { HasCleanDisk (state S.Store tx.new.conn.now) → OnOk result (IsUnderWay (state S.Store tx.new.conn.now)) }
+    ensures clean { HasCleanDisk (state S.Store tx.new.conn.now) → HasCleanDisk (state S.Store tx.old.conn.now) }
+{
+    let outputs = outputs::all(alloc, tx)?;
+    let roots = permanent::all(alloc, tx)?;
+    let mine = user_roots::all(alloc, tx)?;
+    Ok(format!(in alloc; "{outputs:?}{roots:?}{mine:?}")?)
+}
+
+fn last_shown<S: Alter>(alloc: Global, tx: &mut Transaction<'_, S>) -> Result<String, Failure>
+    requires { HasCleanDisk (state S.Store tx.old.conn.now) → IsUnderWay (state S.Store tx.old.conn.now) }
+    ensures same_reference { tx.new.conn.ghost_name ≡ tx.old.conn.ghost_name }
+    ensures goes_on { HasCleanDisk (state S.Store tx.new.conn.now) → OnOk result (IsUnderWay (state S.Store tx.new.conn.now)) }
+    ensures clean { HasCleanDisk (state S.Store tx.new.conn.now) → HasCleanDisk (state S.Store tx.old.conn.now) }
+{
+    let profiles = profiles::all(alloc, tx)?;
+    let generations = generations::all(alloc, tx)?;
+    let labels = runtime::all(alloc, tx)?;
+    Ok(format!(in alloc; "{profiles:?}{generations:?}{labels:?}")?)
+}
+
+fn parts_shown<S: Alter>(alloc: Global, tx: &mut Transaction<'_, S>) -> Result<String, Failure>
+    requires { HasCleanDisk (state S.Store tx.old.conn.now) → IsUnderWay (state S.Store tx.old.conn.now) }
+    ensures same_reference { tx.new.conn.ghost_name ≡ tx.old.conn.ghost_name }
+    ensures goes_on { HasCleanDisk (state S.Store tx.new.conn.now) → OnOk result (IsUnderWay (state S.Store tx.new.conn.now)) }
+    ensures clean { HasCleanDisk (state S.Store tx.new.conn.now) → HasCleanDisk (state S.Store tx.old.conn.now) }
+{
+    let references = references::of(alloc, tx, "b")?;
+    let outputs = outputs::of(alloc, tx, "b")?;
+    let roots = permanent::of(alloc, tx, "p")?;
+    Ok(format!(in alloc; "{references:?}{outputs:?}{roots:?}")?)
+}
+
+fn owned_shown<S: Alter>(alloc: Global, tx: &mut Transaction<'_, S>) -> Result<String, Failure>
+    requires { HasCleanDisk (state S.Store tx.old.conn.now) → IsUnderWay (state S.Store tx.old.conn.now) }
+    ensures same_reference { tx.new.conn.ghost_name ≡ tx.old.conn.ghost_name }
+    ensures goes_on { HasCleanDisk (state S.Store tx.new.conn.now) → OnOk result (IsUnderWay (state S.Store tx.new.conn.now)) }
+    ensures clean { HasCleanDisk (state S.Store tx.new.conn.now) → HasCleanDisk (state S.Store tx.old.conn.now) }
+{
+    let mine = user_roots::of(alloc, tx, "1000")?;
+    let profiles = profiles::of(alloc, tx, "1001")?;
+    let one = profiles::at(alloc, tx, "1000", "q")?;
+    let generations = generations::of(alloc, tx, "1000", "q")?;
+    Ok(format!(in alloc; "{mine:?}{profiles:?}{one:?}{generations:?}")?)
+}
+
+fn delete_first<S: Alter>(tx: &mut Transaction<'_, S>) -> Result<(), Failure>
+    requires { HasCleanDisk (state S.Store tx.old.conn.now) → IsUnderWay (state S.Store tx.old.conn.now) }
+    ensures same_reference { tx.new.conn.ghost_name ≡ tx.old.conn.ghost_name }
+    ensures goes_on { HasCleanDisk (state S.Store tx.new.conn.now) → OnOk result (IsUnderWay (state S.Store tx.new.conn.now)) }
+    ensures clean { HasCleanDisk (state S.Store tx.new.conn.now) → HasCleanDisk (state S.Store tx.old.conn.now) }
+{
+    meta::delete(tx, "schema")?;
+    objects::delete(tx, "b")?;
+    references::delete_of(tx, "b")?;
+    outputs::delete_of(tx, "a")
+}
+
+fn delete_more<S: Alter>(tx: &mut Transaction<'_, S>) -> Result<(), Failure>
+    requires { HasCleanDisk (state S.Store tx.old.conn.now) → IsUnderWay (state S.Store tx.old.conn.now) }
+    ensures same_reference { tx.new.conn.ghost_name ≡ tx.old.conn.ghost_name }
+    ensures goes_on { HasCleanDisk (state S.Store tx.new.conn.now) → OnOk result (IsUnderWay (state S.Store tx.new.conn.now)) }
+    ensures clean { HasCleanDisk (state S.Store tx.new.conn.now) → HasCleanDisk (state S.Store tx.old.conn.now) }
+{
+    permanent::delete(tx, "p")?;
+    user_roots::delete(tx, "1000", "x")?;
+    profiles::delete(tx, "1000", "q")?;
+    runtime::delete_of(tx, "r")
+}
+
+fn delete_all<S: Alter>(tx: &mut Transaction<'_, S>) -> Result<(), Failure>
+    requires { HasCleanDisk (state S.Store tx.old.conn.now) → IsUnderWay (state S.Store tx.old.conn.now) }
+    ensures same_reference { tx.new.conn.ghost_name ≡ tx.old.conn.ghost_name }
+    ensures goes_on { HasCleanDisk (state S.Store tx.new.conn.now) → OnOk result (IsUnderWay (state S.Store tx.new.conn.now)) }
+    ensures clean { HasCleanDisk (state S.Store tx.new.conn.now) → HasCleanDisk (state S.Store tx.old.conn.now) }
+{
+    delete_first(tx)?;
+    delete_more(tx)?;
+    generations::delete(tx, "1000", "q", 1)
+}
+
+fn fill<S: Alter>(alloc: Global, conn: &mut Connection<S>) -> Result<(), Fail>
+    requires alone { conn.old.in_transaction ≡ false }
+    ensures alone { conn.new.in_transaction ≡ false }
+{
+    if opening::open(alloc, conn)? != Finding::Ours {
+        return Err(Fail::new("not ours"));
+    }
+    let mut tx = transaction::begin(conn);
+    put_all(alloc, &mut tx)?;
+    transaction::commit(tx)?;
+    Ok(())
+}
+
+fn clear<S: Alter>(alloc: Global, conn: &mut Connection<S>) -> Result<(), Fail>
+    requires alone { conn.old.in_transaction ≡ false }
+    ensures alone { conn.new.in_transaction ≡ false }
+{
+    if opening::open(alloc, conn)? != Finding::Ours {
+        return Err(Fail::new("not ours"));
+    }
+    let mut tx = transaction::begin(conn);
+    delete_all(&mut tx)?;
+    transaction::commit(tx)?;
+    Ok(())
+}
+
+fn clear_in_vain<S: Alter>(alloc: Global, conn: &mut Connection<S>) -> Result<(), Fail>
+    requires alone { conn.old.in_transaction ≡ false }
+    ensures alone { conn.new.in_transaction ≡ false }
+{
+    if opening::open(alloc, conn)? != Finding::Ours {
+        return Err(Fail::new("not ours"));
+    }
+    let mut tx = transaction::begin(conn);
+    delete_all(&mut tx)?;
+    tx.rollback();
+    Ok(())
+}
+
+fn shown<S: Alter>(alloc: Global, conn: &mut Connection<S>) -> Result<String, Fail>
+    requires alone { conn.old.in_transaction ≡ false }
+    ensures alone { conn.new.in_transaction ≡ false }
+{
+    if opening::open(alloc, conn)? != Finding::Ours {
+        return Err(Fail::new("not ours"));
+    }
+    let mut tx = transaction::begin(conn);
+    let first = first_shown(alloc, &mut tx)?;
+    let next = next_shown(alloc, &mut tx)?;
+    let last = last_shown(alloc, &mut tx)?;
+    Ok(format!(in alloc; "{first}{next}{last}")?)
+}
+
+fn parts<S: Alter>(alloc: Global, conn: &mut Connection<S>) -> Result<String, Fail>
+    requires alone { conn.old.in_transaction ≡ false }
+    ensures alone { conn.new.in_transaction ≡ false }
+{
+    if opening::open(alloc, conn)? != Finding::Ours {
+        return Err(Fail::new("not ours"));
+    }
+    let mut tx = transaction::begin(conn);
+    let parts = parts_shown(alloc, &mut tx)?;
+    let owned = owned_shown(alloc, &mut tx)?;
+    Ok(format!(in alloc; "{parts}{owned}")?)
+}
+
+fn run<S: Alter>(conn: &mut Connection<S>, texts: &[&str]) -> Result<(), Fail>
+    ensures alone { OnOk result (conn.new.in_transaction ≡ false) }
+{
+    for text in texts {
+        conn.execute_batch(text)?;
+    }
+    if !conn.is_autocommit() {
+        return Err(Fail::new("a transaction is under way"));
+    }
+    Ok(())
+}
+
+const FILLED: &str = "[Setting { word: \"schema\", value: \"1\" }]\
+    [Object { base: \"b\", nar: [], hash: [104], deriver: Some(\"a\"), ca: None }]\
+    [Reference { base: \"b\", target: \"a\" }, Reference { base: \"b\", target: \"b\" }]\
+    [Output { base: \"a\", name: \"out\", target: \"b\" }]\
+    [PermanentRoot { name: \"p\", target: \"a\" }]\
+    [UserRoot { owner: \"1000\", name: \"x\", target: \"a\" }]\
+    [Profile { owner: \"1000\", name: \"q\", current: 2 }]\
+    [Generation { owner: \"1000\", name: \"q\", number: 1, target: \"a\" }, Generation { owner: \"1000\", name: \"q\", number: 2, target: \"b\" }]\
+    [RuntimeRoot { label: \"r\", target: \"a\" }]";
+
+const PARTS: &str =
+    "[Reference { base: \"b\", target: \"a\" }, Reference { base: \"b\", target: \"b\" }]\
+    []\
+    [PermanentRoot { name: \"p\", target: \"a\" }]\
+    [UserRoot { owner: \"1000\", name: \"x\", target: \"a\" }]\
+    []\
+    [Profile { owner: \"1000\", name: \"q\", current: 2 }]\
+    [Generation { owner: \"1000\", name: \"q\", number: 1, target: \"a\" }, Generation { owner: \"1000\", name: \"q\", number: 2, target: \"b\" }]";
+
+const CLEARED: &str =
+    "[][][][][][][][Generation { owner: \"1000\", name: \"q\", number: 2, target: \"b\" }][]";
+
+fn expect(what: &str, text: &str, wanted: &str) -> Result<(), Fail> {
+    if text != wanted {
+        return Err(Fail::new(what));
+    }
+    Ok(())
+}
+
+/// Rows are put, read, and removed in a transaction that is rolled back.
+fn fills<S: Alter>(alloc: Global, conn: &mut Connection<S>) -> Result<(), Fail>
+    requires alone { conn.old.in_transaction ≡ false }
+    ensures alone { conn.new.in_transaction ≡ false }
+{
+    fill(alloc, conn)?;
+    expect("filled", shown(alloc, conn)?.as_str(), FILLED)?;
+    expect("parts", parts(alloc, conn)?.as_str(), PARTS)?;
+    clear_in_vain(alloc, conn)?;
+    expect("rolled back", shown(alloc, conn)?.as_str(), FILLED)
+}
+
+/// The rows are there, and then they are removed.
+fn clears<S: Alter>(alloc: Global, conn: &mut Connection<S>) -> Result<(), Fail>
+    requires alone { conn.old.in_transaction ≡ false }
+    ensures alone { conn.new.in_transaction ≡ false }
+{
+    expect("kept", shown(alloc, conn)?.as_str(), FILLED)?;
+    clear(alloc, conn)?;
+    expect("cleared", shown(alloc, conn)?.as_str(), CLEARED)
+}
+
+#[test]
+fn statements_in_memory(rt: HostRuntime) -> Result<(), Fail> {
+    let alloc = rt.alloc();
+    let mut conn = Connection::open_in_memory(alloc)?;
+    run(&mut conn, &TABLES)?;
+    fills(alloc, &mut conn)?;
+    clears(alloc, &mut conn)
+}
+
+fn fill_file(rt: &HostRuntime, path: &str) -> Result<(), Fail> {
+    let mut conn = Connection::open(rt, path)?;
+    run(&mut conn, &TABLES)?;
+    fills(rt.alloc(), &mut conn)?;
+    conn.close()?;
+    Ok(())
+}
+
+fn clear_file(rt: &HostRuntime, path: &str) -> Result<(), Fail> {
+    let mut conn = Connection::open(rt, path)?;
+    clears(rt.alloc(), &mut conn)?;
+    conn.close()?;
+    Ok(())
+}
+
+#[test]
+fn statements_on_a_file(rt: HostRuntime) -> Result<(), Fail> {
+    let _ = fs::remove_dir_all(&rt, "rows_statements");
+    fs::create_dir(&rt, "rows_statements")?;
+    fill_file(&rt, "rows_statements/a.db")?;
+    clear_file(&rt, "rows_statements/a.db")?;
+    fs::remove_dir_all(&rt, "rows_statements")?;
+    Ok(())
+}
+
+const BEFORE: &str = "CREATE TABLE note (id INTEGER PRIMARY KEY AUTOINCREMENT, t TEXT UNIQUE); \
+    INSERT INTO note (t) VALUES ('x'), ('y'); CREATE VIEW notes AS SELECT t FROM note";
+
+const AFTER: &str = "CREATE TABLE later (id INTEGER PRIMARY KEY, t TEXT); \
+    INSERT INTO later (t) VALUES ('z'); CREATE INDEX targets ON refs (target)";
+
+fn text_of<S: Alter>(conn: &mut Connection<S>, query: &str) -> Result<String, Error> {
+    conn.query_row(query, &[])?.get(0)
+}
+
+/// Their tables stand before ours, after ours, or both.
+fn beside(alloc: Global, texts: &[&str], before: bool, after: bool) -> Result<(), Fail> {
+    let mut conn = Connection::open_in_memory(alloc)?;
+    run(&mut conn, texts)?;
+    fills(alloc, &mut conn)?;
+    clears(alloc, &mut conn)?;
+    if before {
+        let last = text_of(&mut conn, "SELECT max(t) FROM note")?;
+        expect("before", last.as_str(), "y")?;
+    }
+    if after {
+        let last = text_of(&mut conn, "SELECT max(t) FROM later")?;
+        expect("after", last.as_str(), "z")?;
+    }
+    Ok(())
+}
+
+#[test]
+fn tables_of_somebody_else(rt: HostRuntime) -> Result<(), Fail> {
+    let alloc = rt.alloc();
+    let mut ours = String::new(alloc);
+    for text in TABLES {
+        ours.push_str(text)?;
+        ours.push_str(";")?;
+    }
+    beside(alloc, &[BEFORE, ours.as_str()], true, false)?;
+    beside(alloc, &[ours.as_str(), AFTER], false, true)?;
+    beside(alloc, &[BEFORE, ours.as_str(), AFTER], true, true)
+}
+
+fn found(alloc: Global, texts: &[&str]) -> Result<Finding, Fail> {
+    let mut conn = Connection::open_in_memory(alloc)?;
+    run(&mut conn, texts)?;
+    Ok(finding::find(conn.schema()))
+}
+
+/// What stands where one of the texts is another.
+fn found_with(alloc: Global, at: usize, text: &str) -> Result<Finding, Fail> {
+    let mut texts = Vec::new(alloc);
+    for (place, ours) in TABLES.iter().enumerate() {
+        texts.push(if place == at { text } else { *ours })?;
+    }
+    found(alloc, &texts)
+}
+
+#[test]
+fn nothing_and_ours(rt: HostRuntime) -> Result<(), Fail> {
+    let alloc = rt.alloc();
+    assert_eq!(rt; found(alloc, &[])?, Finding::Nothing);
+    assert_eq!(rt; found(alloc, &[BEFORE])?, Finding::Nothing);
+    assert_eq!(rt; found(alloc, &TABLES)?, Finding::Ours);
+    for text in [
+        AFTER,
+        "CREATE INDEX targets ON refs (target)",
+        "CREATE UNIQUE INDEX again ON refs (base, target)",
+        "CREATE TABLE child (p TEXT REFERENCES child (p))",
+    ] {
+        let with = format!(in alloc; "{}; {text}", TABLES[8])?;
+        assert_eq!(rt;
+            found_with(alloc, 8, with.as_str())?,
+            Finding::Ours,
+            "{text}"
+        );
+    }
+    Ok(())
+}
+
+#[test]
+fn anything_else(rt: HostRuntime) -> Result<(), Fail> {
+    let alloc = rt.alloc();
+    for (at, text) in [
+        (8, ""),
+        (
+            0,
+            "CREATE TABLE meta (word TEXT NOT NULL, val TEXT NOT NULL, more TEXT, PRIMARY KEY (word)) STRICT",
+        ),
+        (
+            0,
+            "CREATE TABLE meta (word TEXT NOT NULL, val TEXT, PRIMARY KEY (word)) STRICT",
+        ),
+        (
+            0,
+            "CREATE TABLE meta (word TEXT NOT NULL, val ANY NOT NULL, PRIMARY KEY (word)) STRICT",
+        ),
+        (
+            0,
+            "CREATE TABLE META (word TEXT NOT NULL, val TEXT NOT NULL, PRIMARY KEY (word)) STRICT",
+        ),
+        (
+            0,
+            "CREATE TABLE meta (word TEXT NOT NULL, val TEXT NOT NULL, PRIMARY KEY (word))",
+        ),
+        (
+            0,
+            "CREATE TABLE meta (word TEXT NOT NULL, val TEXT NOT NULL CHECK (val <> ''), PRIMARY KEY (word)) STRICT",
+        ),
+        (
+            0,
+            "CREATE TABLE meta (word TEXT NOT NULL, val TEXT NOT NULL UNIQUE, PRIMARY KEY (word)) STRICT",
+        ),
+        (
+            0,
+            "CREATE TABLE meta (word TEXT NOT NULL, val TEXT NOT NULL DEFAULT 'x', PRIMARY KEY (word)) STRICT",
+        ),
+        (
+            0,
+            "CREATE TABLE meta (word TEXT NOT NULL COLLATE NOCASE, val TEXT NOT NULL, PRIMARY KEY (word)) STRICT",
+        ),
+        (
+            2,
+            "CREATE TABLE refs (base TEXT NOT NULL, target TEXT NOT NULL, PRIMARY KEY (target, base)) STRICT",
+        ),
+        (
+            2,
+            "CREATE TABLE refs (target TEXT NOT NULL, base TEXT NOT NULL, PRIMARY KEY (base, target)) STRICT",
+        ),
+        (2, "CREATE VIEW refs AS SELECT 1 AS base, 2 AS target"),
+    ] {
+        assert_eq!(rt; found_with(alloc, at, text)?, Finding::Other, "{text}");
+    }
+    for text in [
+        "CREATE TABLE child (p TEXT REFERENCES permanent (name))",
+        "CREATE UNIQUE INDEX one ON refs (target)",
+        "CREATE UNIQUE INDEX one ON runtime (label COLLATE NOCASE, target)",
+    ] {
+        let with = format!(in alloc; "{}; {text}", TABLES[8])?;
+        assert_eq!(rt;
+            found_with(alloc, 8, with.as_str())?,
+            Finding::Other,
+            "{text}"
+        );
+    }
+    assert_eq!(rt;
+        found(alloc, &["CREATE VIEW Refs AS SELECT 1"])?,
+        Finding::Other
+    );
+    assert_eq!(rt;
+        found(
+            alloc,
+            &["CREATE TABLE t (a TEXT); CREATE INDEX outs ON t (a)"]
+        )?,
+        Finding::Other
+    );
+    assert_eq!(rt;
+        found(
+            alloc,
+            &["CREATE TABLE child (p TEXT REFERENCES refs (base))"]
+        )?,
+        Finding::Other
+    );
+    Ok(())
+}
