@@ -1,5 +1,5 @@
 //! One file: read, written, listed, and cut at every place.
-use super::{MY_FILE, archive, fault_in_pieces, fault_of, front};
+use super::{MY_FILE, archive, fault_in_pieces, front};
 use crate::{NarError, is_writable, list, read};
 use std::test::Fail;
 
@@ -26,7 +26,7 @@ fn my_file(rt: HostRuntime) -> Result<(), Fail> {
         let mut more = Vec::from_slice(alloc, MY_FILE)?;
         more.push(byte)?;
         assert!(rt;
-            fault_of(read(alloc, &more)) == Some(NarError::Trailing),
+            fault_in_pieces(&rt, alloc, &more, 43) == Some(NarError::Trailing),
             "{byte}"
         );
     }

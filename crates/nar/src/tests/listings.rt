@@ -125,6 +125,7 @@ fn every_byte_in_a_name_and_a_target(rt: HostRuntime) -> Result<(), Fail> {
         assert_eq!(rt; is_writable(&node), byte != b'/' && byte != 0, "{byte}");
         if byte != b'/' && byte != 0 {
             let bytes = archive(alloc, &node)?;
+            assert!(rt; fault_in_pieces(&rt, alloc, &bytes, 7).is_none(), "{byte}");
             let again = read(alloc, &bytes)?;
             let mut relisted = String::new(alloc);
             list(alloc, &again, &mut relisted)?;
