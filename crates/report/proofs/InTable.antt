@@ -12,7 +12,10 @@ use Rattle.paths.specs.StorePath.{is_derivation}
 use Rattle.paths.specs.Path.{text_path, source_path}
 use Rattle.live.specs.Graph.{same, holds}
 use Rattle.policy.specs.Settings.{Settings}
-use Rattle.tables.specs.Lower.{DrvFault, bad_derivation, double_output, recorded_outputs}
+use Rattle.drv.specs.declared.error.DrvError.{DrvError}
+use Rattle.drv.specs.declared.error.DrvError.TheVariants as text
+use Rattle.drv.specs.Outcome.{outputs_of}
+use Rattle.drv.proofs.Outcomes.{one_outcome}
 use Rattle.tables.specs.World.{Path, World, has}
 use Rattle.tables.specs.Objects.{most_references}
 use Rattle.store.specs.Request.{Request, add_text, add_source, import_object, info, nar, ls, list, list_live, list_dead, list_roots, list_roots_of, set_permanent, drop_permanent, set_user_root, drop_user_root, set_profile, rollback, switch, delete_generation, replace_runtime, collect, delete, report}
@@ -58,13 +61,17 @@ outcome_stands b bytes (Err Memory) e = absurd (memory_is_none b ((outcome_fault
 archive_stands : (b : List ℕ) → IsBytes b → Stands (archive_fault (outcome_of b))
 archive_stands b bytes = outcome_stands b bytes (outcome_of b) refl
 
-outputs_stand : (o : Result (List (List ℕ × Path)) DrvFault) → Stands (outputs_fault o)
-outputs_stand (Ok outputs) = tt
-outputs_stand (Err bad_derivation) = refl
-outputs_stand (Err double_output) = refl
+outputs_stand : (dir contents : List ℕ) → Stands (outputs_fault (outputs_of dir contents))
+outputs_stand dir contents = by (outputs_of dir contents) refl
+  where
+    by : (o : Result (List (List ℕ × Path)) DrvError) → outputs_of dir contents ≡ o → Stands (outputs_fault o)
+    by (Ok outputs) e = tt
+    by (Err text.BadDerivation) e = refl
+    by (Err text.DoubleOutput) e = refl
+    by (Err text.Memory) e = absurd ((one_outcome dir contents (Err text.Memory)).1 e)
 
 tree_stands : (dir : List ℕ) (o : Result Tree NarError) → Stands (tree_fault dir o)
-tree_stands dir (Ok (regular executable contents)) = outputs_stand (recorded_outputs dir contents)
+tree_stands dir (Ok (regular executable contents)) = outputs_stand dir contents
 tree_stands dir (Ok (symlink target)) = refl
 tree_stands dir (Ok (directory es)) = refl
 tree_stands dir (Err e) = refl
@@ -83,7 +90,7 @@ all_stand s w (add_text name refs contents) f =
         (
           unless_stands (not (holds refs p)) self_reference refl,
           (
-            if_stands p (outputs_fault (recorded_outputs s.store_dir contents)) (outputs_stand (recorded_outputs s.store_dir contents)),
+            if_stands p (outputs_fault (outputs_of s.store_dir contents)) (outputs_stand s.store_dir contents),
             (unless_stands (is_complete w p refs) missing_reference refl, tt),
           ),
         ),

@@ -6,7 +6,8 @@ use Rattle.nar.specs.declared.error.NarError.TheVariants.{Truncated, BadTag, Bad
 use Rattle.paths.specs.StorePath.{full_path}
 use Rattle.policy.specs.declared.kinds.Rule.{Rule}
 use Rattle.policy.specs.Words.{rule_word}
-use Rattle.tables.specs.Lower.{DrvFault, bad_derivation, double_output}
+use Rattle.drv.specs.declared.error.DrvError.{DrvError}
+use Rattle.drv.specs.declared.error.DrvError.TheVariants as text
 use Rattle.tables.specs.World.{Pair}
 use Rattle.store.specs.Reply.{Refusal as Refused, archive, derivation, ca_mismatch, not_valid, missing_reference, nar_hash_mismatch, self_reference, no_root, no_profile, no_generation, current_generation, no_older_generation, generation_limit, too_many_references, bad_root_name, bad_label, Failure, memory, size, disk}
 use Rattle.report.specs.declared.refusal.Refusal.{Refusal}
@@ -53,14 +54,16 @@ archive_entry Trailing = Some table.Trailing
 archive_entry TooLarge = Some table.TooLarge
 archive_entry Memory = None
 
-abbrev pub derivation_entry : DrvFault → Refusal
-derivation_entry bad_derivation = table.BadDerivation
-derivation_entry double_output = table.DoubleOutput
+-- the same of a fault of a derivation text
+abbrev pub derivation_entry : DrvError → Option Refusal
+derivation_entry text.BadDerivation = Some table.BadDerivation
+derivation_entry text.DoubleOutput = Some table.DoubleOutput
+derivation_entry text.Memory = None
 
 -- where the refusal of a reply stands in the table
 abbrev pub entry : Refused → Option Refusal
 entry (archive e) = archive_entry e
-entry (derivation e) = Some (derivation_entry e)
+entry (derivation e) = derivation_entry e
 entry ca_mismatch = Some table.CaMismatch
 entry not_valid = Some table.NotValid
 entry missing_reference = Some table.MissingReference

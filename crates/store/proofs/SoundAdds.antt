@@ -25,7 +25,8 @@ use Rattle.live.proofs.Reach.{same_is}
 use Rattle.live.proofs.Order.{contains_key-set_of, same_set}
 use Rattle.policy.specs.Settings.{Settings}
 use Rattle.paths.specs.ContentAddress.{ContentAddress, verifies, text_address, source_address}
-use Rattle.tables.specs.Lower.{DrvFault, recorded_outputs}
+use Rattle.drv.specs.declared.error.DrvError.{DrvError}
+use Rattle.drv.specs.Outcome.{outputs_of}
 use Rattle.tables.specs.World.{Path, Object, World, has}
 use Rattle.tables.specs.Objects.{most_references}
 use Rattle.tables.specs.Sound.{IsDerivation, IsSoundObject, IsSound}
@@ -106,7 +107,7 @@ read_tree nar bytes e = by (outcome_of nar) refl e
     by (Ok t) is e = (t, (outcome_archive nar t bytes).0 is)
     by (Err f) is e = absurd (some_refusal (archive f) e)
 
-outputs_sound : (r : Result (List (List ℕ × Path)) DrvFault) → outputs_fault r ≡ None → IsOk r
+outputs_sound : (r : Result (List (List ℕ × Path)) DrvError) → outputs_fault r ≡ None → IsOk r
 outputs_sound (Ok outputs) e = refl
 outputs_sound (Err f) e = absurd (false≢true (ap is_none e))
 
@@ -121,7 +122,7 @@ read_derivation dir nar bytes e = by (outcome_of nar) refl e
       executable = executable;
       contents = contents;
       is_regular = (outcome_archive nar (regular executable contents) bytes).0 is;
-      has_outputs = outputs_sound (recorded_outputs dir contents) e;
+      has_outputs = outputs_sound (outputs_of dir contents) e;
     }
     by (Ok (symlink target)) is e = absurd (false≢true (ap is_none e))
     by (Ok (directory es)) is e = absurd (false≢true (ap is_none e))
@@ -228,7 +229,7 @@ module _ (s : Settings) (w : World) (sound : IsSound s.store_dir w) where
           executable = false;
           contents = contents;
           is_regular = text_is_archive contents bytes fits;
-          has_outputs = outputs_sound (recorded_outputs s.store_dir contents) (asked p (outputs_fault (recorded_outputs s.store_dir contents)) (each_passed ts e _ (3, omega arith, refl)) d);
+          has_outputs = outputs_sound (outputs_of s.store_dir contents) (asked p (outputs_fault (outputs_of s.store_dir contents)) (each_passed ts e _ (3, omega arith, refl)) d);
         };
       }) sound
 

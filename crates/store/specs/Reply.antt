@@ -1,7 +1,7 @@
 -- What a store replies.
 use Rattle.std.specs.Prelude.{ℕ, List, Option}
 use Rattle.nar.specs.declared.error.NarError.{NarError}
-use Rattle.tables.specs.Lower.{DrvFault}
+use Rattle.drv.specs.declared.error.DrvError.{DrvError}
 use Rattle.tables.specs.World.{Path, Pair, Object}
 use Rattle.policy.specs.declared.kinds.Rule.{Rule}
 
@@ -12,7 +12,7 @@ pub data Refusal : Type 0 where
   -- an archive or a path that isn't that of the content address
   ca_mismatch : Refusal
   -- what is wrong with a derivation text
-  derivation : DrvFault → Refusal
+  derivation : DrvError → Refusal
   -- a path that isn't valid
   not_valid : Refusal
   -- a reference that isn't valid

@@ -14,7 +14,9 @@ use Rattle.nar.specs.Archive.{limit}
 use Rattle.nar.specs.Outcome.{outcome_of}
 use Rattle.paths.specs.Path.{text_path, source_path}
 use Rattle.paths.specs.ContentAddress.{ContentAddress, verifies}
-use Rattle.tables.specs.Lower.{DrvFault, bad_derivation, recorded_outputs}
+use Rattle.drv.specs.declared.error.DrvError.{DrvError}
+use Rattle.drv.specs.declared.error.DrvError.TheVariants.{BadDerivation}
+use Rattle.drv.specs.Outcome.{outputs_of}
 use Rattle.tables.specs.World.{Path, Object, World, has}
 use Rattle.tables.specs.Objects.{most_references}
 use Rattle.policy.specs.Settings.{Settings}
@@ -42,14 +44,14 @@ archive_fault (Ok t) = None
 archive_fault (Err e) = Some (archive e)
 
 -- what is wrong with a derivation text
-abbrev pub outputs_fault : Result (List (List ℕ × Path)) DrvFault → Option Refusal
+abbrev pub outputs_fault : Result (List (List ℕ × Path)) DrvError → Option Refusal
 outputs_fault (Ok outputs) = None
 outputs_fault (Err e) = Some (derivation e)
 
 -- what is wrong with a tree as a derivation: any other node than a regular file has no text
 abbrev pub tree_fault : List ℕ → Result Tree NarError → Option Refusal
-tree_fault dir (Ok (regular executable contents)) = outputs_fault (recorded_outputs dir contents)
-tree_fault dir _ = Some (derivation bad_derivation)
+tree_fault dir (Ok (regular executable contents)) = outputs_fault (outputs_of dir contents)
+tree_fault dir _ = Some (derivation BadDerivation)
 
 -- asked where the name ends in `.drv`
 abbrev pub if_derivation : Path → Option Refusal → Option Refusal
@@ -69,7 +71,7 @@ text_tests dir w p refs contents =
     unless (nat_le (length refs) most_references) too_many_references
     ∷ unless (nat_le (text_archive_size contents) limit) (archive TooLarge)
     ∷ unless (not (holds refs p)) self_reference
-    ∷ if_derivation p (outputs_fault (recorded_outputs dir contents))
+    ∷ if_derivation p (outputs_fault (outputs_of dir contents))
     ∷ unless (is_complete w p refs) missing_reference
     ∷ []
 

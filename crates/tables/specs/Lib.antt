@@ -1,4 +1,3 @@
-pub mod Lower
 pub mod World
 pub mod Objects
 pub mod Sound
