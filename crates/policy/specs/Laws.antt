@@ -37,6 +37,7 @@ KeptForTheTrusted =
     × (first_broken Allowed ann set_permanent ≡ Some TrustedPermanentRoot)
     × (first_broken Allowed ann drop_permanent ≡ Some TrustedPermanentRoot)
     × (first_broken Trusted ann set_permanent ≡ None)
+    × (first_broken Trusted ann drop_permanent ≡ None)
     × (first_broken Allowed ann replace_runtime ≡ Some TrustedRuntimeRoots)
     × (first_broken Trusted ann replace_runtime ≡ None)
 
@@ -52,7 +53,9 @@ KeptForTheOwner =
     × (first_broken Allowed ann (switch (codes "ann")) ≡ None)
     × (first_broken Allowed ann (drop_user_root bob) ≡ Some OwnRoot)
     × (first_broken Trusted ann (drop_user_root bob) ≡ None)
+    × (first_broken Allowed ann (delete_generation bob) ≡ Some OwnRoot)
     × (first_broken Trusted ann (delete_generation bob) ≡ None)
+    × (first_broken Allowed ann (set_profile (codes "ann")) ≡ None)
 
 -- what nobody may: ignore liveness, or delete what is live
 abbrev pub KeptFromAll : Type 0

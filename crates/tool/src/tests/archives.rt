@@ -1,6 +1,7 @@
 //! `source-path` and `ls`: paths and listings that others compute, and each fault of an archive.
 use super::expect;
 use std::alloc::{AllocError, Global};
+use std::fs;
 use std::process::Abort;
 use std::rt::Files;
 use std::test::Fail;
@@ -104,6 +105,41 @@ fn faults_of_directories(rt: HostRuntime) -> Result<(), Fail> {
     }
     let deep = spelled(rt.alloc(), texts.as_slice())?;
     expect_refused(&rt, deep.as_slice(), "refused: 6 too-deep\n");
+    Ok(())
+}
+
+#[test]
+fn under_configurations(rt: HostRuntime) -> Result<(), Fail> {
+    let file = "archives.toml";
+    let ls = ["nixkeep", "--config", file, "ls"];
+    let source_path = ["nixkeep", "--config", file, "source-path", "myfile"];
+    expect(&rt, ls.as_slice(), MY_FILE, 1, "", "failed: file\n");
+    expect(
+        &rt,
+        source_path.as_slice(),
+        MY_FILE,
+        1,
+        "",
+        "failed: file\n",
+    );
+    fs::write(&rt, file, "store-dir = \"/\"\n")?;
+    let bad = "refused: 19 bad-config store-dir\n";
+    expect(&rt, ls.as_slice(), b"", 3, "", bad);
+    expect(&rt, source_path.as_slice(), b"", 3, "", bad);
+    fs::write(&rt, file, "allowed-users = []\n")?;
+    expect(&rt, ls.as_slice(), MY_FILE, 0, "r 10 .\n", "");
+    fs::remove_file(&rt, file)?;
+    Ok(())
+}
+
+#[test]
+fn references_to_the_limit(rt: HostRuntime) -> Result<(), Fail> {
+    let mut words = vec![in rt.alloc(); "nixkeep", "source-path", "n"]?;
+    for _ in 0..4_097 {
+        words.push("00000000000000000000000000000000-a")?;
+    }
+    let many = "refused: 33 too-many-references\n";
+    expect(&rt, words.as_slice(), b"", 3, "", many);
     Ok(())
 }
 
