@@ -46,7 +46,7 @@ impl Caller {
     }
 
     /// The user's name.
-    pub(crate) fn name(&self) -> &str
+    pub fn name(&self) -> &str
         ensures { result.now ≡ self.now.name }
     {
         self.name.as_str()

@@ -1,0 +1,4 @@
+pub mod Trees
+pub mod Loops
+pub mod Sets
+pub mod RootOrder
