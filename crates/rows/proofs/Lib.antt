@@ -27,3 +27,6 @@ pub mod RowidTexts
 pub mod Opened
 pub mod Gone
 pub mod Under
+pub mod Creates
+pub mod MakingTexts
+pub mod Settles

@@ -50,10 +50,10 @@ use Rattle.rows.proofs.Statements.{Compiles, Selects, reads_part, deletes_part, 
 abbrev pub insert_text : List ℕ
 insert_text = codes "INSERT INTO meta (word, val) VALUES (?1, ?2)"
 
-abbrev terms : List Term
+abbrev pub terms : List Term
 terms = lit Null ∷ col 0 0 ∷ col 0 1 ∷ []
 
-insert_is : (s : Schema) (at tree : ℕ) → IsNamed s (codes "meta") at (record meta { tree = tree }) → (c : Compiled) × Means s insert_text c × (c.command ≡ Insert at (Values terms 3)) × (c.returning ≡ None) × (c.formats ≡ [])
+pub insert_is : (s : Schema) (at tree : ℕ) → IsNamed s (codes "meta") at (record meta { tree = tree }) → (c : Compiled) × Means s insert_text c × (c.command ≡ Insert at (Values terms 3)) × (c.returning ≡ None) × (c.formats ≡ [])
 unfolding everything
 insert_is s at tree found = (_, insert_means insert_text refl s at (codes "meta") meta.columns meta.primary tree _ found refl, refl, refl, refl)
 

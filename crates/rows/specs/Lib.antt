@@ -6,3 +6,4 @@ pub mod Failures
 pub mod Entries
 pub mod Shapes
 pub mod Finding
+pub mod Making

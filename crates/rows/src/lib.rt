@@ -1,12 +1,14 @@
 //! The nine tables, row by row.
 #![tactic(auto)]
 
+mod creating;
 mod entry;
 pub mod failure;
 pub mod finding;
 mod form;
 pub mod generations;
 mod keyed;
+pub mod making;
 pub mod meta;
 mod nine;
 pub mod objects;

@@ -42,7 +42,8 @@ fn check<S: Alter>(alloc: Global, conn: &mut Connection<S>) -> Result<(), Failur
     tested
 }
 
-fn find<S: Alter>(conn: &Connection<S>) -> Finding
+/// What the connection's schema holds of ours.
+pub fn find<S: Alter>(conn: &Connection<S>) -> Finding
     ensures ours { result ≡ Ours ↔ HasTables (state S.Store conn.now).now.schema }
     ensures nothing { result ≡ Nothing ↔ HasNone (state S.Store conn.now).now.schema }
 {

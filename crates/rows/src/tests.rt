@@ -6,7 +6,7 @@ ghost use Rattle.rows.specs.Calls.{IsUnderWay};
 use crate::failure::Failure;
 use crate::finding::{self, Finding};
 use crate::{
-    generations, meta, objects, opening, outputs, permanent, profiles, references, runtime,
+    generations, making, meta, objects, opening, outputs, permanent, profiles, references, runtime,
     transaction, user_roots,
 };
 use sqlite::{Alter, Connection, Error, Transaction};
@@ -599,5 +599,67 @@ fn anything_else(rt: HostRuntime) -> Result<(), Fail> {
         )?,
         Finding::Other
     );
+    Ok(())
+}
+
+fn make<S: Alter>(conn: &mut Connection<S>) -> Result<(), Fail>
+    requires alone { conn.old.in_transaction ≡ false }
+    ensures alone { conn.new.in_transaction ≡ false }
+{
+    let found = opening::find(conn);
+    if let Finding::Nothing = found {
+        making::make(conn, "/nix/store")?;
+        return Ok(());
+    }
+    Err(Fail::new("something of ours"))
+}
+
+/// The tables are ours, `meta` has its two settings, and the others have no row.
+fn is_made<S: Alter>(alloc: Global, conn: &mut Connection<S>) -> Result<(), Fail>
+    requires alone { conn.old.in_transaction ≡ false }
+    ensures alone { conn.new.in_transaction ≡ false }
+{
+    expect("made", shown(alloc, conn)?.as_str(), MADE)
+}
+
+const MADE: &str =
+    "[Setting { word: \"schema\", value: \"1\" }, Setting { word: \"store-dir\", value: \"/nix/store\" }]\
+    [][][][][][][][]";
+
+#[test]
+fn made_beside_others(rt: HostRuntime) -> Result<(), Fail> {
+    let alloc = rt.alloc();
+    let mut conn = Connection::open_in_memory(alloc)?;
+    run(&mut conn, &[BEFORE])?;
+    make(&mut conn)?;
+    is_made(alloc, &mut conn)?;
+    run(&mut conn, &[AFTER])?;
+    is_made(alloc, &mut conn)?;
+    let last = text_of(&mut conn, "SELECT max(t) FROM note")?;
+    expect("before", last.as_str(), "y")
+}
+
+fn make_file(rt: &HostRuntime, path: &str) -> Result<(), Fail> {
+    let mut conn = Connection::open(rt, path)?;
+    make(&mut conn)?;
+    is_made(rt.alloc(), &mut conn)?;
+    conn.close()?;
+    Ok(())
+}
+
+fn find_file(rt: &HostRuntime, path: &str) -> Result<(), Fail> {
+    let mut conn = Connection::open(rt, path)?;
+    is_made(rt.alloc(), &mut conn)?;
+    conn.close()?;
+    Ok(())
+}
+
+#[test]
+fn made_on_a_file(rt: HostRuntime) -> Result<(), Fail> {
+    let _ = fs::remove_dir_all(&rt, "rows_making");
+    fs::create_dir(&rt, "rows_making")?;
+    make_file(&rt, "rows_making/a.db")?;
+    find_file(&rt, "rows_making/a.db")?;
+    fs::remove_dir_all(&rt, "rows_making")?;
     Ok(())
 }

@@ -1,0 +1,120 @@
+-- What the making of our tables leaves: they stand after all that was there, and hold no row, but `meta` its two settings.
+use Rattle.std.specs.Prelude.{◌≡◌, ◌≢◌, ℕ, true, false, List, [], ◌∷◌, None, IsTrue, codes}
+use Rattle.std.specs.List.{AllByRecursion}
+use Rattle.std.specs.FinMap as finite
+use Rattle.sqlite_value.specs.Order.{Row}
+use Rattle.sqlite_trees.specs.Tree.{Trees}
+use Rattle.sqlite_schema.specs.declared.schema.Schema.{Schema}
+use Rattle.sqlite_schema.specs.declared.schema.Table.{Table}
+use Rattle.sqlite_schema.specs.Names.{table_named, index_named, view_named}
+use Rattle.sqlite_catalog.specs.Change.{created, next_tree}
+use Rattle.sqlite.specs.Does.{lacks_sequence}
+use Rattle.sqlite.specs.Effect.{Database}
+use Rattle.sqlite.specs.State.{State}
+use Rattle.rows.specs.Forms.{meta, object, refs, outs, permanent, user_root, profile, generation, runtime, our_tables}
+use Rattle.rows.specs.Standing.{IsNamed, tree_named}
+use Rattle.rows.specs.Contents.{Bytes, texts_cmp, is_pair, pair_of, map_of, rows_named}
+use Rattle.rows.specs.Calls.{IsKeyed}
+
+-- the tables made in this order
+abbrev pub all_created : Schema → List Table → Schema
+all_created s [] = s
+all_created s (t ∷ ts) = all_created (created s t) ts
+
+-- where they stand then, each with its tree
+abbrev pub placed : Schema → List Table → List Table
+placed s [] = []
+placed s (t ∷ ts) = record t { tree = next_tree s } ∷ placed (created s t) ts
+
+-- all but `meta`
+abbrev pub other_tables : List Table
+other_tables = object ∷ refs ∷ outs ∷ permanent ∷ user_root ∷ profile ∷ generation ∷ runtime ∷ []
+
+-- all nine made, and where all but `meta` stand then
+unfoldable pub ours_created : Schema → Schema
+ours_created s = all_created s our_tables
+
+unfoldable pub others_placed : Schema → List Table
+others_placed s = placed (created s meta) other_tables
+
+-- the two settings of a store directory
+abbrev pub first_settings : Bytes → finite.FinMap texts_cmp Bytes
+first_settings dir = finite.insert (finite.insert (finite.from_entries []) (codes "schema") (codes "1")) (codes "store-dir") dir
+
+-- the rows of `meta` say these, and can be told apart
+pub record AreSettings (dir : Bytes) (rows : List Row) : Type 0 where
+  pub keyed : IsKeyed rows
+  pub settings : map_of texts_cmp is_pair pair_of rows ≡ first_settings dir
+
+-- each table keeps its rows, and ours are as they are made
+pub record IsMadeOf (dir : Bytes) (db : Database) (trees : Trees) : Type 0 where
+  pub kept : AllByRecursion (λ t. trees t.tree ≡ db.trees t.tree) db.schema.tables
+  pub settings : AreSettings dir (trees (next_tree db.schema))
+  pub empty : AllByRecursion (λ t. trees t.tree ≡ []) (others_placed db.schema)
+
+-- all nine were made at once
+pub record IsMade (dir : Bytes) (old new : State) : Type 0 where
+  pub was_open : IsTrue old.is_open
+  pub is_open : IsTrue new.is_open
+  pub schema : new.now.schema ≡ ours_created old.now.schema
+  pub made : IsMadeOf dir old.now new.now.trees
+  pub settled : new.now ≡ new.committed
+
+-- nothing of the schema has the name
+abbrev pub IsUnused : Schema → Bytes → Type 0
+IsUnused s name = (table_named s name ≡ None) × (index_named s name ≡ None) × (view_named s name ≡ None)
+
+-- a transaction is under way over a schema that has none of these tables
+pub record IsMaking (tables : List Table) (s : State) : Type 0 where
+  pub free : IsTrue s.is_open → AllByRecursion (λ t. IsUnused s.now.schema t.name) tables
+  pub counted : IsTrue s.is_open → lacks_sequence s.now.schema ≡ false
+  pub mode : s.in_transaction ≡ true
+
+-- Inside a transaction, which goes on: these tables were made after what was there, with no row.
+pub record Makes (tables : List Table) (old new : State) : Type 0 where
+  pub was_open : IsTrue old.is_open
+  pub is_open : IsTrue new.is_open
+  pub schema : new.now.schema ≡ all_created old.now.schema tables
+  pub kept : AllByRecursion (λ t. new.now.trees t.tree ≡ old.now.trees t.tree) old.now.schema.tables
+  pub empty : AllByRecursion (λ t. new.now.trees t.tree ≡ []) (placed old.now.schema tables)
+  pub committed : new.committed ≡ old.committed
+  pub mode : new.in_transaction ≡ true
+
+-- The same of `meta` with its settings.
+pub record MakesMeta (dir : Bytes) (old new : State) : Type 0 where
+  pub was_open : IsTrue old.is_open
+  pub is_open : IsTrue new.is_open
+  pub schema : new.now.schema ≡ created old.now.schema meta
+  pub kept : AllByRecursion (λ t. new.now.trees t.tree ≡ old.now.trees t.tree) old.now.schema.tables
+  pub settings : AreSettings dir (new.now.trees (next_tree old.now.schema))
+  pub committed : new.committed ≡ old.committed
+  pub mode : new.in_transaction ≡ true
+
+-- the rows of `meta` with one setting more
+pub record IsPut (word value : Bytes) (old new : List Row) : Type 0 where
+  pub keyed : IsKeyed old → IsKeyed new
+  pub put : finite.get (map_of texts_cmp is_pair pair_of old) word ≡ None → map_of texts_cmp is_pair pair_of new ≡ finite.insert (map_of texts_cmp is_pair pair_of old) word value
+
+-- a transaction is under way over a schema in which `meta` stands by its name
+pub record HasMeta (s : State) : Type 0 where
+  pub named : IsTrue s.is_open → (at : ℕ) × IsNamed s.now.schema (codes "meta") at (record meta { tree = tree_named s.now.schema (codes "meta") })
+  pub mode : s.in_transaction ≡ true
+
+-- Inside a transaction, which goes on: `meta` has one row more.
+pub record Puts (word value : Bytes) (old new : State) : Type 0 where
+  pub was_open : IsTrue old.is_open
+  pub is_open : IsTrue new.is_open
+  pub schema : new.now.schema ≡ old.now.schema
+  pub rows : IsPut word value (rows_named old.now (codes "meta")) (rows_named new.now (codes "meta"))
+  pub others : AllByRecursion (λ t. t.tree ≢ tree_named old.now.schema (codes "meta") → new.now.trees t.tree ≡ old.now.trees t.tree) old.now.schema.tables
+  pub committed : new.committed ≡ old.committed
+  pub mode : new.in_transaction ≡ true
+
+-- Inside a transaction, which goes on: all nine were made.
+pub record MakesAll (dir : Bytes) (old new : State) : Type 0 where
+  pub was_open : IsTrue old.is_open
+  pub is_open : IsTrue new.is_open
+  pub schema : new.now.schema ≡ ours_created old.now.schema
+  pub made : IsMadeOf dir old.now new.now.trees
+  pub committed : new.committed ≡ old.committed
+  pub mode : new.in_transaction ≡ true
