@@ -5,6 +5,8 @@ mod creating;
 mod entry;
 pub mod failure;
 pub mod finding;
+#[cfg(test)]
+mod finding_tests;
 mod form;
 pub mod generations;
 mod keyed;

@@ -4,7 +4,7 @@ ghost use Rattle.sqlite.specs.Held.{state};
 ghost use Rattle.rows.specs.Calls.{IsUnderWay};
 
 use crate::failure::Failure;
-use crate::finding::{self, Finding};
+use crate::finding::Finding;
 use crate::{
     generations, making, meta, objects, opening, outputs, permanent, profiles, references, runtime,
     transaction, user_roots,
@@ -15,7 +15,7 @@ use std::fs;
 use std::test::Fail;
 
 /// The nine tables, as the texts that make them.
-const TABLES: [&str; 9] = [
+pub(crate) const TABLES: [&str; 9] = [
     "CREATE TABLE meta (word TEXT NOT NULL, val TEXT NOT NULL, PRIMARY KEY (word)) STRICT",
     "CREATE TABLE object (base TEXT NOT NULL, nar BLOB NOT NULL, hash BLOB NOT NULL, deriver TEXT, ca TEXT, PRIMARY KEY (base)) STRICT",
     "CREATE TABLE refs (base TEXT NOT NULL, target TEXT NOT NULL, PRIMARY KEY (base, target)) STRICT",
@@ -342,7 +342,7 @@ fn parts<S: Alter>(alloc: Global, conn: &mut Connection<S>) -> Result<String, Fa
     Ok(format!(in alloc; "{parts}{owned}")?)
 }
 
-fn run<S: Alter>(conn: &mut Connection<S>, texts: &[&str]) -> Result<(), Fail>
+pub(crate) fn run<S: Alter>(conn: &mut Connection<S>, texts: &[&str]) -> Result<(), Fail>
     ensures alone { OnOk result (conn.new.in_transaction ≡ false) }
 {
     for text in texts {
@@ -439,10 +439,11 @@ fn statements_on_a_file(rt: HostRuntime) -> Result<(), Fail> {
     Ok(())
 }
 
-const BEFORE: &str = "CREATE TABLE note (id INTEGER PRIMARY KEY AUTOINCREMENT, t TEXT UNIQUE); \
+pub(crate) const BEFORE: &str =
+    "CREATE TABLE note (id INTEGER PRIMARY KEY AUTOINCREMENT, t TEXT UNIQUE); \
     INSERT INTO note (t) VALUES ('x'), ('y'); CREATE VIEW notes AS SELECT t FROM note";
 
-const AFTER: &str = "CREATE TABLE later (id INTEGER PRIMARY KEY, t TEXT); \
+pub(crate) const AFTER: &str = "CREATE TABLE later (id INTEGER PRIMARY KEY, t TEXT); \
     INSERT INTO later (t) VALUES ('z'); CREATE INDEX targets ON refs (target)";
 
 fn text_of<S: Alter>(conn: &mut Connection<S>, query: &str) -> Result<String, Error> {
@@ -477,129 +478,6 @@ fn tables_of_somebody_else(rt: HostRuntime) -> Result<(), Fail> {
     beside(alloc, &[BEFORE, ours.as_str()], true, false)?;
     beside(alloc, &[ours.as_str(), AFTER], false, true)?;
     beside(alloc, &[BEFORE, ours.as_str(), AFTER], true, true)
-}
-
-fn found(alloc: Global, texts: &[&str]) -> Result<Finding, Fail> {
-    let mut conn = Connection::open_in_memory(alloc)?;
-    run(&mut conn, texts)?;
-    Ok(finding::find(conn.schema()))
-}
-
-/// What stands where one of the texts is another.
-fn found_with(alloc: Global, at: usize, text: &str) -> Result<Finding, Fail> {
-    let mut texts = Vec::new(alloc);
-    for (place, ours) in TABLES.iter().enumerate() {
-        texts.push(if place == at { text } else { *ours })?;
-    }
-    found(alloc, &texts)
-}
-
-#[test]
-fn nothing_and_ours(rt: HostRuntime) -> Result<(), Fail> {
-    let alloc = rt.alloc();
-    assert_eq!(rt; found(alloc, &[])?, Finding::Nothing);
-    assert_eq!(rt; found(alloc, &[BEFORE])?, Finding::Nothing);
-    assert_eq!(rt; found(alloc, &TABLES)?, Finding::Ours);
-    for text in [
-        AFTER,
-        "CREATE INDEX targets ON refs (target)",
-        "CREATE UNIQUE INDEX again ON refs (base, target)",
-        "CREATE TABLE child (p TEXT REFERENCES child (p))",
-    ] {
-        let with = format!(in alloc; "{}; {text}", TABLES[8])?;
-        assert_eq!(rt;
-            found_with(alloc, 8, with.as_str())?,
-            Finding::Ours,
-            "{text}"
-        );
-    }
-    Ok(())
-}
-
-#[test]
-fn anything_else(rt: HostRuntime) -> Result<(), Fail> {
-    let alloc = rt.alloc();
-    for (at, text) in [
-        (8, ""),
-        (
-            0,
-            "CREATE TABLE meta (word TEXT NOT NULL, val TEXT NOT NULL, more TEXT, PRIMARY KEY (word)) STRICT",
-        ),
-        (
-            0,
-            "CREATE TABLE meta (word TEXT NOT NULL, val TEXT, PRIMARY KEY (word)) STRICT",
-        ),
-        (
-            0,
-            "CREATE TABLE meta (word TEXT NOT NULL, val ANY NOT NULL, PRIMARY KEY (word)) STRICT",
-        ),
-        (
-            0,
-            "CREATE TABLE META (word TEXT NOT NULL, val TEXT NOT NULL, PRIMARY KEY (word)) STRICT",
-        ),
-        (
-            0,
-            "CREATE TABLE meta (word TEXT NOT NULL, val TEXT NOT NULL, PRIMARY KEY (word))",
-        ),
-        (
-            0,
-            "CREATE TABLE meta (word TEXT NOT NULL, val TEXT NOT NULL CHECK (val <> ''), PRIMARY KEY (word)) STRICT",
-        ),
-        (
-            0,
-            "CREATE TABLE meta (word TEXT NOT NULL, val TEXT NOT NULL UNIQUE, PRIMARY KEY (word)) STRICT",
-        ),
-        (
-            0,
-            "CREATE TABLE meta (word TEXT NOT NULL, val TEXT NOT NULL DEFAULT 'x', PRIMARY KEY (word)) STRICT",
-        ),
-        (
-            0,
-            "CREATE TABLE meta (word TEXT NOT NULL COLLATE NOCASE, val TEXT NOT NULL, PRIMARY KEY (word)) STRICT",
-        ),
-        (
-            2,
-            "CREATE TABLE refs (base TEXT NOT NULL, target TEXT NOT NULL, PRIMARY KEY (target, base)) STRICT",
-        ),
-        (
-            2,
-            "CREATE TABLE refs (target TEXT NOT NULL, base TEXT NOT NULL, PRIMARY KEY (base, target)) STRICT",
-        ),
-        (2, "CREATE VIEW refs AS SELECT 1 AS base, 2 AS target"),
-    ] {
-        assert_eq!(rt; found_with(alloc, at, text)?, Finding::Other, "{text}");
-    }
-    for text in [
-        "CREATE TABLE child (p TEXT REFERENCES permanent (name))",
-        "CREATE UNIQUE INDEX one ON refs (target)",
-        "CREATE UNIQUE INDEX one ON runtime (label COLLATE NOCASE, target)",
-    ] {
-        let with = format!(in alloc; "{}; {text}", TABLES[8])?;
-        assert_eq!(rt;
-            found_with(alloc, 8, with.as_str())?,
-            Finding::Other,
-            "{text}"
-        );
-    }
-    assert_eq!(rt;
-        found(alloc, &["CREATE VIEW Refs AS SELECT 1"])?,
-        Finding::Other
-    );
-    assert_eq!(rt;
-        found(
-            alloc,
-            &["CREATE TABLE t (a TEXT); CREATE INDEX outs ON t (a)"]
-        )?,
-        Finding::Other
-    );
-    assert_eq!(rt;
-        found(
-            alloc,
-            &["CREATE TABLE child (p TEXT REFERENCES refs (base))"]
-        )?,
-        Finding::Other
-    );
-    Ok(())
 }
 
 fn make<S: Alter>(conn: &mut Connection<S>) -> Result<(), Fail>
