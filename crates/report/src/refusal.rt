@@ -76,7 +76,7 @@ pub enum Refusal {
     BadLabel,
     /// What was sent begins with no request head.
     BadHead,
-    /// A message's body has no length, or ends before it.
+    /// The length of a message's body is malformed, stands twice or is coded otherwise, or the body ends before it.
     BadBodyLength,
     /// A message's body would have more than 20,971,520 bytes.
     BodyTooLarge,
