@@ -1,0 +1,52 @@
+//! Prints and times the outputs of the derivation text that comes on standard input.
+#![tactic(auto)]
+
+mod rounds;
+mod shown;
+
+use std::io::Read;
+use std::{env, io};
+
+const USAGE: &str = "usage: drv_bench [outputs | time ROUNDS]";
+
+/// The most bytes that are taken: 64 MiB.
+const LIMIT: usize = 67_108_864;
+
+/// What comes on standard input; nothing where that is more than `LIMIT` bytes.
+fn input(rt: &HostRuntime) -> io::Result<Option<Vec<u8>>> {
+    let mut bytes = Vec::new(rt.alloc());
+    let mut piece = vec![in rt.alloc(); 0u8; 65_536]?;
+    let mut stdin = rt.stdin();
+    for _ in 0..u64::MAX {
+        let got = stdin.read(&mut piece)?;
+        if got == 0 {
+            return Ok(Some(bytes));
+        }
+        bytes.extend_from_slice(&piece[..got])?;
+        if bytes.len() > LIMIT {
+            break;
+        }
+    }
+    Ok(None)
+}
+
+fn number(word: Option<&String>) -> Option<usize> {
+    word?.as_str().parse::<usize>().ok()
+}
+
+fn main(rt: HostRuntime) -> io::Result<()> {
+    let words: Vec<String> = env::args(&rt)?.collect(rt.alloc())?;
+    let Some(first) = words.get(1) else {
+        return shown::run(&rt, shown::EXAMPLE.as_bytes());
+    };
+    let rounds = match (first.as_str(), words.get(2), number(words.get(2))) {
+        ("outputs", None, None) => None,
+        ("time", Some(_), Some(count)) => Some(count),
+        _ => return println!(rt; "{USAGE}"),
+    };
+    match (rounds, input(&rt)?) {
+        (None, Some(text)) => shown::run(&rt, &text),
+        (Some(count), Some(text)) => rounds::run(&rt, count, &text),
+        (_, None) => println!(rt; "more than {LIMIT} bytes"),
+    }
+}
