@@ -1,15 +1,17 @@
--- Each entry of a table of roots is a root.
-use Rattle.std.proofs.Common.{◌++◌, map}
+-- Each entry of a table of roots is a root, and no other root is.
+use Rattle.std.proofs.Common.{◌++◌, map, inl, inr}
 use Rattle.std.specs.Prelude.{Contains}
 use Rattle.std.specs.List.{flat_map}
+use Rattle.std.specs.Cmp.{nat_cmp_total}
+use Rattle.std.specs.Cmp.Lexicographic.{nat_list_cmp_total}
 use Rattle.std.specs.FinMap as finite
-use Rattle.std.proofs.lemmas.List.Elements.{Contains-append_left, Contains-append_right}
+use Rattle.std.proofs.lemmas.List.Elements.{Contains-append_left, Contains-append_right, Contains-append_cases}
 use Rattle.paths.specs.Root.{Root}
-use Rattle.live.proofs.Order.{ordered_member}
+use Rattle.live.proofs.Order.{ordered_member, member_ordered}
 use Rattle.tables.specs.World.{World, permanent_root, user_root, generation_root, generation_roots, runtime_root, lasting_roots, runtime_roots, roots_of}
-use Rattle.store.specs.Laws.{HasEachRoot}
-use Rattle.store.proofs.MapMembers.{bytes_antisymmetric, pair_antisymmetric, key_listed, entry_listed}
-use Rattle.store.proofs.Filtered.{in_mapped, in_joined}
+use Rattle.store.specs.Laws.{HasEachRoot, IsEntry, of_permanent, of_user, of_generation, of_runtime}
+use Rattle.store.proofs.MapMembers.{bytes_antisymmetric, pair_antisymmetric, pair_total, key_listed, listed_key, entry_listed, listed_entry}
+use Rattle.store.proofs.Filtered.{in_mapped, from_mapped, in_joined, from_joined}
 
 module _ (w : World) where
   lasting : (r : Root) → Contains (lasting_roots w) r → Contains (roots_of w) r
@@ -17,6 +19,43 @@ module _ (w : World) where
 
   first_two : (r : Root) → Contains (map permanent_root (finite.entries w.permanent) ++ map user_root (finite.entries w.user_roots)) r → Contains (roots_of w) r
   first_two r c = lasting r (Contains-append_left (map permanent_root (finite.entries w.permanent) ++ map user_root (finite.entries w.user_roots)) (flat_map generation_roots (finite.entries w.profiles)) r c)
+
+  permanent_entry : (r : Root) → Contains (map permanent_root (finite.entries w.permanent)) r → IsEntry w r
+  permanent_entry r c =
+      let e = from_mapped permanent_root (finite.entries w.permanent) r c in
+      of_permanent e.0.0 e.0.1 (listed_entry nat_list_cmp_total w.permanent e.0 e.1) e.2
+
+  user_entry : (r : Root) → Contains (map user_root (finite.entries w.user_roots)) r → IsEntry w r
+  user_entry r c =
+      let e = from_mapped user_root (finite.entries w.user_roots) r c in
+      of_user e.0.0 e.0.1 (listed_entry pair_total w.user_roots e.0 e.1) e.2
+
+  generation_entry : (r : Root) → Contains (flat_map generation_roots (finite.entries w.profiles)) r → IsEntry w r
+  generation_entry r c =
+      let e = from_joined generation_roots (finite.entries w.profiles) r c in
+      let g = from_mapped (generation_root e.0.0) (finite.entries e.0.1.generations) r e.2 in
+      of_generation e.0.0 e.0.1 g.0.0 g.0.1 (listed_entry pair_total w.profiles e.0 e.1) (listed_entry nat_cmp_total e.0.1.generations g.0 g.1) g.2
+
+  runtime_entry : (r : Root) → Contains (runtime_roots w) r → IsEntry w r
+  runtime_entry r c =
+      let e = from_mapped runtime_root (finite.keys w.runtime) r c in
+      of_runtime e.0 (listed_key pair_total w.runtime e.0 e.1) e.2
+
+  dropped_entry : (r : Root) → Contains (map permanent_root (finite.entries w.permanent) ++ map user_root (finite.entries w.user_roots)) r → IsEntry w r
+  dropped_entry r c = elim (Contains-append_cases (map permanent_root (finite.entries w.permanent)) (map user_root (finite.entries w.user_roots)) r c) as (λ _. IsEntry w r) [
+    | inl first ↦ permanent_entry r first
+    | inr second ↦ user_entry r second
+  ]
+
+  lasting_entry : (r : Root) → Contains (lasting_roots w) r → IsEntry w r
+  lasting_entry r c =
+      elim (Contains-append_cases (map permanent_root (finite.entries w.permanent) ++ map user_root (finite.entries w.user_roots)) (flat_map generation_roots (finite.entries w.profiles)) r c)
+      as (λ _. IsEntry w r) [ inl named ↦ dropped_entry r named | inr generation ↦ generation_entry r generation ]
+
+  no_other_root : (r : Root) → Contains (roots_of w) r → IsEntry w r
+  no_other_root r c =
+      elim (Contains-append_cases (lasting_roots w) (runtime_roots w) r (member_ordered (lasting_roots w ++ runtime_roots w) r c))
+      as (λ _. IsEntry w r) [ inl last ↦ lasting_entry r last | inr run ↦ runtime_entry r run ]
 
   pub each_root : HasEachRoot w
   each_root = record {
@@ -29,4 +68,5 @@ module _ (w : World) where
         (in_mapped (generation_root owned) (finite.entries p.generations) (n, t) (entry_listed finite.nat_cmp-IsAntisymmetric p.generations n t f))));
     runtime = λ r h. ordered_member (lasting_roots w ++ runtime_roots w) (runtime_root r) (Contains-append_right (lasting_roots w) (runtime_roots w) (runtime_root r)
         (in_mapped runtime_root (finite.keys w.runtime) r (key_listed pair_antisymmetric w.runtime r h)));
+    no_other = no_other_root;
   }

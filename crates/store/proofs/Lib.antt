@@ -21,3 +21,4 @@ pub mod SoundAdds
 pub mod SoundRoots
 pub mod SoundProfiles
 pub mod SoundSteps
+pub mod NamedLive

@@ -1,9 +1,9 @@
 -- Laws of steps and runs.
-use Rattle.std.specs.Prelude.{◌≡◌, ◌↔◌, ◌⊎◌, ℕ, ◌+◌, Bool, false, List, [], ◌∷◌, slice_get, Some, option_map, IsTrue, IsFalse, Contains}
+use Rattle.std.specs.Prelude.{◌≡◌, ◌↔◌, ◌⊎◌, ℕ, ◌+◌, ◌++◌, Bool, false, List, [], ◌∷◌, slice_get, Some, option_map, IsTrue, IsFalse, Contains}
 use Rattle.std.specs.FinMap as finite
 use Rattle.paths.specs.Root.{Root}
 use Rattle.live.specs.Reach.{Reaches}
-use Rattle.live.specs.Live.{IsLive, IsDead}
+use Rattle.live.specs.Live.{IsLive, IsDead, IsFirstRoot}
 use Rattle.live.specs.Laws.{HasFirstRoot}
 use Rattle.tables.specs.World.{Path, Pair, Object, Profile, World, has, permanent_root, user_root, generation_root, runtime_root, roots_of, all_paths}
 use Rattle.tables.specs.Sound.{IsSound}
@@ -15,6 +15,9 @@ use Rattle.store.specs.Reply.{Reply, done, denied, refused, failed, freed, Usage
 use Rattle.store.specs.Liveness.{graph_of, keep_of, lives, live_paths, dead_paths, first_root_of, roots_that_keep}
 use Rattle.store.specs.Seen.{seen, seen_root}
 use Rattle.store.specs.Step.{Step, Run}
+use Rattle.store.specs.Verdict.{named_in, verdict, shown}
+use Rattle.policy.specs.declared.kinds.Rule.TheVariants.{Live}
+use Rattle.std.specs.List.{list_any}
 
 abbrev pub IsDone : Reply → Type 0
 IsDone (done a) = Unit {0}
@@ -28,13 +31,22 @@ HasFailed (done a) = ⊥
 HasFailed (denied rule root) = ⊥
 HasFailed (refused r) = ⊥
 
--- each entry of a table of roots is a root of the world
+-- the root is that of an entry of a table of roots: every generation of every profile is one
+pub data IsEntry (w : World) (r : Root) : Type 0 where
+  of_permanent : (name : List ℕ) (t : Path) → finite.get w.permanent name ≡ Some t → permanent_root (name, t) ≡ r → IsEntry w r
+  of_user : (owned : Pair) (t : Path) → finite.get w.user_roots owned ≡ Some t → user_root (owned, t) ≡ r → IsEntry w r
+  of_generation : (owned : Pair) (p : Profile) (n : ℕ) (t : Path) → finite.get w.profiles owned ≡ Some p → finite.get p.generations n ≡ Some t
+      → generation_root owned (n, t) ≡ r → IsEntry w r
+  of_runtime : (pair : Pair) → IsTrue (finite.contains_key w.runtime pair) → runtime_root pair ≡ r → IsEntry w r
+
+-- each entry of a table of roots is a root of the world, and no other root is
 pub record HasEachRoot (w : World) : Type 0 where
   pub permanent : (name : List ℕ) (t : Path) → finite.get w.permanent name ≡ Some t → Contains (roots_of w) (permanent_root (name, t))
   pub user : (owned : Pair) (t : Path) → finite.get w.user_roots owned ≡ Some t → Contains (roots_of w) (user_root (owned, t))
   pub generation : (owned : Pair) (p : Profile) (n : ℕ) (t : Path) → finite.get w.profiles owned ≡ Some p → finite.get p.generations n ≡ Some t
       → Contains (roots_of w) (generation_root owned (n, t))
   pub runtime : (r : Pair) → IsTrue (finite.contains_key w.runtime r) → Contains (roots_of w) (runtime_root r)
+  pub no_other : (r : Root) → Contains (roots_of w) r → IsEntry w r
 
 -- a call that isn't done leaves the world
 abbrev pub LeavesUnlessDone : Type 0
@@ -74,6 +86,21 @@ TargetsLive = (s : Settings) (w : World) → IsSound s.store_dir w → (r : Root
 abbrev pub FirstIsShownFirst : Type 0
 FirstIsShownFirst = (s : Settings) (w : World) (c : Caller) (p : Path)
     → slice_get (seen (class_of s c) (roots_that_keep s w p)) 0 ≡ option_map (seen_root (class_of s c)) (first_root_of s w p)
+
+-- A denial by `Live` is for the first path that is live of the named, in the order given, and shows its first root.
+pub record NamesTheLiving (s : Settings) (w : World) (c : Caller) (q : Request) : Type 0 where
+  pub before : List Path
+  pub path : Path
+  pub after : List Path
+  pub named : named_in q ≡ before ++ path ∷ after
+  pub none_before : list_any (lives s w) before ≡ false
+  pub alive : IsTrue (lives s w path)
+  pub root : Root
+  pub first : IsFirstRoot (keep_of s) (graph_of w) (roots_of w) path root
+  pub is_shown : shown s w c q Live ≡ Some (seen_root (class_of s c) root)
+
+abbrev pub DenialsNameTheLiving : Type 0
+DenialsNameTheLiving = (s : Settings) (w : World) (c : Caller) (q : Request) → verdict s w c q ≡ Some Live → NamesTheLiving s w c q
 
 -- live and dead add up to all
 pub record UsageAddsUp (live dead total : Usage) : Type 0 where

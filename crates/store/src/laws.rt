@@ -2,13 +2,19 @@
 ghost use Rattle.policy.specs.Settings.{Settings};
 ghost use Rattle.tables.specs.World.{Path, World, all_paths};
 ghost use Rattle.store.specs.Liveness.{dead_paths, live_paths, usage_of};
-ghost use Rattle.store.specs.Laws.{Collects, FirstIsShownFirst, HasEachRoot, IsAnswered, IsFunctional, LeavesNoReference, LeavesUnlessDone, LivesAsSaid, Pins, PinsOverRuns, RunsEndAlike, TargetsLive, UsageAddsUp};
+ghost use Rattle.store.specs.Laws.{Collects, DenialsNameTheLiving, FirstIsShownFirst, HasEachRoot, IsAnswered, IsFunctional, LeavesNoReference, LeavesUnlessDone, LivesAsSaid, Pins, PinsOverRuns, RunsEndAlike, TargetsLive, UsageAddsUp};
 ghost use Rattle.store.specs.Labels.{MirrorsRuns, MirrorsSteps, RunsLookAlike};
 ghost use Rattle.store.specs.Soundness.{KeepsSound, RunsKeepSound};
 
-/// Each entry of a table of roots is a root of the world.
+/// Each entry of a table of roots is a root of the world, and no other root is.
 pub fn every_entry_is_a_root()
     ensures { (w : World) → HasEachRoot w }
+{}
+
+/// A denial for a live path is for the first path that is live of the named, in the order given, and shows its
+/// first root, as the caller sees it.
+pub fn denials_name_the_living()
+    ensures { DenialsNameTheLiving }
 {}
 
 /// A call that isn't done leaves the world.
