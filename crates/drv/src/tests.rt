@@ -7,6 +7,10 @@ use std::test::Fail;
 const ONE: &str =
     r#"Derive([("out","/nix/store/11111111111111111111111111111111-o","","")],[],[],"p","b",[],[])"#;
 
+/// The same with an escape that isn't one.
+const UNKNOWN_ESCAPE: &str =
+    r#"Derive([("out","/nix/store/11111111111111111111111111111111-o","","")],[],[],"\x","b",[],[])"#;
+
 /// One with two outputs of one name.
 const TWICE: &str = r#"Derive([("out","","",""),("out","","","")],[],[],"p","b",[],[])"#;
 
@@ -53,6 +57,10 @@ fn one_output(rt: HostRuntime) -> Result<(), Fail> {
     assert_eq!(rt;
         answer(alloc, text)?.as_str(),
         "out=11111111111111111111111111111111-o;"
+    );
+    assert_eq!(rt;
+        answer(alloc, UNKNOWN_ESCAPE.as_bytes())?.as_str(),
+        "bad-derivation"
     );
     for len in 0..91 {
         assert_eq!(rt;
@@ -174,7 +182,7 @@ const TEXTS: [(&str, &str); 36] = [
         "bad-derivation",
     ),
     (
-        r#"Derive([("a","","","",""),],[],[],"","",[],[])"#,
+        r#"Derive([("a","","","","")],[],[],"","",[],[])"#,
         "bad-derivation",
     ),
     (

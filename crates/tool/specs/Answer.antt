@@ -1,5 +1,5 @@
 -- What a command line answers, by the text of its configuration.
-use Rattle.std.specs.Prelude.{◌≡◌, ◌⊎◌, ℕ, List, [], map, Option, None, Result, Ok, Err}
+use Rattle.std.specs.Prelude.{◌≡◌, ◌⊎◌, ⊤, ℕ, List, [], map, Option, None, Result, Ok, Err}
 use Rattle.std.specs.Io.KnownBytes.{Keeps}
 use Rattle.paths.specs.StorePath.{base_of}
 use Rattle.policy.specs.Settings.{Settings}
@@ -39,11 +39,19 @@ AnswersAsked config user group (source_path o) known out out' err err' status =
 abbrev pub AnswersLine : List ℕ → Line → Option (List ℕ) → Option (List ℕ) → Option (List ℕ) → Option (List ℕ) → Option (List ℕ) → ℕ → Type 0
 AnswersLine config line known out out' err err' status = AnswersAsked config line.user line.group line.asked known out out' err err' status
 
+-- a subcommand other than `who` leaves the first writer alone
+abbrev pub KeepsUnlessWho : Asked → Option (List ℕ) → Option (List ℕ) → Type 0
+KeepsUnlessWho who out out' = ⊤
+KeepsUnlessWho ls out out' = Keeps out out'
+KeepsUnlessWho (text_path o) out out' = Keeps out out'
+KeepsUnlessWho (source_path o) out out' = Keeps out out'
+
 -- What running a command line does: the answer by some configuration, which is the empty one where no file is named; or
--- something gave out, with status 1.
+-- memory or the file gave out before there was one, with status 1.
 abbrev pub RunsLine : Line → Option (List ℕ) → Option (List ℕ) → Option (List ℕ) → Option (List ℕ) → Option (List ℕ) → ℕ → Type 0
 RunsLine line known out out' err err' status =
-    (status ≡ 1) ⊎ ((config : List ℕ) × (line.config ≡ None → config ≡ []) × AnswersLine config line known out out' err err' status)
+    ((status ≡ 1) × KeepsUnlessWho line.asked out out')
+    ⊎ ((config : List ℕ) × (line.config ≡ None → config ≡ []) × AnswersLine config line known out out' err err' status)
 
 -- the fault of the words is that they ask for help or for the version
 abbrev pub AsksHelp : CommandError → Type 0

@@ -34,7 +34,8 @@ pub record Gives (text : List ℕ) (out out' err err' : Option (List ℕ)) (stat
   pub printed : Appends out out' text
   pub silent : Keeps err err'
 
--- the answer was given; or memory, the input or a writer gave out, with status 1: the first writer gets nothing but a text
+-- The answer was given; or memory, the input or a writer gave out, with status 1. Where the answer is a stop, nothing went to
+-- the first writer.
 abbrev pub Answers : Result (List ℕ) Stop → Option (List ℕ) → Option (List ℕ) → Option (List ℕ) → Option (List ℕ) → ℕ → Type 0
 Answers (Ok text) out out' err err' status = (status ≡ 1) ⊎ Gives text out out' err err' status
 Answers (Err stop) out out' err err' status = Keeps out out' × Says stop err err' status
