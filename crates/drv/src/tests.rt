@@ -366,3 +366,24 @@ fn words_of_faults(rt: HostRuntime) -> Result<(), Fail> {
     }
     Ok(())
 }
+
+// What is given are the outputs or the fault, or the answer is `Memory`: run with each allocation refused in turn.
+#[test]
+fn refused_while_reading(rt: HostRuntime) {
+    let alloc = rt.alloc();
+    let Ok(dir) = StoreDir::parse(alloc, "/nix/store") else {
+        return;
+    };
+    let malformed = front(ONE.as_bytes(), 90);
+    let rows = [
+        (ONE.as_bytes(), None),
+        (TWICE.as_bytes(), Some(DrvError::DoubleOutput)),
+        (malformed, Some(DrvError::BadDerivation)),
+    ];
+    for (text, want) in rows {
+        match outputs(alloc, text, &dir) {
+            Ok(found) => assert!(rt; want.is_none() && found.len() == 1),
+            Err(e) => assert!(rt; e == DrvError::Memory || Some(e) == want),
+        }
+    }
+}
