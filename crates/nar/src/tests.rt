@@ -65,39 +65,49 @@ fn told(fault: Option<NarError>) -> Option<NarError> {
     }
 }
 
-/// The fault of the bytes, read whole, and the same by the checker in two pieces, cut at every `step` bytes, the
-/// beginning and the end among them. Each `feed` tells what `read` says of the front so far.
-fn fault_in_two(rt: &impl Abort, alloc: Global, bytes: &[u8], step: usize) -> Option<NarError> {
+/// Feeds the bytes in two pieces: the first tells this so far, and the whole has this fault.
+fn cut_in_two(
+    rt: &impl Abort,
+    alloc: Global,
+    bytes: &[u8],
+    cut: usize,
+    so_far: Option<NarError>,
+    fault: Option<NarError>,
+) {
+    let mut checker = Checker::new(alloc);
+    let first = fault_of(checker.feed(front(bytes, cut)));
+    assert!(rt; first == so_far, "cut at {cut}");
+    let second = fault_of(checker.feed(back(bytes, cut)));
+    assert!(rt; second == told(fault), "cut at {cut}");
+    assert!(rt; fault_of(checker.finish()) == fault, "cut at {cut}");
+}
+
+/// The fault of the bytes, read whole, and the same by the checker: in two pieces, cut at every place, the beginning
+/// and the end among them, and byte by byte. Each `feed` tells what `read` says of the front so far.
+fn fault_in_pieces(rt: &impl Abort, alloc: Global, bytes: &[u8]) -> Option<NarError> {
     let fault = fault_of(read(alloc, bytes));
-    for turn in 0..bytes.len() / step.max(1) + 2 {
-        let cut = turn.saturating_mul(step).min(bytes.len());
-        let mut checker = Checker::new(alloc);
-        let first = fault_of(checker.feed(front(bytes, cut)));
-        assert!(rt;
-            first == told(fault_of(read(alloc, front(bytes, cut)))),
-            "cut at {cut}"
-        );
-        let second = fault_of(checker.feed(back(bytes, cut)));
-        assert!(rt; second == told(fault), "cut at {cut}");
-        assert!(rt; fault_of(checker.finish()) == fault, "cut at {cut}");
+    let mut checker = Checker::new(alloc);
+    for cut in 0..=bytes.len() {
+        let so_far = told(fault_of(read(alloc, front(bytes, cut))));
+        cut_in_two(rt, alloc, bytes, cut, so_far, fault);
+        // The byte before the cut, and nothing at the beginning.
+        let byte = back(front(bytes, cut), cut.saturating_sub(1));
+        assert!(rt; fault_of(checker.feed(byte)) == so_far, "{cut} bytes fed");
     }
+    assert!(rt; fault_of(checker.finish()) == fault, "byte by byte");
     fault
 }
 
-/// The same, and byte by byte too.
-fn fault_in_pieces(rt: &impl Abort, alloc: Global, bytes: &[u8], step: usize) -> Option<NarError> {
-    let fault = fault_in_two(rt, alloc, bytes, step);
+/// As `fault_in_pieces`, for so many bytes that the fronts aren't each read: what the bytes tell is there with the
+/// needed number of them, and not before.
+fn fault_of_many(rt: &impl Abort, alloc: Global, bytes: &[u8], needed: usize) -> Option<NarError> {
+    let fault = fault_of(read(alloc, bytes));
     let mut checker = Checker::new(alloc);
-    let mut fed: usize = 0;
-    for byte in bytes.chunks(1) {
-        let so_far = fault_of(checker.feed(byte));
-        fed = fed.saturating_add(1);
-        if fed % step.max(1) == 0 {
-            assert!(rt;
-                so_far == told(fault_of(read(alloc, front(bytes, fed)))),
-                "{fed} bytes fed"
-            );
-        }
+    for cut in 0..=bytes.len() {
+        let so_far = if cut < needed { None } else { told(fault) };
+        cut_in_two(rt, alloc, bytes, cut, so_far, fault);
+        let byte = back(front(bytes, cut), cut.saturating_sub(1));
+        assert!(rt; fault_of(checker.feed(byte)) == so_far, "{cut} bytes fed");
     }
     assert!(rt; fault_of(checker.finish()) == fault, "byte by byte");
     fault

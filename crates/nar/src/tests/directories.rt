@@ -12,12 +12,12 @@ fn directories(rt: HostRuntime) -> Result<(), Fail> {
         &[b"nix-archive-1", b"(", b"type", b"directory", b")"],
     )?;
     assert_eq!(rt; empty.len(), 96);
-    assert!(rt; fault_in_pieces(&rt, alloc, &empty, 1).is_none());
-    assert!(rt; fault_in_pieces(&rt, alloc, front(&empty, 95), 1) == Some(NarError::Truncated));
-    assert!(rt; fault_in_pieces(&rt, alloc, b"", 1) == Some(NarError::Truncated));
+    assert!(rt; fault_in_pieces(&rt, alloc, &empty).is_none());
+    assert!(rt; fault_in_pieces(&rt, alloc, front(&empty, 95)) == Some(NarError::Truncated));
+    assert!(rt; fault_in_pieces(&rt, alloc, b"") == Some(NarError::Truncated));
     let mut more = Vec::from_slice(alloc, &empty)?;
     more.push(0)?;
-    assert!(rt; fault_in_pieces(&rt, alloc, &more, 1) == Some(NarError::Trailing));
+    assert!(rt; fault_in_pieces(&rt, alloc, &more) == Some(NarError::Trailing));
     let rows: [(&[u8], &[u8], Option<NarError>); 11] = [
         (b"a", b"b", None),
         (b"b", b"a", Some(NarError::NotSorted)),
@@ -66,7 +66,7 @@ fn directories(rt: HostRuntime) -> Result<(), Fail> {
                 b")",
             ],
         )?;
-        assert!(rt; fault_in_pieces(&rt, alloc, &bytes, 1) == want);
+        assert!(rt; fault_in_pieces(&rt, alloc, &bytes) == want);
     }
     Ok(())
 }
@@ -100,22 +100,34 @@ fn nested(alloc: Global, depth: usize) -> Result<Vec<u8>, AllocError> {
 }
 
 #[test]
-fn depth(rt: HostRuntime) -> Result<(), Fail> {
+fn as_deep_as_may_be(rt: HostRuntime) -> Result<(), Fail> {
     let alloc = rt.alloc();
     let bytes = nested(alloc, 256)?;
     assert_eq!(rt; bytes.len(), 42_936);
-    assert!(rt; fault_in_pieces(&rt, alloc, &bytes, 997).is_none());
+    assert!(rt; fault_in_pieces(&rt, alloc, &bytes).is_none());
     let node = read(alloc, &bytes)?;
     assert!(rt; is_writable(&node));
     let out = archive(alloc, &node)?;
     assert!(rt; out.as_slice() == bytes.as_slice());
-    drop(node);
+    Ok(())
+}
+
+#[test]
+fn too_deep(rt: HostRuntime) -> Result<(), Fail> {
+    let alloc = rt.alloc();
     let bytes = nested(alloc, 257)?;
     assert_eq!(rt; bytes.len(), 43_104);
-    assert!(rt; fault_in_pieces(&rt, alloc, &bytes, 997) == Some(NarError::TooDeep));
-    assert!(rt;
-        fault_in_pieces(&rt, alloc, front(&bytes, 34_839), 997) == Some(NarError::Truncated)
-    );
-    assert!(rt; fault_in_pieces(&rt, alloc, front(&bytes, 34_840), 997) == Some(NarError::TooDeep));
+    assert!(rt; fault_in_pieces(&rt, alloc, &bytes) == Some(NarError::TooDeep));
+    Ok(())
+}
+
+#[test]
+fn fronts_of_too_deep(rt: HostRuntime) -> Result<(), Fail> {
+    let alloc = rt.alloc();
+    let bytes = nested(alloc, 257)?;
+    let cut = front(&bytes, 34_839);
+    assert!(rt; fault_in_pieces(&rt, alloc, cut) == Some(NarError::Truncated));
+    let cut = front(&bytes, 34_840);
+    assert!(rt; fault_in_pieces(&rt, alloc, cut) == Some(NarError::TooDeep));
     Ok(())
 }

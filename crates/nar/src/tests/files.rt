@@ -17,16 +17,16 @@ fn my_file(rt: HostRuntime) -> Result<(), Fail> {
     drop(node);
     for len in 0..128 {
         assert!(rt;
-            fault_in_pieces(&rt, alloc, front(MY_FILE, len), 1) == Some(NarError::Truncated),
+            fault_in_pieces(&rt, alloc, front(MY_FILE, len)) == Some(NarError::Truncated),
             "{len}"
         );
     }
-    assert!(rt; fault_in_pieces(&rt, alloc, MY_FILE, 1).is_none());
+    assert!(rt; fault_in_pieces(&rt, alloc, MY_FILE).is_none());
     for byte in 0..=255u8 {
         let mut more = Vec::from_slice(alloc, MY_FILE)?;
         more.push(byte)?;
         assert!(rt;
-            fault_in_pieces(&rt, alloc, &more, 43) == Some(NarError::Trailing),
+            fault_in_pieces(&rt, alloc, &more) == Some(NarError::Trailing),
             "{byte}"
         );
     }

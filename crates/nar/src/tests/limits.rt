@@ -1,20 +1,20 @@
 //! The limit on bytes.
-use super::{archive, fault_in_pieces, fault_in_two, front, spelled};
+use super::{archive, fault_in_pieces, fault_of_many, front, spelled};
 use crate::{NarError, Node, is_writable, read};
+use std::alloc::{AllocError, Global};
 use std::test::Fail;
 
 #[test]
 fn first_lengths(rt: HostRuntime) {
     let alloc = rt.alloc();
     assert!(rt;
-        fault_in_pieces(&rt, alloc, b"\xff\xff\xff\xff\xff\xff\xff\xff", 1)
-            == Some(NarError::TooLarge)
+        fault_in_pieces(&rt, alloc, b"\xff\xff\xff\xff\xff\xff\xff\xff") == Some(NarError::TooLarge)
     );
     assert!(rt;
-        fault_in_pieces(&rt, alloc, &16_777_209u64.to_le_bytes(), 1) == Some(NarError::TooLarge)
+        fault_in_pieces(&rt, alloc, &16_777_209u64.to_le_bytes()) == Some(NarError::TooLarge)
     );
     assert!(rt;
-        fault_in_pieces(&rt, alloc, &16_777_208u64.to_le_bytes(), 1) == Some(NarError::Truncated)
+        fault_in_pieces(&rt, alloc, &16_777_208u64.to_le_bytes()) == Some(NarError::Truncated)
     );
 }
 
@@ -34,18 +34,13 @@ fn later_lengths(rt: HostRuntime) -> Result<(), Fail> {
     ] {
         let mut bytes = Vec::from_slice(alloc, &head)?;
         bytes.extend_from_slice(&u64::to_le_bytes(len))?;
-        assert!(rt;
-            fault_in_pieces(&rt, alloc, &bytes, 1) == Some(want),
-            "{len}"
-        );
+        assert!(rt; fault_in_pieces(&rt, alloc, &bytes) == Some(want), "{len}");
     }
     Ok(())
 }
 
-// Contents that reach the limit: the bracket behind them begins there, and is found too large by its length.
-#[test]
-fn a_string_that_begins_at_the_limit(rt: HostRuntime) -> Result<(), Fail> {
-    let alloc = rt.alloc();
+/// Contents that reach the limit: the bracket behind them begins there, and is found too large by its length.
+fn past_the_limit(alloc: Global) -> Result<Vec<u8>, AllocError> {
     let mut bytes = spelled(
         alloc,
         &[b"nix-archive-1", b"(", b"type", b"regular", b"contents"],
@@ -53,17 +48,33 @@ fn a_string_that_begins_at_the_limit(rt: HostRuntime) -> Result<(), Fail> {
     bytes.extend_from_slice(&16_777_120u64.to_le_bytes())?;
     bytes.resize(16_777_216, 7)?;
     bytes.extend_from_slice(&spelled(alloc, &[b")"])?)?;
-    let rows = [
-        (16_777_216, NarError::Truncated),
-        (16_777_223, NarError::Truncated),
-        (16_777_224, NarError::TooLarge),
-        (16_777_232, NarError::TooLarge),
-    ];
-    for (len, want) in rows {
+    Ok(bytes)
+}
+
+#[test]
+fn a_string_that_begins_at_the_limit(rt: HostRuntime) -> Result<(), Fail> {
+    let alloc = rt.alloc();
+    let bytes = past_the_limit(alloc)?;
+    for len in [16_777_216, 16_777_223] {
         let given = front(&bytes, len);
         assert_eq!(rt; given.len(), len);
         assert!(rt;
-            fault_in_two(&rt, alloc, given, 8_388_608) == Some(want),
+            fault_of_many(&rt, alloc, given, 0) == Some(NarError::Truncated),
+            "{len}"
+        );
+    }
+    Ok(())
+}
+
+#[test]
+fn the_length_of_a_string_past_the_limit(rt: HostRuntime) -> Result<(), Fail> {
+    let alloc = rt.alloc();
+    let bytes = past_the_limit(alloc)?;
+    for len in [16_777_224, 16_777_232] {
+        let given = front(&bytes, len);
+        assert_eq!(rt; given.len(), len);
+        assert!(rt;
+            fault_of_many(&rt, alloc, given, 16_777_224) == Some(NarError::TooLarge),
             "{len}"
         );
     }
@@ -88,6 +99,6 @@ fn the_largest_file(rt: HostRuntime) -> Result<(), Fail> {
     let out = archive(alloc, &node)?;
     assert_eq!(rt; out.len(), 16_777_216);
     assert!(rt; read(alloc, &out).is_ok());
-    assert!(rt; fault_in_two(&rt, alloc, &out, 8_388_608).is_none());
+    assert!(rt; fault_of_many(&rt, alloc, &out, 0).is_none());
     Ok(())
 }

@@ -18,7 +18,7 @@ fn a_file_and_a_link(rt: HostRuntime) -> Result<(), Fail> {
     bytes.extend_from_slice(&spelled(alloc, &[b"contents", b"", b")", b")"])?)?;
     bytes.extend_from_slice(&spelled(alloc, &link)?)?;
     bytes.extend_from_slice(&spelled(alloc, &[b"target", b"a", b")", b")", b")"])?)?;
-    assert!(rt; fault_in_pieces(&rt, alloc, &bytes, 1).is_none());
+    assert!(rt; fault_in_pieces(&rt, alloc, &bytes).is_none());
     let node = read(alloc, &bytes)?;
     let mut text = String::new(alloc);
     list(alloc, &node, &mut text)?;
@@ -87,7 +87,7 @@ fn listed(rt: HostRuntime) -> Result<(), Fail> {
             b")",
         ],
     )?;
-    assert!(rt; fault_in_pieces(&rt, alloc, &bytes, 1).is_none());
+    assert!(rt; fault_in_pieces(&rt, alloc, &bytes).is_none());
     let node = read(alloc, &bytes)?;
     let mut text = String::new(alloc);
     list(alloc, &node, &mut text)?;
@@ -125,7 +125,7 @@ fn every_byte_in_a_name_and_a_target(rt: HostRuntime) -> Result<(), Fail> {
         assert_eq!(rt; is_writable(&node), byte != b'/' && byte != 0, "{byte}");
         if byte != b'/' && byte != 0 {
             let bytes = archive(alloc, &node)?;
-            assert!(rt; fault_in_pieces(&rt, alloc, &bytes, 7).is_none(), "{byte}");
+            assert!(rt; fault_in_pieces(&rt, alloc, &bytes).is_none(), "{byte}");
             let again = read(alloc, &bytes)?;
             let mut relisted = String::new(alloc);
             list(alloc, &again, &mut relisted)?;

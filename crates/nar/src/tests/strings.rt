@@ -48,7 +48,7 @@ fn tags_and_padding(rt: HostRuntime) -> Result<(), Fail> {
     ];
     for row in rows {
         let bytes = spelled(alloc, row)?;
-        assert!(rt; fault_in_pieces(&rt, alloc, &bytes, 1) == Some(NarError::BadTag));
+        assert!(rt; fault_in_pieces(&rt, alloc, &bytes) == Some(NarError::BadTag));
     }
     // Each byte of padding in turn, in a fixed string, in contents and in the last string.
     for at in 0..128 {
@@ -57,7 +57,7 @@ fn tags_and_padding(rt: HostRuntime) -> Result<(), Fail> {
         if is_padding && at < bytes.len() {
             bytes[at] = 1;
             assert!(rt;
-                fault_in_pieces(&rt, alloc, &bytes, 1) == Some(NarError::BadPadding),
+                fault_in_pieces(&rt, alloc, &bytes) == Some(NarError::BadPadding),
                 "{at}"
             );
         }
