@@ -1,5 +1,6 @@
 //! Runs a command line over any reader and two writers.
 ghost use Rattle.std.specs.Prelude.{◌≡◌, ◌≤◌, ◌⊎◌, map};
+ghost use Rattle.std.specs.IoError.{error_kind};
 ghost use Rattle.tool.specs.Answer.{AskHelp, AsksHelp, RefusesWords, RunsLine};
 ghost use Rattle.tool.specs.Archive.{max_front};
 ghost use Rattle.tool.specs.Line.{IsLine, Line, line_view};
@@ -100,7 +101,8 @@ fn usage(told: io::Result<()>) -> u8
 /// Says that the words of the program could not be had, and gives the exit status: 1 where memory
 /// was refused, else 2, since a word isn't UTF-8.
 pub fn refuse_words<E: Write>(fault: &io::Error, errors: &mut E) -> u8
-    ensures { (result ≡ 1) ⊎ (result ≡ 2) }
+    ensures status { (result ≡ 1) ⊎ (result ≡ 2) }
+    ensures memory { error_kind fault.now ≡ ErrorKind.OutOfMemory → result ≡ 1 }
 {
     if fault.kind() == ErrorKind::OutOfMemory {
         return say(Stop::Failed(Failure::Memory), errors);
