@@ -28,7 +28,7 @@ pub enum Method {
 
 /// A content address, such as `fixed:r:sha256:1qwy7y49hyqd7kdpkyjfclz5fkfqalqapzc4v18lbibkx1yzdzib`. Contracts
 /// see it as its method and the bytes of its digest.
-#[derive(Drop)]
+#[derive(Clone, Copy)]
 pub struct Ca {
     method: Method,
     digest: [u8; 32],
@@ -38,6 +38,8 @@ impl Model for Ca {
     ghost Value = { ContentAddress };
 
     ghost view = { λ c. record { method = c.method; digest = c.digest } };
+
+    ghost inverse = { λ c. record { method = c.method; digest = c.digest } };
 }
 
 /// Why a text gives no content address.
