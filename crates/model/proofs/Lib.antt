@@ -2,3 +2,4 @@ pub mod Trees
 pub mod Loops
 pub mod Sets
 pub mod RootOrder
+pub mod Verdicts

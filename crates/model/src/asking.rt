@@ -1,10 +1,49 @@
 //! What is asked of a store.
+use crate::world::Pair;
+use paths::{Ca, Name, StorePath};
+
+/// An object that is handed in with its path.
+#[derive(Drop)]
+pub struct Imported {
+    /// The path.
+    pub path: StorePath,
+    /// The SHA-256 digest that the archive is said to have.
+    pub nar_hash: [u8; 32],
+    /// The references.
+    pub refs: Vec<StorePath>,
+    /// The deriver, if it is given.
+    pub deriver: Option<StorePath>,
+    /// The content address, if it is given.
+    pub ca: Option<Ca>,
+    /// The bytes of the archive.
+    pub nar: Vec<u8>,
+}
 
 /// A request. Paths are base names.
 #[derive(Drop)]
 pub enum Request {
+    /// A text is added: its name, its references and its contents.
+    AddText(Name, Vec<StorePath>, Vec<u8>),
+    /// An archive is added: its name, its references and its bytes.
+    AddSource(Name, Vec<StorePath>, Vec<u8>),
+    /// An object is added at a path.
+    Import(Imported),
+    /// The record of an object.
+    Info(String),
+    /// The archive of an object.
+    Nar(String),
+    /// The listing of an object's archive.
+    Ls(String),
     /// All paths.
     List,
+    /// The paths that live.
+    ListLive,
+    /// The paths that are dead.
+    ListDead,
+    /// All roots.
+    ListRoots,
+    /// The roots that reach a path.
+    ListRootsOf(String),
     /// A permanent root is set: its name and its target.
     SetPermanent(String, String),
     /// A permanent root is dropped: its name.
@@ -13,4 +52,20 @@ pub enum Request {
     SetUserRoot(String, String, String),
     /// A user root is dropped: its owner and its name.
     DropUserRoot(String, String),
+    /// A profile is set: its owner, its name and the path.
+    SetProfile(String, String, String),
+    /// A profile is rolled back: its owner and its name.
+    Rollback(String, String),
+    /// A generation becomes current: the profile's owner and name, and the number.
+    Switch(String, String, u32),
+    /// A generation is deleted: the profile's owner and name, and the number.
+    DeleteGeneration(String, String, u32),
+    /// The runtime roots are replaced: labels and targets.
+    ReplaceRuntime(Vec<Pair>),
+    /// Dead paths are deleted; whether liveness is to be ignored.
+    Collect(bool),
+    /// Paths and all that refers to them are deleted; whether liveness is to be ignored.
+    Delete(Vec<String>, bool),
+    /// How many paths live and how many are dead, and the bytes of their archives.
+    Report,
 }

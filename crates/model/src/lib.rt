@@ -2,20 +2,27 @@
 #![tactic(auto)]
 
 mod acts;
+mod adding;
 mod all_roots;
 mod asking;
 mod changes;
 mod labels;
 mod listing;
+mod living;
+mod profiles;
+mod reading;
+mod removing;
 mod replying;
 mod root;
+mod root_lists;
 mod roots;
 mod rules;
+mod runtime;
 #[cfg(test)]
 mod tests;
 mod world;
 
 pub use acts::step;
-pub use asking::Request;
-pub use replying::{Answer, Refusal, Reply};
+pub use asking::{Imported, Request};
+pub use replying::{Answer, Info, Refusal, Reply, Usage};
 pub use world::{Object, Pair, Profile, World};

@@ -1,5 +1,7 @@
 //! Requests that set and drop permanent roots and user roots.
 ghost use Rattle.std.specs.Prelude.{string_bytes};
+ghost use Rattle.policy.specs.Settings.{Settings};
+ghost use Rattle.policy.specs.Caller.{Caller};
 ghost use Rattle.store.specs.Request as asked;
 ghost use Rattle.model.specs.View.{world_view};
 ghost use Rattle.model.specs.Meets.{Meets};
@@ -7,17 +9,10 @@ ghost use Rattle.model.specs.Meets.{Meets};
 use crate::replying::{Answer, Refusal, Stop};
 use crate::world::World;
 use paths::is_plain_name;
-use policy::{Caller, Config};
 
 /// A permanent root is set or replaced.
-pub(crate) fn set_permanent(
-    config: &Config,
-    caller: &Caller,
-    world: &mut World,
-    name: String,
-    path: String,
-) -> Result<Answer, Stop>
-    ensures { Meets config.now (world_view world.old) caller.now (asked.set_permanent (string_bytes name) (string_bytes path)) result (world_view world.new) }
+pub(crate) fn set_permanent(world: &mut World, name: String, path: String) -> Result<Answer, Stop>
+    ensures { (s : Settings) (c : Caller) → Meets s (world_view world.old) c (asked.set_permanent (string_bytes name) (string_bytes path)) result (world_view world.new) }
 {
     if !is_plain_name(name.as_str()) {
         return Err(Stop::Refused(Refusal::BadRootName));
@@ -30,13 +25,8 @@ pub(crate) fn set_permanent(
 }
 
 /// A permanent root is dropped.
-pub(crate) fn drop_permanent(
-    config: &Config,
-    caller: &Caller,
-    world: &mut World,
-    name: String,
-) -> Result<Answer, Stop>
-    ensures { Meets config.now (world_view world.old) caller.now (asked.drop_permanent (string_bytes name)) result (world_view world.new) }
+pub(crate) fn drop_permanent(world: &mut World, name: String) -> Result<Answer, Stop>
+    ensures { (s : Settings) (c : Caller) → Meets s (world_view world.old) c (asked.drop_permanent (string_bytes name)) result (world_view world.new) }
 {
     if !is_plain_name(name.as_str()) {
         return Err(Stop::Refused(Refusal::BadRootName));
@@ -50,14 +40,12 @@ pub(crate) fn drop_permanent(
 
 /// A user root is set or replaced.
 pub(crate) fn set_user_root(
-    config: &Config,
-    caller: &Caller,
     world: &mut World,
     owner: String,
     name: String,
     path: String,
 ) -> Result<Answer, Stop>
-    ensures { Meets config.now (world_view world.old) caller.now (asked.set_user_root (string_bytes owner) (string_bytes name) (string_bytes path)) result (world_view world.new) }
+    ensures { (s : Settings) (c : Caller) → Meets s (world_view world.old) c (asked.set_user_root (string_bytes owner) (string_bytes name) (string_bytes path)) result (world_view world.new) }
 {
     if !(is_plain_name(owner.as_str()) && is_plain_name(name.as_str())) {
         return Err(Stop::Refused(Refusal::BadRootName));
@@ -70,14 +58,8 @@ pub(crate) fn set_user_root(
 }
 
 /// A user root is dropped.
-pub(crate) fn drop_user_root(
-    config: &Config,
-    caller: &Caller,
-    world: &mut World,
-    owner: String,
-    name: String,
-) -> Result<Answer, Stop>
-    ensures { Meets config.now (world_view world.old) caller.now (asked.drop_user_root (string_bytes owner) (string_bytes name)) result (world_view world.new) }
+pub(crate) fn drop_user_root(world: &mut World, owner: String, name: String) -> Result<Answer, Stop>
+    ensures { (s : Settings) (c : Caller) → Meets s (world_view world.old) c (asked.drop_user_root (string_bytes owner) (string_bytes name)) result (world_view world.new) }
 {
     if !(is_plain_name(owner.as_str()) && is_plain_name(name.as_str())) {
         return Err(Stop::Refused(Refusal::BadRootName));

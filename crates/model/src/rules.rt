@@ -1,4 +1,4 @@
-//! The first rule that forbids a request, where no path is deleted.
+//! The first rule that forbids a request, but for the one on live paths.
 ghost use Rattle.std.specs.Prelude.{◌≡◌, if◌then◌else◌};
 ghost use Rattle.std.specs.Str.{bytes_eq};
 ghost use Rattle.policy.specs.Rules as spec;
@@ -19,14 +19,37 @@ fn own(caller: &Caller, owner: &str) -> Option<Rule>
     }
 }
 
+fn ignoring(ignores: bool) -> Option<Rule>
+    ensures { result ≡ (if ignores then Some Rule.NoIgnoreLiveness else None) }
+{
+    if ignores {
+        Some(Rule::NoIgnoreLiveness)
+    } else {
+        None
+    }
+}
+
 fn broken_by_allowed(caller: &Caller, request: &Request) -> Option<Rule>
     ensures { result ≡ spec.first_broken Allowed caller.now (operation_of (request_view request.now)) }
 {
     match request {
-        Request::List => None,
+        Request::Import(object) if object.ca.is_none() => Some(Rule::TrustedImport),
         Request::SetPermanent(_, _) | Request::DropPermanent(_) => Some(Rule::TrustedPermanentRoot),
-        Request::SetUserRoot(owner, _, _) => own(caller, owner.as_str()),
-        Request::DropUserRoot(owner, _) => own(caller, owner.as_str()),
+        Request::ReplaceRuntime(_) => Some(Rule::TrustedRuntimeRoots),
+        Request::SetUserRoot(owner, _, _) | Request::SetProfile(owner, _, _) => own(
+            caller,
+            owner.as_str(),
+        ),
+        Request::DropUserRoot(owner, _) | Request::Rollback(owner, _) => own(
+            caller,
+            owner.as_str(),
+        ),
+        Request::Switch(owner, _, _) | Request::DeleteGeneration(owner, _, _) => own(
+            caller,
+            owner.as_str(),
+        ),
+        Request::Collect(ignores) | Request::Delete(_, ignores) => ignoring(*ignores),
+        _ => None,
     }
 }
 
@@ -34,10 +57,13 @@ fn broken_by_trusted(caller: &Caller, request: &Request) -> Option<Rule>
     ensures { result ≡ spec.first_broken Trusted caller.now (operation_of (request_view request.now)) }
 {
     match request {
-        Request::List => None,
-        Request::SetPermanent(_, _) | Request::DropPermanent(_) => None,
-        Request::SetUserRoot(owner, _, _) => own(caller, owner.as_str()),
-        Request::DropUserRoot(_, _) => None,
+        Request::SetUserRoot(owner, _, _) | Request::SetProfile(owner, _, _) => own(
+            caller,
+            owner.as_str(),
+        ),
+        Request::Rollback(owner, _) | Request::Switch(owner, _, _) => own(caller, owner.as_str()),
+        Request::Collect(ignores) | Request::Delete(_, ignores) => ignoring(*ignores),
+        _ => None,
     }
 }
 

@@ -66,7 +66,7 @@ fn roots_of_another_user(rt: HostRuntime) -> Result<(), Fail> {
         &mut world,
         set_user_root(alloc, "bob", "r", X)?,
     );
-    assert!(rt; matches!(&set, Reply::Denied(Rule::OwnRoot)));
+    assert!(rt; matches!(&set, Reply::Denied(Rule::OwnRoot, _)));
     let set = step(
         alloc,
         &config,
@@ -109,7 +109,7 @@ fn permanent_roots(rt: HostRuntime) -> Result<(), Fail> {
 
     let set = Request::SetPermanent(owned(alloc, "r")?, owned(alloc, X)?);
     let denied = step(alloc, &config, &bob, &mut world, set);
-    assert!(rt; matches!(&denied, Reply::Denied(Rule::TrustedPermanentRoot)));
+    assert!(rt; matches!(&denied, Reply::Denied(Rule::TrustedPermanentRoot, _)));
     let set = Request::SetPermanent(owned(alloc, "r")?, owned(alloc, P)?);
     let missing = step(alloc, &config, &ann, &mut world, set);
     assert!(rt; matches!(&missing, Reply::Refused(Refusal::NotValid)));
@@ -135,6 +135,6 @@ fn paths_in_order(rt: HostRuntime) -> Result<(), Fail> {
 
     let closed = Config::from_toml(alloc, b"allowed-users = []\n")?;
     let denied = step(alloc, &closed, &ann, &mut world, Request::List);
-    assert!(rt; matches!(&denied, Reply::Denied(Rule::Connect)));
+    assert!(rt; matches!(&denied, Reply::Denied(Rule::Connect, _)));
     Ok(())
 }

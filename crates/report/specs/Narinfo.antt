@@ -1,25 +1,10 @@
 -- The record of an object as the text that binary caches give: a line for each of its words.
-use Rattle.std.specs.Prelude.{ℕ, List, [], ◌++◌, length, codes, decimal, Option, Some, None, option_map}
+use Rattle.std.specs.Prelude.{ℕ, List, [], ◌++◌, codes, decimal, Option, Some, None, option_map}
 use Rattle.std.specs.List.{join_with_byte}
-use Rattle.std.specs.FinMap as finite
-use Rattle.sha2.specs.Sha256.{sha256}
 use Rattle.paths.specs.Base32.{base32}
 use Rattle.paths.specs.StorePath.{full_path}
-use Rattle.paths.specs.ContentAddress.{ContentAddress, address_text}
-use Rattle.tables.specs.World.{Path, Object}
-
--- what is written of an object: its path, the digest and the number of bytes of its archive, its references in the order of
--- paths, its deriver and its content address
-pub record Info : Type 0 where
-  pub path : Path
-  pub hash : List ℕ
-  pub size : ℕ
-  pub references : List Path
-  pub deriver : Option Path
-  pub ca : Option ContentAddress
-
-abbrev pub info_of : Path → Object → Info
-info_of p o = record { path = p; hash = sha256 o.nar; size = length o.nar; references = finite.keys o.references; deriver = o.deriver; ca = o.ca }
+use Rattle.paths.specs.ContentAddress.{address_text}
+use Rattle.store.specs.Reply.{Info}
 
 -- a word and its value
 abbrev pub line : List ℕ → List ℕ → List ℕ

@@ -3,9 +3,9 @@ use Rattle.std.specs.Prelude.{ℕ, List, ◌++◌, length, codes, decimal}
 use Rattle.std.specs.List.{flat_map}
 use Rattle.paths.specs.StorePath.{full_path}
 use Rattle.tables.specs.World.{Path, Pair}
-use Rattle.store.specs.Reply.{Answer, path, record_of, bytes, paths, roots, changed, generation, runtime_count, freed, usage, Reply, done, denied, refused, failed}
+use Rattle.store.specs.Reply.{Answer, path, record_of, archive_of, listing_of, paths, roots, changed, generation, runtime_count, freed, usage, Reply, done, denied, refused, failed}
 use Rattle.report.specs.Stops.{root_text, denial_text, refused_text, failure_text}
-use Rattle.report.specs.Narinfo.{info_of, narinfo}
+use Rattle.report.specs.Narinfo.{narinfo}
 use Rattle.report.specs.Usage.{usage_text}
 
 -- a full path, on a line
@@ -27,8 +27,9 @@ roots_text dir rs = flat_map (root_line dir) rs
 -- the text of an answer, in a store directory; archives and listings stand as they are
 abbrev pub answer_text : List ℕ → Answer → List ℕ
 answer_text dir (path p) = path_line dir p
-answer_text dir (record_of p o) = narinfo dir (info_of p o)
-answer_text dir (bytes b) = b
+answer_text dir (record_of i) = narinfo dir i
+answer_text dir (archive_of b) = b
+answer_text dir (listing_of b) = b
 answer_text dir (paths ps) = paths_text dir ps
 answer_text dir (roots rs) = roots_text dir rs
 answer_text dir changed = codes "done\n"

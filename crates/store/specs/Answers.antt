@@ -1,6 +1,7 @@
 -- What each request that is done answers.
-use Rattle.std.specs.Prelude.{ℕ, List, [], Option, Some, None, Result, Ok, Err, codes}
+use Rattle.std.specs.Prelude.{ℕ, List, [], length, Option, Some, None, Result, Ok, Err, codes}
 use Rattle.std.specs.FinMap as finite
+use Rattle.sha2.specs.Sha256.{sha256}
 use Rattle.nar.specs.declared.error.NarError.{NarError}
 use Rattle.nar.specs.Tree.{Tree}
 use Rattle.nar.specs.Listing.{listing}
@@ -11,15 +12,19 @@ use Rattle.policy.specs.Settings.{Settings}
 use Rattle.policy.specs.Caller.{Caller}
 use Rattle.policy.specs.Class.{class_of}
 use Rattle.store.specs.Request.{Request, add_text, add_source, import_object, info, nar, ls, list, list_live, list_dead, list_roots, list_roots_of, set_permanent, drop_permanent, set_user_root, drop_user_root, set_profile, rollback, switch, delete_generation, replace_runtime, collect, delete, report}
-use Rattle.store.specs.Reply.{Answer, path, record_of, bytes, paths, roots, changed, generation, runtime_count, freed, usage}
+use Rattle.store.specs.Reply.{Info, Answer, path, record_of, archive_of, listing_of, paths, roots, changed, generation, runtime_count, freed, usage}
 use Rattle.store.specs.Liveness.{roots_that_keep, live_paths, dead_paths, deleted_paths, bytes_in, usage_of}
 use Rattle.store.specs.Seen.{seen}
 use Rattle.store.specs.Profiles.{profile_at, number_for, rolled_back}
 use Rattle.store.specs.Effects.{valid_pairs}
 
+-- the record of an object
+abbrev pub info_of : Path → Object → Info
+info_of p o = record { path = p; hash = sha256 o.nar; size = length o.nar; references = finite.keys o.references; deriver = o.deriver; ca = o.ca }
+
 -- of a path that isn't valid, which is refused, these three say something all the same
 abbrev pub record_at : Path → Option Object → Answer
-record_at p (Some o) = record_of p o
+record_at p (Some o) = record_of (info_of p o)
 record_at p None = changed
 
 abbrev pub archive_at : Option Object → List ℕ
@@ -36,8 +41,8 @@ answer s w c (add_text name refs contents) = path (text_path s.store_dir name re
 answer s w c (add_source name refs b) = path (source_path s.store_dir name refs b)
 answer s w c (import_object i) = path i.path
 answer s w c (info p) = record_at p (finite.get w.objects p)
-answer s w c (nar p) = bytes (archive_at (finite.get w.objects p))
-answer s w c (ls p) = bytes (listing_at (outcome_of (archive_at (finite.get w.objects p))))
+answer s w c (nar p) = archive_of (archive_at (finite.get w.objects p))
+answer s w c (ls p) = listing_of (listing_at (outcome_of (archive_at (finite.get w.objects p))))
 answer s w c list = paths (all_paths w)
 answer s w c list_live = paths (live_paths s w)
 answer s w c list_dead = paths (dead_paths s w)

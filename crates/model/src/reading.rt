@@ -1,0 +1,31 @@
+//! What is read of one object.
+ghost use Rattle.policy.specs.Settings.{Settings};
+ghost use Rattle.policy.specs.Caller.{Caller};
+ghost use Rattle.store.specs.Request as asked;
+ghost use Rattle.model.specs.View.{world_view};
+ghost use Rattle.model.specs.Meets.{Meets};
+
+use crate::replying::{Answer, Stop};
+use crate::world::World;
+use std::alloc::Global;
+
+/// The record of an object.
+pub(crate) fn info(alloc: Global, world: &World, path: &str) -> Result<Answer, Stop>
+    ensures { (s : Settings) (c : Caller) → Meets s (world_view world.now) c (asked.info path.now) result (world_view world.now) }
+{
+    Err(Stop::Memory)
+}
+
+/// The archive of an object.
+pub(crate) fn nar(alloc: Global, world: &World, path: &str) -> Result<Answer, Stop>
+    ensures { (s : Settings) (c : Caller) → Meets s (world_view world.now) c (asked.nar path.now) result (world_view world.now) }
+{
+    Err(Stop::Memory)
+}
+
+/// The listing of an object's archive.
+pub(crate) fn ls(alloc: Global, world: &World, path: &str) -> Result<Answer, Stop>
+    ensures { (s : Settings) (c : Caller) → Meets s (world_view world.now) c (asked.ls path.now) result (world_view world.now) }
+{
+    Err(Stop::Memory)
+}

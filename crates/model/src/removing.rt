@@ -1,0 +1,53 @@
+//! Collections and deletions.
+ghost use Rattle.std.specs.Prelude.{IfOk, map, string_bytes};
+ghost use Rattle.policy.specs.Settings.{Settings};
+ghost use Rattle.policy.specs.Caller as callers;
+ghost use Rattle.store.specs.Request as asked;
+ghost use Rattle.model.specs.View.{request_view, world_view};
+ghost use Rattle.model.specs.Meets.{IsDenial, Meets};
+
+use crate::asking::Request;
+use crate::replying::{Answer, Stop};
+use crate::world::{Pair, World};
+use policy::{Caller, Config};
+use std::alloc::{AllocError, Global};
+
+/// What a denial shows where a named path lives: the first root of the first that does.
+pub(crate) fn denial(
+    alloc: Global,
+    config: &Config,
+    caller: &Caller,
+    world: &World,
+    request: &Request,
+) -> Result<Option<Pair>, AllocError>
+    ensures { IfOk result (λ root. IsDenial config.now (world_view world.now) caller.now (request_view request.now) root) }
+{
+    match request {
+        Request::Delete(_, _) => Err(AllocError),
+        _ => Ok(None),
+    }
+}
+
+/// What is dead goes.
+pub(crate) fn collect(
+    alloc: Global,
+    config: &Config,
+    world: &mut World,
+    ignores: bool,
+) -> Result<Answer, Stop>
+    ensures { (c : callers.Caller) → Meets config.now (world_view world.old) c (asked.collect ignores) result (world_view world.new) }
+{
+    Err(Stop::Memory)
+}
+
+/// The named paths go, and all that refers to them.
+pub(crate) fn delete(
+    alloc: Global,
+    world: &mut World,
+    named: Vec<String>,
+    ignores: bool,
+) -> Result<Answer, Stop>
+    ensures { (s : Settings) (c : callers.Caller) → Meets s (world_view world.old) c (asked.delete (map string_bytes named.items) ignores) result (world_view world.new) }
+{
+    Err(Stop::Memory)
+}

