@@ -18,8 +18,6 @@ mod root_lists;
 mod roots;
 mod rules;
 mod runtime;
-#[cfg(test)]
-mod tests;
 mod world;
 
 pub use acts::step;
