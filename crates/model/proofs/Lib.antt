@@ -3,3 +3,5 @@ pub mod Loops
 pub mod Sets
 pub mod RootOrder
 pub mod Verdicts
+pub mod Written
+pub mod ProfileEntries

@@ -1,3 +1,4 @@
 pub mod Maps
 pub mod View
 pub mod Meets
+pub mod Numbers

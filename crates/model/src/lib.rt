@@ -6,9 +6,14 @@ mod adding;
 mod all_roots;
 mod asking;
 mod changes;
+mod generations;
+mod kept_profiles;
 mod labels;
 mod listing;
 mod living;
+mod profile_changes;
+#[cfg(test)]
+mod profile_tests;
 mod profiles;
 mod reading;
 mod removing;

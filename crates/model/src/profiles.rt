@@ -6,8 +6,9 @@ ghost use Rattle.store.specs.Request as asked;
 ghost use Rattle.model.specs.View.{world_view};
 ghost use Rattle.model.specs.Meets.{Meets};
 
-use crate::replying::{Answer, Stop};
+use crate::replying::{Answer, Refusal, Stop};
 use crate::world::World;
+use paths::is_plain_name;
 use std::alloc::Global;
 
 /// A path becomes the current generation of a profile.
@@ -20,14 +21,40 @@ pub(crate) fn set_profile(
 ) -> Result<Answer, Stop>
     ensures { (s : Settings) (c : Caller) → Meets s (world_view world.old) c (asked.set_profile (string_bytes owner) (string_bytes name) (string_bytes path)) result (world_view world.new) }
 {
-    Err(Stop::Memory)
+    if !(is_plain_name(owner.as_str()) && is_plain_name(name.as_str())) {
+        return Err(Stop::Refused(Refusal::BadRootName));
+    }
+    if !world.has(path.as_str()) {
+        return Err(Stop::Refused(Refusal::NotValid));
+    }
+    let owned = (owner, name);
+    match world.number_left(&owned, path.as_str()) {
+        Some(number) => {
+            world.set_profile(alloc, owned, number, path)?;
+            Ok(Answer::Generation(number))
+        }
+        None => Err(Stop::Refused(Refusal::GenerationLimit)),
+    }
 }
 
 /// The generation below the current one becomes current.
 pub(crate) fn rollback(world: &mut World, owner: String, name: String) -> Result<Answer, Stop>
     ensures { (s : Settings) (c : Caller) → Meets s (world_view world.old) c (asked.rollback (string_bytes owner) (string_bytes name)) result (world_view world.new) }
 {
-    Err(Stop::Memory)
+    if !(is_plain_name(owner.as_str()) && is_plain_name(name.as_str())) {
+        return Err(Stop::Refused(Refusal::BadRootName));
+    }
+    let owned = (owner, name);
+    if !world.has_profile(&owned) {
+        return Err(Stop::Refused(Refusal::NoProfile));
+    }
+    match world.previous(&owned) {
+        Some(number) => {
+            world.switch(&owned, number);
+            Ok(Answer::Generation(number))
+        }
+        None => Err(Stop::Refused(Refusal::NoOlderGeneration)),
+    }
 }
 
 /// A generation becomes current.
@@ -39,7 +66,18 @@ pub(crate) fn switch(
 ) -> Result<Answer, Stop>
     ensures { (s : Settings) (c : Caller) → Meets s (world_view world.old) c (asked.switch (string_bytes owner) (string_bytes name) number) result (world_view world.new) }
 {
-    Err(Stop::Memory)
+    if !(is_plain_name(owner.as_str()) && is_plain_name(name.as_str())) {
+        return Err(Stop::Refused(Refusal::BadRootName));
+    }
+    let owned = (owner, name);
+    if !world.has_profile(&owned) {
+        return Err(Stop::Refused(Refusal::NoProfile));
+    }
+    if !world.has_generation(&owned, number) {
+        return Err(Stop::Refused(Refusal::NoGeneration));
+    }
+    world.switch(&owned, number);
+    Ok(Answer::Generation(number))
 }
 
 /// A generation is deleted.
@@ -51,5 +89,19 @@ pub(crate) fn delete_generation(
 ) -> Result<Answer, Stop>
     ensures { (s : Settings) (c : Caller) → Meets s (world_view world.old) c (asked.delete_generation (string_bytes owner) (string_bytes name) number) result (world_view world.new) }
 {
-    Err(Stop::Memory)
+    if !(is_plain_name(owner.as_str()) && is_plain_name(name.as_str())) {
+        return Err(Stop::Refused(Refusal::BadRootName));
+    }
+    let owned = (owner, name);
+    if !world.has_profile(&owned) {
+        return Err(Stop::Refused(Refusal::NoProfile));
+    }
+    if !world.has_generation(&owned, number) {
+        return Err(Stop::Refused(Refusal::NoGeneration));
+    }
+    if world.current(&owned) == number {
+        return Err(Stop::Refused(Refusal::CurrentGeneration));
+    }
+    world.drop_generation(&owned, number);
+    Ok(Answer::Changed)
 }
