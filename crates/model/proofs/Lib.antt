@@ -5,3 +5,5 @@ pub mod RootOrder
 pub mod Verdicts
 pub mod Written
 pub mod ProfileEntries
+pub mod Pairs
+pub mod Shown

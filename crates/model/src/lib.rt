@@ -12,8 +12,6 @@ mod labels;
 mod listing;
 mod living;
 mod profile_changes;
-#[cfg(test)]
-mod profile_tests;
 mod profiles;
 mod reading;
 mod removing;
@@ -23,6 +21,7 @@ mod root_lists;
 mod roots;
 mod rules;
 mod runtime;
+mod seen;
 mod world;
 
 pub use acts::step;

@@ -1,8 +1,9 @@
-//! Paths, in their order.
+//! Paths and roots, in their order.
 ghost use Rattle.std.specs.Prelude.{◌≡◌, IfOk, map, string_bytes};
-ghost use Rattle.tables.specs.World.{all_paths};
-ghost use Rattle.model.specs.View.{world_view};
+ghost use Rattle.tables.specs.World.{all_paths, roots_of};
+ghost use Rattle.model.specs.View.{root_view, world_view};
 
+use crate::root::Root;
 use crate::world::World;
 use std::alloc::{AllocError, Global};
 
@@ -16,5 +17,17 @@ impl World {
             paths.push(path.clone()?)?;
         }
         Ok(paths)
+    }
+
+    /// All roots.
+    pub(crate) fn root_list(&self, alloc: Global) -> Result<Vec<Root>, AllocError>
+        ensures { IfOk result (λ v. map root_view v.items ≡ roots_of (world_view self.now)) }
+    {
+        let roots = self.roots(alloc)?;
+        let mut listed = Vec::new(alloc);
+        for root in roots {
+            listed.push(root)?;
+        }
+        Ok(listed)
     }
 }

@@ -4,8 +4,9 @@ ghost use Rattle.model.specs.View.{world_view};
 ghost use Rattle.model.specs.Meets.{Meets};
 
 use crate::replying::{Answer, Stop};
+use crate::seen::seen_roots;
 use crate::world::World;
-use policy::{Caller, Config};
+use policy::{Caller, Config, class};
 use std::alloc::Global;
 
 /// All roots, as the caller sees them.
@@ -17,5 +18,7 @@ pub(crate) fn list_roots(
 ) -> Result<Answer, Stop>
     ensures { Meets config.now (world_view world.now) caller.now asked.list_roots result (world_view world.now) }
 {
-    Err(Stop::Memory)
+    let roots = world.root_list(alloc)?;
+    let seen = seen_roots(alloc, class(config, caller), roots.as_slice())?;
+    Ok(Answer::Roots(seen))
 }

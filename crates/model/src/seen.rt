@@ -1,0 +1,78 @@
+//! Roots as a caller sees them.
+ghost use Rattle.std.specs.Prelude.{◌≡◌, not, ◌&&◌, [], ◌∷◌, ◌++◌, List, map, string_bytes, IfOk, OnOk};
+ghost use Rattle.std.specs.List.{list_any};
+ghost use Rattle.paths.specs.Root.{Root as TheRoot};
+ghost use Rattle.policy.specs.Rules as rules;
+ghost use Rattle.store.specs.Seen as spec;
+ghost use Rattle.model.specs.Maps.{pair_bytes};
+ghost use Rattle.model.specs.View.{kind_view, root_view};
+
+use crate::root::{Kind, Root};
+use crate::world::Pair;
+use policy::Class;
+use std::alloc::{AllocError, Global};
+
+fn is_trusted(class: Class) -> bool
+    ensures { result ≡ rules.is_trusted class }
+{
+    matches!(class, Class::Trusted)
+}
+
+fn is_runtime(kind: Kind) -> bool
+    ensures { result ≡ spec.is_runtime (kind_view kind) }
+{
+    matches!(kind, Kind::Runtime)
+}
+
+fn seen_label(alloc: Global, class: Class, root: &Root) -> Result<String, AllocError>
+    ensures { IfOk result (λ l. string_bytes l ≡ (spec.seen_root class (root_view root.now)).0) }
+{
+    if is_trusted(class) {
+        return root.label.clone();
+    }
+    if is_runtime(root.kind) {
+        return String::from_str(alloc, "{censored}");
+    }
+    root.label.clone()
+}
+
+/// One root, as a caller of a class sees it.
+pub(crate) fn seen_root(alloc: Global, class: Class, root: &Root) -> Result<Pair, AllocError>
+    ensures { IfOk result (λ p. pair_bytes p ≡ spec.seen_root class (root_view root.now)) }
+{
+    let label = seen_label(alloc, class, root)?;
+    let target = root.target.clone()?;
+    Ok((label, target))
+}
+
+fn is_shown(class: Class, shown: &[Pair], pair: &Pair) -> bool
+    ensures { result ≡ (not (rules.is_trusted class) && list_any (λ q. spec.same_pair q (pair_bytes pair.now)) (map pair_bytes shown.now)) }
+{
+    !is_trusted(class) && shown.contains(pair)
+}
+
+fn show(alloc: Global, class: Class, shown: &mut Vec<Pair>, root: &Root) -> Result<(), AllocError>
+    ensures { OnOk result ((before : List TheRoot) → map pair_bytes shown.old.items ≡ spec.seen class before → map pair_bytes shown.new.items ≡ spec.seen class (before ++ root_view root.now ∷ [])) }
+{
+    let pair = seen_root(alloc, class, root)?;
+    if is_shown(class, shown.as_slice(), &pair) {
+        return Ok(());
+    }
+    shown.push(pair)?;
+    Ok(())
+}
+
+/// Roots in their order, as a caller of a class sees them.
+pub(crate) fn seen_roots(
+    alloc: Global,
+    class: Class,
+    roots: &[Root],
+) -> Result<Vec<Pair>, AllocError>
+    ensures { IfOk result (λ v. map pair_bytes v.items ≡ spec.seen class (map root_view roots.now)) }
+{
+    let mut shown = Vec::new(alloc);
+    for root in roots {
+        show(alloc, class, &mut shown, root)?;
+    }
+    Ok(shown)
+}
