@@ -1,10 +1,11 @@
 -- Loops that go over entries and put their roots among the others.
-use Rattle.std.proofs.Common.{◌≡◌, List, [], ◌∷◌, ◌++◌, map, refl, sym, ap, ◌∙◌, subst}
+use Rattle.std.proofs.Common.{◌≡◌, List, [], ◌∷◌, ◌++◌, map, length, refl, sym, ap, ◌∙◌, subst}
 use Rattle.std.specs.List.{flat_map}
 use Rattle.std.specs.List.Sorted.{IsStrictlySortedBy}
 use Rattle.std.specs.declared.cmp.Ordering.{Ordering}
 use Rattle.std.specs.Cmp.{IsTotalOrder}
 use Rattle.std.specs.FinMap as finite
+use Rattle.std.proofs.lemmas.List.{length-map}
 use Rattle.paths.specs.Root.{Root, Set, root_cmp}
 use Rattle.live.proofs.Order.{firsts}
 use Rattle.model.specs.Maps.{Gains, seen_set}
@@ -46,6 +47,12 @@ module _ {K L : Type 0} (R : L → L → Ordering) (key : K → L) (o : IsTotalO
       ap (λ (es : List (L × Unit {0})). finite.keys (finite.from_entries {R = R} es)) (map-map key (λ k. (k, tt)) keys ∙ sym (map-map (λ (k : K). (k, tt {0})) (λ e. (key e.0, e.1)) keys))
       ∙ keys_seen R key (λ u. u) o same (map (λ k. (k, tt)) keys) (subst (λ ks. IsStrictlySortedBy (λ a b. R (key a) (key b)) ks) (sym (firsts keys)) sorted)
       ∙ ap (map key) (firsts keys)
+
+module _ {K L : Type 0} (R : L → L → Ordering) (key : K → L) (o : IsTotalOrder R) (same : finite.IsAntisymmetric R) where
+  pub set_length : (keys : List K) → IsStrictlySortedBy (λ a b. R (key a) (key b)) keys → finite.len (seen_set R key keys) ≡ length keys
+  set_length keys sorted =
+      finite.len-entries (seen_set R key keys) ∙ sym (length-map (finite.entries (seen_set R key keys)) (λ (e : L × Unit {0}). e.0))
+      ∙ ap length (set_keys R key o same keys sorted) ∙ length-map keys key
 
 -- keys in one order are in another that agrees with it
 pub sorted_by : {K : Type 0} (C D : K → K → Ordering) → ((a b : K) → C a b ≡ D a b) → (keys : List K) → IsStrictlySortedBy C keys → IsStrictlySortedBy D keys

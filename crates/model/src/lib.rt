@@ -21,6 +21,9 @@ mod root_lists;
 mod roots;
 mod rules;
 mod runtime;
+mod runtime_pairs;
+#[cfg(test)]
+mod runtime_tests;
 mod seen;
 mod world;
 

@@ -7,11 +7,13 @@ ghost use Rattle.model.specs.Maps.{pair_bytes};
 ghost use Rattle.model.specs.View.{world_view};
 ghost use Rattle.model.specs.Meets.{Meets};
 
-use crate::replying::{Answer, Stop};
+use crate::replying::{Answer, Refusal, Stop};
+use crate::runtime_pairs::are_runtime_labels;
 use crate::world::{Pair, World};
 use std::alloc::Global;
 
 /// The runtime roots are replaced.
+#[tactic(auto, using(crate::proofs::Pairs::labels_mapped))]
 pub(crate) fn replace_runtime(
     alloc: Global,
     world: &mut World,
@@ -19,5 +21,9 @@ pub(crate) fn replace_runtime(
 ) -> Result<Answer, Stop>
     ensures { (s : Settings) (c : Caller) → Meets s (world_view world.old) c (asked.replace_runtime (map pair_bytes pairs.items)) result (world_view world.new) }
 {
-    Err(Stop::Memory)
+    if !are_runtime_labels(pairs.as_slice()) {
+        return Err(Stop::Refused(Refusal::BadLabel));
+    }
+    let valid = world.valid_pairs(alloc, pairs)?;
+    Ok(Answer::RuntimeCount(world.put_runtime(valid)))
 }
