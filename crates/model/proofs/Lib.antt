@@ -7,3 +7,5 @@ pub mod Written
 pub mod ProfileEntries
 pub mod Pairs
 pub mod Shown
+pub mod Linked
+pub mod Kept

@@ -2,3 +2,4 @@ pub mod Maps
 pub mod View
 pub mod Meets
 pub mod Numbers
+pub mod Keeping

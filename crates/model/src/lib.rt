@@ -6,13 +6,17 @@ mod adding;
 mod all_roots;
 mod asking;
 mod changes;
+mod edges;
 mod generations;
+mod keep;
 mod kept_profiles;
 mod labels;
 mod listing;
+mod liveness;
 mod living;
 mod profile_changes;
 mod profiles;
+mod reach;
 mod reading;
 mod removing;
 mod replying;
@@ -22,9 +26,8 @@ mod roots;
 mod rules;
 mod runtime;
 mod runtime_pairs;
-#[cfg(test)]
-mod runtime_tests;
 mod seen;
+mod sizes;
 mod world;
 
 pub use acts::step;

@@ -13,14 +13,14 @@ use std::alloc::Global;
 pub(crate) fn list_live(alloc: Global, config: &Config, world: &World) -> Result<Answer, Stop>
     ensures { (c : callers.Caller) → Meets config.now (world_view world.now) c asked.list_live result (world_view world.now) }
 {
-    Err(Stop::Memory)
+    Ok(Answer::Paths(world.live_paths(alloc, config)?))
 }
 
 /// The paths that are dead.
 pub(crate) fn list_dead(alloc: Global, config: &Config, world: &World) -> Result<Answer, Stop>
     ensures { (c : callers.Caller) → Meets config.now (world_view world.now) c asked.list_dead result (world_view world.now) }
 {
-    Err(Stop::Memory)
+    Ok(Answer::Paths(world.dead_paths(alloc, config)?))
 }
 
 /// The roots that reach a path, as the caller sees them.
@@ -40,5 +40,12 @@ pub(crate) fn list_roots_of(
 pub(crate) fn report(alloc: Global, config: &Config, world: &World) -> Result<Answer, Stop>
     ensures { (c : callers.Caller) → Meets config.now (world_view world.now) c asked.report result (world_view world.now) }
 {
-    Err(Stop::Memory)
+    let live = world.live_paths(alloc, config)?;
+    let dead = world.dead_paths(alloc, config)?;
+    let all = world.all_paths(alloc)?;
+    Ok(Answer::Usage(
+        world.usage_of(&live),
+        world.usage_of(&dead),
+        world.usage_of(&all),
+    ))
 }

@@ -1,0 +1,6 @@
+-- What the settings of the program stand for.
+use Rattle.live.specs.Graph as graphs
+use Rattle.model.specs.declared.keep.Keep.{Keep}
+
+abbrev pub keep_view : Keep → graphs.Keep
+keep_view k = record { outputs = k.outputs; derivations = k.derivations }
