@@ -9,3 +9,4 @@ pub mod Pairs
 pub mod Shown
 pub mod Linked
 pub mod Kept
+pub mod Gone

@@ -11,6 +11,7 @@ mod generations;
 mod keep;
 mod kept_profiles;
 mod labels;
+mod leaving;
 mod listing;
 mod liveness;
 mod living;

@@ -7,7 +7,7 @@ ghost use Rattle.model.specs.View.{request_view, world_view};
 ghost use Rattle.model.specs.Meets.{IsDenial, Meets};
 
 use crate::asking::Request;
-use crate::replying::{Answer, Stop};
+use crate::replying::{Answer, Refusal, Stop};
 use crate::world::{Pair, World};
 use policy::{Caller, Config};
 use std::alloc::{AllocError, Global};
@@ -37,7 +37,10 @@ pub(crate) fn collect(
 ) -> Result<Answer, Stop>
     ensures { (c : callers.Caller) → Meets config.now (world_view world.old) c (asked.collect ignores) result (world_view world.new) }
 {
-    Err(Stop::Memory)
+    let gone = world.dead_paths(alloc, config)?;
+    let bytes = world.bytes_in(&gone);
+    world.remove_all(&gone);
+    Ok(Answer::Freed(gone, bytes))
 }
 
 /// The named paths go, and all that refers to them.
@@ -49,5 +52,11 @@ pub(crate) fn delete(
 ) -> Result<Answer, Stop>
     ensures { (s : Settings) (c : callers.Caller) → Meets s (world_view world.old) c (asked.delete (map string_bytes named.items) ignores) result (world_view world.new) }
 {
-    Err(Stop::Memory)
+    if !world.has_all(&named) {
+        return Err(Stop::Refused(Refusal::NotValid));
+    }
+    let gone = world.deleted_paths(alloc, &named)?;
+    let bytes = world.bytes_in(&gone);
+    world.remove_all(&gone);
+    Ok(Answer::Freed(gone, bytes))
 }
