@@ -10,3 +10,4 @@ pub mod Shown
 pub mod Linked
 pub mod Kept
 pub mod Gone
+pub mod FirstKept

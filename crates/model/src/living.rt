@@ -4,9 +4,10 @@ ghost use Rattle.store.specs.Request as asked;
 ghost use Rattle.model.specs.View.{world_view};
 ghost use Rattle.model.specs.Meets.{Meets};
 
-use crate::replying::{Answer, Stop};
+use crate::replying::{Answer, Refusal, Stop};
+use crate::seen::seen_roots;
 use crate::world::World;
-use policy::{Caller, Config};
+use policy::{Caller, Config, class};
 use std::alloc::Global;
 
 /// The paths that live.
@@ -33,7 +34,12 @@ pub(crate) fn list_roots_of(
 ) -> Result<Answer, Stop>
     ensures { Meets config.now (world_view world.now) caller.now (asked.list_roots_of path.now) result (world_view world.now) }
 {
-    Err(Stop::Memory)
+    if !world.has(path) {
+        return Err(Stop::Refused(Refusal::NotValid));
+    }
+    let roots = world.roots_that_keep(alloc, config, path)?;
+    let seen = seen_roots(alloc, class(config, caller), roots.as_slice())?;
+    Ok(Answer::Roots(seen))
 }
 
 /// How many paths live and are dead, and the bytes of their archives.

@@ -1,5 +1,5 @@
 //! Collections and deletions.
-ghost use Rattle.std.specs.Prelude.{IfOk, map, string_bytes};
+ghost use Rattle.std.specs.Prelude.{Bool, IfOk, map, string_bytes};
 ghost use Rattle.policy.specs.Settings.{Settings};
 ghost use Rattle.policy.specs.Caller as callers;
 ghost use Rattle.store.specs.Request as asked;
@@ -8,9 +8,28 @@ ghost use Rattle.model.specs.Meets.{IsDenial, Meets};
 
 use crate::asking::Request;
 use crate::replying::{Answer, Refusal, Stop};
+use crate::seen::seen_root;
 use crate::world::{Pair, World};
-use policy::{Caller, Config};
+use policy::{Caller, Config, class};
 use std::alloc::{AllocError, Global};
+
+fn first_kept(
+    alloc: Global,
+    config: &Config,
+    caller: &Caller,
+    world: &World,
+    named: &[String],
+) -> Result<Option<Pair>, AllocError>
+    ensures { IfOk result (λ root. (ignores : Bool) → IsDenial config.now (world_view world.now) caller.now (asked.delete (map string_bytes named.now) ignores) root) }
+{
+    for path in named {
+        let roots = world.roots_that_keep(alloc, config, path.as_str())?;
+        if let Some(root) = roots.first() {
+            return Ok(Some(seen_root(alloc, class(config, caller), root)?));
+        }
+    }
+    Ok(None)
+}
 
 /// What a denial shows where a named path lives: the first root of the first that does.
 pub(crate) fn denial(
@@ -23,7 +42,7 @@ pub(crate) fn denial(
     ensures { IfOk result (λ root. IsDenial config.now (world_view world.now) caller.now (request_view request.now) root) }
 {
     match request {
-        Request::Delete(_, _) => Err(AllocError),
+        Request::Delete(named, _) => first_kept(alloc, config, caller, world, named),
         _ => Ok(None),
     }
 }
