@@ -11,3 +11,7 @@ pub mod Linked
 pub mod Kept
 pub mod Gone
 pub mod FirstKept
+pub mod Tested
+pub mod Outputs
+pub mod Addresses
+pub mod TextArchives
