@@ -24,6 +24,7 @@ mod profile_changes;
 mod profiles;
 mod reach;
 mod reading;
+mod records;
 mod references;
 mod removing;
 mod replying;
