@@ -1,4 +1,5 @@
 pub mod Members
 pub mod Reach
 pub mod Order
+pub mod Edges
 pub mod Live
