@@ -22,3 +22,10 @@ pub mod SoundRoots
 pub mod SoundProfiles
 pub mod SoundSteps
 pub mod NamedLive
+pub mod Changed
+pub mod Adding
+pub mod Deleted
+pub mod Freed
+pub mod Numbers
+pub mod ProfileChanges
+pub mod Sights

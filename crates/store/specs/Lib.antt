@@ -12,3 +12,6 @@ pub mod Step
 pub mod Laws
 pub mod Labels
 pub mod Soundness
+pub mod Changes
+pub mod Generations
+pub mod Sights

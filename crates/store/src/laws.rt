@@ -1,10 +1,17 @@
 //! Laws of the definitions: each is the contract of a function that does nothing.
+ghost use Rattle.std.specs.Prelude.{Bool, List, ℕ};
+ghost use Rattle.paths.specs.Root.{Root};
 ghost use Rattle.policy.specs.Settings.{Settings};
+ghost use Rattle.policy.specs.declared.kinds.Class.{Class};
 ghost use Rattle.tables.specs.World.{Path, World, all_paths};
 ghost use Rattle.store.specs.Liveness.{dead_paths, live_paths, usage_of};
 ghost use Rattle.store.specs.Laws.{Collects, DenialsNameTheLiving, FirstIsShownFirst, HasEachRoot, IsAnswered, IsFunctional, LeavesNoReference, LeavesUnlessDone, LivesAsSaid, Pins, PinsOverRuns, RunsEndAlike, TargetsLive, UsageAddsUp};
 ghost use Rattle.store.specs.Labels.{MirrorsRuns, MirrorsSteps, RunsLookAlike};
 ghost use Rattle.store.specs.Soundness.{KeepsSound, RunsKeepSound};
+ghost use Rattle.store.specs.Request.{Imported, add_source, add_text, collect, delete, import_object};
+ghost use Rattle.store.specs.Changes.{AddsExactly, Deletes, FreesAsTold, with_import, with_source, with_text};
+ghost use Rattle.store.specs.Generations.{DeletesGenerations, RollsBackAsTold, SetsAsTold, SwitchesAsTold};
+ghost use Rattle.store.specs.Sights.{SeesRoot, SeesRoots, ShowsTheLabel};
 
 /// Each entry of a table of roots is a root of the world, and no other root is.
 pub fn every_entry_is_a_root()
@@ -47,6 +54,41 @@ pub fn the_living_are_listed()
 /// Live and dead paths, and their bytes, add up to all.
 pub fn usage_adds_up()
     ensures { (s : Settings) (w : World) → UsageAddsUp (usage_of w (live_paths s w)) (usage_of w (dead_paths s w)) (usage_of w (all_paths w)) }
+{}
+
+/// An add answers the path and gains exactly the object that was handed in, or nothing where its path was valid.
+pub fn adds_are_exact()
+    ensures text { (s : Settings) (name : List ℕ) (refs : List Path) (contents : List ℕ) →
+        AddsExactly s (add_text name refs contents) (with_text s.store_dir name refs contents) }
+    ensures source { (s : Settings) (name : List ℕ) (refs : List Path) (nar : List ℕ) →
+        AddsExactly s (add_source name refs nar) (with_source s.store_dir name refs nar) }
+    ensures import { (s : Settings) (i : Imported) → AddsExactly s (import_object i) (with_import i) }
+{}
+
+/// A deletion takes exactly what reaches a named path by references.
+pub fn deletions_are_exact()
+    ensures { Deletes }
+{}
+
+/// What a collection or a deletion answers is exactly what went.
+pub fn the_freed_are_told()
+    ensures collection { (s : Settings) (ignores : Bool) → FreesAsTold s (collect ignores) }
+    ensures deletion { (s : Settings) (named : List Path) (ignores : Bool) → FreesAsTold s (delete named ignores) }
+{}
+
+/// A profile gets, goes to or loses the generation that the request says, and every other generation stays.
+pub fn profiles_change_exactly()
+    ensures set { SetsAsTold }
+    ensures back { RollsBackAsTold }
+    ensures switch { SwitchesAsTold }
+    ensures deletion { DeletesGenerations }
+{}
+
+/// Roots are seen in the order given, with runtime labels hidden from callers that aren't trusted, who see equal pairs once.
+pub fn roots_are_seen_in_order()
+    ensures one { (class : Class) (r : Root) → SeesRoot class r }
+    ensures all { (class : Class) (roots : List Root) → SeesRoots class roots }
+    ensures denial { ShowsTheLabel }
 {}
 
 /// A collection keeps exactly what lives, and a second one frees nothing.
