@@ -17,7 +17,7 @@ denials = record { connect = refl; hidden = refl; seen = refl }
 
 pub refusals : HasWorkedRefusals
 unfolding digits
-refusals = record { not_valid = refl; archive = refl; configuration = refl; head = refl; body = refl; memory = refl; size = refl; disk = refl }
+refusals = record { not_valid = refl; archive = refl; malformed = refl; doubled = refl; reference = refl; hash = refl; configuration = refl; head = refl; body = refl; memory = refl; size = refl; disk = refl }
 
 pub answers : HasWorkedAnswers
 unfolding digits

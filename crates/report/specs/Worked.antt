@@ -1,10 +1,11 @@
 -- Worked texts, line by line.
 use Rattle.std.specs.Prelude.{◌≡◌, ℕ, List, [], ◌∷◌, codes, Some, None}
 use Rattle.nar.specs.declared.error.NarError.TheVariants.{NotSorted}
+use Rattle.drv.specs.declared.error.DrvError.TheVariants.{BadDerivation, DoubleOutput}
 use Rattle.paths.specs.declared.content_address.Method.TheVariants.{Source}
 use Rattle.policy.specs.declared.error.KeyWord.TheVariants.{StoreDir}
 use Rattle.policy.specs.declared.kinds.Rule.TheVariants.{Connect, Live}
-use Rattle.store.specs.Reply.{path, paths, roots, changed, generation, runtime_count, freed, usage, done, denied, refused, failed, archive, not_valid, memory, size, disk}
+use Rattle.store.specs.Reply.{path, paths, roots, changed, generation, runtime_count, freed, usage, done, denied, refused, failed, archive, derivation, not_valid, missing_reference, nar_hash_mismatch, memory, size, disk}
 use Rattle.report.specs.declared.refusal.Refusal.TheVariants.{BadConfig, BadHead, BadBodyLength}
 use Rattle.report.specs.Refusals.{refusal_line}
 use Rattle.report.specs.Narinfo.{narinfo}
@@ -29,6 +30,10 @@ pub record HasWorkedDenials : Type 0 where
 pub record HasWorkedRefusals : Type 0 where
   pub not_valid : reply_text dir (refused not_valid) ≡ codes "refused: 23 not-valid\n"
   pub archive : reply_text dir (refused (archive NotSorted)) ≡ codes "refused: 5 not-sorted\n"
+  pub malformed : reply_text dir (refused (derivation BadDerivation)) ≡ codes "refused: 17 bad-derivation\n"
+  pub doubled : reply_text dir (refused (derivation DoubleOutput)) ≡ codes "refused: 18 double-output\n"
+  pub reference : reply_text dir (refused missing_reference) ≡ codes "refused: 24 missing-reference\n"
+  pub hash : reply_text dir (refused nar_hash_mismatch) ≡ codes "refused: 25 nar-hash-mismatch\n"
   pub configuration : refusal_line (BadConfig StoreDir) ≡ codes "refused: 19 bad-config store-dir\n"
   pub head : refusal_line BadHead ≡ codes "refused: 36 bad-head\n"
   pub body : refusal_line BadBodyLength ≡ codes "refused: 37 bad-length\n"
