@@ -1,7 +1,7 @@
 -- From the result of a command to the answer that it gives.
 use Rattle.std.proofs.Common.{◌≡◌, ℕ, ◌⊎◌, ◌≤◌, List, [], arith, take, Option, Some, None, Result, Ok, Err, String, Global, ap, sym, subst, inl, inr}
 use Rattle.std.specs.Prelude.{IfOk, IfErr, IfSome, string_bytes}
-use Rattle.tool.specs.declared.stops.Refusal.{Refusal}
+use Rattle.report.specs.declared.refusal.Refusal.{Refusal}
 use Rattle.tool.specs.declared.stops.Failure.TheVariants.{Memory}
 use Rattle.tool.specs.declared.stops.Stop.{Stop}
 use Rattle.tool.specs.declared.stops.Stop.TheVariants.{Refused, Failed}

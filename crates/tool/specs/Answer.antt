@@ -5,7 +5,7 @@ use Rattle.paths.specs.StorePath.{base_of}
 use Rattle.policy.specs.Settings.{Settings}
 use Rattle.policy.specs.Toml.{config_of}
 use Rattle.policy.specs.declared.error.KeyWord.{KeyWord}
-use Rattle.tool.specs.declared.stops.Refusal.TheVariants.{BadConfig}
+use Rattle.report.specs.declared.refusal.Refusal.TheVariants.{BadConfig}
 use Rattle.tool.specs.declared.stops.Stop.TheVariants.{Refused}
 use Rattle.tool.specs.Archive.{ls_answer}
 use Rattle.clap.specs.Kinds.{IsAmong}

@@ -1,11 +1,11 @@
 -- The answers that depend on which archive an input is, or on its first fault.
 use Rattle.std.specs.Prelude.{ℕ, List, codes, Result, Ok, Err}
+use Rattle.std.specs.Option.{option_map_or}
 use Rattle.nar.specs.declared.error.NarError.{NarError}
-use Rattle.nar.specs.declared.error.NarError.TheVariants as fault
 use Rattle.nar.specs.Tree.{Tree}
 use Rattle.nar.specs.Outcome.{outcome_of}
 use Rattle.nar.specs.Listing.{listing}
-use Rattle.tool.specs.declared.stops.Refusal.TheVariants.{Truncated, BadTag, BadPadding, BadName, NotSorted, TooDeep, Trailing, TooLarge}
+use Rattle.report.specs.Stops.{archive_entry}
 use Rattle.tool.specs.declared.stops.Failure.TheVariants.{Memory}
 use Rattle.tool.specs.declared.stops.Stop.{Stop}
 use Rattle.tool.specs.declared.stops.Stop.TheVariants.{Refused, Failed}
@@ -14,17 +14,9 @@ use Rattle.tool.specs.declared.stops.Stop.TheVariants.{Refused, Failed}
 abbrev pub max_front : ℕ
 max_front = 16777224
 
--- what a fault of an archive ends a command with
+-- what a fault of an archive ends a command with: its refusal, where it stands in the table; else memory gave out
 abbrev pub archive_stop : NarError → Stop
-archive_stop fault.Truncated = Refused Truncated
-archive_stop fault.BadTag = Refused BadTag
-archive_stop fault.BadPadding = Refused BadPadding
-archive_stop fault.BadName = Refused BadName
-archive_stop fault.NotSorted = Refused NotSorted
-archive_stop fault.TooDeep = Refused TooDeep
-archive_stop fault.Trailing = Refused Trailing
-archive_stop fault.TooLarge = Refused TooLarge
-archive_stop fault.Memory = Failed Memory
+archive_stop fault = option_map_or Refused (archive_entry fault) (Failed Memory)
 
 -- a text of the tree whose archive was read, or the stop of its fault
 abbrev pub by_outcome : Result Tree NarError → (Tree → List ℕ) → Result (List ℕ) Stop

@@ -4,7 +4,7 @@ use Rattle.std.specs.Io.KnownBytes.{Appends, Consumes, IsAtEnd, Keeps}
 use Rattle.std.specs.declared.alloc.Global.{Global}
 use Rattle.std.specs.declared.io.Error.{Error}
 use Rattle.tool.specs.declared.stops.Failure.TheVariants.{Memory, File, Input, Output}
-use Rattle.tool.specs.declared.stops.Refusal.{Refusal}
+use Rattle.report.specs.declared.refusal.Refusal.{Refusal}
 use Rattle.tool.specs.declared.stops.Stop.{Stop}
 use Rattle.tool.specs.declared.stops.Stop.TheVariants.{Refused, Failed}
 use Rattle.tool.specs.Stop.{stop_text, stop_status}

@@ -10,7 +10,7 @@ use Rattle.policy.specs.Words.{class_word, rule_word}
 use Rattle.policy.specs.declared.error.KeyWord.{KeyWord}
 use Rattle.policy.specs.Operation.{plain}
 use Rattle.policy.specs.declared.kinds.Rule.{Rule}
-use Rattle.tool.specs.declared.stops.Refusal.TheVariants.{BadConfig, BadCaller}
+use Rattle.report.specs.declared.refusal.Refusal.TheVariants.{BadConfig, BadCaller}
 use Rattle.tool.specs.declared.stops.Failure.TheVariants.{Memory}
 use Rattle.tool.specs.declared.stops.Stop.{Stop}
 use Rattle.tool.specs.declared.stops.Stop.TheVariants.{Refused, Failed}

@@ -5,8 +5,9 @@ ghost use Rattle.nar.specs.Outcome.{outcome_of};
 ghost use Rattle.nar.specs.View.{tree_of};
 ghost use Rattle.tool.specs.Archive.{archive_stop, by_outcome};
 
-use crate::stops::{Failure, Refusal, Stop};
+use crate::stops::{Failure, Stop};
 use nar::{NarError, Node};
+use report::Refusal;
 use std::alloc::Global;
 
 /// How many bytes of an input decide whether it is an archive: 8 more than an archive has at most.

@@ -4,9 +4,10 @@ ghost use Rattle.policy.specs.Toml.{config_of};
 ghost use Rattle.tool.specs.Who.{StopsFor};
 
 use crate::input::read_at_most;
-use crate::stops::{Failure, Refusal, Stop};
+use crate::stops::{Failure, Stop};
 use crate::stream::stop_for;
 use policy::{Config, ConfigError, MAX_CONFIG_BYTES};
+use report::Refusal;
 use std::alloc::Global;
 use std::fs::File;
 use std::io;

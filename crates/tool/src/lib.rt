@@ -24,8 +24,9 @@ pub use launch::{refuse_words, run};
 pub use line::{CommandLine, ObjectArguments, Task};
 pub use listings::ls;
 pub use parse::command;
+pub use report::Refusal;
 pub use sources::source_path;
-pub use stops::{Failure, Refusal, Stop};
+pub use stops::{Failure, Stop};
 pub use texts::text_path;
 pub use verdicts::{Verdict, judge, who};
 

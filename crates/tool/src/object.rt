@@ -8,8 +8,9 @@ ghost use Rattle.tool.specs.Object as spec;
 ghost use Rattle.tool.specs.Stream.{IsStopAt, IsStopBy, ReadsFor};
 
 use crate::input::read_input;
-use crate::stops::{Failure, Refusal, Stop};
+use crate::stops::{Failure, Stop};
 use paths::{Name, NameError, StoreDir, StorePath, StorePathError};
+use report::Refusal;
 use std::alloc::{AllocError, Global};
 use std::convert::AsStr;
 use std::io::Read;

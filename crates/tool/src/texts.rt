@@ -5,9 +5,10 @@ ghost use Rattle.tool.specs.Object.{max_contents, object_fault, text_path_answer
 ghost use Rattle.tool.specs.Stream.{AnswersTo, ReadsFor, IsFailure, IsResultOf, result_text};
 
 use crate::object::{Object, path_line, read_object};
-use crate::stops::{Failure, Refusal, Stop};
+use crate::stops::{Failure, Stop};
 use crate::stream::give;
 use paths::StoreDir;
+use report::Refusal;
 use std::alloc::Global;
 use std::convert::AsStr;
 use std::io::{Read, Write};

@@ -4,8 +4,9 @@ ghost use Rattle.std.specs.Io.KnownBytes.{Appends};
 ghost use Rattle.tool.specs.Who.{AnswersWho, StopsWho, verdict_of, verdict_text, denial_text, denial_status};
 
 use crate::configuration::settings;
-use crate::stops::{Failure, Refusal, Stop};
+use crate::stops::{Failure, Stop};
 use policy::{Caller, CallerError, Class, Op, Rule, class, decide};
+use report::Refusal;
 use std::alloc::Global;
 use std::io;
 use std::io::Write;
