@@ -1,1 +1,2 @@
 pub mod NewWorld
+mod NewRows

@@ -8,10 +8,10 @@ use Rattle.paths.specs.Root.{bytes_cmp}
 use Rattle.tables.specs.World.{Path, pair_cmp, no_world}
 use Rattle.tables.specs.Sound.{IsSound}
 
-no_entry : {K X : Type 0} (R : K → K → Ordering) (k : K) (x : X) → finite.get (finite.empty {X = X} {R = R}) k ≡ Some x → ⊥
+pub no_entry : {K X : Type 0} (R : K → K → Ordering) (k : K) (x : X) → finite.get (finite.empty {X = X} {R = R}) k ≡ Some x → ⊥
 no_entry R k x e = false≢true (ap is_some (sym (finite.get-empty R k) ∙ e))
 
-no_key : {K : Type 0} (X : Type 0) (R : K → K → Ordering) (k : K) → IsTrue (finite.contains_key (finite.empty {X = X} {R = R}) k) → ⊥
+pub no_key : {K : Type 0} (X : Type 0) (R : K → K → Ordering) (k : K) → IsTrue (finite.contains_key (finite.empty {X = X} {R = R}) k) → ⊥
 no_key X R k h = false≢true (sym (ap is_some (finite.get-empty {X = X} R k)) ∙ h)
 
 pub new_world_sound : (dir : List ℕ) → IsSound dir no_world

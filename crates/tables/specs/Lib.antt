@@ -1,3 +1,4 @@
 pub mod World
 pub mod Objects
 pub mod Sound
+pub mod Rows

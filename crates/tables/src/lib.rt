@@ -3,4 +3,4 @@
 
 mod laws;
 
-pub use laws::the_new_world_is_sound;
+pub use laws::{new_rows_are_sound, the_new_world_is_sound};
