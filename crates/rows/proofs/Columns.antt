@@ -72,6 +72,13 @@ unfolding shown heading is_column
 one_shown cx tables done s e text name at place last budget is it enough =
     rw (is, lower_column cx e name at place (col 1 (place + 1)) (Some Binary) last budget it.names it.found it.term enough, it.names, it.found, it.heading)
 
+pub outputs_one : (cx : Context) (tables : List Bound) (all : List Shown) {s0 : Shown} → all ≡ s0 ∷ [] → {e0 : Expr} {t0 : Name} → out-Shown s0 ≡ Shown-F.One e0 None t0
+    → (at : ℕ) (n0 : Name) → IsShownAs cx e0 n0 at 0 → (last : Option Collation) (budget : ℕ) → AreAbove 1 budget
+    → outputs lower cx tables all (plain_state budget last) ≡ Ok (shown_column n0 1 ∷ [], plain_state (budget - 1) (Some Binary))
+unfolding outputs
+outputs_one cx tables all {s0} is {e0} {t0} is0 at n0 h0 last budget enough =
+    rw (is, one_shown cx tables [] s0 e0 t0 n0 at 0 last (budget) is0 h0 enough.0)
+
 pub outputs_two : (cx : Context) (tables : List Bound) (all : List Shown) {s0 s1 : Shown} → all ≡ s0 ∷ s1 ∷ [] → {e0 : Expr} {t0 : Name} → out-Shown s0 ≡ Shown-F.One e0 None t0 → {e1 : Expr} {t1 : Name} → out-Shown s1 ≡ Shown-F.One e1 None t1
     → (at : ℕ) (n0 n1 : Name) → IsShownAs cx e0 n0 at 0 → IsShownAs cx e1 n1 at 1 → (last : Option Collation) (budget : ℕ) → AreAbove 2 budget
     → outputs lower cx tables all (plain_state budget last) ≡ Ok (shown_column n0 1 ∷ shown_column n1 2 ∷ [], plain_state (budget - 1 - 1) (Some Binary))

@@ -12,6 +12,8 @@ pub mod Entries
 pub mod Places
 pub mod ContentsLemmas
 pub mod Statements
+pub mod Typed
+pub mod Alike
 pub mod Steps
 pub mod SettingLemmas
 pub mod ObjectLemmas

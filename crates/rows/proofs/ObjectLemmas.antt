@@ -1,5 +1,6 @@
 -- What the statements on the objects mean and do.
-use Rattle.std.proofs.Common.{◌≡◌, ℕ, pos, negsuc, List, [], ◌∷◌, codes, true, false, not, ◌&&◌, Some, None, Option, Ok, Result, IfOk, Vec, Global, String, map, length, refl, ◌∙◌}
+use Rattle.std.proofs.Common.{◌≡◌, ℕ, pos, negsuc, List, [], ◌∷◌, codes, Bool, true, false, not, ◌&&◌, Some, None, Option, Ok, Result, Err, IfOk, Vec, Global, String, map, length, refl, sym, ap, subst, ◌∙◌}
+use Rattle.std.specs.Prelude.{string_bytes}
 use Rattle.std.specs.Ordering.{eq_by_cmp, is_lt}
 use Rattle.std.specs.List.{list_all, AllAdjacentBelow}
 use Rattle.std.specs.FinMap as finite
@@ -30,22 +31,25 @@ use Rattle.rows.specs.declared.failure.Failure.{Failure}
 use Rattle.rows.specs.declared.objects.Object.{Object}
 use Rattle.rows.specs.Forms.{object}
 use Rattle.rows.specs.Standing.{IsNamed, IsKnown, tree_named}
-use Rattle.rows.specs.Contents.{contents_of, texts_cmp, is_text, is_blob, is_object, object_of, text_if_any}
-use Rattle.rows.specs.Calls.{IsUnderWay, Changes, Stays}
-use Rattle.rows.specs.Entries.{stored_of, ShowsObject, stored}
+use Rattle.rows.specs.Contents.{Bytes, Stored, map_of, rows_named, contents_of, texts_cmp, is_text, is_blob, is_object, object_of, text_if_any}
+use Rattle.rows.specs.Calls.{IsOurs, IsUnderWay, Changes, Stays}
+use Rattle.rows.specs.Entries.{stored_of, ShowsObject, ShowsText, stored}
 use Rattle.rows.proofs.Orders.{texts_total, texts_antisymmetric}
 use Rattle.rows.proofs.Truths.{cast_null, free_of, and_so, and_one, text_test}
 use Rattle.rows.proofs.Optional.{IsKept, given, kept_given, bound_given, read_given, option_fits}
 use Rattle.rows.proofs.Means.{Means, insert_means, delete_means, ordered_by_one, means_command, plain_state, shown_column}
 use Rattle.rows.proofs.Conditions.{where_one, equals, select_context, filter_in}
-use Rattle.rows.proofs.Columns.{bounds_are, outputs_five, result_context, from_in, shown_in}
+use Rattle.rows.proofs.Columns.{bounds_are, outputs_one, outputs_five, result_context, from_in, shown_in}
 use Rattle.rows.proofs.Writes.{SetsRows, inserts_in, rowids_where}
 use Rattle.rows.proofs.Scans.{shows}
 use Rattle.rows.proofs.Entries.{put_map}
 use Rattle.rows.proofs.Members.{keyed_put}
 use Rattle.rows.proofs.Places.{changed}
 use Rattle.rows.proofs.ContentsLemmas.{object_set}
-use Rattle.rows.proofs.Statements.{Compiles, Selects, reads_part, deletes_part}
+use Rattle.rows.proofs.Statements.{Compiles, Selects, reads_part, whole_map, deletes_part}
+use Rattle.rows.proofs.Typed.{objects_typed}
+use Rattle.rows.proofs.Alike.{map_made}
+use Rattle.rows.proofs.Entries.{map-map}
 use Rattle.sqlite.specs.Values.{bound_value}
 
 -- ---- one more
@@ -162,3 +166,73 @@ pub reads_of : (old new : State) (base : List ℕ) (r : Result (Vec Object Globa
     → IfOk r (λ all. Stays old new × (map stored_of all.items ≡ finite.entries (finite.retain_keys (contents_of old.now).objects (λ k. eq_by_cmp texts_cmp k base))))
 reads_of old new base r under selects up =
     reads_part object.name object.columns object.primary texts_total texts_antisymmetric is_object object_of old new under (λ has. has.1.0) of_text (Text base ∷ []) names (query of_one) (λ tree. record { from = refl; group = refl; distinct = refl; whole = λ params rows. refl }) (λ k. eq_by_cmp texts_cmp k base) (λ tree. said_one base) ShowsObject stored_of (fits (Text base ∷ []) of_one) of_is r selects up
+
+-- ---- reading their keys alone
+
+abbrev keys_query : ℕ → Query
+keys_query tree = record {
+  from = inner tree end;
+  filter = [];
+  group = None;
+  project = col 1 1 ∷ [];
+  distinct = false;
+  collations = [];
+  order = (col 1 1, ascending Binary) ∷ [];
+  limit = lit (Int (negsuc 0));
+  offset = lit (Int (pos 0));
+}
+
+abbrev keys_whole : ℕ → Program
+keys_whole tree = record { lets = []; body = keys_query tree }
+
+abbrev keys_draft : ℕ → Draft
+keys_draft tree = record { from = chain (Inner tree ∷ []); filter = []; group = None; project = col 1 1 ∷ []; distinct = false; collations = []; order = (col 1 1, ascending Binary) ∷ []; limit = lit (Int (negsuc 0)); offset = lit (Int (pos 0)) }
+
+abbrev pub keys_text : List ℕ
+keys_text = codes "SELECT base FROM object ORDER BY base"
+
+keys_typed : (s : Schema) (at tree : ℕ) → IsKnown s (codes "object") at (record object { tree = tree }) → program s [] (keys_draft tree) ≡ Ok (keys_whole tree)
+unfolding everything
+keys_typed s at tree known = rw (known.low, known.by_tree)
+
+keys_is : Compiles object.name object.columns object.primary keys_text (λ at tree. Select (keys_whole tree) (codes "base" ∷ []))
+unfolding everything
+keys_is s at tree known =
+    let there = known.named.1 in (
+      _,
+      ordered_by_one keys_text refl refl refl s (codes "object") at (record object { tree = tree }) (shown_column (codes "base") 1 ∷ []) [] (codes "base") 0 (col 1 1) (Some Binary) (Some Binary) (lit (Int (negsuc 0)), lit (Int (pos 0)))
+          (plain_state 100000 None) (plain_state 99999 (Some Binary)) 99999 (keys_whole tree)
+          known.named refl refl refl refl refl refl refl refl refl refl (bounds_are s (from_in keys_text) refl (codes "object") at refl refl refl known.named.0) (outputs_one (result_context s (codes "object") at) (record { name = codes "object"; table = at; slot = 1; shared = [] } ∷ []) (shown_in keys_text) refl refl at (codes "base") (record { names = refl; found = rw there; term = rw there; heading = rw there }) None max_budget (refl, tt)) refl
+          (refl, refl, refl, refl) refl refl (rw there) (rw there) refl (keys_typed s at tree known),
+      refl,
+      refl,
+      refl,
+    )
+
+abbrev has_key : Row → Bool
+has_key row = is_text (column row 1)
+
+abbrev key_in : Row → Bytes × Unit {0}
+key_in row = (bytes (column row 1), tt)
+
+abbrev key_of : String Global → Bytes × Unit {0}
+key_of key = (string_bytes key, tt)
+
+key_fits : (tree : ℕ) (r : Row) (t : String Global) → ShowsText (shows (keys_query tree) [] r) t → (has_key r ≡ true) × (key_in r ≡ key_of t)
+key_fits tree r t h = (λ i. is_text (h i), λ i. (bytes (h i), tt))
+
+-- the paths of all rows are those of the objects
+module _ (old : State) (ours : IsOurs old.now) where
+  paths : finite.entries (map_of texts_cmp has_key key_in (rows_named old.now object.name)) ≡ map (λ e. (e.0, tt)) (finite.entries (contents_of old.now).objects)
+  paths = map_made texts_cmp (λ (x : Stored). tt) is_object object_of has_key key_in texts_total (rows_named old.now object.name) (λ r there.
+      let kind = objects_typed old.now ours.sound ours.has.1.0 r there in (kind, (and_so _ _ (and_so _ _ (and_so _ _ (and_so _ _ kind).0).0).0).0, refl))
+
+pub reads_keys : (old new : State) (r : Result (Vec (String Global) Global) Failure) → IsUnderWay old → Selects ShowsText old new keys_text [] r → IfOk r (λ all. AllAdjacentBelow (λ x y. true ≡ is_lt (texts_cmp (string_bytes x) (string_bytes y))) all.items (length all.items))
+    → IfOk r (λ all. Stays old new × (map string_bytes all.items ≡ finite.keys (contents_of old.now).objects))
+reads_keys old new (Err e) under selects up = tt
+reads_keys old new (Ok all) under selects up =
+    let got = whole_map texts_total texts_antisymmetric key_of (Ok all) (Stays old new) (map_of texts_cmp has_key key_in (rows_named old.now object.name))
+    (reads_part object.name object.columns object.primary texts_total texts_antisymmetric has_key key_in old new under (λ has. has.1.0) keys_text [] (codes "base" ∷ []) keys_query (λ tree. record { from = refl; group = refl; distinct = refl; whole = λ params rows. refl }) (λ _. true) (λ tree r kind. refl) ShowsText key_of key_fits keys_is (Ok all) selects up) in
+    let ours = subst IsOurs got.0.now got.0.ours in
+    let same : map key_of all.items ≡ map (λ e. (e.0, tt)) (finite.entries (contents_of old.now).objects) = got.1 ∙ paths old ours in
+    (got.0, sym (map-map (λ (e : Bytes × Unit {0}). e.0) key_of all.items) ∙ ap (map (λ (e : Bytes × Unit {0}). e.0)) same ∙ map-map (λ (e : Bytes × Unit {0}). e.0) (λ (e : Bytes × Stored). (e.0, tt)) (finite.entries (contents_of old.now).objects))

@@ -2,13 +2,14 @@
 use Rattle.std.proofs.Common.{◌≡◌, Result, Ok, Err, OnOk, IsTrue, sym, subst, ◌∙◌}
 use Rattle.std.specs.List.{AllByRecursion}
 use Rattle.sqlite.specs.State.{State}
+use Rattle.sqlite.specs.Effect.{IsDatabase}
 use Rattle.rows.specs.declared.failure.Failure.{Failure}
 use Rattle.rows.specs.Forms.{our_tables}
 use Rattle.rows.specs.Contents.{rows_named}
 use Rattle.rows.specs.Calls.{IsKeyed, IsInside, IsOurs, Rests}
 
-pub ours_from : (t m : State) (r : Result (Unit {0}) Failure) → IsInside t → (IsTrue t.is_open → t.now ≡ t.committed) → OnOk r (Rests t m × AllByRecursion (λ u. IsKeyed (rows_named t.now u.name)) our_tables) → OnOk r (IsOurs m.committed)
-ours_from t m (Err e) inside settled keyed = tt
-ours_from t m (Ok u) inside settled keyed =
-    let ours : IsOurs t.now = record { has = inside.has keyed.0.was_open; keyed = keyed.1 } in
+pub ours_from : (t m : State) (r : Result (Unit {0}) Failure) → IsInside t → (IsTrue t.is_open → IsDatabase t.now) → (IsTrue t.is_open → t.now ≡ t.committed) → OnOk r (Rests t m × AllByRecursion (λ u. IsKeyed (rows_named t.now u.name)) our_tables) → OnOk r (IsOurs m.committed)
+ours_from t m (Err e) inside sound settled keyed = tt
+ours_from t m (Ok u) inside sound settled keyed =
+    let ours : IsOurs t.now = record { sound = sound keyed.0.was_open; has = inside.has keyed.0.was_open; keyed = keyed.1 } in
     subst IsOurs (settled keyed.0.was_open ∙ sym keyed.0.committed) ours

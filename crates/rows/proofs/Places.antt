@@ -75,7 +75,7 @@ module _ (a : Table) (old new : State) (rows : List Row) (stands : Stands old.no
       go false e = subst IsKeyed (sym (others_kept t has.0 e)) keyed.0
 
   pub ours_kept : IsOurs old.now → (IsKeyed (rows_named old.now a.name) → IsKeyed rows) → IsOurs new.now
-  ours_kept ours keeps = record { has = subst HasTables (sym sets.schema) ours.has; keyed = keyed_after keeps our_tables ours.has ours.keyed }
+  ours_kept ours keeps = record { sound = sets.sound; has = subst HasTables (sym sets.schema) ours.has; keyed = keyed_after keeps our_tables ours.has ours.keyed }
 
   -- what the write makes of what our tables hold
   pub changed : (change : Contents → Contents) → IsOurs old.now → (IsKeyed (rows_named old.now a.name) → IsKeyed rows) → is_our_name a.name ≡ true → contents_of new.now ≡ change (contents_of old.now) → Changes old new change

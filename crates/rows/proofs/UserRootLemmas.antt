@@ -188,3 +188,29 @@ pub reads_of : (old new : State) (owner : List ℕ) (r : Result (Vec UserRoot Gl
     → IfOk r (λ all. Stays old new × (map user_root_of all.items ≡ finite.entries (finite.retain_keys (contents_of old.now).user_roots (λ k. eq_by_cmp texts_cmp k.0 owner))))
 reads_of old new owner r under selects up =
     reads_part user_root.name user_root.columns user_root.primary pair_total pair_antisymmetric is_triple target_of old new under (λ has. has.1.1.1.1.1.0) of_text (Text owner ∷ []) names (query of_one) (λ tree. record { from = refl; group = refl; distinct = refl; whole = λ params rows. refl }) (λ k. eq_by_cmp texts_cmp k.0 owner) (λ tree. said_one owner) ShowsUserRoot user_root_of (fits (Text owner ∷ []) of_one) of_is r selects up
+
+abbrev pub at_text : List ℕ
+at_text = codes "SELECT owner, name, target FROM user_root WHERE owner = ?1 AND name = ?2 ORDER BY owner, name"
+
+at_typed : (s : Schema) (at tree : ℕ) → IsKnown s (codes "user_root") at (record user_root { tree = tree }) → program s [] (draft of_two tree) ≡ Ok (whole of_two tree)
+unfolding everything
+at_typed s at tree known = rw (known.low, known.by_tree)
+
+at_is : Compiles user_root.name user_root.columns user_root.primary at_text (λ at tree. Select (whole of_two tree) names)
+unfolding everything
+at_is s at tree known =
+    let there = known.named.1 in (
+      _,
+      ordered_by_two at_text refl refl refl s (codes "user_root") at (record user_root { tree = tree }) outputs of_two (codes "owner") (codes "name") 0 1 (col 1 1) (col 1 2) None (Some Binary) (Some Binary) (lit (Int (negsuc 0)), lit (Int (pos 0)))
+          (plain_state 100000 None) (plain_state 99997 (Some Binary)) 99990 (whole of_two tree)
+          known.named refl refl refl refl refl refl refl refl refl refl (bounds_are s (from_in at_text) refl (codes "user_root") at refl refl refl known.named.0) (outputs_three (result_context s (codes "user_root") at) (record { name = codes "user_root"; table = at; slot = 1; shared = [] } ∷ []) (shown_in at_text) refl refl refl refl at (codes "owner") (codes "name") (codes "target") (record { names = refl; found = rw there; term = rw there; heading = rw there }) (record { names = refl; found = rw there; term = rw there; heading = rw there }) (record { names = refl; found = rw there; term = rw there; heading = rw there }) None max_budget (refl, (refl, (refl, tt)))) (where_two (select_context s (codes "user_root") at outputs) (filter_in at_text) refl refl refl refl (codes "owner") (codes "name") at 0 1 (col 1 1) (col 1 2) (equals (col 1 1) (col 0 0)) (equals (col 1 2) (col 0 1)) (Some Binary) 99997 (record { left_is = refl; right_is = refl; found = rw there; column = rw there; compare = rw there }) (record { left_is = refl; right_is = refl; found = rw there; column = rw there; compare = rw there }) (refl, (refl, (refl, (refl, (refl, (refl, (refl, tt))))))))
+          (refl, refl, refl, refl) (refl, refl, refl, refl) refl refl refl refl (rw there) (rw there) (rw there) (rw there) refl refl (at_typed s at tree known),
+      refl,
+      refl,
+      refl,
+    )
+
+pub reads_at : (old new : State) (owner : List ℕ) (name : List ℕ) (r : Result (Vec UserRoot Global) Failure) → IsUnderWay old → Selects ShowsUserRoot old new at_text (Text owner ∷ Text name ∷ []) r → IfOk r (λ all. AllAdjacentBelow (λ x y. true ≡ is_lt (pair_cmp (user_root_of x).0 (user_root_of y).0)) all.items (length all.items))
+    → IfOk r (λ all. Stays old new × (map user_root_of all.items ≡ finite.entries (finite.retain_keys (contents_of old.now).user_roots (λ k. eq_by_cmp texts_cmp k.0 owner && eq_by_cmp texts_cmp k.1 name))))
+reads_at old new owner name r under selects up =
+    reads_part user_root.name user_root.columns user_root.primary pair_total pair_antisymmetric is_triple target_of old new under (λ has. has.1.1.1.1.1.0) at_text (Text owner ∷ Text name ∷ []) names (query of_two) (λ tree. record { from = refl; group = refl; distinct = refl; whole = λ params rows. refl }) (λ k. eq_by_cmp texts_cmp k.0 owner && eq_by_cmp texts_cmp k.1 name) (λ tree. said_two owner name) ShowsUserRoot user_root_of (fits (Text owner ∷ Text name ∷ []) of_two) at_is r selects up

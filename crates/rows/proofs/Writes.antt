@@ -16,7 +16,7 @@ use Rattle.sqlite_rules.specs.Calls.{ids_of}
 use Rattle.sqlite_rules.specs.declared.error.Rowids.TheVariants.{Chosen, Given}
 use Rattle.sqlite.specs.Does.{Tally, Does, AtPlace}
 use Rattle.sqlite.specs.Rows.{Part, Written, stamped}
-use Rattle.sqlite.specs.Effect.{Database, value_rows}
+use Rattle.sqlite.specs.Effect.{Database, IsDatabase, value_rows}
 use Rattle.sqlite.specs.Listing.{understood}
 use Rattle.sqlite.specs.State.{State, mode_of, Executes}
 use Rattle.sqlite.proofs.Callers.{IsPlain, command_of, statement_of, runs_as, one_step}
@@ -39,6 +39,7 @@ use Rattle.rows.proofs.Finds.{found_by_place}
 pub record SetsRows (old new : State) (tree : ℕ) (rows : List Row) : Type 0 where
   pub was_open : IsTrue old.is_open
   pub is_open : IsTrue new.is_open
+  pub sound : IsDatabase new.now
   pub schema : new.now.schema ≡ old.now.schema
   pub rows_are : new.now.trees tree ≡ rows
   pub others : AllByRecursion (λ t. t.tree ≢ tree → new.now.trees t.tree ≡ old.now.trees t.tree) old.now.schema.tables
@@ -159,6 +160,7 @@ module _ (name : List ℕ) (columns : List Column) (key : List ℕ) (tree at wid
         record {
           was_open = w.shown.was_open;
           is_open = w.shown.is_open;
+          sound = w.sound;
           schema = ap (λ (d : Database). d.schema) whole;
           rows_are = a.rows;
           others = a.tables;
@@ -196,6 +198,7 @@ module _ (name : List ℕ) (columns : List Column) (key : List ℕ) (tree at : �
         record {
           was_open = w.shown.was_open;
           is_open = w.shown.is_open;
+          sound = w.sound;
           schema = ap (λ (d : Database). d.schema) whole;
           rows_are = a.rows;
           others = a.tables;

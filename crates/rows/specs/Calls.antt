@@ -6,7 +6,7 @@ use Rattle.sqlite_value.specs.Order.{Row, value_cmp}
 use Rattle.sqlite_rules.specs.Lists.{Has}
 use Rattle.sqlite_trees.specs.View.{is_int}
 use Rattle.sqlite_trees.specs.Tree.{Trees, rowid}
-use Rattle.sqlite.specs.Effect.{Database}
+use Rattle.sqlite.specs.Effect.{Database, IsDatabase}
 use Rattle.sqlite.specs.State.{State}
 use Rattle.rows.specs.Forms.{our_tables, is_our_name}
 use Rattle.rows.specs.Standing.{HasTables}
@@ -17,8 +17,9 @@ pub record IsKeyed (rows : List Row) : Type 0 where
   pub ints : (a : Row) → Has rows a → IsTrue (is_int (rowid a))
   pub once : (a b : Row) → Has rows a → Has rows b → is_eq (value_cmp (rowid a) (rowid b)) ≡ true → a ≡ b
 
--- all nine tables stand in the schema, and their rowids are apart
+-- all nine tables stand in the schema, each row obeys it, and rowids are apart
 pub record IsOurs (db : Database) : Type 0 where
+  pub sound : IsDatabase db
   pub has : HasTables db.schema
   pub keyed : AllByRecursion (λ t. IsKeyed (rows_named db t.name)) our_tables
 

@@ -23,6 +23,10 @@ stored nar hash deriver ca = record { nar = nar; hash = hash; deriver = option_m
 abbrev pub ShowsOptional : Value → Option (String Global) → Type 0
 ShowsOptional v o = MatchOption o (v ≡ Null) (λ s. (v ≢ Null) × (v ≡ Text (string_bytes s)))
 
+-- a text alone
+abbrev pub ShowsText : Row → String Global → Type 0
+ShowsText row e = column row 0 ≡ Text (string_bytes e)
+
 abbrev pub setting_of : Setting → Bytes × Bytes
 setting_of e = (string_bytes e.word, string_bytes e.value)
 

@@ -23,6 +23,26 @@ pub trait Entry: Sized + Drop {
         ensures { result ≡ is_below self.now other.now };
 }
 
+/// A key alone.
+impl Entry for String {
+    ghost use Rattle.std.specs.Prelude.{string_bytes};
+    ghost use Rattle.std.specs.Ordering.{is_lt};
+    ghost use Rattle.rows.specs.Contents.{texts_cmp};
+    ghost use Rattle.rows.specs.Entries.{ShowsText};
+
+    ghost is_shown = { ShowsText };
+
+    ghost is_below = { λ a b. is_lt (texts_cmp (string_bytes a) (string_bytes b)) };
+
+    fn read(row: &Row) -> Result<String, Failure> {
+        Ok(row.get(0)?)
+    }
+
+    fn is_below(&self, other: &String) -> bool {
+        *self < *other
+    }
+}
+
 /// The entries that the rows show, which must rise: an honest disk gives no others.
 pub(crate) fn entries<T: Entry>(alloc: Global, rows: &[Row]) -> Result<Vec<T>, Failure>
     ensures shown { IfOk result (λ all. AllZip T.is_shown rows.now all.items) }

@@ -1,6 +1,6 @@
 //! The objects, with their archives.
 
-ghost use Rattle.std.specs.Prelude.{◌≡◌, ◌&&◌, IfOk, OnOk, OnErr, IsTrue, None, map, not, pos};
+ghost use Rattle.std.specs.Prelude.{◌≡◌, ◌&&◌, IfOk, OnOk, OnErr, IsTrue, None, map, not, pos, string_bytes};
 ghost use Rattle.std.specs.Ordering.{eq_by_cmp, is_lt, int_cmp};
 ghost use Rattle.std.specs.FinMap as finite;
 ghost use Rattle.sqlite.specs.State.{HasCleanDisk, KeepsCommit, Survives};
@@ -43,6 +43,18 @@ impl Entry for Object {
     fn is_below(&self, other: &Object) -> bool {
         self.base < other.base
     }
+}
+
+/// The bases of all objects, in order. It copies no archive.
+pub fn keys<S: Alter>(alloc: Global, tx: &mut Transaction<'_, S>) -> Result<Vec<String>, Failure>
+    requires { HasCleanDisk (state S.Store tx.old.conn.now) → IsUnderWay (state S.Store tx.old.conn.now) }
+    ensures same_reference { tx.new.conn.ghost_name ≡ tx.old.conn.ghost_name }
+    ensures reads { HasCleanDisk (state S.Store tx.new.conn.now) → IfOk result (λ all. Stays (state S.Store tx.old.conn.now) (state S.Store tx.new.conn.now)
+        × (map string_bytes all.items ≡ finite.keys (contents_of (state S.Store tx.old.conn.now).now).objects)) }
+    ensures failed { HasCleanDisk (state S.Store tx.new.conn.now) → OnErr result (KeepsCommit (state S.Store tx.old.conn.now) (state S.Store tx.new.conn.now)) }
+    ensures survives { Survives (state S.Store tx.old.conn.now) (state S.Store tx.new.conn.now) (λ _. ⊥) }
+{
+    statement::select(alloc, tx, "SELECT base FROM object ORDER BY base", &[])
 }
 
 /// The object of this base, if there is one.

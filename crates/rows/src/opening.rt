@@ -1,7 +1,8 @@
 //! Taking up a connection: what its schema holds of ours, and that the rows of our tables can be told apart.
 
 ghost use Rattle.std.specs.Prelude.{◌≡◌, ◌↔◌, false, IsTrue, IfOk, OnOk};
-ghost use Rattle.sqlite.specs.State.{HasCleanDisk, KeepsCommit, Survives};
+ghost use Rattle.sqlite.specs.Effect.{IsDatabase};
+ghost use Rattle.sqlite.specs.State.{HasCleanDisk, IsLive, KeepsCommit, Survives};
 ghost use Rattle.sqlite.specs.Held.{state};
 ghost use Rattle.rows.specs.Standing.{HasTables};
 ghost use Rattle.rows.specs.Finding.{HasNone};
@@ -17,6 +18,7 @@ use std::alloc::Global;
 /// Succeeds if each row of our tables has a rowid of its own.
 fn test<S: Alter>(alloc: Global, tx: &mut Transaction<'_, S>) -> Result<(), Failure>
     requires inside { HasCleanDisk (state S.Store tx.old.conn.now) → IsInside (state S.Store tx.old.conn.now) }
+    requires sound { HasCleanDisk (state S.Store tx.old.conn.now) → IsTrue (state S.Store tx.old.conn.now).is_open → IsDatabase (state S.Store tx.old.conn.now).now }
     requires settled { HasCleanDisk (state S.Store tx.old.conn.now) → IsTrue (state S.Store tx.old.conn.now).is_open → (state S.Store tx.old.conn.now).now ≡ (state S.Store tx.old.conn.now).committed }
     ensures same_reference { tx.new.conn.ghost_name ≡ tx.old.conn.ghost_name }
     ensures ours { HasCleanDisk (state S.Store tx.new.conn.now) → OnOk result (IsOurs (state S.Store tx.new.conn.now).committed) }
@@ -30,6 +32,7 @@ fn test<S: Alter>(alloc: Global, tx: &mut Transaction<'_, S>) -> Result<(), Fail
 fn check<S: Alter>(alloc: Global, conn: &mut Connection<S>) -> Result<(), Failure>
     requires alone { conn.old.in_transaction ≡ false }
     requires has { HasCleanDisk (state S.Store conn.old) → IsTrue (state S.Store conn.old).is_open → HasTables (state S.Store conn.old).now.schema }
+    requires sound { HasCleanDisk (state S.Store conn.old) → IsTrue (state S.Store conn.old).is_open → IsDatabase (state S.Store conn.old).now }
     requires settled { HasCleanDisk (state S.Store conn.old) → IsTrue (state S.Store conn.old).is_open → (state S.Store conn.old).now ≡ (state S.Store conn.old).committed }
     ensures alone { conn.new.in_transaction ≡ false }
     ensures ready { HasCleanDisk (state S.Store conn.new) → IsTrue (state S.Store conn.new).is_open → OnOk result (IsReady (state S.Store conn.new)) }
@@ -46,6 +49,7 @@ fn check<S: Alter>(alloc: Global, conn: &mut Connection<S>) -> Result<(), Failur
 pub fn find<S: Alter>(conn: &Connection<S>) -> Finding
     ensures ours { result ≡ Ours ↔ HasTables (state S.Store conn.now).now.schema }
     ensures nothing { result ≡ Nothing ↔ HasNone (state S.Store conn.now).now.schema }
+    ensures live { IsLive (state S.Store conn.now) }
 {
     finding::find(conn.schema())
 }

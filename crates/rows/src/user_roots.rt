@@ -84,6 +84,28 @@ pub fn of<S: Alter>(
     )
 }
 
+/// The user root of this owner and this name, if there is one.
+pub fn at<S: Alter>(
+    alloc: Global,
+    tx: &mut Transaction<'_, S>,
+    owner: &str,
+    name: &str,
+) -> Result<Vec<UserRoot>, Failure>
+    requires { HasCleanDisk (state S.Store tx.old.conn.now) → IsUnderWay (state S.Store tx.old.conn.now) }
+    ensures same_reference { tx.new.conn.ghost_name ≡ tx.old.conn.ghost_name }
+    ensures reads { HasCleanDisk (state S.Store tx.new.conn.now) → IfOk result (λ all. Stays (state S.Store tx.old.conn.now) (state S.Store tx.new.conn.now)
+        × (map user_root_of all.items ≡ finite.entries (finite.retain_keys (contents_of (state S.Store tx.old.conn.now).now).user_roots (λ k. eq_by_cmp texts_cmp k.0 owner.now && eq_by_cmp texts_cmp k.1 name.now)))) }
+    ensures failed { HasCleanDisk (state S.Store tx.new.conn.now) → OnErr result (KeepsCommit (state S.Store tx.old.conn.now) (state S.Store tx.new.conn.now)) }
+    ensures survives { Survives (state S.Store tx.old.conn.now) (state S.Store tx.new.conn.now) (λ _. ⊥) }
+{
+    statement::select(
+        alloc,
+        tx,
+        "SELECT owner, name, target FROM user_root WHERE owner = ?1 AND name = ?2 ORDER BY owner, name",
+        params![owner, name],
+    )
+}
+
 /// Adds one user root, under a key that is new.
 pub fn insert<S: Alter>(
     tx: &mut Transaction<'_, S>,

@@ -1,0 +1,12 @@
+use Rattle.std.proofs.Common.{arith}
+use Rattle.sqlite.specs.State.{HasCleanDisk}
+use Rattle.sqlite.specs.Held.{state}
+use Rattle.rows.proofs.ObjectLemmas.{reads_keys}
+use Rattle.rows.proofs.objects.keys.Goals as goal
+
+pub returns-clause-reads : goal.returns-clause-reads
+returns-clause-reads g c clean =
+    let old = state g.S.Store c.args.tx.now.conn.now in
+    let new = state g.S.Store c.select.new.tx.conn.now in
+    let early : HasCleanDisk old = omega (arith, c.select.ensures.survives.clean) in
+    reads_keys old new c.select.result (c.requires early) (c.select.ensures.shown clean) c.select.ensures.rises
