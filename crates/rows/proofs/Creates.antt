@@ -75,7 +75,7 @@ module _ (s : Schema) (title : Bytes) (cs : List Column) (key : List ℕ) where
   abbrev form : Table
   form = strict title cs key
 
-  unused_after : (name : Bytes) → is_clear title name ≡ true → IsUnused s name → IsUnused (created s form) name
+  pub unused_after : (name : Bytes) → is_clear title name ≡ true → IsUnused s name → IsUnused (created s form) name
   unused_after name clear h = let b = and_so _ _ clear in (none_more (λ (t : Table). same_name t.name name) s.tables _ 0 h.0 (not_so _ b.0), none_more (λ (i : Index). same_name i.name name) s.indexes _ 0 h.1 (not_so _ b.1), h.2)
 
   pub all_unused_after : (rest : List Table) → list_all (λ u. is_clear title u.name) rest ≡ true → AllByRecursion (λ u. IsUnused s u.name) rest → AllByRecursion (λ u. IsUnused (created s form) u.name) rest
@@ -125,6 +125,7 @@ makes_in text title cs key old new count making lacks inside h =
     record {
       was_open = w.shown.was_open;
       is_open = w.shown.is_open;
+      sound = w.sound;
       schema = ap (λ (d : Database). d.schema) now ∙ is;
       kept = subst (λ (d : Database). AllByRecursion (λ t. d.trees t.tree ≡ old.now.trees t.tree) s.tables) (sym now) made.others;
       empty = (ap (λ (d : Database). d.trees (next_tree s)) now ∙ made.empty, tt);
@@ -186,6 +187,7 @@ makes_then ts us a b c h k =
     record {
       was_open = h.was_open;
       is_open = k.is_open;
+      sound = k.sound;
       schema = k.schema ∙ ap (λ (x : Schema). all_created x us) h.schema ∙ sym (all_after s ts us);
       kept = kept_then a.now.trees b.now.trees c.now.trees s.tables h.kept both.0;
       empty = subst (AllByRecursion (λ (t : Table). c.now.trees t.tree ≡ [])) (sym (placed_after s ts us)) (two_lists (λ (t : Table). c.now.trees t.tree ≡ []) (placed s ts) _ (empty_then b.now.trees c.now.trees (placed s ts) h.empty both.1) made);

@@ -32,3 +32,5 @@ pub mod Under
 pub mod Creates
 pub mod MakingTexts
 pub mod Settles
+pub mod Stood
+pub mod Made

@@ -13,13 +13,13 @@ use Rattle.sqlite_schema.specs.Names.{same_name}
 use Rattle.sqlite_catalog.specs.Change.{created, next_tree, past_views}
 use Rattle.sqlite_rules.specs.Edit.{next_rowid, is_taken}
 use Rattle.sqlite_rules.specs.Lists.{Has}
-use Rattle.sqlite.specs.Effect.{Database}
+use Rattle.sqlite.specs.Effect.{Database, IsDatabase}
 use Rattle.sqlite.specs.State.{State, Shows, ExecutesInside}
 use Rattle.rows.specs.Forms.{meta, object, refs, outs, permanent, user_root, profile, generation, runtime}
 use Rattle.rows.specs.Standing.{IsNamed, tree_named}
 use Rattle.rows.specs.Contents.{Bytes, texts_cmp, is_pair, pair_of, map_of, rows_named}
 use Rattle.rows.specs.Calls.{IsKeyed}
-use Rattle.rows.specs.Making.{IsUnused, Makes, MakesMeta, MakesAll, IsMadeOf, AreSettings, first_settings, IsPut, HasMeta, Puts, IsMade, all_created, placed, ours_created, others_placed, other_tables}
+use Rattle.rows.specs.Making.{IsUnused, Makes, MakesMeta, MakesAll, IsMadeOf, AreSettings, first_settings, IsPut, HasMeta, Puts, IsMadeIn, all_created, placed, ours_created, others_placed, other_tables}
 use Rattle.rows.specs.Finding.{IsFree}
 use Rattle.rows.proofs.Orders.{texts_total, texts_antisymmetric}
 use Rattle.rows.proofs.Truths.{cast_null, free_of}
@@ -32,7 +32,7 @@ use Rattle.rows.proofs.Creates.{one_list, kept_then, makes_then}
 
 -- ---- where a table stands that was just made
 
-last_found : {X : Type 0} (p : X → Bool) (xs : List X) (x : X) (n : ℕ) → position_from p n xs ≡ None → p x ≡ true → position_from p n (xs ++ x ∷ []) ≡ Some (n + length xs)
+pub last_found : {X : Type 0} (p : X → Bool) (xs : List X) (x : X) (n : ℕ) → position_from p n xs ≡ None → p x ≡ true → position_from p n (xs ++ x ∷ []) ≡ Some (n + length xs)
 last_found p [] x n h is = rw is (ap Some (let e : n ≡ n + 0 = omega arith in e))
 last_found {X} p (y ∷ ys) x n h is = go (p y) h (λ k. last_found p ys x (n + 1) k is)
   where
@@ -41,7 +41,7 @@ last_found {X} p (y ∷ ys) x n h is = go (p y) h (λ k. last_found p ys x (n + 
     go true k f = absurd cc
     go false k f = f k ∙ ap Some (let e : n + 1 + length ys ≡ n + suc (length ys) = omega arith in e)
 
-last_there : {X : Type 0} (xs : List X) (x : X) → slice_get (xs ++ x ∷ []) (length xs) ≡ Some x
+pub last_there : {X : Type 0} (xs : List X) (x : X) → slice_get (xs ++ x ∷ []) (length xs) ≡ Some x
 last_there [] x = refl
 last_there (y ∷ ys) x = last_there ys x
 
@@ -67,11 +67,11 @@ has_still a b word value has h = record { named = λ is_open. subst (λ (x : Sch
 
 -- ---- no table has the next tree
 
-rises : {X : Type 0} (g : X → ℕ) (xs : List X) (n : ℕ) → n ≤ fold (λ m x. max m (g x + 1)) n xs
+pub rises : {X : Type 0} (g : X → ℕ) (xs : List X) (n : ℕ) → n ≤ fold (λ m x. max m (g x + 1)) n xs
 rises g [] n = omega arith
 rises g (x ∷ xs) n = omega (arith, rises g xs (max n (g x + 1)))
 
-all_below : {X : Type 0} (g : X → ℕ) (xs : List X) (n : ℕ) → AllByRecursion (λ x. g x < fold (λ m x. max m (g x + 1)) n xs) xs
+pub all_below : {X : Type 0} (g : X → ℕ) (xs : List X) (n : ℕ) → AllByRecursion (λ x. g x < fold (λ m x. max m (g x + 1)) n xs) xs
 all_below g [] n = tt
 all_below g (x ∷ xs) n = (omega (arith, rises g xs (max n (g x + 1))), all_below g xs (max n (g x + 1)))
 
@@ -79,7 +79,7 @@ others_apart : (ts : List Table) (m n : ℕ) → m ≤ n → AllByRecursion (λ 
 others_apart [] m n h k = tt
 others_apart (t ∷ ts) m n h k = (λ e. absurd (omega (arith, h, k.0, e)), others_apart ts m n h k.1)
 
-not_next : (s : Schema) → AllByRecursion (λ t. t.tree ≢ next_tree s) s.tables
+pub not_next : (s : Schema) → AllByRecursion (λ t. t.tree ≢ next_tree s) s.tables
 not_next s = others_apart s.tables _ _ (rises (λ (i : Index). i.tree) s.indexes _) (all_below (λ (t : Table). t.tree) s.tables (past_views s))
 
 kept_off : (a b : Trees) (tree : ℕ) (ts : List Table) → AllByRecursion (λ t. t.tree ≢ tree) ts → AllByRecursion (λ t. t.tree ≢ tree → b t.tree ≡ a t.tree) ts → AllByRecursion (λ t. b t.tree ≡ a t.tree) ts
@@ -104,6 +104,7 @@ puts old new word value count has h =
     record {
       was_open = sets.was_open;
       is_open = sets.is_open;
+      sound = sets.sound;
       schema = sets.schema;
       rows = subst (IsPut word value rows) (sym own) made;
       others = sets.others;
@@ -120,7 +121,7 @@ none_in_none : settings_in [] ≡ finite.from_entries []
 unfolding map_of
 none_in_none = refl
 
-keyed_none : IsKeyed []
+pub keyed_none : IsKeyed []
 keyed_none = record { ints = λ a h. absurd h; once = λ a b h k e. absurd h }
 
 pub meta_made : (dir : Bytes) (a b c d : State) → IsUnused a.now.schema (codes "meta") → Makes (meta ∷ []) a b → Puts (codes "schema") (codes "1") b c → Puts (codes "store-dir") dir c d → MakesMeta dir a d
@@ -147,6 +148,7 @@ meta_made dir a b c d free h p q =
     record {
       was_open = h.was_open;
       is_open = q.is_open;
+      sound = q.sound;
       schema = q.schema ∙ p.schema ∙ h.schema;
       kept = kept_then a.now.trees c.now.trees d.now.trees s.tables (kept_then a.now.trees b.now.trees c.now.trees s.tables h.kept (kept_off b.now.trees c.now.trees tree s.tables off old_c)) (kept_off c.now.trees d.now.trees tree s.tables off old_d);
       settings = subst (λ n. AreSettings dir (d.now.trees n)) tree_d made;
@@ -166,6 +168,7 @@ all_made dir a b c d h p q =
     record {
       was_open = h.was_open;
       is_open = rest.is_open;
+      sound = rest.sound;
       schema = rest.schema ∙ ap (λ (x : Schema). all_created x other_tables) h.schema;
       made = record {
         kept = kept_then a.now.trees b.now.trees d.now.trees s.tables h.kept both.0;
@@ -181,10 +184,11 @@ names_free s [] h = tt
 names_free s (t ∷ ts) h = ((h.0.table, h.0.index, h.0.view), names_free s ts h.1)
 
 -- what was made and committed
-pub committed_made : (dir : Bytes) (a b m n : State) → b.now ≡ a.now → b.is_open ≡ a.is_open → MakesAll dir b m → Shows m n m.now m.now false → IsMade dir a n
+pub committed_made : (dir : Bytes) (a b m n : State) → b.now ≡ a.now → b.is_open ≡ a.is_open → MakesAll dir b m → Shows m n m.now m.now false → IsMadeIn dir a n
 committed_made dir a b m n now is_open h k = record {
   was_open = subst IsTrue is_open h.was_open;
   is_open = k.is_open;
+  sound = subst IsDatabase (sym k.now_is) h.sound;
   schema = ap (λ (d : Database). d.schema) k.now_is ∙ h.schema ∙ ap (λ (d : Database). ours_created d.schema) now;
   made = subst (λ (d : Database). IsMadeOf dir d n.now.trees) now (subst (λ (d : Database). IsMadeOf dir b.now d.trees) (sym k.now_is) h.made);
   settled = k.now_is ∙ sym k.committed_is;

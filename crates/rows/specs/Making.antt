@@ -9,12 +9,12 @@ use Rattle.sqlite_schema.specs.declared.schema.Table.{Table}
 use Rattle.sqlite_schema.specs.Names.{table_named, index_named, view_named}
 use Rattle.sqlite_catalog.specs.Change.{created, next_tree}
 use Rattle.sqlite.specs.Does.{lacks_sequence}
-use Rattle.sqlite.specs.Effect.{Database}
+use Rattle.sqlite.specs.Effect.{Database, IsDatabase}
 use Rattle.sqlite.specs.State.{State}
 use Rattle.rows.specs.Forms.{meta, object, refs, outs, permanent, user_root, profile, generation, runtime, our_tables}
 use Rattle.rows.specs.Standing.{IsNamed, tree_named}
-use Rattle.rows.specs.Contents.{Bytes, texts_cmp, is_pair, pair_of, map_of, rows_named}
-use Rattle.rows.specs.Calls.{IsKeyed}
+use Rattle.rows.specs.Contents.{Bytes, Contents, contents_of, texts_cmp, is_pair, pair_of, map_of, rows_named}
+use Rattle.rows.specs.Calls.{IsKeyed, IsReady, KeepsTheirs, Leaves}
 
 -- the tables made in this order
 abbrev pub all_created : Schema → List Table → Schema
@@ -41,6 +41,20 @@ others_placed s = placed (created s meta) other_tables
 abbrev pub first_settings : Bytes → finite.FinMap texts_cmp Bytes
 first_settings dir = finite.insert (finite.insert (finite.from_entries []) (codes "schema") (codes "1")) (codes "store-dir") dir
 
+-- what our tables hold once they are made: the two settings, and nothing else
+abbrev pub first_contents : Bytes → Contents
+first_contents dir = record {
+  meta = first_settings dir;
+  objects = finite.from_entries [];
+  refs = finite.from_entries [];
+  outs = finite.from_entries [];
+  permanent = finite.from_entries [];
+  user_roots = finite.from_entries [];
+  profiles = finite.from_entries [];
+  generations = finite.from_entries [];
+  runtime = finite.from_entries [];
+}
+
 -- the rows of `meta` say these, and can be told apart
 pub record AreSettings (dir : Bytes) (rows : List Row) : Type 0 where
   pub keyed : IsKeyed rows
@@ -52,11 +66,25 @@ pub record IsMadeOf (dir : Bytes) (db : Database) (trees : Trees) : Type 0 where
   pub settings : AreSettings dir (trees (next_tree db.schema))
   pub empty : AllByRecursion (λ t. trees t.tree ≡ []) (others_placed db.schema)
 
--- all nine were made at once
+-- All nine were made at once, and the connection is ready: ours hold the settings alone, and theirs the rows that they had.
 pub record IsMade (dir : Bytes) (old new : State) : Type 0 where
   pub was_open : IsTrue old.is_open
   pub is_open : IsTrue new.is_open
   pub schema : new.now.schema ≡ ours_created old.now.schema
+  pub contents : contents_of new.now ≡ first_contents dir
+  pub theirs : KeepsTheirs old.now new.now
+  pub ready : IsReady new
+
+-- what a crash may leave of the making, if it leaves any of it: all of it
+abbrev pub LeavesMade : Bytes → Database → Trees → Type 0
+LeavesMade dir db trees = Leaves (record db { schema = ours_created db.schema }) trees (first_contents dir)
+
+-- all nine were made at once, as their trees have them
+pub record IsMadeIn (dir : Bytes) (old new : State) : Type 0 where
+  pub was_open : IsTrue old.is_open
+  pub is_open : IsTrue new.is_open
+  pub schema : new.now.schema ≡ ours_created old.now.schema
+  pub sound : IsDatabase new.now
   pub made : IsMadeOf dir old.now new.now.trees
   pub settled : new.now ≡ new.committed
 
@@ -74,6 +102,7 @@ pub record IsMaking (tables : List Table) (s : State) : Type 0 where
 pub record Makes (tables : List Table) (old new : State) : Type 0 where
   pub was_open : IsTrue old.is_open
   pub is_open : IsTrue new.is_open
+  pub sound : IsDatabase new.now
   pub schema : new.now.schema ≡ all_created old.now.schema tables
   pub kept : AllByRecursion (λ t. new.now.trees t.tree ≡ old.now.trees t.tree) old.now.schema.tables
   pub empty : AllByRecursion (λ t. new.now.trees t.tree ≡ []) (placed old.now.schema tables)
@@ -84,6 +113,7 @@ pub record Makes (tables : List Table) (old new : State) : Type 0 where
 pub record MakesMeta (dir : Bytes) (old new : State) : Type 0 where
   pub was_open : IsTrue old.is_open
   pub is_open : IsTrue new.is_open
+  pub sound : IsDatabase new.now
   pub schema : new.now.schema ≡ created old.now.schema meta
   pub kept : AllByRecursion (λ t. new.now.trees t.tree ≡ old.now.trees t.tree) old.now.schema.tables
   pub settings : AreSettings dir (new.now.trees (next_tree old.now.schema))
@@ -104,6 +134,7 @@ pub record HasMeta (s : State) : Type 0 where
 pub record Puts (word value : Bytes) (old new : State) : Type 0 where
   pub was_open : IsTrue old.is_open
   pub is_open : IsTrue new.is_open
+  pub sound : IsDatabase new.now
   pub schema : new.now.schema ≡ old.now.schema
   pub rows : IsPut word value (rows_named old.now (codes "meta")) (rows_named new.now (codes "meta"))
   pub others : AllByRecursion (λ t. t.tree ≢ tree_named old.now.schema (codes "meta") → new.now.trees t.tree ≡ old.now.trees t.tree) old.now.schema.tables
@@ -114,6 +145,7 @@ pub record Puts (word value : Bytes) (old new : State) : Type 0 where
 pub record MakesAll (dir : Bytes) (old new : State) : Type 0 where
   pub was_open : IsTrue old.is_open
   pub is_open : IsTrue new.is_open
+  pub sound : IsDatabase new.now
   pub schema : new.now.schema ≡ ours_created old.now.schema
   pub made : IsMadeOf dir old.now new.now.trees
   pub committed : new.committed ≡ old.committed

@@ -5,7 +5,7 @@ ghost use Rattle.sqlite.specs.State.{HasCleanDisk, KeepsCommit, Survives};
 ghost use Rattle.sqlite.specs.Held.{state};
 ghost use Rattle.rows.specs.Forms.{meta};
 ghost use Rattle.rows.specs.Finding.{HasNone};
-ghost use Rattle.rows.specs.Making.{IsMaking, HasMeta, Puts, MakesMeta, MakesAll, IsMade, IsMadeOf, other_tables};
+ghost use Rattle.rows.specs.Making.{IsMaking, HasMeta, Puts, MakesMeta, MakesAll, IsMade, IsMadeIn, IsMadeOf, LeavesMade, other_tables};
 
 use crate::creating;
 use crate::failure::Failure;
@@ -51,19 +51,32 @@ fn make_all<S: Alter>(tx: &mut Transaction<'_, S>, store_dir: &str) -> Result<()
     creating::last(tx)
 }
 
-/// Makes our nine tables beside whatever tables there are, `meta` with the settings `schema` = `1` and `store-dir`,
-/// the others with no row: all at once, or nothing. Take the connection up by `open` afterwards.
 #[tactic(auto, using(crate::proofs::Settles::committed_made))]
+fn make_and_commit<S: Alter>(conn: &mut Connection<S>, store_dir: &str) -> Result<(), Failure>
+    requires alone { conn.old.in_transaction ≡ false }
+    requires none { HasCleanDisk (state S.Store conn.old) → IsTrue (state S.Store conn.old).is_open → HasNone (state S.Store conn.old).now.schema }
+    ensures alone { conn.new.in_transaction ≡ false }
+    ensures done { HasCleanDisk (state S.Store conn.new) → OnOk result (IsMadeIn store_dir.now (state S.Store conn.old) (state S.Store conn.new)) }
+    ensures failed { HasCleanDisk (state S.Store conn.new) → IsTrue (state S.Store conn.new).is_open → OnErr result (((state S.Store conn.new).now ≡ (state S.Store conn.old).committed) × ((state S.Store conn.new).committed ≡ (state S.Store conn.old).committed)) }
+    ensures survives { Survives (state S.Store conn.old) (state S.Store conn.new) (λ db. IsTrue (state S.Store conn.old).is_open × IsMadeOf store_dir.now (state S.Store conn.old).now db) }
+{
+    let mut tx = conn.transaction();
+    make_all(&mut tx, store_dir)?;
+    tx.commit()?;
+    Ok(())
+}
+
+/// Makes our nine tables beside whatever tables there are, `meta` with the settings `schema` = `1` and `store-dir`,
+/// the others with no row: all at once, or nothing. Then the connection is ready for transactions.
 pub fn make<S: Alter>(conn: &mut Connection<S>, store_dir: &str) -> Result<(), Failure>
     requires alone { conn.old.in_transaction ≡ false }
     requires none { HasCleanDisk (state S.Store conn.old) → IsTrue (state S.Store conn.old).is_open → HasNone (state S.Store conn.old).now.schema }
     ensures alone { conn.new.in_transaction ≡ false }
     ensures done { HasCleanDisk (state S.Store conn.new) → OnOk result (IsMade store_dir.now (state S.Store conn.old) (state S.Store conn.new)) }
     ensures failed { HasCleanDisk (state S.Store conn.new) → IsTrue (state S.Store conn.new).is_open → OnErr result (((state S.Store conn.new).now ≡ (state S.Store conn.old).committed) × ((state S.Store conn.new).committed ≡ (state S.Store conn.old).committed)) }
-    ensures survives { Survives (state S.Store conn.old) (state S.Store conn.new) (IsMadeOf store_dir.now (state S.Store conn.old).now) }
+    ensures survives { Survives (state S.Store conn.old) (state S.Store conn.new) (LeavesMade store_dir.now (state S.Store conn.old).now) }
 {
-    let mut tx = conn.transaction();
-    make_all(&mut tx, store_dir)?;
-    tx.commit()?;
-    Ok(())
+    // What an open connection shows lists its schema.
+    let _listed = conn.schema();
+    make_and_commit(conn, store_dir)
 }

@@ -1,11 +1,30 @@
-use Rattle.std.proofs.Common.{refl, sym, subst}
+use Rattle.std.proofs.Common.{◌⊎◌, inl, inr, arith}
 use Rattle.sqlite.specs.State.{HasCleanDisk}
 use Rattle.sqlite.specs.Held.{state}
-use Rattle.rows.specs.Forms.{our_tables}
-use Rattle.rows.specs.Making.{IsMaking}
-use Rattle.rows.proofs.Settles.{names_free}
+use Rattle.rows.proofs.Scans.{on_ok}
+use Rattle.rows.proofs.Made.{made_is, leaves_made}
 use Rattle.rows.proofs.making.make.Goals as goal
 
-pub make_all-requires : goal.make_all-requires
-make_all-requires g c = subst (λ h. HasCleanDisk (state g.S.Store h) → IsMaking our_tables (state g.S.Store h)) (sym c.transaction-tx.ensures.begun)
-    (λ clean. record { free = λ is_open. names_free (state g.S.Store c.args.conn.now).now.schema our_tables (c.requires.none clean is_open).free; counted = λ is_open. (c.requires.none clean is_open).counted; mode = refl })
+pub returns-clause-done : goal.returns-clause-done
+returns-clause-done g c clean =
+    let old = state g.S.Store c.args.conn.now in
+    let new = state g.S.Store c.make_and_commit.new.conn in
+    let early : HasCleanDisk old = omega (arith, c.make_and_commit.ensures.survives.clean) in
+    on_ok c.make_and_commit.result _ _ (λ made. made_is c.args.store_dir.now old new (c.schema-listed.ensures.live made.was_open).0 (c.requires.none early made.was_open) made) (c.make_and_commit.ensures.done clean)
+
+pub returns-clause-survives : goal.returns-clause-survives
+returns-clause-survives g c =
+    let old = state g.S.Store c.args.conn.now in
+    let new = state g.S.Store c.make_and_commit.new.conn in
+    let s = c.make_and_commit.ensures.survives in
+    record {
+      clean = s.clean;
+      shield = s.shield;
+      counts = s.counts;
+      limit = s.limit;
+      closes = s.closes;
+      crash = λ clean db left. let early : HasCleanDisk old = omega (arith, s.clean) in elim (s.crash clean db left) [
+        | inl was ↦ inl was
+        | inr made ↦ inr (leaves_made c.args.store_dir.now old.now db (c.schema-listed.ensures.live made.0).0 (c.requires.none early made.0) made.1)
+      ];
+    }
