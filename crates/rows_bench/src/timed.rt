@@ -1,0 +1,237 @@
+//! Work through `rows` on a file, timed: each prints nanoseconds, a line for each round.
+
+ghost use Rattle.std.specs.Prelude.{◌≡◌, false, IsTrue, OnOk};
+ghost use Rattle.sqlite.specs.State.{HasCleanDisk};
+ghost use Rattle.sqlite.specs.Held.{state};
+ghost use Rattle.rows.specs.Calls.{IsReady, IsUnderWay};
+
+use crate::fault::Fault;
+use crate::names::{ROUNDS, SIZE, base};
+use crate::put::put_object;
+use crate::watch;
+use rows::failure::Failure;
+use rows::finding::Finding;
+use rows::{objects, opening, outputs, references, transaction};
+use sqlite::{Alter, Connection, Transaction};
+use std::alloc::Global;
+use std::rt::Clock;
+use std::time::Instant;
+
+fn refer<S: Alter>(
+    alloc: Global,
+    tx: &mut Transaction<'_, S>,
+    name: &str,
+    number: u32,
+) -> Result<(), Failure>
+    requires { HasCleanDisk (state S.Store tx.old.conn.now) → IsUnderWay (state S.Store tx.old.conn.now) }
+    ensures same_reference { tx.new.conn.ghost_name ≡ tx.old.conn.ghost_name }
+    ensures goes_on { HasCleanDisk (state S.Store tx.new.conn.now) → OnOk result (IsUnderWay (state S.Store tx.new.conn.now)) }
+    ensures clean { HasCleanDisk (state S.Store tx.new.conn.now) → HasCleanDisk (state S.Store tx.old.conn.now) }
+{
+    let target = base(alloc, number)?;
+    references::insert(tx, name, target.as_str())
+}
+
+/// Puts one object with three references.
+fn put<S: Alter>(
+    alloc: Global,
+    tx: &mut Transaction<'_, S>,
+    number: u32,
+    nar: &[u8],
+) -> Result<(), Failure>
+    requires { HasCleanDisk (state S.Store tx.old.conn.now) → IsUnderWay (state S.Store tx.old.conn.now) }
+    ensures same_reference { tx.new.conn.ghost_name ≡ tx.old.conn.ghost_name }
+    ensures goes_on { HasCleanDisk (state S.Store tx.new.conn.now) → OnOk result (IsUnderWay (state S.Store tx.new.conn.now)) }
+    ensures clean { HasCleanDisk (state S.Store tx.new.conn.now) → HasCleanDisk (state S.Store tx.old.conn.now) }
+{
+    let name = base(alloc, number)?;
+    put_object(tx, name.as_str(), nar, b"hash", &None, &None)?;
+    refer(alloc, tx, name.as_str(), number.wrapping_add(1))?;
+    refer(alloc, tx, name.as_str(), number.wrapping_add(2))?;
+    refer(alloc, tx, name.as_str(), number.wrapping_add(3))
+}
+
+fn add<S: Alter>(
+    alloc: Global,
+    conn: &mut Connection<S>,
+    number: u32,
+    nar: &[u8],
+) -> Result<(), Failure>
+    requires alone { conn.old.in_transaction ≡ false }
+    requires ready { HasCleanDisk (state S.Store conn.old) → IsTrue (state S.Store conn.old).is_open → IsReady (state S.Store conn.old) }
+    ensures alone { conn.new.in_transaction ≡ false }
+    ensures ready { HasCleanDisk (state S.Store conn.new) → OnOk result (IsReady (state S.Store conn.new)) }
+{
+    let mut tx = transaction::begin(conn);
+    put(alloc, &mut tx, number, nar)?;
+    transaction::commit(tx)
+}
+
+fn add_all<S: Alter>(
+    alloc: Global,
+    conn: &mut Connection<S>,
+    count: u32,
+    nar: &[u8],
+) -> Result<(), Failure>
+    requires alone { conn.old.in_transaction ≡ false }
+    requires ready { HasCleanDisk (state S.Store conn.old) → IsTrue (state S.Store conn.old).is_open → IsReady (state S.Store conn.old) }
+{
+    for number in 0..count {
+        add(alloc, conn, number, nar)?;
+    }
+    Ok(())
+}
+
+fn objects_in<S: Alter>(
+    rt: &(impl Print + Clock + AllocGlobal),
+    conn: &mut Connection<S>,
+    count: u32,
+    nar: &[u8],
+) -> Result<(), Fault> {
+    let alloc = rt.alloc();
+    if !conn.is_autocommit() || opening::open(alloc, conn)? != Finding::Ours {
+        return Err(Fault::Tables);
+    }
+    let start = Instant::now(rt)?;
+    add_all(alloc, conn, count, nar)?;
+    watch::told(rt, start)
+}
+
+/// Puts so many objects with three references each, a transaction for each.
+pub fn objects(rt: &HostRuntime, path: &str, count: u32) -> Result<(), Fault> {
+    let nar = vec![in rt.alloc(); 7u8; SIZE]?;
+    let mut conn = Connection::open(rt, path)?;
+    objects_in(rt, &mut conn, count, &nar)
+}
+
+fn references_in<S: Alter>(
+    rt: &(impl Print + Clock + AllocGlobal),
+    conn: &mut Connection<S>,
+) -> Result<(), Fault> {
+    let alloc = rt.alloc();
+    if !conn.is_autocommit() || opening::open(alloc, conn)? != Finding::Ours {
+        return Err(Fault::Tables);
+    }
+    let mut tx = transaction::begin(conn);
+    let start = Instant::now(rt)?;
+    let _all = references::all(alloc, &mut tx)?;
+    watch::told(rt, start)
+}
+
+/// Reads all references, some rounds of it.
+pub fn references(rt: &HostRuntime, path: &str) -> Result<(), Fault> {
+    let mut conn = Connection::open(rt, path)?;
+    for _ in 0..ROUNDS {
+        references_in(rt, &mut conn)?;
+    }
+    Ok(())
+}
+
+fn remove<S: Alter>(alloc: Global, tx: &mut Transaction<'_, S>, number: u32) -> Result<(), Failure>
+    requires { HasCleanDisk (state S.Store tx.old.conn.now) → IsUnderWay (state S.Store tx.old.conn.now) }
+    ensures same_reference { tx.new.conn.ghost_name ≡ tx.old.conn.ghost_name }
+    ensures goes_on { HasCleanDisk (state S.Store tx.new.conn.now) → OnOk result (IsUnderWay (state S.Store tx.new.conn.now)) }
+    ensures clean { HasCleanDisk (state S.Store tx.new.conn.now) → HasCleanDisk (state S.Store tx.old.conn.now) }
+{
+    let name = base(alloc, number)?;
+    objects::delete(tx, name.as_str())?;
+    references::delete_of(tx, name.as_str())?;
+    outputs::delete_of(tx, name.as_str())
+}
+
+fn remove_all<S: Alter>(
+    alloc: Global,
+    tx: &mut Transaction<'_, S>,
+    count: u32,
+) -> Result<(), Failure>
+    requires { HasCleanDisk (state S.Store tx.old.conn.now) → IsUnderWay (state S.Store tx.old.conn.now) }
+    ensures same_reference { tx.new.conn.ghost_name ≡ tx.old.conn.ghost_name }
+    ensures goes_on { HasCleanDisk (state S.Store tx.new.conn.now) → OnOk result (IsUnderWay (state S.Store tx.new.conn.now)) }
+    ensures clean { HasCleanDisk (state S.Store tx.new.conn.now) → HasCleanDisk (state S.Store tx.old.conn.now) }
+{
+    for number in 0..count {
+        remove(alloc, tx, number)?;
+    }
+    Ok(())
+}
+
+fn delete_in<S: Alter>(
+    rt: &(impl Print + Clock + AllocGlobal),
+    conn: &mut Connection<S>,
+    count: u32,
+) -> Result<(), Fault> {
+    let alloc = rt.alloc();
+    if !conn.is_autocommit() || opening::open(alloc, conn)? != Finding::Ours {
+        return Err(Fault::Tables);
+    }
+    let start = Instant::now(rt)?;
+    let mut tx = transaction::begin(conn);
+    remove_all(alloc, &mut tx, count)?;
+    transaction::commit(tx)?;
+    watch::told(rt, start)
+}
+
+/// Removes the first objects with their references and outputs, all in one transaction.
+pub fn delete(rt: &HostRuntime, path: &str, count: u32) -> Result<(), Fault> {
+    let mut conn = Connection::open(rt, path)?;
+    delete_in(rt, &mut conn, count)
+}
+
+fn archive<S: Alter>(
+    alloc: Global,
+    tx: &mut Transaction<'_, S>,
+    number: u32,
+) -> Result<usize, Failure>
+    requires { HasCleanDisk (state S.Store tx.old.conn.now) → IsUnderWay (state S.Store tx.old.conn.now) }
+    ensures same_reference { tx.new.conn.ghost_name ≡ tx.old.conn.ghost_name }
+    ensures goes_on { HasCleanDisk (state S.Store tx.new.conn.now) → OnOk result (IsUnderWay (state S.Store tx.new.conn.now)) }
+    ensures clean { HasCleanDisk (state S.Store tx.new.conn.now) → HasCleanDisk (state S.Store tx.old.conn.now) }
+{
+    let name = base(alloc, number)?;
+    let found = objects::of(alloc, tx, name.as_str())?;
+    Ok(match found.as_slice() {
+        [only] => only.nar.len(),
+        _ => 0,
+    })
+}
+
+fn read_all<S: Alter>(
+    alloc: Global,
+    tx: &mut Transaction<'_, S>,
+    count: u32,
+) -> Result<usize, Failure>
+    requires { HasCleanDisk (state S.Store tx.old.conn.now) → IsUnderWay (state S.Store tx.old.conn.now) }
+    ensures same_reference { tx.new.conn.ghost_name ≡ tx.old.conn.ghost_name }
+    ensures goes_on { HasCleanDisk (state S.Store tx.new.conn.now) → OnOk result (IsUnderWay (state S.Store tx.new.conn.now)) }
+    ensures clean { HasCleanDisk (state S.Store tx.new.conn.now) → HasCleanDisk (state S.Store tx.old.conn.now) }
+{
+    let mut bytes = 0usize;
+    for number in 0..count {
+        bytes = bytes.saturating_add(archive(alloc, tx, number)?);
+    }
+    Ok(bytes)
+}
+
+fn archives_in<S: Alter>(
+    rt: &(impl Print + Clock + AllocGlobal),
+    conn: &mut Connection<S>,
+    count: u32,
+) -> Result<(), Fault> {
+    let alloc = rt.alloc();
+    if !conn.is_autocommit() || opening::open(alloc, conn)? != Finding::Ours {
+        return Err(Fault::Tables);
+    }
+    let start = Instant::now(rt)?;
+    let mut tx = transaction::begin(conn);
+    let bytes = read_all(alloc, &mut tx, count)?;
+    watch::told(rt, start)?;
+    println!(rt; "{bytes} bytes")?;
+    Ok(())
+}
+
+/// Reads the archives of the first objects one after another, and prints the most memory that was held.
+pub fn archives(rt: &HostRuntime, path: &str, count: u32) -> Result<(), Fault> {
+    let mut conn = Connection::open(rt, path)?;
+    archives_in(rt, &mut conn, count)?;
+    watch::peak(rt)
+}
