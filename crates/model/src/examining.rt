@@ -1,5 +1,4 @@
 //! The tests of the objects that are handed in, in their order.
-ghost use Rattle.std.specs.Prelude.{IfOk};
 ghost use Rattle.store.specs.Adds.{text_archive};
 ghost use Rattle.store.specs.Tests.{first_failing, import_tests, source_tests, text_tests};
 ghost use Rattle.tables.specs.Objects as objects;
