@@ -1,13 +1,15 @@
 -- Calls one after another inside a transaction.
-use Rattle.std.proofs.Common.{◌≡◌, false, List, [], ◌∷◌, sym, ap, subst, ◌∙◌}
+use Rattle.std.proofs.Common.{◌≡◌, ◌⊎◌, inl, inr, false, List, [], ◌∷◌, refl, sym, ap, subst, ◌∙◌}
 use Rattle.std.specs.List.{AllByRecursion}
+use Rattle.sqlite_trees.specs.Tree.{Trees}
+use Rattle.sqlite_trees.proofs.ListLemmas.{all_of}
 use Rattle.sqlite_schema.specs.declared.schema.Schema.{Schema}
 use Rattle.sqlite_schema.specs.declared.schema.Table.{Table}
 use Rattle.sqlite.specs.Effect.{Database}
-use Rattle.sqlite.specs.State.{State, Shows, KeepsCommit}
+use Rattle.sqlite.specs.State.{State, Shows, KeepsCommit, Survives}
 use Rattle.rows.specs.Forms.{is_our_name}
-use Rattle.rows.specs.Contents.{Contents}
-use Rattle.rows.specs.Calls.{IsOurs, IsUnderWay, IsCommitted, KeepsTheirs, Changes}
+use Rattle.rows.specs.Contents.{Contents, contents_of}
+use Rattle.rows.specs.Calls.{IsOurs, IsUnderWay, IsCommitted, KeepsTheirs, Leaves, Changes, Stays}
 
 theirs_walk : (a b c : Database) (ts : List Table) → AllByRecursion (λ t. is_our_name t.name ≡ false → b.trees t.tree ≡ a.trees t.tree) ts → AllByRecursion (λ t. is_our_name t.name ≡ false → c.trees t.tree ≡ b.trees t.tree) ts
     → AllByRecursion (λ t. is_our_name t.name ≡ false → c.trees t.tree ≡ a.trees t.tree) ts
@@ -42,4 +44,48 @@ committed_is old new under h = record {
   now = h.now_is;
   ready = record { ours = subst IsOurs (sym h.now_is) (under.ours h.was_open); settled = h.now_is ∙ sym h.committed_is };
   mode = h.mode;
+}
+
+-- a read after a change, and a change after a read, is that change
+pub stays_then : (a b c : State) (f : Contents → Contents) → Stays a b → Changes b c f → Changes a c f
+stays_then a b c f h k = record {
+  was_open = h.was_open;
+  is_open = k.is_open;
+  schema = k.schema ∙ ap (λ (d : Database). d.schema) h.now;
+  contents = k.contents ∙ ap (λ d. f (contents_of d)) h.now;
+  theirs = subst (λ (d : Database). KeepsTheirs d c.now) h.now k.theirs;
+  ours = k.ours;
+  committed = k.committed ∙ h.committed;
+  mode = k.mode;
+}
+
+pub then_stays : (a b c : State) (f : Contents → Contents) → Changes a b f → Stays b c → Changes a c f
+then_stays a b c f h k = record {
+  was_open = h.was_open;
+  is_open = k.is_open;
+  schema = ap (λ (d : Database). d.schema) k.now ∙ h.schema;
+  contents = ap contents_of k.now ∙ h.contents;
+  theirs = subst (λ (d : Database). KeepsTheirs a.now d) (sym k.now) h.theirs;
+  ours = k.ours;
+  committed = k.committed ∙ h.committed;
+  mode = k.mode;
+}
+
+-- two reads in a row
+pub stays_twice : (a b c : State) → Stays a b → Stays b c → Stays a c
+stays_twice a b c h k = record { was_open = h.was_open; is_open = k.is_open; now = k.now ∙ h.now; ours = k.ours; committed = k.committed ∙ h.committed; mode = k.mode }
+
+-- ---- what a crash leaves of a commit
+
+leaves_now : (d : Database) (db : Trees) → db ≡ d.trees → Leaves d db (contents_of d)
+leaves_now d db is = subst (λ (trees : Trees). Leaves d trees (contents_of d)) (sym is) (record { ours = refl; theirs = all_of (λ (t : Table). is_our_name t.name ≡ false → d.trees t.tree ≡ d.trees t.tree) (λ t other. refl) d.schema.tables })
+
+pub leaves_by : (old new : State) → Survives old new (λ db. db ≡ old.now.trees) → Survives old new (λ db. Leaves old.now db (contents_of old.now))
+leaves_by old new h = record {
+  clean = h.clean;
+  shield = h.shield;
+  counts = h.counts;
+  limit = h.limit;
+  closes = h.closes;
+  crash = λ clean db left. elim (h.crash clean db left) [ inl was ↦ inl was | inr is ↦ inr (leaves_now old.now db is) ];
 }
