@@ -1,5 +1,8 @@
 -- Which failure an error of the database is.
-use Rattle.sqlite.specs.declared.error.ErrorCode.TheVariants.{OutOfMemory, TooBig}
+use Rattle.std.specs.Prelude.{◌≡◌, ◌⊎◌, false, Option, Some, None, ⊤}
+use Rattle.sqlite_trees.specs.declared.error.StoreError.TheVariants.{Io}
+use Rattle.sqlite.specs.State.{State, HasCause, IsUnchanged, IsRolledBack}
+use Rattle.sqlite.specs.declared.error.ErrorCode.TheVariants.{OutOfMemory, TooBig, SystemIoFailure, DiskFull, Closed}
 use Rattle.sqlite.specs.declared.error.Error.{Error}
 use Rattle.sqlite.specs.declared.error.Error.TheVariants.{SqliteFailure}
 use Rattle.rows.specs.declared.failure.Failure.{Failure}
@@ -10,3 +13,22 @@ abbrev pub failure_of : Error → Failure
 failure_of (SqliteFailure OutOfMemory) = Memory
 failure_of (SqliteFailure TooBig) = Size
 failure_of _ = Disk
+
+-- which failure kept a file from being opened, or none where it is something else than a database
+abbrev pub opening_failure : Error → Option Failure
+opening_failure (SqliteFailure OutOfMemory) = Some Memory
+opening_failure (SqliteFailure TooBig) = Some Size
+opening_failure (SqliteFailure SystemIoFailure) = Some Disk
+opening_failure (SqliteFailure DiskFull) = Some Disk
+opening_failure (SqliteFailure Closed) = Some Disk
+opening_failure _ = None
+
+-- the disk is named for a fault in this call, or for an earlier one that had shut the connection
+abbrev pub IsExcused : State → State → Failure → Type 0
+IsExcused old new Memory = ⊤
+IsExcused old new Size = ⊤
+IsExcused old new Disk = HasCause old new ⊤ Io ⊎ (old.is_open ≡ false)
+
+-- the store failed and the transaction is undone, or the call was refused and nothing changes
+abbrev pub FailsFor : State → State → Failure → Type 0
+FailsFor old new f = (IsExcused old new f × IsRolledBack old new) ⊎ IsUnchanged old new

@@ -7,3 +7,4 @@ pub mod Entries
 pub mod Shapes
 pub mod Finding
 pub mod Making
+pub mod Opened

@@ -4,6 +4,7 @@
 mod creating;
 mod entry;
 pub mod failure;
+pub mod file;
 pub mod finding;
 #[cfg(test)]
 mod finding_tests;
