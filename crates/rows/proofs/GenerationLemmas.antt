@@ -25,7 +25,7 @@ use Rattle.sqlite_resolve.specs.Program.{program}
 use Rattle.sqlite_resolve.specs.Write.{over}
 use Rattle.sqlite_rules.specs.Edit.{next_rowid, is_taken, id_in}
 use Rattle.sqlite_tied.specs.Compute.{everything}
-use Rattle.sqlite.specs.State.{State, ExecutesInside}
+use Rattle.sqlite.specs.State.{State, ExecutesInside, IsUnchanged, Shown}
 use Rattle.rows.specs.declared.failure.Failure.{Failure}
 use Rattle.rows.specs.declared.generations.Generation.{Generation}
 use Rattle.rows.specs.Forms.{generation}
@@ -44,7 +44,7 @@ use Rattle.rows.proofs.Entries.{put_map}
 use Rattle.rows.proofs.Members.{keyed_put}
 use Rattle.rows.proofs.Places.{changed}
 use Rattle.rows.proofs.ContentsLemmas.{generation_set}
-use Rattle.rows.proofs.Statements.{Compiles, Selects, reads_part, deletes_part, whole_map}
+use Rattle.rows.proofs.Statements.{answered_same, Compiles, Selects, reads_part, deletes_part, whole_map}
 
 -- ---- one more
 
@@ -189,3 +189,11 @@ pub reads_of : (old new : State) (owner : List ℕ) (name : List ℕ) (r : Resul
     → IfOk r (λ all. Stays old new × (map generation_in all.items ≡ finite.entries (finite.retain_keys (contents_of old.now).generations (λ k. eq_by_cmp texts_cmp k.0 owner && eq_by_cmp texts_cmp k.1 name))))
 reads_of old new owner name r under selects up =
     reads_part generation.name generation.columns generation.primary triple_total triple_antisymmetric is_generation generation_of old new under (λ has. has.1.1.1.1.1.1.1.0) of_text (Text owner ∷ Text name ∷ []) names (query of_two) (λ tree. record { from = refl; group = refl; distinct = refl; whole = λ params rows. refl }) (λ k. eq_by_cmp texts_cmp k.0 owner && eq_by_cmp texts_cmp k.1 name) (λ tree. said_two owner name) ShowsGeneration generation_in (fits (Text owner ∷ Text name ∷ []) of_two) of_is r selects up
+
+-- ---- what is answered changes nothing
+
+pub same_all : (old new : State) → IsUnderWay old → (params : Row) (rows : List Row) → Shown all_text params old new rows → IsUnchanged old new
+same_all old new under params rows shown = answered_same generation.name generation.columns generation.primary old new under (λ has. has.1.1.1.1.1.1.1.0) all_text (λ at tree. Select (whole [] tree) names) all_is params rows shown
+
+pub same_of : (old new : State) → IsUnderWay old → (params : Row) (rows : List Row) → Shown of_text params old new rows → IsUnchanged old new
+same_of old new under params rows shown = answered_same generation.name generation.columns generation.primary old new under (λ has. has.1.1.1.1.1.1.1.0) of_text (λ at tree. Select (whole of_two tree) names) of_is params rows shown

@@ -14,6 +14,7 @@ pub mod ContentsLemmas
 pub mod Statements
 pub mod Typed
 pub mod Alike
+pub mod One
 pub mod Steps
 pub mod SettingLemmas
 pub mod ObjectLemmas
@@ -28,6 +29,7 @@ pub mod OwnRowids
 pub mod RowidTexts
 pub mod Opened
 pub mod Gone
+pub mod Causes
 pub mod Under
 pub mod Creates
 pub mod MakingTexts

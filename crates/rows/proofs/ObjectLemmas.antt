@@ -1,6 +1,10 @@
 -- What the statements on the objects mean and do.
-use Rattle.std.proofs.Common.{◌≡◌, ℕ, pos, negsuc, List, [], ◌∷◌, codes, Bool, true, false, not, ◌&&◌, Some, None, Option, Ok, Result, Err, IfOk, Vec, Global, String, map, length, refl, sym, ap, subst, ◌∙◌}
-use Rattle.std.specs.Prelude.{string_bytes}
+use Rattle.std.proofs.Common.{◌≡◌, ℕ, pos, negsuc, List, [], ◌∷◌, ◌++◌, inl, arith, vec_len, codes, Bool, true, false, not, ◌&&◌, Some, None, Option, Ok, Result, Err, IfOk, Vec, Global, String, map, length, refl, sym, ap, subst, ◌∙◌}
+use Rattle.std.specs.Prelude.{string_bytes, ◌<◌, ◌↔◌, IsSome}
+use Rattle.std.specs.Option.{option_to_list}
+use Rattle.sqlite_rules.proofs.ListLemmas.{has_right}
+use Rattle.sqlite_rules.proofs.ProbeLemmas.{mapped_has}
+use Rattle.sqlite_rules.specs.Lists.{Has}
 use Rattle.std.specs.Ordering.{eq_by_cmp, is_lt}
 use Rattle.std.specs.List.{list_all, AllAdjacentBelow}
 use Rattle.std.specs.FinMap as finite
@@ -26,14 +30,14 @@ use Rattle.sqlite_resolve.specs.Program.{program}
 use Rattle.sqlite_resolve.specs.Write.{over}
 use Rattle.sqlite_rules.specs.Edit.{next_rowid, is_taken}
 use Rattle.sqlite_tied.specs.Compute.{everything}
-use Rattle.sqlite.specs.State.{State, ExecutesInside}
+use Rattle.sqlite.specs.State.{State, ExecutesInside, IsUnchanged, Shown}
 use Rattle.rows.specs.declared.failure.Failure.{Failure}
 use Rattle.rows.specs.declared.objects.Object.{Object}
 use Rattle.rows.specs.Forms.{object}
 use Rattle.rows.specs.Standing.{IsNamed, IsKnown, tree_named}
 use Rattle.rows.specs.Contents.{Bytes, Stored, map_of, rows_named, contents_of, texts_cmp, is_text, is_blob, is_object, object_of, text_if_any}
 use Rattle.rows.specs.Calls.{IsOurs, IsUnderWay, Changes, Stays}
-use Rattle.rows.specs.Entries.{stored_of, ShowsObject, ShowsText, stored}
+use Rattle.rows.specs.Entries.{stored_of, ShowsObject, ShowsText, IsStored, stored}
 use Rattle.rows.proofs.Orders.{texts_total, texts_antisymmetric}
 use Rattle.rows.proofs.Truths.{cast_null, free_of, and_so, and_one, text_test}
 use Rattle.rows.proofs.Optional.{IsKept, given, kept_given, bound_given, read_given, option_fits}
@@ -46,9 +50,10 @@ use Rattle.rows.proofs.Entries.{put_map}
 use Rattle.rows.proofs.Members.{keyed_put}
 use Rattle.rows.proofs.Places.{changed}
 use Rattle.rows.proofs.ContentsLemmas.{object_set}
-use Rattle.rows.proofs.Statements.{Compiles, Selects, reads_part, whole_map, deletes_part}
+use Rattle.rows.proofs.Statements.{answered_same, Compiles, Selects, reads_part, whole_map, deletes_part}
 use Rattle.rows.proofs.Typed.{objects_typed}
 use Rattle.rows.proofs.Alike.{map_made}
+use Rattle.rows.proofs.One.{one_is, none_is}
 use Rattle.rows.proofs.Entries.{map-map}
 use Rattle.sqlite.specs.Values.{bound_value}
 
@@ -236,3 +241,25 @@ reads_keys old new (Ok all) under selects up =
     let ours = subst IsOurs got.0.now got.0.ours in
     let same : map key_of all.items ≡ map (λ e. (e.0, tt)) (finite.entries (contents_of old.now).objects) = got.1 ∙ paths old ours in
     (got.0, sym (map-map (λ (e : Bytes × Unit {0}). e.0) key_of all.items) ∙ ap (map (λ (e : Bytes × Unit {0}). e.0)) same ∙ map-map (λ (e : Bytes × Unit {0}). e.0) (λ (e : Bytes × Stored). (e.0, tt)) (finite.entries (contents_of old.now).objects))
+
+-- ---- the one of a path
+
+none_of : (objects : finite.FinMap texts_cmp Stored) (base : Bytes) (all : List Object) → map stored_of all ≡ finite.entries (finite.retain_keys objects (λ k. eq_by_cmp texts_cmp k base)) → (0 < length all → ⊥) → finite.get objects base ≡ None
+none_of objects base [] read none = none_is texts_total texts_antisymmetric objects base read
+none_of objects base (x ∷ all) read none = absurd (none (omega arith))
+
+-- the last of what a read of the path lists
+pub last_is : (objects : finite.FinMap texts_cmp Stored) (base : Bytes) (all : Vec Object Global) (rest : List Object) (last : Option Object) → map stored_of all.items ≡ finite.entries (finite.retain_keys objects (λ k. eq_by_cmp texts_cmp k base))
+    → all.items ≡ rest ++ option_to_list last → (IsSome last ↔ (0 < vec_len all)) → IsStored objects base last
+last_is objects base all rest (Some x) read is some =
+    let there : Has all.items x = subst (λ l. Has l x) (sym is) (has_right rest (x ∷ []) x (inl refl)) in
+    one_is texts_total texts_antisymmetric objects base (stored_of x).0 (stored_of x).1 (subst (λ l. Has l (stored_of x)) read (mapped_has stored_of all.items x there))
+last_is objects base all rest None read is some = none_of objects base all.items read (λ more. absurd (let e = some.1 (omega (arith, all.ok.0, more)) in cc))
+
+-- ---- what is answered changes nothing
+
+pub same_of : (old new : State) → IsUnderWay old → (params : Row) (rows : List Row) → Shown of_text params old new rows → IsUnchanged old new
+same_of old new under params rows shown = answered_same object.name object.columns object.primary old new under (λ has. has.1.0) of_text (λ at tree. Select (whole of_one tree) names) of_is params rows shown
+
+pub same_keys : (old new : State) → IsUnderWay old → (params : Row) (rows : List Row) → Shown keys_text params old new rows → IsUnchanged old new
+same_keys old new under params rows shown = answered_same object.name object.columns object.primary old new under (λ has. has.1.0) keys_text (λ at tree. Select (keys_whole tree) (codes "base" ∷ [])) keys_is params rows shown

@@ -25,7 +25,7 @@ use Rattle.sqlite_resolve.specs.Program.{program}
 use Rattle.sqlite_resolve.specs.Write.{over}
 use Rattle.sqlite_rules.specs.Edit.{next_rowid, is_taken, id_in}
 use Rattle.sqlite_tied.specs.Compute.{everything}
-use Rattle.sqlite.specs.State.{State, ExecutesInside}
+use Rattle.sqlite.specs.State.{State, ExecutesInside, IsUnchanged, Shown}
 use Rattle.rows.specs.declared.failure.Failure.{Failure}
 use Rattle.rows.specs.declared.profiles.Profile.{Profile}
 use Rattle.rows.specs.Forms.{profile}
@@ -44,7 +44,7 @@ use Rattle.rows.proofs.Entries.{put_map}
 use Rattle.rows.proofs.Members.{keyed_put}
 use Rattle.rows.proofs.Places.{changed}
 use Rattle.rows.proofs.ContentsLemmas.{profile_set}
-use Rattle.rows.proofs.Statements.{Compiles, Selects, reads_part, deletes_part, whole_map}
+use Rattle.rows.proofs.Statements.{answered_same, Compiles, Selects, reads_part, deletes_part, whole_map}
 
 -- ---- one more
 
@@ -215,3 +215,14 @@ pub reads_at : (old new : State) (owner : List ℕ) (name : List ℕ) (r : Resul
     → IfOk r (λ all. Stays old new × (map current_of all.items ≡ finite.entries (finite.retain_keys (contents_of old.now).profiles (λ k. eq_by_cmp texts_cmp k.0 owner && eq_by_cmp texts_cmp k.1 name))))
 reads_at old new owner name r under selects up =
     reads_part profile.name profile.columns profile.primary pair_total pair_antisymmetric is_profile profile_of old new under (λ has. has.1.1.1.1.1.1.0) at_text (Text owner ∷ Text name ∷ []) names (query of_two) (λ tree. record { from = refl; group = refl; distinct = refl; whole = λ params rows. refl }) (λ k. eq_by_cmp texts_cmp k.0 owner && eq_by_cmp texts_cmp k.1 name) (λ tree. said_two owner name) ShowsProfile current_of (fits (Text owner ∷ Text name ∷ []) of_two) at_is r selects up
+
+-- ---- what is answered changes nothing
+
+pub same_all : (old new : State) → IsUnderWay old → (params : Row) (rows : List Row) → Shown all_text params old new rows → IsUnchanged old new
+same_all old new under params rows shown = answered_same profile.name profile.columns profile.primary old new under (λ has. has.1.1.1.1.1.1.0) all_text (λ at tree. Select (whole [] tree) names) all_is params rows shown
+
+pub same_of : (old new : State) → IsUnderWay old → (params : Row) (rows : List Row) → Shown of_text params old new rows → IsUnchanged old new
+same_of old new under params rows shown = answered_same profile.name profile.columns profile.primary old new under (λ has. has.1.1.1.1.1.1.0) of_text (λ at tree. Select (whole of_one tree) names) of_is params rows shown
+
+pub same_at : (old new : State) → IsUnderWay old → (params : Row) (rows : List Row) → Shown at_text params old new rows → IsUnchanged old new
+same_at old new under params rows shown = answered_same profile.name profile.columns profile.primary old new under (λ has. has.1.1.1.1.1.1.0) at_text (λ at tree. Select (whole of_two tree) names) at_is params rows shown

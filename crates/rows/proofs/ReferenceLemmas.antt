@@ -24,7 +24,7 @@ use Rattle.sqlite_resolve.specs.Program.{program}
 use Rattle.sqlite_resolve.specs.Write.{over}
 use Rattle.sqlite_rules.specs.Edit.{next_rowid, is_taken}
 use Rattle.sqlite_tied.specs.Compute.{everything}
-use Rattle.sqlite.specs.State.{State, ExecutesInside}
+use Rattle.sqlite.specs.State.{State, ExecutesInside, IsUnchanged, Shown}
 use Rattle.rows.specs.declared.failure.Failure.{Failure}
 use Rattle.rows.specs.declared.references.Reference.{Reference}
 use Rattle.rows.specs.Forms.{refs}
@@ -43,7 +43,7 @@ use Rattle.rows.proofs.Entries.{put_set}
 use Rattle.rows.proofs.Members.{keyed_put}
 use Rattle.rows.proofs.Places.{changed}
 use Rattle.rows.proofs.ContentsLemmas.{refs_set}
-use Rattle.rows.proofs.Statements.{Compiles, Selects, reads_part, deletes_part, whole_map}
+use Rattle.rows.proofs.Statements.{answered_same, Compiles, Selects, reads_part, deletes_part, whole_map}
 
 -- ---- one more
 
@@ -180,3 +180,11 @@ pub reads_of : (old new : State) (base : List ℕ) (r : Result (Vec Reference Gl
     → IfOk r (λ all. Stays old new × (map reference_of all.items ≡ finite.entries (finite.retain_keys (contents_of old.now).refs (λ k. eq_by_cmp texts_cmp k.0 base))))
 reads_of old new base r under selects up =
     reads_part refs.name refs.columns refs.primary pair_total pair_antisymmetric is_pair member_of old new under (λ has. has.1.1.0) of_text (Text base ∷ []) names (query of_one) (λ tree. record { from = refl; group = refl; distinct = refl; whole = λ params rows. refl }) (λ k. eq_by_cmp texts_cmp k.0 base) (λ tree. said_one base) ShowsReference reference_of (fits (Text base ∷ []) of_one) of_is r selects up
+
+-- ---- what is answered changes nothing
+
+pub same_all : (old new : State) → IsUnderWay old → (params : Row) (rows : List Row) → Shown all_text params old new rows → IsUnchanged old new
+same_all old new under params rows shown = answered_same refs.name refs.columns refs.primary old new under (λ has. has.1.1.0) all_text (λ at tree. Select (whole [] tree) names) all_is params rows shown
+
+pub same_of : (old new : State) → IsUnderWay old → (params : Row) (rows : List Row) → Shown of_text params old new rows → IsUnchanged old new
+same_of old new under params rows shown = answered_same refs.name refs.columns refs.primary old new under (λ has. has.1.1.0) of_text (λ at tree. Select (whole of_one tree) names) of_is params rows shown

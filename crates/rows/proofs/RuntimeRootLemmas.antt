@@ -24,7 +24,7 @@ use Rattle.sqlite_resolve.specs.Program.{program}
 use Rattle.sqlite_resolve.specs.Write.{over}
 use Rattle.sqlite_rules.specs.Edit.{next_rowid, is_taken}
 use Rattle.sqlite_tied.specs.Compute.{everything}
-use Rattle.sqlite.specs.State.{State, ExecutesInside}
+use Rattle.sqlite.specs.State.{State, ExecutesInside, IsUnchanged, Shown}
 use Rattle.rows.specs.declared.failure.Failure.{Failure}
 use Rattle.rows.specs.declared.runtime.RuntimeRoot.{RuntimeRoot}
 use Rattle.rows.specs.Forms.{runtime}
@@ -43,7 +43,7 @@ use Rattle.rows.proofs.Entries.{put_set}
 use Rattle.rows.proofs.Members.{keyed_put}
 use Rattle.rows.proofs.Places.{changed}
 use Rattle.rows.proofs.ContentsLemmas.{runtime_set}
-use Rattle.rows.proofs.Statements.{Compiles, Selects, reads_part, deletes_part, whole_map}
+use Rattle.rows.proofs.Statements.{answered_same, Compiles, Selects, reads_part, deletes_part, whole_map}
 
 -- ---- one more
 
@@ -154,3 +154,8 @@ pub reads_all : (old new : State) (r : Result (Vec RuntimeRoot Global) Failure) 
 reads_all old new r under selects up =
     whole_map pair_total pair_antisymmetric runtime_of r (Stays old new) (contents_of old.now).runtime
     (reads_part runtime.name runtime.columns runtime.primary pair_total pair_antisymmetric is_pair member_of old new under (λ has. has.1.1.1.1.1.1.1.1.0) all_text [] names (query []) (λ tree. record { from = refl; group = refl; distinct = refl; whole = λ params rows. refl }) (λ _. true) (λ tree r kind. refl) ShowsRuntimeRoot runtime_of (fits [] []) all_is r selects up)
+
+-- ---- what is answered changes nothing
+
+pub same_all : (old new : State) → IsUnderWay old → (params : Row) (rows : List Row) → Shown all_text params old new rows → IsUnchanged old new
+same_all old new under params rows shown = answered_same runtime.name runtime.columns runtime.primary old new under (λ has. has.1.1.1.1.1.1.1.1.0) all_text (λ at tree. Select (whole [] tree) names) all_is params rows shown

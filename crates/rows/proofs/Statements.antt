@@ -18,7 +18,7 @@ use Rattle.sqlite_schema.specs.declared.command.Command.TheVariants.{Delete, Sel
 use Rattle.sqlite_resolve.specs.declared.compiled.Compiled.{Compiled}
 use Rattle.sqlite_rules.specs.Edit.{without_all}
 use Rattle.sqlite_rules.specs.Calls.{ids_of}
-use Rattle.sqlite.specs.State.{State, ExecutesInside, Shown}
+use Rattle.sqlite.specs.State.{State, ExecutesInside, IsUnchanged, Shown}
 use Rattle.sqlite.proofs.Callers.{reads_as}
 use Rattle.rows.specs.declared.failure.Failure.{Failure}
 use Rattle.rows.specs.Forms.{strict}
@@ -28,7 +28,7 @@ use Rattle.rows.specs.Calls.{IsKeyed, IsUnderWay, Stays}
 use Rattle.rows.proofs.Orders.{rises_by}
 use Rattle.rows.proofs.Means.{Means, means_command}
 use Rattle.rows.proofs.Writes.{SetsRows, deletes_in, rowids_where, overlay_low}
-use Rattle.rows.proofs.Scans.{IsScan, shows, shown_open, stays_shown}
+use Rattle.rows.proofs.Scans.{IsScan, shows, shown_open, shown_same, stays_shown}
 use Rattle.rows.proofs.Entries.{part_listed, all_kept, left_map}
 use Rattle.rows.proofs.Members.{keyed_left}
 
@@ -39,6 +39,14 @@ Compiles name columns key text command = (s : Schema) (at tree : ℕ) → IsKnow
 -- the entries that were read, with the rows that show them
 abbrev pub Selects : {T : Type 0} → (Row → T → Type 0) → State → State → List ℕ → Row → Result (Vec T Global) Failure → Type 0
 Selects ShowsItem old new text params r = IfOk r (λ all. (rows : List Row) × Shown text params old new rows × AllZip ShowsItem rows all.items)
+
+-- a query that was answered changed nothing
+pub answered_same : (name : List ℕ) (columns : List Column) (key : List ℕ) (old new : State) → IsUnderWay old → (HasTables old.now.schema → Stands old.now.schema (strict name columns key)) → (text : List ℕ) (command : ℕ → ℕ → Command) → Compiles name columns key text command → (params : Row) (rows : List Row)
+    → Shown text params old new rows → IsUnchanged old new
+answered_same name columns key old new under at text command is params rows shown =
+    let stands = at (under.ours (shown_open _ _ old new rows shown)).has in
+    let m = means_command old.now.schema text _ (is old.now.schema stands.at (tree_named old.now.schema name) stands.known) in
+    shown_same text params old new rows m.1 shown
 
 -- where no key is left out
 pub whole_map : {K X T : Type 0} {R : K → K → Ordering} (o : IsTotalOrder R) (same : finite.IsAntisymmetric R) (item : T → K × X) (r : Result (Vec T Global) Failure) (P : Type 0) (m : finite.FinMap R X)

@@ -24,7 +24,7 @@ use Rattle.sqlite_resolve.specs.Program.{program}
 use Rattle.sqlite_resolve.specs.Write.{over}
 use Rattle.sqlite_rules.specs.Edit.{next_rowid, is_taken}
 use Rattle.sqlite_tied.specs.Compute.{everything}
-use Rattle.sqlite.specs.State.{State, ExecutesInside}
+use Rattle.sqlite.specs.State.{State, ExecutesInside, IsUnchanged, Shown}
 use Rattle.rows.specs.declared.failure.Failure.{Failure}
 use Rattle.rows.specs.declared.user_roots.UserRoot.{UserRoot}
 use Rattle.rows.specs.Forms.{user_root}
@@ -43,7 +43,7 @@ use Rattle.rows.proofs.Entries.{put_map}
 use Rattle.rows.proofs.Members.{keyed_put}
 use Rattle.rows.proofs.Places.{changed}
 use Rattle.rows.proofs.ContentsLemmas.{user_root_set}
-use Rattle.rows.proofs.Statements.{Compiles, Selects, reads_part, deletes_part, whole_map}
+use Rattle.rows.proofs.Statements.{answered_same, Compiles, Selects, reads_part, deletes_part, whole_map}
 
 -- ---- one more
 
@@ -214,3 +214,14 @@ pub reads_at : (old new : State) (owner : List ℕ) (name : List ℕ) (r : Resul
     → IfOk r (λ all. Stays old new × (map user_root_of all.items ≡ finite.entries (finite.retain_keys (contents_of old.now).user_roots (λ k. eq_by_cmp texts_cmp k.0 owner && eq_by_cmp texts_cmp k.1 name))))
 reads_at old new owner name r under selects up =
     reads_part user_root.name user_root.columns user_root.primary pair_total pair_antisymmetric is_triple target_of old new under (λ has. has.1.1.1.1.1.0) at_text (Text owner ∷ Text name ∷ []) names (query of_two) (λ tree. record { from = refl; group = refl; distinct = refl; whole = λ params rows. refl }) (λ k. eq_by_cmp texts_cmp k.0 owner && eq_by_cmp texts_cmp k.1 name) (λ tree. said_two owner name) ShowsUserRoot user_root_of (fits (Text owner ∷ Text name ∷ []) of_two) at_is r selects up
+
+-- ---- what is answered changes nothing
+
+pub same_all : (old new : State) → IsUnderWay old → (params : Row) (rows : List Row) → Shown all_text params old new rows → IsUnchanged old new
+same_all old new under params rows shown = answered_same user_root.name user_root.columns user_root.primary old new under (λ has. has.1.1.1.1.1.0) all_text (λ at tree. Select (whole [] tree) names) all_is params rows shown
+
+pub same_of : (old new : State) → IsUnderWay old → (params : Row) (rows : List Row) → Shown of_text params old new rows → IsUnchanged old new
+same_of old new under params rows shown = answered_same user_root.name user_root.columns user_root.primary old new under (λ has. has.1.1.1.1.1.0) of_text (λ at tree. Select (whole of_one tree) names) of_is params rows shown
+
+pub same_at : (old new : State) → IsUnderWay old → (params : Row) (rows : List Row) → Shown at_text params old new rows → IsUnchanged old new
+same_at old new under params rows shown = answered_same user_root.name user_root.columns user_root.primary old new under (λ has. has.1.1.1.1.1.0) at_text (λ at tree. Select (whole of_two tree) names) at_is params rows shown

@@ -1,10 +1,11 @@
 -- What an entry that a call hands out stands for, and the columns of a row that shows it.
-use Rattle.std.specs.Prelude.{◌≡◌, ◌≢◌, ℕ, ℤ, List, Option, String, MatchOption, option_map, string_bytes}
+use Rattle.std.specs.Prelude.{◌≡◌, ◌≢◌, ℕ, ℤ, List, Option, Some, None, String, MatchOption, option_map, string_bytes}
 use Rattle.std.specs.declared.alloc.Global.{Global}
 use Rattle.sqlite_value.specs.declared.value.Value.{Value}
 use Rattle.sqlite_value.specs.declared.value.Value.TheVariants.{Null, Int, Text, Blob}
 use Rattle.sqlite_value.specs.Order.{Row, column}
-use Rattle.rows.specs.Contents.{Bytes, Pair, Triple, Stored}
+use Rattle.std.specs.FinMap as finite
+use Rattle.rows.specs.Contents.{Bytes, Pair, Triple, Stored, texts_cmp}
 use Rattle.rows.specs.declared.meta.Setting.{Setting}
 use Rattle.rows.specs.declared.objects.Object.{Object}
 use Rattle.rows.specs.declared.references.Reference.{Reference}
@@ -35,6 +36,10 @@ ShowsSetting row e = (column row 0 ≡ Text (string_bytes e.word)) × (column ro
 
 abbrev pub stored_of : Object → Bytes × Stored
 stored_of e = (string_bytes e.base, stored e.nar.items e.hash.items e.deriver e.ca)
+
+-- the object of this path, if there is one
+abbrev pub IsStored : finite.FinMap texts_cmp Stored → Bytes → Option Object → Type 0
+IsStored objects base o = MatchOption o (finite.get objects base ≡ None) (λ e. ((stored_of e).0 ≡ base) × (finite.get objects base ≡ Some (stored_of e).1))
 
 abbrev pub ShowsObject : Row → Object → Type 0
 ShowsObject row e = (column row 0 ≡ Text (string_bytes e.base)) × (column row 1 ≡ Blob e.nar.items) × (column row 2 ≡ Blob e.hash.items) × ShowsOptional (column row 3) e.deriver × ShowsOptional (column row 4) e.ca

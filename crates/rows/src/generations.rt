@@ -1,10 +1,11 @@
 //! The generations of profiles.
 
-ghost use Rattle.std.specs.Prelude.{◌≡◌, ◌&&◌, IfOk, OnOk, OnErr, IsTrue, None, map, not, pos};
+ghost use Rattle.std.specs.Prelude.{◌≡◌, ◌&&◌, IfOk, IfErr, OnOk, OnErr, IsTrue, None, map, not, pos};
 ghost use Rattle.std.specs.Ordering.{eq_by_cmp, is_lt, int_cmp};
 ghost use Rattle.std.specs.FinMap as finite;
 ghost use Rattle.sqlite.specs.State.{HasCleanDisk, KeepsCommit, Survives};
 ghost use Rattle.sqlite.specs.Held.{state};
+ghost use Rattle.rows.specs.Failures.{FailsFor};
 ghost use Rattle.rows.specs.Calls.{IsUnderWay, Changes, Stays};
 ghost use Rattle.rows.specs.Contents.{texts_cmp, triple_cmp, contents_of};
 ghost use Rattle.rows.specs.Entries.{generation_in, ShowsGeneration};
@@ -58,6 +59,7 @@ pub fn all<S: Alter>(alloc: Global, tx: &mut Transaction<'_, S>) -> Result<Vec<G
     ensures same_reference { tx.new.conn.ghost_name ≡ tx.old.conn.ghost_name }
     ensures reads { HasCleanDisk (state S.Store tx.new.conn.now) → IfOk result (λ all. Stays (state S.Store tx.old.conn.now) (state S.Store tx.new.conn.now)
         × (map generation_in all.items ≡ finite.entries (contents_of (state S.Store tx.old.conn.now).now).generations)) }
+    ensures cause { HasCleanDisk (state S.Store tx.new.conn.now) → IfErr result (FailsFor (state S.Store tx.old.conn.now) (state S.Store tx.new.conn.now)) }
     ensures failed { HasCleanDisk (state S.Store tx.new.conn.now) → OnErr result (KeepsCommit (state S.Store tx.old.conn.now) (state S.Store tx.new.conn.now)) }
     ensures survives { Survives (state S.Store tx.old.conn.now) (state S.Store tx.new.conn.now) (λ _. ⊥) }
 {
@@ -80,6 +82,7 @@ pub fn of<S: Alter>(
     ensures same_reference { tx.new.conn.ghost_name ≡ tx.old.conn.ghost_name }
     ensures reads { HasCleanDisk (state S.Store tx.new.conn.now) → IfOk result (λ all. Stays (state S.Store tx.old.conn.now) (state S.Store tx.new.conn.now)
         × (map generation_in all.items ≡ finite.entries (finite.retain_keys (contents_of (state S.Store tx.old.conn.now).now).generations (λ k. eq_by_cmp texts_cmp k.0 owner.now && eq_by_cmp texts_cmp k.1 name.now)))) }
+    ensures cause { HasCleanDisk (state S.Store tx.new.conn.now) → IfErr result (FailsFor (state S.Store tx.old.conn.now) (state S.Store tx.new.conn.now)) }
     ensures failed { HasCleanDisk (state S.Store tx.new.conn.now) → OnErr result (KeepsCommit (state S.Store tx.old.conn.now) (state S.Store tx.new.conn.now)) }
     ensures survives { Survives (state S.Store tx.old.conn.now) (state S.Store tx.new.conn.now) (λ _. ⊥) }
 {
@@ -104,6 +107,7 @@ pub fn insert<S: Alter>(
     ensures same_reference { tx.new.conn.ghost_name ≡ tx.old.conn.ghost_name }
     ensures done { HasCleanDisk (state S.Store tx.new.conn.now) → OnOk result (Changes (state S.Store tx.old.conn.now) (state S.Store tx.new.conn.now)
         (λ c. record c { generations = finite.insert c.generations (owner.now, name.now, (pos number)) target.now })) }
+    ensures cause { HasCleanDisk (state S.Store tx.new.conn.now) → IfErr result (FailsFor (state S.Store tx.old.conn.now) (state S.Store tx.new.conn.now)) }
     ensures failed { HasCleanDisk (state S.Store tx.new.conn.now) → OnErr result (KeepsCommit (state S.Store tx.old.conn.now) (state S.Store tx.new.conn.now)) }
     ensures survives { Survives (state S.Store tx.old.conn.now) (state S.Store tx.new.conn.now) (λ _. ⊥) }
 {
@@ -125,6 +129,7 @@ pub fn delete<S: Alter>(
     ensures same_reference { tx.new.conn.ghost_name ≡ tx.old.conn.ghost_name }
     ensures done { HasCleanDisk (state S.Store tx.new.conn.now) → OnOk result (Changes (state S.Store tx.old.conn.now) (state S.Store tx.new.conn.now)
         (λ c. record c { generations = finite.retain_keys c.generations (λ k. not (eq_by_cmp texts_cmp k.0 owner.now && (eq_by_cmp texts_cmp k.1 name.now && eq_by_cmp int_cmp k.2 (pos number)))) })) }
+    ensures cause { HasCleanDisk (state S.Store tx.new.conn.now) → IfErr result (FailsFor (state S.Store tx.old.conn.now) (state S.Store tx.new.conn.now)) }
     ensures failed { HasCleanDisk (state S.Store tx.new.conn.now) → OnErr result (KeepsCommit (state S.Store tx.old.conn.now) (state S.Store tx.new.conn.now)) }
     ensures survives { Survives (state S.Store tx.old.conn.now) (state S.Store tx.new.conn.now) (λ _. ⊥) }
 {

@@ -1,13 +1,14 @@
 //! The objects, with their archives.
 
-ghost use Rattle.std.specs.Prelude.{◌≡◌, ◌&&◌, IfOk, OnOk, OnErr, IsTrue, None, map, not, pos, string_bytes};
+ghost use Rattle.std.specs.Prelude.{◌≡◌, ◌&&◌, IfOk, IfErr, OnOk, OnErr, IsTrue, None, map, not, pos, string_bytes};
 ghost use Rattle.std.specs.Ordering.{eq_by_cmp, is_lt, int_cmp};
 ghost use Rattle.std.specs.FinMap as finite;
 ghost use Rattle.sqlite.specs.State.{HasCleanDisk, KeepsCommit, Survives};
 ghost use Rattle.sqlite.specs.Held.{state};
+ghost use Rattle.rows.specs.Failures.{FailsFor};
 ghost use Rattle.rows.specs.Calls.{IsUnderWay, Changes, Stays};
 ghost use Rattle.rows.specs.Contents.{texts_cmp, contents_of};
-ghost use Rattle.rows.specs.Entries.{stored_of, ShowsObject, stored};
+ghost use Rattle.rows.specs.Entries.{stored_of, ShowsObject, IsStored, stored};
 
 use crate::entry::Entry;
 use crate::failure::Failure;
@@ -51,6 +52,7 @@ pub fn keys<S: Alter>(alloc: Global, tx: &mut Transaction<'_, S>) -> Result<Vec<
     ensures same_reference { tx.new.conn.ghost_name ≡ tx.old.conn.ghost_name }
     ensures reads { HasCleanDisk (state S.Store tx.new.conn.now) → IfOk result (λ all. Stays (state S.Store tx.old.conn.now) (state S.Store tx.new.conn.now)
         × (map string_bytes all.items ≡ finite.keys (contents_of (state S.Store tx.old.conn.now).now).objects)) }
+    ensures cause { HasCleanDisk (state S.Store tx.new.conn.now) → IfErr result (FailsFor (state S.Store tx.old.conn.now) (state S.Store tx.new.conn.now)) }
     ensures failed { HasCleanDisk (state S.Store tx.new.conn.now) → OnErr result (KeepsCommit (state S.Store tx.old.conn.now) (state S.Store tx.new.conn.now)) }
     ensures survives { Survives (state S.Store tx.old.conn.now) (state S.Store tx.new.conn.now) (λ _. ⊥) }
 {
@@ -58,6 +60,24 @@ pub fn keys<S: Alter>(alloc: Global, tx: &mut Transaction<'_, S>) -> Result<Vec<
 }
 
 /// The object of this base, if there is one.
+pub fn get<S: Alter>(
+    alloc: Global,
+    tx: &mut Transaction<'_, S>,
+    base: &str,
+) -> Result<Option<Object>, Failure>
+    requires { HasCleanDisk (state S.Store tx.old.conn.now) → IsUnderWay (state S.Store tx.old.conn.now) }
+    ensures same_reference { tx.new.conn.ghost_name ≡ tx.old.conn.ghost_name }
+    ensures reads { HasCleanDisk (state S.Store tx.new.conn.now) → IfOk result (λ o. Stays (state S.Store tx.old.conn.now) (state S.Store tx.new.conn.now)
+        × IsStored (contents_of (state S.Store tx.old.conn.now).now).objects base.now o) }
+    ensures cause { HasCleanDisk (state S.Store tx.new.conn.now) → IfErr result (FailsFor (state S.Store tx.old.conn.now) (state S.Store tx.new.conn.now)) }
+    ensures failed { HasCleanDisk (state S.Store tx.new.conn.now) → OnErr result (KeepsCommit (state S.Store tx.old.conn.now) (state S.Store tx.new.conn.now)) }
+    ensures survives { Survives (state S.Store tx.old.conn.now) (state S.Store tx.new.conn.now) (λ _. ⊥) }
+{
+    let mut found = of(alloc, tx, base)?;
+    Ok(found.pop())
+}
+
+/// The object of this base, if there is one, as a list of at most one.
 pub fn of<S: Alter>(
     alloc: Global,
     tx: &mut Transaction<'_, S>,
@@ -67,6 +87,7 @@ pub fn of<S: Alter>(
     ensures same_reference { tx.new.conn.ghost_name ≡ tx.old.conn.ghost_name }
     ensures reads { HasCleanDisk (state S.Store tx.new.conn.now) → IfOk result (λ all. Stays (state S.Store tx.old.conn.now) (state S.Store tx.new.conn.now)
         × (map stored_of all.items ≡ finite.entries (finite.retain_keys (contents_of (state S.Store tx.old.conn.now).now).objects (λ k. eq_by_cmp texts_cmp k base.now)))) }
+    ensures cause { HasCleanDisk (state S.Store tx.new.conn.now) → IfErr result (FailsFor (state S.Store tx.old.conn.now) (state S.Store tx.new.conn.now)) }
     ensures failed { HasCleanDisk (state S.Store tx.new.conn.now) → OnErr result (KeepsCommit (state S.Store tx.old.conn.now) (state S.Store tx.new.conn.now)) }
     ensures survives { Survives (state S.Store tx.old.conn.now) (state S.Store tx.new.conn.now) (λ _. ⊥) }
 {
@@ -92,6 +113,7 @@ pub fn insert<S: Alter>(
     ensures same_reference { tx.new.conn.ghost_name ≡ tx.old.conn.ghost_name }
     ensures done { HasCleanDisk (state S.Store tx.new.conn.now) → OnOk result (Changes (state S.Store tx.old.conn.now) (state S.Store tx.new.conn.now)
         (λ c. record c { objects = finite.insert c.objects base.now (stored nar.now hash.now deriver.now ca.now) })) }
+    ensures cause { HasCleanDisk (state S.Store tx.new.conn.now) → IfErr result (FailsFor (state S.Store tx.old.conn.now) (state S.Store tx.new.conn.now)) }
     ensures failed { HasCleanDisk (state S.Store tx.new.conn.now) → OnErr result (KeepsCommit (state S.Store tx.old.conn.now) (state S.Store tx.new.conn.now)) }
     ensures survives { Survives (state S.Store tx.old.conn.now) (state S.Store tx.new.conn.now) (λ _. ⊥) }
 {
@@ -108,6 +130,7 @@ pub fn delete<S: Alter>(tx: &mut Transaction<'_, S>, base: &str) -> Result<(), F
     ensures same_reference { tx.new.conn.ghost_name ≡ tx.old.conn.ghost_name }
     ensures done { HasCleanDisk (state S.Store tx.new.conn.now) → OnOk result (Changes (state S.Store tx.old.conn.now) (state S.Store tx.new.conn.now)
         (λ c. record c { objects = finite.retain_keys c.objects (λ k. not (eq_by_cmp texts_cmp k base.now)) })) }
+    ensures cause { HasCleanDisk (state S.Store tx.new.conn.now) → IfErr result (FailsFor (state S.Store tx.old.conn.now) (state S.Store tx.new.conn.now)) }
     ensures failed { HasCleanDisk (state S.Store tx.new.conn.now) → OnErr result (KeepsCommit (state S.Store tx.old.conn.now) (state S.Store tx.new.conn.now)) }
     ensures survives { Survives (state S.Store tx.old.conn.now) (state S.Store tx.new.conn.now) (λ _. ⊥) }
 {

@@ -1,10 +1,11 @@
 //! The references: which path an object refers to.
 
-ghost use Rattle.std.specs.Prelude.{◌≡◌, ◌&&◌, IfOk, OnOk, OnErr, IsTrue, None, map, not, pos};
+ghost use Rattle.std.specs.Prelude.{◌≡◌, ◌&&◌, IfOk, IfErr, OnOk, OnErr, IsTrue, None, map, not, pos};
 ghost use Rattle.std.specs.Ordering.{eq_by_cmp, is_lt, int_cmp};
 ghost use Rattle.std.specs.FinMap as finite;
 ghost use Rattle.sqlite.specs.State.{HasCleanDisk, KeepsCommit, Survives};
 ghost use Rattle.sqlite.specs.Held.{state};
+ghost use Rattle.rows.specs.Failures.{FailsFor};
 ghost use Rattle.rows.specs.Calls.{IsUnderWay, Changes, Stays};
 ghost use Rattle.rows.specs.Contents.{texts_cmp, pair_cmp, contents_of};
 ghost use Rattle.rows.specs.Entries.{reference_of, ShowsReference};
@@ -50,6 +51,7 @@ pub fn all<S: Alter>(alloc: Global, tx: &mut Transaction<'_, S>) -> Result<Vec<R
     ensures same_reference { tx.new.conn.ghost_name ≡ tx.old.conn.ghost_name }
     ensures reads { HasCleanDisk (state S.Store tx.new.conn.now) → IfOk result (λ all. Stays (state S.Store tx.old.conn.now) (state S.Store tx.new.conn.now)
         × (map reference_of all.items ≡ finite.entries (contents_of (state S.Store tx.old.conn.now).now).refs)) }
+    ensures cause { HasCleanDisk (state S.Store tx.new.conn.now) → IfErr result (FailsFor (state S.Store tx.old.conn.now) (state S.Store tx.new.conn.now)) }
     ensures failed { HasCleanDisk (state S.Store tx.new.conn.now) → OnErr result (KeepsCommit (state S.Store tx.old.conn.now) (state S.Store tx.new.conn.now)) }
     ensures survives { Survives (state S.Store tx.old.conn.now) (state S.Store tx.new.conn.now) (λ _. ⊥) }
 {
@@ -71,6 +73,7 @@ pub fn of<S: Alter>(
     ensures same_reference { tx.new.conn.ghost_name ≡ tx.old.conn.ghost_name }
     ensures reads { HasCleanDisk (state S.Store tx.new.conn.now) → IfOk result (λ all. Stays (state S.Store tx.old.conn.now) (state S.Store tx.new.conn.now)
         × (map reference_of all.items ≡ finite.entries (finite.retain_keys (contents_of (state S.Store tx.old.conn.now).now).refs (λ k. eq_by_cmp texts_cmp k.0 base.now)))) }
+    ensures cause { HasCleanDisk (state S.Store tx.new.conn.now) → IfErr result (FailsFor (state S.Store tx.old.conn.now) (state S.Store tx.new.conn.now)) }
     ensures failed { HasCleanDisk (state S.Store tx.new.conn.now) → OnErr result (KeepsCommit (state S.Store tx.old.conn.now) (state S.Store tx.new.conn.now)) }
     ensures survives { Survives (state S.Store tx.old.conn.now) (state S.Store tx.new.conn.now) (λ _. ⊥) }
 {
@@ -92,6 +95,7 @@ pub fn insert<S: Alter>(
     ensures same_reference { tx.new.conn.ghost_name ≡ tx.old.conn.ghost_name }
     ensures done { HasCleanDisk (state S.Store tx.new.conn.now) → OnOk result (Changes (state S.Store tx.old.conn.now) (state S.Store tx.new.conn.now)
         (λ c. record c { refs = finite.insert c.refs (base.now, target.now) tt })) }
+    ensures cause { HasCleanDisk (state S.Store tx.new.conn.now) → IfErr result (FailsFor (state S.Store tx.old.conn.now) (state S.Store tx.new.conn.now)) }
     ensures failed { HasCleanDisk (state S.Store tx.new.conn.now) → OnErr result (KeepsCommit (state S.Store tx.old.conn.now) (state S.Store tx.new.conn.now)) }
     ensures survives { Survives (state S.Store tx.old.conn.now) (state S.Store tx.new.conn.now) (λ _. ⊥) }
 {
@@ -108,6 +112,7 @@ pub fn delete_of<S: Alter>(tx: &mut Transaction<'_, S>, base: &str) -> Result<()
     ensures same_reference { tx.new.conn.ghost_name ≡ tx.old.conn.ghost_name }
     ensures done { HasCleanDisk (state S.Store tx.new.conn.now) → OnOk result (Changes (state S.Store tx.old.conn.now) (state S.Store tx.new.conn.now)
         (λ c. record c { refs = finite.retain_keys c.refs (λ k. not (eq_by_cmp texts_cmp k.0 base.now)) })) }
+    ensures cause { HasCleanDisk (state S.Store tx.new.conn.now) → IfErr result (FailsFor (state S.Store tx.old.conn.now) (state S.Store tx.new.conn.now)) }
     ensures failed { HasCleanDisk (state S.Store tx.new.conn.now) → OnErr result (KeepsCommit (state S.Store tx.old.conn.now) (state S.Store tx.new.conn.now)) }
     ensures survives { Survives (state S.Store tx.old.conn.now) (state S.Store tx.new.conn.now) (λ _. ⊥) }
 {
