@@ -276,16 +276,27 @@ fn delete_all<S: Alter>(tx: &mut Transaction<'_, S>) -> Result<(), Failure>
     generations::delete(tx, "1000", "q", 1)
 }
 
-fn fill<S: Alter>(alloc: Global, conn: &mut Connection<S>) -> Result<(), Fail>
+fn filled<S: Alter>(alloc: Global, conn: &mut Connection<S>) -> Result<Finding, Failure>
     requires alone { conn.old.in_transaction ≡ false }
     ensures alone { conn.new.in_transaction ≡ false }
 {
-    if opening::open(alloc, conn)? != Finding::Ours {
-        return Err(Fail::new("not ours"));
+    let found = opening::open(alloc, conn)?;
+    if found != Finding::Ours {
+        return Ok(found);
     }
     let mut tx = transaction::begin(conn);
     put_all(alloc, &mut tx)?;
     transaction::commit(tx)?;
+    Ok(found)
+}
+
+fn fill<S: Alter>(alloc: Global, conn: &mut Connection<S>) -> Result<(), Fail>
+    requires alone { conn.old.in_transaction ≡ false }
+    ensures alone { conn.new.in_transaction ≡ false }
+{
+    if filled(alloc, conn)? != Finding::Ours {
+        return Err(Fail::new("not ours"));
+    }
     Ok(())
 }
 
@@ -315,12 +326,12 @@ fn clear_in_vain<S: Alter>(alloc: Global, conn: &mut Connection<S>) -> Result<()
     Ok(())
 }
 
-fn shown<S: Alter>(alloc: Global, conn: &mut Connection<S>) -> Result<String, Fail>
+fn shown<S: Alter>(alloc: Global, conn: &mut Connection<S>) -> Result<String, Failure>
     requires alone { conn.old.in_transaction ≡ false }
     ensures alone { conn.new.in_transaction ≡ false }
 {
     if opening::open(alloc, conn)? != Finding::Ours {
-        return Err(Fail::new("not ours"));
+        return Ok(String::from_str(alloc, "not ours")?);
     }
     let mut tx = transaction::begin(conn);
     let first = first_shown(alloc, &mut tx)?;
@@ -450,7 +461,7 @@ fn text_of<S: Alter>(conn: &mut Connection<S>, query: &str) -> Result<String, Er
     conn.query_row(query, &[])?.get(0)
 }
 
-/// Their tables stand before ours, after ours, or both.
+/// Their tables stand before ours, between them, after them, or both.
 fn beside(alloc: Global, texts: &[&str], before: bool, after: bool) -> Result<(), Fail> {
     let mut conn = Connection::open_in_memory(alloc)?;
     run(&mut conn, texts)?;
@@ -477,19 +488,22 @@ fn tables_of_somebody_else(rt: HostRuntime) -> Result<(), Fail> {
     }
     beside(alloc, &[BEFORE, ours.as_str()], true, false)?;
     beside(alloc, &[ours.as_str(), AFTER], false, true)?;
-    beside(alloc, &[BEFORE, ours.as_str(), AFTER], true, true)
+    beside(alloc, &[BEFORE, ours.as_str(), AFTER], true, true)?;
+    let mut between = Vec::from_array(alloc, TABLES)?;
+    between.insert(4, BEFORE)?;
+    between.push(AFTER)?;
+    beside(alloc, &between, true, true)
 }
 
-fn make<S: Alter>(conn: &mut Connection<S>) -> Result<(), Fail>
+fn make<S: Alter>(conn: &mut Connection<S>) -> Result<(), Failure>
     requires alone { conn.old.in_transaction ≡ false }
     ensures alone { conn.new.in_transaction ≡ false }
 {
     let found = opening::find(conn);
     if let Finding::Nothing = found {
         making::make(conn, "/nix/store")?;
-        return Ok(());
     }
-    Err(Fail::new("something of ours"))
+    Ok(())
 }
 
 /// The tables are ours, `meta` has its two settings, and the others have no row.
@@ -541,3 +555,46 @@ fn made_on_a_file(rt: HostRuntime) -> Result<(), Fail> {
     fs::remove_dir_all(&rt, "rows_making")?;
     Ok(())
 }
+
+// Run with each allocation refused in turn: all nine are made, or the answer is `Memory` and there is nothing of ours.
+#[test]
+fn refused_while_making(rt: HostRuntime) {
+    let Ok(mut conn) = Connection::open_in_memory(rt.alloc()) else {
+        return;
+    };
+    let made = make(&mut conn);
+    let found = opening::find(&conn);
+    match made {
+        Ok(()) => assert_eq!(rt; found, Finding::Ours),
+        Err(failure) => {
+            assert_eq!(rt; failure, Failure::Memory);
+            assert_eq!(rt; found, Finding::Nothing);
+        }
+    }
+}
+
+// The same of rows: all are put, or the answer is `Memory` and none is.
+#[test]
+fn refused_while_filling(rt: HostRuntime) {
+    let alloc = rt.alloc();
+    let Ok(mut conn) = Connection::open_in_memory(alloc) else {
+        return;
+    };
+    if make(&mut conn).is_err() {
+        return;
+    }
+    let failed = filled(alloc, &mut conn).err();
+    match shown(alloc, &mut conn) {
+        Ok(text) => match failed {
+            None => assert!(rt; text.as_str().ends_with(PUT)),
+            Some(failure) => {
+                assert_eq!(rt; failure, Failure::Memory);
+                assert_eq!(rt; text.as_str(), MADE);
+            }
+        },
+        Err(failure) => assert_eq!(rt; failure, Failure::Memory),
+    }
+}
+
+/// The last rows that are shown of those that are put.
+const PUT: &str = "number: 2, target: \"b\" }][RuntimeRoot { label: \"r\", target: \"a\" }]";
