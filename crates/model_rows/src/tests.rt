@@ -102,18 +102,22 @@ fn imported(alloc: Global, path: &str, refs: &[&str], nar: &[u8]) -> Result<Impo
     })
 }
 
+fn archive(alloc: Global, node: &Node<'_>) -> Result<Vec<u8>, Fail> {
+    let mut nar = Vec::new(alloc);
+    if !nar::is_writable(node) {
+        return Err(Fail::new("too large"));
+    }
+    nar::write(node, &mut nar)?;
+    Ok(nar)
+}
+
 /// The archive of a file that isn't executable.
 fn file(alloc: Global, contents: &[u8]) -> Result<Vec<u8>, Fail> {
-    let mut nar = Vec::new(alloc);
     let node = Node::Regular {
         executable: false,
         contents,
     };
-    if !nar::is_writable(&node) {
-        return Err(Fail::new("too large"));
-    }
-    nar::write(&node, &mut nar)?;
-    Ok(nar)
+    archive(alloc, &node)
 }
 
 /// A base name as rows write it: `[0]-p` where it begins with 32 times the digit.

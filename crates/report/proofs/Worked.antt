@@ -17,11 +17,42 @@ denials = record { connect = refl; hidden = refl; seen = refl }
 
 pub refusals : HasWorkedRefusals
 unfolding digits
-refusals = record { not_valid = refl; archive = refl; malformed = refl; doubled = refl; reference = refl; hash = refl; configuration = refl; head = refl; body = refl; memory = refl; size = refl; disk = refl }
+refusals = record {
+  truncated = refl;
+  bad_tag = refl;
+  bad_padding = refl;
+  bad_name = refl;
+  not_sorted = refl;
+  too_deep = refl;
+  trailing = refl;
+  too_large = refl;
+  ca_mismatch = refl;
+  malformed = refl;
+  doubled = refl;
+  not_valid = refl;
+  reference = refl;
+  hash = refl;
+  self_reference = refl;
+  no_root = refl;
+  no_profile = refl;
+  no_generation = refl;
+  current = refl;
+  no_older = refl;
+  limit = refl;
+  references = refl;
+  root_name = refl;
+  label = refl;
+  configuration = refl;
+  head = refl;
+  body = refl;
+  memory = refl;
+  size = refl;
+  disk = refl;
+}
 
 pub answers : HasWorkedAnswers
 unfolding digits
-answers = record { path = refl; none = refl; two = refl; roots = refl; changed = refl; generation = refl; runtime = refl; nothing = refl; freed = refl }
+answers = record { path = refl; none = refl; two = refl; roots = refl; archive = refl; listing = refl; changed = refl; generation = refl; runtime = refl; nothing = refl; freed = refl }
 
 pub usages : HasWorkedUsage
 unfolding digits
@@ -29,7 +60,7 @@ usages = record { two = refl; wide = refl }
 
 pub record_text : HasWorkedNarinfo
 unfolding digits base32 digits_of
-record_text = record { source = refl; derived = refl }
+record_text = record { source = refl; derived = refl; both = refl }
 
 -- ---- a store that was just made
 

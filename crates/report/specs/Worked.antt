@@ -1,11 +1,11 @@
 -- Worked texts, line by line.
 use Rattle.std.specs.Prelude.{◌≡◌, ℕ, List, [], ◌∷◌, codes, Some, None}
-use Rattle.nar.specs.declared.error.NarError.TheVariants.{NotSorted}
+use Rattle.nar.specs.declared.error.NarError.TheVariants.{Truncated, BadTag, BadPadding, BadName, NotSorted, TooDeep, Trailing, TooLarge}
 use Rattle.drv.specs.declared.error.DrvError.TheVariants.{BadDerivation, DoubleOutput}
-use Rattle.paths.specs.declared.content_address.Method.TheVariants.{Source}
+use Rattle.paths.specs.declared.content_address.Method.TheVariants.{Source, Text}
 use Rattle.policy.specs.declared.error.KeyWord.TheVariants.{StoreDir}
 use Rattle.policy.specs.declared.kinds.Rule.TheVariants.{Connect, Live}
-use Rattle.store.specs.Reply.{path, paths, roots, changed, generation, runtime_count, freed, usage, done, denied, refused, failed, archive, derivation, not_valid, missing_reference, nar_hash_mismatch, memory, size, disk}
+use Rattle.store.specs.Reply.{Info, path, record_of, archive_of, listing_of, paths, roots, changed, generation, runtime_count, freed, usage, done, denied, refused, failed, archive, ca_mismatch, derivation, not_valid, missing_reference, nar_hash_mismatch, self_reference, no_root, no_profile, no_generation, current_generation, no_older_generation, generation_limit, too_many_references, bad_root_name, bad_label, memory, size, disk}
 use Rattle.report.specs.declared.refusal.Refusal.TheVariants.{BadConfig, BadHead, BadBodyLength}
 use Rattle.report.specs.Refusals.{refusal_line}
 use Rattle.report.specs.Narinfo.{narinfo}
@@ -27,13 +27,32 @@ pub record HasWorkedDenials : Type 0 where
   pub hidden : reply_text dir (denied Live (Some (codes "{censored}", x))) ≡ codes "denied: live {censored} /nix/store/11111111111111111111111111111111-x\n"
   pub seen : reply_text dir (denied Live (Some (codes "/proc/2/exe", x))) ≡ codes "denied: live /proc/2/exe /nix/store/11111111111111111111111111111111-x\n"
 
+-- each refusal of a request, some refusals of other kinds, and the failures
 pub record HasWorkedRefusals : Type 0 where
-  pub not_valid : reply_text dir (refused not_valid) ≡ codes "refused: 23 not-valid\n"
-  pub archive : reply_text dir (refused (archive NotSorted)) ≡ codes "refused: 5 not-sorted\n"
+  pub truncated : reply_text dir (refused (archive Truncated)) ≡ codes "refused: 1 truncated\n"
+  pub bad_tag : reply_text dir (refused (archive BadTag)) ≡ codes "refused: 2 bad-tag\n"
+  pub bad_padding : reply_text dir (refused (archive BadPadding)) ≡ codes "refused: 3 bad-padding\n"
+  pub bad_name : reply_text dir (refused (archive BadName)) ≡ codes "refused: 4 bad-name\n"
+  pub not_sorted : reply_text dir (refused (archive NotSorted)) ≡ codes "refused: 5 not-sorted\n"
+  pub too_deep : reply_text dir (refused (archive TooDeep)) ≡ codes "refused: 6 too-deep\n"
+  pub trailing : reply_text dir (refused (archive Trailing)) ≡ codes "refused: 7 trailing\n"
+  pub too_large : reply_text dir (refused (archive TooLarge)) ≡ codes "refused: 8 too-large\n"
+  pub ca_mismatch : reply_text dir (refused ca_mismatch) ≡ codes "refused: 16 ca-mismatch\n"
   pub malformed : reply_text dir (refused (derivation BadDerivation)) ≡ codes "refused: 17 bad-derivation\n"
   pub doubled : reply_text dir (refused (derivation DoubleOutput)) ≡ codes "refused: 18 double-output\n"
+  pub not_valid : reply_text dir (refused not_valid) ≡ codes "refused: 23 not-valid\n"
   pub reference : reply_text dir (refused missing_reference) ≡ codes "refused: 24 missing-reference\n"
   pub hash : reply_text dir (refused nar_hash_mismatch) ≡ codes "refused: 25 nar-hash-mismatch\n"
+  pub self_reference : reply_text dir (refused self_reference) ≡ codes "refused: 26 self-reference\n"
+  pub no_root : reply_text dir (refused no_root) ≡ codes "refused: 27 no-root\n"
+  pub no_profile : reply_text dir (refused no_profile) ≡ codes "refused: 28 no-profile\n"
+  pub no_generation : reply_text dir (refused no_generation) ≡ codes "refused: 29 no-generation\n"
+  pub current : reply_text dir (refused current_generation) ≡ codes "refused: 30 current-generation\n"
+  pub no_older : reply_text dir (refused no_older_generation) ≡ codes "refused: 31 no-older-generation\n"
+  pub limit : reply_text dir (refused generation_limit) ≡ codes "refused: 32 generation-limit\n"
+  pub references : reply_text dir (refused too_many_references) ≡ codes "refused: 33 too-many-references\n"
+  pub root_name : reply_text dir (refused bad_root_name) ≡ codes "refused: 34 bad-root-name\n"
+  pub label : reply_text dir (refused bad_label) ≡ codes "refused: 35 bad-label\n"
   pub configuration : refusal_line (BadConfig StoreDir) ≡ codes "refused: 19 bad-config store-dir\n"
   pub head : refusal_line BadHead ≡ codes "refused: 36 bad-head\n"
   pub body : refusal_line BadBodyLength ≡ codes "refused: 37 bad-length\n"
@@ -46,6 +65,8 @@ pub record HasWorkedAnswers : Type 0 where
   pub none : reply_text dir (done (paths [])) ≡ []
   pub two : reply_text dir (done (paths (p ∷ x ∷ []))) ≡ codes "/nix/store/00000000000000000000000000000000-p\n/nix/store/11111111111111111111111111111111-x\n"
   pub roots : reply_text dir (done (roots ((codes "a", p) ∷ (codes "b", p) ∷ []))) ≡ codes "a /nix/store/00000000000000000000000000000000-p\nb /nix/store/00000000000000000000000000000000-p\n"
+  pub archive : reply_text dir (done (archive_of (13 ∷ 0 ∷ 255 ∷ []))) ≡ 13 ∷ 0 ∷ 255 ∷ []
+  pub listing : reply_text dir (done (listing_of (codes "r 10 .\n"))) ≡ codes "r 10 .\n"
   pub changed : reply_text dir (done changed) ≡ codes "done\n"
   pub generation : reply_text dir (done (generation 2)) ≡ codes "generation 2\n"
   pub runtime : reply_text dir (done (runtime_count 1)) ≡ codes "runtime roots 1\n"
@@ -63,9 +84,11 @@ pub record HasWorkedUsage : Type 0 where
 abbrev pub digest : List ℕ
 digest = 43 ∷ 254 ∷ 246 ∷ 125 ∷ 232 ∷ 115 ∷ 197 ∷ 69 ∷ 81 ∷ 216 ∷ 132 ∷ 253 ∷ 171 ∷ 48 ∷ 85 ∷ 216 ∷ 77 ∷ 87 ∷ 62 ∷ 101 ∷ 78 ∷ 250 ∷ 121 ∷ 219 ∷ 60 ∷ 13 ∷ 123 ∷ 152 ∷ 136 ∷ 63 ∷ 158 ∷ 227 ∷ []
 
--- that file as a source object named `myfile`; and at another path, with references and a deriver
+-- that file as a source object named `myfile`; at another path, with references and a deriver; and with a deriver and an address
 pub record HasWorkedNarinfo : Type 0 where
   pub source : narinfo dir (record { path = codes "xv2iccirbrvklck36f1g7vldn5v58vck-myfile"; hash = digest; size = 128; references = []; deriver = None; ca = Some (record { method = Source; digest = digest }) })
       ≡ codes "StorePath: /nix/store/xv2iccirbrvklck36f1g7vldn5v58vck-myfile\nURL: nar/xv2iccirbrvklck36f1g7vldn5v58vck-myfile\nCompression: none\nFileHash: sha256:1qwy7y49hyqd7kdpkyjfclz5fkfqalqapzc4v18lbibkx1yzdzib\nFileSize: 128\nNarHash: sha256:1qwy7y49hyqd7kdpkyjfclz5fkfqalqapzc4v18lbibkx1yzdzib\nNarSize: 128\nReferences: \nCA: fixed:r:sha256:1qwy7y49hyqd7kdpkyjfclz5fkfqalqapzc4v18lbibkx1yzdzib\n"
   pub derived : narinfo dir (record { path = x; hash = digest; size = 128; references = p ∷ x ∷ []; deriver = Some (codes "22222222222222222222222222222222-y.drv"); ca = None })
       ≡ codes "StorePath: /nix/store/11111111111111111111111111111111-x\nURL: nar/11111111111111111111111111111111-x\nCompression: none\nFileHash: sha256:1qwy7y49hyqd7kdpkyjfclz5fkfqalqapzc4v18lbibkx1yzdzib\nFileSize: 128\nNarHash: sha256:1qwy7y49hyqd7kdpkyjfclz5fkfqalqapzc4v18lbibkx1yzdzib\nNarSize: 128\nReferences: 00000000000000000000000000000000-p 11111111111111111111111111111111-x\nDeriver: 22222222222222222222222222222222-y.drv\n"
+  pub both : reply_text dir (done (record_of (record { path = x; hash = digest; size = 128; references = p ∷ []; deriver = Some (codes "22222222222222222222222222222222-y.drv"); ca = Some (record { method = Text; digest = digest }) })))
+      ≡ codes "StorePath: /nix/store/11111111111111111111111111111111-x\nURL: nar/11111111111111111111111111111111-x\nCompression: none\nFileHash: sha256:1qwy7y49hyqd7kdpkyjfclz5fkfqalqapzc4v18lbibkx1yzdzib\nFileSize: 128\nNarHash: sha256:1qwy7y49hyqd7kdpkyjfclz5fkfqalqapzc4v18lbibkx1yzdzib\nNarSize: 128\nReferences: 00000000000000000000000000000000-p\nDeriver: 22222222222222222222222222222222-y.drv\nCA: text:sha256:1qwy7y49hyqd7kdpkyjfclz5fkfqalqapzc4v18lbibkx1yzdzib\n"

@@ -29,3 +29,4 @@ pub mod Freed
 pub mod Numbers
 pub mod ProfileChanges
 pub mod Sights
+pub mod Failing

@@ -1,5 +1,5 @@
 -- Laws of steps and runs.
-use Rattle.std.specs.Prelude.{◌≡◌, ◌↔◌, ◌⊎◌, ℕ, ◌+◌, ◌++◌, Bool, false, List, [], ◌∷◌, slice_get, Some, option_map, IsTrue, IsFalse, Contains}
+use Rattle.std.specs.Prelude.{◌≡◌, ◌↔◌, ◌⊎◌, ℕ, ◌+◌, ◌++◌, Bool, false, List, [], ◌∷◌, slice_get, Some, None, option_map, IsTrue, IsFalse, Contains}
 use Rattle.std.specs.FinMap as finite
 use Rattle.paths.specs.Root.{Root}
 use Rattle.live.specs.Reach.{Reaches}
@@ -11,7 +11,7 @@ use Rattle.policy.specs.Settings.{Settings}
 use Rattle.policy.specs.Caller.{Caller}
 use Rattle.policy.specs.Class.{class_of}
 use Rattle.store.specs.Request.{Request, collect, delete}
-use Rattle.store.specs.Reply.{Reply, done, denied, refused, failed, freed, Usage}
+use Rattle.store.specs.Reply.{Reply, Failure, done, denied, refused, failed, freed, Usage}
 use Rattle.store.specs.Liveness.{graph_of, keep_of, lives, live_paths, dead_paths, first_root_of, roots_that_keep}
 use Rattle.store.specs.Seen.{seen, seen_root}
 use Rattle.store.specs.Step.{Step, Run}
@@ -52,6 +52,11 @@ pub record HasEachRoot (w : World) : Type 0 where
 abbrev pub LeavesUnlessDone : Type 0
 LeavesUnlessDone = (s : Settings) (w : World) (c : Caller) (q : Request) (reply : Reply) (new : World)
     → Step s w c q reply new → (IsDone reply → ⊥) → new ≡ w
+
+-- a call fails only where no rule denies it, or `Live` alone
+abbrev pub FailsPastTheRules : Type 0
+FailsPastTheRules = (s : Settings) (w : World) (c : Caller) (q : Request) (f : Failure) (new : World)
+    → Step s w c q (failed f) new → (verdict s w c q ≡ None) ⊎ (verdict s w c q ≡ Some Live)
 
 -- two replies that aren't failures are one, with one world after them
 abbrev pub IsFunctional : Type 0

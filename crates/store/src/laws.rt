@@ -5,7 +5,7 @@ ghost use Rattle.policy.specs.Settings.{Settings};
 ghost use Rattle.policy.specs.declared.kinds.Class.{Class};
 ghost use Rattle.tables.specs.World.{Path, World, all_paths};
 ghost use Rattle.store.specs.Liveness.{dead_paths, live_paths, usage_of};
-ghost use Rattle.store.specs.Laws.{Collects, DenialsNameTheLiving, FirstIsShownFirst, HasEachRoot, IsAnswered, IsFunctional, LeavesNoReference, LeavesUnlessDone, LivesAsSaid, Pins, PinsOverRuns, RunsEndAlike, TargetsLive, UsageAddsUp};
+ghost use Rattle.store.specs.Laws.{Collects, DenialsNameTheLiving, FailsPastTheRules, FirstIsShownFirst, HasEachRoot, IsAnswered, IsFunctional, LeavesNoReference, LeavesUnlessDone, LivesAsSaid, Pins, PinsOverRuns, RunsEndAlike, TargetsLive, UsageAddsUp};
 ghost use Rattle.store.specs.Labels.{MirrorsRuns, MirrorsSteps, RunsLookAlike};
 ghost use Rattle.store.specs.Soundness.{KeepsSound, RunsKeepSound};
 ghost use Rattle.store.specs.Request.{Imported, add_source, add_text, collect, delete, import_object};
@@ -27,6 +27,11 @@ pub fn denials_name_the_living()
 /// A call that isn't done leaves the world.
 pub fn only_done_changes()
     ensures { LeavesUnlessDone }
+{}
+
+/// A call fails only where no rule denies it, or the one on live paths alone.
+pub fn failures_come_after_the_rules()
+    ensures { FailsPastTheRules }
 {}
 
 /// Replies that aren't failures are determined, with the world after them.

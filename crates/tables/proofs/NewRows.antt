@@ -6,9 +6,10 @@ use Rattle.std.specs.FinMap as finite
 use Rattle.paths.specs.Names.{is_store_dir}
 use Rattle.paths.specs.Root.{bytes_cmp}
 use Rattle.rows.specs.Contents.{Stored, triple_cmp}
+use Rattle.rows.specs.Making.{first_contents}
 use Rattle.tables.specs.World.{World, pair_cmp, no_world}
 use Rattle.tables.specs.Sound.{IsSound}
-use Rattle.tables.specs.Rows.{IsSoundRows, new_rows, object_in, profile_in, world_of}
+use Rattle.tables.specs.Rows.{IsSoundRows, object_in, profile_in, world_of}
 use Rattle.tables.proofs.NewWorld.{no_entry, no_key, new_world_sound}
 
 no_items : {A : Type 0} (xs : List A) → length xs ≡ 0 → xs ≡ []
@@ -23,11 +24,11 @@ none_left : {K X L Y : Type 0} (R : K → K → Ordering) (S : L → L → Order
     → finite.from_entries {R = S} (map f (finite.entries (finite.empty {X = X} {R = R}))) ≡ finite.empty
 none_left {K} {X} R S f = ap (λ es. finite.from_entries {R = S} (map f es)) (no_entries K X R)
 
-pub tells_nothing : (dir : List ℕ) → world_of (new_rows dir) ≡ no_world
+pub tells_nothing : (dir : List ℕ) → world_of (first_contents dir) ≡ no_world
 tells_nothing dir = ap₂ (λ objects profiles. record { objects = objects; permanent = finite.empty; user_roots = finite.empty; profiles = profiles; runtime = finite.empty })
-    (none_left bytes_cmp bytes_cmp (λ e. (e.0, object_in (new_rows dir) e.0 e.1))) (none_left pair_cmp pair_cmp (λ e. (e.0, profile_in (new_rows dir) e.0 e.1)))
+    (none_left bytes_cmp bytes_cmp (λ e. (e.0, object_in (first_contents dir) e.0 e.1))) (none_left pair_cmp pair_cmp (λ e. (e.0, profile_in (first_contents dir) e.0 e.1)))
 
-pub new_rows_sound : (dir : List ℕ) → IsTrue (is_store_dir dir) → IsSoundRows dir (new_rows dir)
+pub new_rows_sound : (dir : List ℕ) → IsTrue (is_store_dir dir) → IsSoundRows dir (first_contents dir)
 new_rows_sound dir h = record {
   directory = h;
   settings = refl;

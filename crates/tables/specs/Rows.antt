@@ -1,5 +1,5 @@
 -- The world that the rows of the tables tell, and when these rows are sound.
-use Rattle.std.specs.Prelude.{◌≡◌, ℕ, ℤ, pos, negsuc, Bool, ◌&&◌, List, [], ◌∷◌, map, Option, Some, None, codes, IsTrue, IsSome}
+use Rattle.std.specs.Prelude.{◌≡◌, ℕ, ℤ, pos, negsuc, Bool, ◌&&◌, List, map, Option, Some, None, IsTrue, IsSome}
 use Rattle.std.specs.List.{filter}
 use Rattle.std.specs.Str.{bytes_eq}
 use Rattle.std.specs.Ordering.{nat_cmp}
@@ -9,6 +9,7 @@ use Rattle.paths.specs.Names.{is_store_dir}
 use Rattle.paths.specs.Root.{bytes_cmp, Set, set_of}
 use Rattle.paths.specs.ContentAddress.{ContentAddress, address_of}
 use Rattle.rows.specs.Contents.{Stored, Contents}
+use Rattle.rows.specs.Making.{first_settings}
 use Rattle.tables.specs.World.{Path, Pair, Object, Profile, World}
 use Rattle.tables.specs.Sound.{IsSound}
 
@@ -27,6 +28,7 @@ abbrev pub address_in : Option (List ℕ) → Option ContentAddress
 address_in None = None
 address_in (Some text) = address_of text
 
+-- an object with its references, its outputs and its address
 abbrev pub object_in : Contents → Path → Stored → Object
 object_in c p o = record { nar = o.nar; references = references_in c p; deriver = o.deriver; ca = address_in o.ca; outputs = outputs_in c p }
 
@@ -39,6 +41,7 @@ number_in (negsuc n) = 0
 abbrev pub generations_in : Contents → Pair → finite.FinMap nat_cmp Path
 generations_in c owned = finite.from_entries (map (λ e. (number_in e.0.2, e.1)) (filter (λ e. bytes_eq e.0.0 owned.0 && bytes_eq e.0.1 owned.1) (finite.entries c.generations)))
 
+-- a profile with its generations and the number of the current one
 abbrev pub profile_in : Contents → Pair → ℤ → Profile
 profile_in c owned current = record { generations = generations_in c owned; current = number_in current }
 
@@ -54,15 +57,11 @@ world_of c = record {
 
 -- ---- sound rows
 
--- the settings of a database of a store directory: the number of its form, and the directory
-abbrev pub settings_in : List ℕ → finite.FinMap bytes_cmp (List ℕ)
-settings_in dir = finite.from_entries ((codes "schema", codes "1") ∷ (codes "store-dir", dir) ∷ [])
-
 -- rows that are those of a database of a store directory
 pub record IsSoundRows (dir : List ℕ) (c : Contents) : Type 0 where
-  -- the settings are these two and no others
+  -- the settings are the two of a database of this directory, and no others
   pub directory : IsTrue (is_store_dir dir)
-  pub settings : c.meta ≡ settings_in dir
+  pub settings : c.meta ≡ first_settings dir
   -- what is recorded as an address is one, and each digest is that of the archive
   pub address : (p : Path) (o : Stored) (text : List ℕ) → finite.get c.objects p ≡ Some o → o.ca ≡ Some text → IsSome (address_of text)
   pub hash : (p : Path) (o : Stored) → finite.get c.objects p ≡ Some o → o.hash ≡ sha256 o.nar
@@ -75,17 +74,3 @@ pub record IsSoundRows (dir : List ℕ) (c : Contents) : Type 0 where
   pub current : (owned : Pair) (n : ℤ) → finite.get c.profiles owned ≡ Some n → (m : ℕ) × (n ≡ pos m)
   -- the world that they tell is sound
   pub world : IsSound dir (world_of c)
-
--- the rows of a database that was just made
-abbrev pub new_rows : List ℕ → Contents
-new_rows dir = record {
-  meta = settings_in dir;
-  objects = finite.empty;
-  refs = finite.empty;
-  outs = finite.empty;
-  permanent = finite.empty;
-  user_roots = finite.empty;
-  profiles = finite.empty;
-  generations = finite.empty;
-  runtime = finite.empty;
-}

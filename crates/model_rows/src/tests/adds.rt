@@ -46,6 +46,14 @@ fn a_source(rt: HostRuntime) -> Result<(), Fail> {
         store.ask("ann", Request::Ls(owned(alloc, path)?))?.as_str(),
         "r 10 .\n"
     );
+    let reply = store.ask_as("ann", "users", Request::Info(owned(alloc, path)?))?;
+    let Reply::Done(Answer::Record(info)) = reply else {
+        return Err(Fail::new("no record"));
+    };
+    let digits = "1qwy7y49hyqd7kdpkyjfclz5fkfqalqapzc4v18lbibkx1yzdzib";
+    assert_eq!(rt; paths::base32(alloc, &info.hash)?.as_str(), digits);
+    assert_eq!(rt; info.size, 128);
+    assert!(rt; info.references.is_empty() && info.deriver.is_none() && info.ca.is_some());
     let other = store.ask("ann", text(alloc, "myfile", b"mycontent\n")?)?;
     assert!(rt; other.as_str() != path);
     Ok(())
@@ -85,6 +93,31 @@ fn malformed_archives_and_derivations(rt: HostRuntime) -> Result<(), Fail> {
     assert_eq!(rt;
         store.ask("ann", text(alloc, "x.drv", twice)?)?.as_str(),
         "refused Derivation(DoubleOutput)"
+    );
+    Ok(())
+}
+
+#[test]
+fn what_is_read_is_valid(rt: HostRuntime) -> Result<(), Fail> {
+    let alloc = rt.alloc();
+    let mut store = Store::new(alloc, "")?;
+    assert_eq!(rt;
+        store
+            .ask("ann", Request::Info(full(alloc, "[0]-p")?))?
+            .as_str(),
+        "refused NotValid"
+    );
+    assert_eq!(rt;
+        store
+            .ask("ann", Request::Nar(full(alloc, "[0]-p")?))?
+            .as_str(),
+        "refused NotValid"
+    );
+    assert_eq!(rt;
+        store
+            .ask("ann", Request::Ls(full(alloc, "[0]-p")?))?
+            .as_str(),
+        "refused NotValid"
     );
     Ok(())
 }

@@ -89,3 +89,19 @@ fn referrers_go_too(rt: HostRuntime) -> Result<(), Fail> {
     assert_eq!(rt; store.ask("bob", Request::List)?.as_str(), "[2]-y; ");
     Ok(())
 }
+
+#[test]
+fn liveness_is_never_ignored(rt: HostRuntime) -> Result<(), Fail> {
+    let alloc = rt.alloc();
+    let mut store = Store::new(alloc, ANN_IS_TRUSTED)?;
+    store.put("[0]-p", &[])?;
+    for user in ["ann", "bob"] {
+        let mut named = Vec::new(alloc);
+        named.push(full(alloc, "[0]-p")?)?;
+        assert_eq!(rt;
+            store.ask(user, Request::Delete(named, true))?.as_str(),
+            "denied NoIgnoreLiveness"
+        );
+    }
+    Ok(())
+}

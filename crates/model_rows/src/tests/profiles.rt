@@ -143,3 +143,26 @@ fn profiles_of_others(rt: HostRuntime) -> Result<(), Fail> {
     );
     Ok(())
 }
+
+#[test]
+fn names_of_profiles(rt: HostRuntime) -> Result<(), Fail> {
+    let alloc = rt.alloc();
+    let mut store = Store::new(alloc, ANN_IS_TRUSTED)?;
+    let back = Request::Rollback(owned(alloc, "bob")?, owned(alloc, "a/b")?);
+    assert_eq!(rt; store.ask("bob", back)?.as_str(), "refused BadRootName");
+    let switched = Request::Switch(owned(alloc, "bob")?, owned(alloc, "")?, 1);
+    assert_eq!(rt; store.ask("bob", switched)?.as_str(), "refused BadRootName");
+    let deleted = Request::DeleteGeneration(owned(alloc, "bob")?, owned(alloc, "-")?, 1);
+    assert_eq!(rt; store.ask("bob", deleted)?.as_str(), "refused BadRootName");
+    let misnamed = Request::SetProfile(
+        owned(alloc, "bob")?,
+        owned(alloc, "-")?,
+        full(alloc, "[0]-p")?,
+    );
+    assert_eq!(rt; store.ask("bob", misnamed)?.as_str(), "refused BadRootName");
+    assert_eq!(rt;
+        store.ask("bob", set(alloc, "[0]-p")?)?.as_str(),
+        "refused NotValid"
+    );
+    Ok(())
+}
