@@ -1,5 +1,5 @@
 -- A denial for a live path is for the first of the named that lives.
-use Rattle.std.proofs.Common.{◌≡◌, List, [], ◌∷◌, ◌++◌, Bool, true, false, ◌&&◌, ◌||◌, not, cond, Some, None, Option, option_map, refl, sym, ap, ap₂, ◌∙◌, IsTrue}
+use Rattle.std.proofs.Common.{◌≡◌, List, [], ◌∷◌, ◌++◌, Bool, true, false, ◌&&◌, ◌||◌, not, cond, Some, None, Option, option_map, refl, sym, ap, ◌∙◌, IsTrue}
 use Rattle.std.specs.Prelude.{IfSome, IsSome}
 use Rattle.std.specs.List.{list_any, find}
 use Rattle.std.proofs.lemmas.Bool.{false≢true}
@@ -16,7 +16,7 @@ use Rattle.tables.specs.World.{Path, World, roots_of}
 use Rattle.store.specs.Request.{Request}
 use Rattle.store.specs.Liveness.{graph_of, keep_of, lives}
 use Rattle.store.specs.Seen.{seen_root}
-use Rattle.store.specs.Verdict.{named_in, operation_of, root_of_first, verdict, shown}
+use Rattle.store.specs.Verdict.{named_in, operation_of, root_of_first, verdict}
 use Rattle.store.specs.Laws.{DenialsNameTheLiving, NamesTheLiving}
 use Rattle.store.proofs.WorldLives.{as_said}
 

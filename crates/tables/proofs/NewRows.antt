@@ -1,13 +1,13 @@
 -- The rows of a database that was just made: no table but that of settings has one.
-use Rattle.std.proofs.Common.{◌≡◌, ℕ, List, [], ◌∷◌, length, map, Some, refl, sym, ap, ap₂, ◌∙◌, subst}
-use Rattle.std.specs.Prelude.{ℤ, IsTrue}
+use Rattle.std.proofs.Common.{◌≡◌, ℕ, List, [], ◌∷◌, length, map, refl, sym, ap, ap₂, ◌∙◌, subst}
+use Rattle.std.specs.Prelude.{IsTrue}
 use Rattle.std.specs.declared.cmp.Ordering.{Ordering}
 use Rattle.std.specs.FinMap as finite
 use Rattle.paths.specs.Names.{is_store_dir}
 use Rattle.paths.specs.Root.{bytes_cmp}
-use Rattle.rows.specs.Contents.{Stored, triple_cmp}
+use Rattle.rows.specs.Contents.{triple_cmp}
 use Rattle.rows.specs.Making.{first_contents}
-use Rattle.tables.specs.World.{World, pair_cmp, no_world}
+use Rattle.tables.specs.World.{pair_cmp, no_world}
 use Rattle.tables.specs.Sound.{IsSound}
 use Rattle.tables.specs.Rows.{IsSoundRows, object_in, profile_in, world_of}
 use Rattle.tables.proofs.NewWorld.{no_entry, no_key, new_world_sound}

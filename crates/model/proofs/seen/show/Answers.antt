@@ -1,4 +1,4 @@
-use Rattle.std.proofs.Common.{◌≡◌, List, [], ◌∷◌, ◌++◌, map, ◌&&◌, true, false, not, sym, ap, ◌∙◌}
+use Rattle.std.proofs.Common.{[], ◌∷◌, map, ◌&&◌, not, sym, ap, ◌∙◌}
 use Rattle.std.specs.List.{list_any}
 use Rattle.policy.specs.Rules.{is_trusted}
 use Rattle.store.specs.Seen.{same_pair}

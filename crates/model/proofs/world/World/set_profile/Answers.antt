@@ -1,5 +1,5 @@
-use Rattle.std.proofs.Common.{◌≡◌, string_bytes, ap, ◌∙◌}
-use Rattle.store.specs.Profiles.{profile_at, set_to}
+use Rattle.std.proofs.Common.{string_bytes, ap, ◌∙◌}
+use Rattle.store.specs.Profiles.{profile_at}
 use Rattle.store.specs.Effects.{with_profile}
 use Rattle.model.specs.Maps.{pair_bytes}
 use Rattle.model.specs.Numbers.{put_at}

@@ -1,8 +1,8 @@
-use Rattle.std.proofs.Common.{string_bytes, ap, ◌∙◌}
+use Rattle.std.proofs.Common.{ap}
 use Rattle.tables.specs.World.{Profile}
 use Rattle.store.specs.Profiles.{switched}
 use Rattle.model.specs.Maps.{pair_bytes}
-use Rattle.model.specs.View.{profile_view, world_view}
+use Rattle.model.specs.View.{world_view}
 use Rattle.model.proofs.ProfileEntries.{profile_is, profile_written, profile_missing}
 use Rattle.model.proofs.world.World.switch.Goals as goal
 
