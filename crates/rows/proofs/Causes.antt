@@ -9,7 +9,7 @@ use Rattle.sqlite_resolve.specs.declared.compiled.Compiled.{Compiled}
 use Rattle.sqlite.specs.declared.error.Error.{Error}
 use Rattle.sqlite.specs.declared.error.Error.TheVariants.{ExecuteReturnedResults}
 use Rattle.sqlite.specs.Clock.{timed}
-use Rattle.sqlite.specs.State.{State, store_error, HasCause, IsRolledBack, IsUnchanged, Fails, IsNotRun, ExecutesIn, ExecutesInside, RunsCommand, shows_rows, FailsToQuery, FailsToShow, IsTooLate}
+use Rattle.sqlite.specs.State.{State, store_error, HasCause, IsUnchanged, Fails, IsNotRun, ExecutesIn, ExecutesInside, RunsCommand, shows_rows, FailsToQuery, FailsToShow, IsTooLate}
 use Rattle.rows.specs.declared.failure.Failure.{Failure}
 use Rattle.rows.specs.Failures.{failure_of, IsExcused, FailsFor}
 

@@ -1,6 +1,6 @@
 -- Making a table beside whatever tables there are.
-use Rattle.std.proofs.Common.{◌≡◌, ◌≢◌, ◌<◌, ◌≤◌, ◌+◌, ℕ, suc, List, [], ◌∷◌, ◌++◌, codes, Bool, true, false, cond, not, ◌&&◌, ◌||◌, Some, None, Option, Ok, Err, Result, length, refl, sym, ap, subst, ◌∙◌, arith, IsTrue}
-use Rattle.std.specs.Prelude.{slice_get, option_and_then, find, fold, max, is_some}
+use Rattle.std.proofs.Common.{◌≡◌, ◌+◌, ℕ, List, [], ◌∷◌, ◌++◌, codes, Bool, true, false, cond, not, ◌&&◌, ◌||◌, Some, None, Option, Ok, refl, sym, ap, subst, ◌∙◌}
+use Rattle.std.specs.Prelude.{find, is_some}
 use Rattle.std.specs.List.{AllByRecursion, list_all, list_any, position_from}
 use Rattle.std.proofs.lemmas.List.Folds.{list_any-append}
 use Rattle.std.specs.Fmt.{decimal}
@@ -10,14 +10,13 @@ use Rattle.sqlite_schema.specs.declared.schema.Schema.{Schema}
 use Rattle.sqlite_schema.specs.declared.schema.Table.{Table}
 use Rattle.sqlite_schema.specs.declared.schema.Index.{Index}
 use Rattle.sqlite_schema.specs.declared.command.Command.TheVariants.{CreateTable}
-use Rattle.sqlite_schema.specs.Names.{same_name, table_named, index_named, view_named}
+use Rattle.sqlite_schema.specs.Names.{same_name}
 use Rattle.sqlite_ast.specs.declared.CreateTable as ast
 use Rattle.sqlite_ast.specs.declared.Statement.TheVariants as written
-use Rattle.sqlite_syntax.specs.declared.statement.Parsed.{Parsed}
 use Rattle.sqlite_resolve.specs.Scope.{Name}
 use Rattle.sqlite_resolve.specs.Define as define
 use Rattle.sqlite_resolve.specs.Compile.{first, planned, meaning, timed, returning, command, create_table, is_attached, creates, is_reserved, table_defined_by}
-use Rattle.sqlite_catalog.specs.Change.{created, next_tree, past_views}
+use Rattle.sqlite_catalog.specs.Change.{created, next_tree}
 use Rattle.sqlite.specs.Does.{Tally, lacks_sequence}
 use Rattle.sqlite.specs.Rows.{sequence}
 use Rattle.sqlite.specs.Effect.{Database}

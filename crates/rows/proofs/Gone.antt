@@ -1,5 +1,5 @@
 -- That what was removed is not there.
-use Rattle.std.proofs.Common.{◌≡◌, ℕ, ℤ, List, Bool, true, false, cond, None, Option, Equal, refl, sym, ap, ◌∙◌}
+use Rattle.std.proofs.Common.{◌≡◌, ℕ, ℤ, List, Bool, true, false, cond, None, Option, refl, sym, ap, ◌∙◌}
 use Rattle.std.specs.declared.cmp.Ordering.{Ordering}
 use Rattle.std.specs.Ordering.{eq_by_cmp, int_cmp}
 use Rattle.std.specs.Cmp.{eq_by_cmp_equiv, int_cmp_total}

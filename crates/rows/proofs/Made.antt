@@ -1,5 +1,5 @@
 -- What our tables hold once they are made, and that they stand.
-use Rattle.std.proofs.Common.{◌≡◌, ℕ, List, [], ◌∷◌, ◌++◌, codes, Bool, true, false, IsTrue, Result, Ok, Err, OnOk, refl, sym, ap, subst, ◌∙◌}
+use Rattle.std.proofs.Common.{◌≡◌, List, [], ◌∷◌, codes, Bool, true, false, refl, sym, ap, subst, ◌∙◌}
 use Rattle.std.specs.declared.cmp.Ordering.{Ordering}
 use Rattle.std.specs.FinMap as finite
 use Rattle.std.specs.Fmt.{digits}
@@ -16,7 +16,7 @@ use Rattle.sqlite.specs.State.{State}
 use Rattle.rows.specs.Forms.{meta, object, refs, outs, permanent, user_root, profile, generation, runtime, our_tables, is_our_name}
 use Rattle.rows.specs.Finding.{HasNone}
 use Rattle.rows.specs.Contents.{Bytes, contents_of, texts_cmp, pair_cmp, triple_cmp, is_pair, pair_of, is_object, object_of, member_of, is_triple, target_of, is_profile, profile_of, is_generation, generation_of, map_of, rows_named}
-use Rattle.rows.specs.Calls.{IsKeyed, KeepsTheirs, Leaves}
+use Rattle.rows.specs.Calls.{IsKeyed}
 use Rattle.rows.specs.Making.{IsMade, IsMadeIn, IsMadeOf, LeavesMade, AreSettings, first_contents, placed, ours_created, others_placed}
 use Rattle.rows.proofs.Creates.{tables_after}
 use Rattle.rows.proofs.Settles.{keyed_none}

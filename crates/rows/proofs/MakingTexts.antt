@@ -1,5 +1,5 @@
 -- What the texts mean that make our tables, in any schema that has nothing of their names.
-use Rattle.std.proofs.Common.{◌≡◌, List, ℕ, codes, refl}
+use Rattle.std.proofs.Common.{List, ℕ, codes, refl}
 use Rattle.sqlite_schema.specs.declared.schema.Schema.{Schema}
 use Rattle.sqlite_tied.specs.Compute.{everything}
 use Rattle.rows.specs.Forms.{meta, object, refs, outs, permanent, user_root, profile, generation, runtime}

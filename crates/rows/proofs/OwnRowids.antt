@@ -1,5 +1,5 @@
 -- That the rowids of a table, as a query shows them, are integers that differ, so each row has its own.
-use Rattle.std.proofs.Common.{◌≡◌, inl, inr, ℕ, suc, ℤ, pos, negsuc, List, [], ◌∷◌, map, flat_map, codes, Bool, true, false, Some, None, Option, Ok, IsTrue, refl, sym, ap, subst, subst₂, ◌∙◌, IsPermutation, length, Less, slice_get}
+use Rattle.std.proofs.Common.{◌≡◌, inl, inr, ℕ, suc, ℤ, pos, negsuc, List, [], ◌∷◌, map, flat_map, codes, Bool, true, false, None, Option, Ok, IsTrue, refl, sym, ap, subst, subst₂, ◌∙◌, IsPermutation, length, Less, slice_get}
 use Rattle.std.specs.Prelude.{nat_lt, nat_le, ◌-◌, ◌^◌, option_and_then}
 use Rattle.std.specs.List.{AllByRecursion, IsDistinct, AllAdjacentBelow}
 use Rattle.std.specs.List.Sorted.{IsStrictlySortedBy}
@@ -24,7 +24,6 @@ use Rattle.sqlite_sql.specs.Term.{Term, lit, col}
 use Rattle.sqlite_sql.specs.Query.{Query, inner, end, IsAnswer, output, Output}
 use Rattle.sqlite_sql.specs.Program.{overlay}
 use Rattle.sqlite_schema.specs.declared.schema.Column.{Column}
-use Rattle.sqlite_schema.specs.declared.schema.Schema.{Schema}
 use Rattle.sqlite_schema.specs.declared.program.Program.{Program}
 use Rattle.sqlite_schema.specs.declared.command.Command.TheVariants.{Select}
 use Rattle.sqlite_draft.specs.declared.query.Draft.{Draft}

@@ -2,13 +2,13 @@
 use Rattle.std.proofs.Common.{◌≡◌, ◌≢◌, ◌<◌, ◌≤◌, ◌+◌, ℕ, zero, suc, List, [], ◌∷◌, ◌++◌, map, Bool, true, false, cond, not, ◌&&◌, ◌||◌, ◌==◌, Some, None, Option, length, refl, sym, ap, subst, ◌∙◌, arith, bytes_eq}
 use Rattle.std.specs.Prelude.{slice_get, option_and_then, option_map, unwrap_or, find, nat_le, ◌^◌}
 use Rattle.std.specs.List.{AllByRecursion, AllZip, list_all, position_from}
-use Rattle.std.specs.Ordering.{is_eq, eq_by_cmp, nat_cmp}
+use Rattle.std.specs.Ordering.{is_eq, nat_cmp}
 use Rattle.std.specs.Char.{to_ascii_lowercase}
 use Rattle.std.specs.Cmp.{eq_by_cmp_equiv}
 use Rattle.std.specs.Cmp.Lexicographic.{slice_cmp, nat_list_cmp_total}
 use Rattle.std.proofs.lemmas.Bool.{eq-eqb, ne_eqb, lt-leb, and_right, and_from, or_right}
 use Rattle.std.proofs.lemmas.Slice.Eq.{bytes_eq-Decides}
-use Rattle.sqlite_value.specs.Order.{Row, column}
+use Rattle.sqlite_value.specs.Order.{Row}
 use Rattle.sqlite_value.specs.declared.value.Value.{Value}
 use Rattle.sqlite_value.specs.declared.value.Value.TheVariants.{Null, Int, Real, Text, Blob}
 use Rattle.sqlite_trees.proofs.ListLemmas.{all-slice_get, all-append, all_weaker}
@@ -17,17 +17,16 @@ use Rattle.sqlite_schema.specs.declared.schema.Schema.{Schema}
 use Rattle.sqlite_schema.specs.declared.schema.Table.{Table}
 use Rattle.sqlite_schema.specs.declared.schema.Index.{Index}
 use Rattle.sqlite_schema.specs.declared.schema.Reference.{Reference}
-use Rattle.sqlite_schema.specs.Names.{same_name, table_named}
+use Rattle.sqlite_schema.specs.Names.{same_name}
 use Rattle.sqlite_rules.proofs.ListLemmas.{all_has, test_push}
-use Rattle.sqlite_rules.specs.Lists.{Has}
 use Rattle.sqlite_catalog.specs.Change.{created, next_tree, past_views}
 use Rattle.sqlite_catalog.specs.Listing.{IsDefined, IsIndexRow, IsTableRow}
 use Rattle.sqlite.specs.Effect.{Database, IsDatabase}
 use Rattle.rows.specs.Forms.{strict}
 use Rattle.rows.specs.Standing.{IsNamed, Stands, is_unreferred, is_alone, is_unguarded, points_at, tree_named}
-use Rattle.rows.specs.Finding.{IsFree, is_unawaited}
+use Rattle.rows.specs.Finding.{IsFree}
 use Rattle.rows.specs.Contents.{Bytes}
-use Rattle.rows.specs.Making.{IsUnused, all_created, placed}
+use Rattle.rows.specs.Making.{all_created, placed}
 use Rattle.rows.proofs.Creates.{is_clear, unused_after}
 use Rattle.rows.proofs.Settles.{rises, all_below, not_next, last_found, last_there}
 use Rattle.rows.proofs.Truths.{and_so, not_so}

@@ -1,5 +1,5 @@
 -- That the rows of our tables are of the types of their columns, as a database that obeys its schema has them.
-use Rattle.std.proofs.Common.{◌≡◌, ℕ, suc, ◌+◌, List, [], ◌∷◌, Bool, true, false, not, ◌&&◌, ◌||◌, ap, subst, sym, ◌∙◌, refl, drop}
+use Rattle.std.proofs.Common.{◌≡◌, ℕ, suc, ◌+◌, List, [], ◌∷◌, Bool, true, false, not, ap, sym, ◌∙◌, refl, drop}
 use Rattle.std.specs.List.{AllByRecursion, list_all}
 use Rattle.std.specs.Prelude.{None, if◌then◌else◌}
 use Rattle.sqlite_value.specs.declared.value.Value.{Value}

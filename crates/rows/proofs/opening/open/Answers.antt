@@ -1,4 +1,3 @@
-use Rattle.std.proofs.Common.{refl}
 use Rattle.rows.proofs.opening.open.Goals as goal
 
 pub check-requires-clause-has : goal.check-requires-clause-has
