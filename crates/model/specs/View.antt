@@ -60,6 +60,7 @@ root_view r = record { kind = kind_view r.kind; target = string_bytes r.target; 
 abbrev pub root_set : List Root → roots.Set roots.root_cmp
 root_set keys = seen_set roots.root_cmp root_view keys
 
+-- what is handed in with its path
 abbrev pub import_view : Imported → asked.Imported
 import_view i = record { path = i.path; nar_hash = i.nar_hash; refs = i.refs.items; deriver = i.deriver; ca = i.ca; nar = i.nar.items }
 
@@ -88,6 +89,7 @@ request_view (Collect ignores) = asked.collect ignores
 request_view (Delete named ignores) = asked.delete (map string_bytes named.items) ignores
 request_view Report = asked.report
 
+-- the record of an object
 abbrev pub info_view : Info → replied.Info
 info_view i = record {
   path = string_bytes i.path;
@@ -98,6 +100,7 @@ info_view i = record {
   ca = i.ca;
 }
 
+-- a number of paths and the sum of their bytes
 abbrev pub usage_view : Usage → replied.Usage
 usage_view u = record { paths = u.paths; bytes = u.bytes }
 

@@ -58,6 +58,7 @@ fn act(
 }
 
 /// Does what a caller asks, or says why not. What isn't done changes nothing. `Failed` is answered where memory was refused.
+/// To find what lives takes time that is exponential in the number of paths.
 pub fn step(
     alloc: Global,
     config: &Config,

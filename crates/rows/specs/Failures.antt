@@ -1,4 +1,4 @@
--- Which failure an error of the database is.
+-- Which failure an error of the database is, and what a failure says of its call.
 use Rattle.std.specs.Prelude.{◌≡◌, ◌⊎◌, false, Option, Some, None, ⊤}
 use Rattle.sqlite_trees.specs.declared.error.StoreError.TheVariants.{Io}
 use Rattle.sqlite.specs.State.{State, HasCause, IsUnchanged, IsRolledBack}

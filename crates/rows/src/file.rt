@@ -16,7 +16,9 @@ use std::rt::HostRuntime;
 
 /// A database in a file, and what it holds of ours. If that is `Ours`, it is ready for transactions.
 pub struct Opened {
+    /// The connection, outside a transaction.
     pub conn: Connection<FileStore<File>>,
+    /// What the file holds of ours.
     pub found: Finding,
 }
 
@@ -57,8 +59,8 @@ fn take_up(alloc: Global, mut conn: Connection<FileStore<File>>) -> Result<Opene
     Ok(Opened { conn, found })
 }
 
-/// Opens the file at a path, or makes an empty database there. The answer is `None` if there is something else, which
-/// `sqlite` doesn't open for another cause than memory, size or the disk.
+/// Opens the file at a path, or makes an empty database there. The answer is `None` where `sqlite` doesn't open what is there, for
+/// another cause than memory, size or the disk.
 pub fn open(rt: &HostRuntime, path: &str) -> Result<Option<Opened>, Failure>
     ensures alone { IfOk result (λ o. IfSome o (λ it. it.conn.in_transaction ≡ false)) }
     ensures found { IfOk result (λ o. IfSome o (λ it. HasCleanDisk (file_state it.conn) → IsTrue (file_state it.conn).is_open → IsFound it.found (file_state it.conn))) }

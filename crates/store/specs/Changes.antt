@@ -71,6 +71,7 @@ pub record DeletesExactly (named : List Path) (w new : World) : Type 0 where
   pub kept : (p : Path) → (RefersToAny (graph_of w) named p → ⊥) → finite.get new.objects p ≡ finite.get w.objects p
   pub roots : KeepsRoots w new
 
+-- a deletion that is done deletes exactly
 abbrev pub Deletes : Type 0
 Deletes = (s : Settings) (w : World) (c : Caller) (named : List Path) (ignores : Bool) (reply : Reply) (new : World)
     → Step s w c (delete named ignores) reply new → IsDone reply → DeletesExactly named w new
@@ -93,5 +94,6 @@ pub record TellsWhatWent (w new : World) (a : Answer) : Type 0 where
   pub weight : Weigh w went bytes
   pub left : (p : Path) → IsTrue (has new p) → finite.get new.objects p ≡ finite.get w.objects p
 
+-- a request that is done is answered by what went
 abbrev pub FreesAsTold : Settings → Request → Type 0
 FreesAsTold s q = (w : World) (c : Caller) (a : Answer) (new : World) → Step s w c q (done a) new → TellsWhatWent w new a

@@ -42,6 +42,7 @@ pub record SetsProfile (w : World) (owned : Pair) (t : Path) (a : Answer) (new :
   pub target : finite.get now.generations number ≡ Some t
   pub others : (m : ℕ) → (m ≡ number → ⊥) → finite.get now.generations m ≡ finite.get (profile_at w owned).generations m
 
+-- a profile that is set gets its generation, and the number is answered
 abbrev pub SetsAsTold : Type 0
 SetsAsTold = (s : Settings) (w : World) (c : Caller) (owner name : List ℕ) (t : Path) (a : Answer) (new : World)
     → Step s w c (set_profile owner name t) (done a) new → SetsProfile w (owner, name) t a new
@@ -71,6 +72,7 @@ pub record RollsBack (w : World) (owned : Pair) (a : Answer) (new : World) : Typ
   pub moves : MovesTo w owned number new
   pub chosen : IsPrevious moves.was number
 
+-- a profile that is rolled back goes to the generation before
 abbrev pub RollsBackAsTold : Type 0
 RollsBackAsTold = (s : Settings) (w : World) (c : Caller) (owner name : List ℕ) (a : Answer) (new : World)
     → Step s w c (rollback owner name) (done a) new → RollsBack w (owner, name) a new
@@ -94,6 +96,7 @@ pub record LosesGeneration (w : World) (owned : Pair) (n : ℕ) (new : World) : 
   pub others : (m : ℕ) → (m ≡ n → ⊥) → finite.get now.generations m ≡ finite.get was.generations m
   pub current : now.current ≡ was.current
 
+-- a deletion takes the generation that is asked for, and no other
 abbrev pub DeletesGenerations : Type 0
 DeletesGenerations = (s : Settings) (w : World) (c : Caller) (owner name : List ℕ) (n : ℕ) (a : Answer) (new : World)
     → Step s w c (delete_generation owner name n) (done a) new → (a ≡ changed) × LosesGeneration w (owner, name) n new

@@ -1,4 +1,4 @@
-//! The world that the tables hold, and when it is sound.
+//! The world that the tables hold, what rows tell of it, and when both are sound.
 #![tactic(auto)]
 
 mod laws;
