@@ -59,10 +59,39 @@ impl Store {
         Ok(said(self.alloc, &reply)?)
     }
 
+    /// A caller's request is to be replied to in this line.
+    fn expect(&mut self, user: &str, request: Request, line: &str) -> Result<(), Fail> {
+        let reply = self.ask(user, request)?;
+        same(reply.as_str(), line)
+    }
+
     /// An empty file is put at a path by `ann`, who is trusted, with references.
-    fn put(&mut self, path: &str, refs: &[&str]) -> Result<String, Fail> {
+    fn put(&mut self, path: &str, refs: &[&str]) -> Result<(), Fail> {
+        self.put_as(path, refs, path)
+    }
+
+    /// The same, with the line that is to be replied.
+    fn put_as(&mut self, path: &str, refs: &[&str], line: &str) -> Result<(), Fail> {
         let object = imported(self.alloc, path, refs, EMPTY_FILE)?;
-        self.ask("ann", Request::Import(object))
+        self.expect("ann", Request::Import(object), line)
+    }
+}
+
+/// Two texts are to be the same.
+fn same(text: &str, line: &str) -> Result<(), Fail> {
+    if text == line {
+        Ok(())
+    } else {
+        Err(Fail::new(format_args!("{text}, and not {line}")))
+    }
+}
+
+/// Something is to hold.
+fn holds(fact: bool) -> Result<(), Fail> {
+    if fact {
+        Ok(())
+    } else {
+        Err(Fail::new("it doesn't hold"))
     }
 }
 

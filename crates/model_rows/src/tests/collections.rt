@@ -32,18 +32,17 @@ fn keep(store: &mut Store, path: &str) -> Result<String, Fail> {
 fn without_roots_all_goes(rt: HostRuntime) -> Result<(), Fail> {
     let alloc = rt.alloc();
     let mut store = built(alloc, KEEPING)?;
-    assert_eq!(rt;
-        store.ask("bob", Request::List)?.as_str(),
-        "[0]-d.drv; [1]-o; "
-    );
-    assert_eq!(rt;
-        store.ask("bob", Request::Collect(false))?.as_str(),
-        "[0]-d.drv; [1]-o; freed 2 paths 320 bytes"
-    );
-    assert_eq!(rt;
-        store.ask("bob", Request::Collect(false))?.as_str(),
-        "freed 0 paths 0 bytes"
-    );
+    ask_without_roots_all_goes(alloc, &mut store)
+}
+
+fn ask_without_roots_all_goes(alloc: Global, store: &mut Store) -> Result<(), Fail> {
+    store.expect("bob", Request::List, "[0]-d.drv; [1]-o; ")?;
+    store.expect(
+        "bob",
+        Request::Collect(false),
+        "[0]-d.drv; [1]-o; freed 2 paths 320 bytes",
+    )?;
+    store.expect("bob", Request::Collect(false), "freed 0 paths 0 bytes")?;
     Ok(())
 }
 
@@ -51,16 +50,14 @@ fn without_roots_all_goes(rt: HostRuntime) -> Result<(), Fail> {
 fn an_output_keeps_its_deriver(rt: HostRuntime) -> Result<(), Fail> {
     let alloc = rt.alloc();
     let mut store = built(alloc, KEEPING)?;
-    assert_eq!(rt; keep(&mut store, "[1]-o")?.as_str(), "done");
-    assert_eq!(rt;
-        store.ask("bob", Request::ListLive)?.as_str(),
-        "[0]-d.drv; [1]-o; "
-    );
-    assert_eq!(rt; store.ask("bob", Request::ListDead)?.as_str(), "");
-    assert_eq!(rt;
-        store.ask("bob", Request::Collect(false))?.as_str(),
-        "freed 0 paths 0 bytes"
-    );
+    ask_an_output_keeps_its_deriver(alloc, &mut store)
+}
+
+fn ask_an_output_keeps_its_deriver(alloc: Global, store: &mut Store) -> Result<(), Fail> {
+    keep(store, "[1]-o")?;
+    store.expect("bob", Request::ListLive, "[0]-d.drv; [1]-o; ")?;
+    store.expect("bob", Request::ListDead, "")?;
+    store.expect("bob", Request::Collect(false), "freed 0 paths 0 bytes")?;
     Ok(())
 }
 
@@ -68,16 +65,22 @@ fn an_output_keeps_its_deriver(rt: HostRuntime) -> Result<(), Fail> {
 fn a_deriver_that_is_not_kept_goes(rt: HostRuntime) -> Result<(), Fail> {
     let alloc = rt.alloc();
     let mut store = built(alloc, KEEPING_OUTPUTS)?;
-    assert_eq!(rt; keep(&mut store, "[1]-o")?.as_str(), "done");
-    assert_eq!(rt;
-        store.ask("bob", Request::Report)?.as_str(),
-        "live 1 112, dead 1 208, total 2 320"
-    );
-    assert_eq!(rt;
-        store.ask("bob", Request::Collect(false))?.as_str(),
-        "[0]-d.drv; freed 1 paths 208 bytes"
-    );
-    assert_eq!(rt; store.ask("bob", Request::List)?.as_str(), "[1]-o; ");
+    ask_a_deriver_that_is_not_kept_goes(alloc, &mut store)
+}
+
+fn ask_a_deriver_that_is_not_kept_goes(alloc: Global, store: &mut Store) -> Result<(), Fail> {
+    keep(store, "[1]-o")?;
+    store.expect(
+        "bob",
+        Request::Report,
+        "live 1 112, dead 1 208, total 2 320",
+    )?;
+    store.expect(
+        "bob",
+        Request::Collect(false),
+        "[0]-d.drv; freed 1 paths 208 bytes",
+    )?;
+    store.expect("bob", Request::List, "[1]-o; ")?;
     Ok(())
 }
 
@@ -85,8 +88,12 @@ fn a_deriver_that_is_not_kept_goes(rt: HostRuntime) -> Result<(), Fail> {
 fn a_deriver_keeps_its_output(rt: HostRuntime) -> Result<(), Fail> {
     let alloc = rt.alloc();
     let mut store = built(alloc, KEEPING_OUTPUTS)?;
-    assert_eq!(rt; keep(&mut store, "[0]-d.drv")?.as_str(), "done");
-    assert_eq!(rt; store.ask("bob", Request::ListDead)?.as_str(), "");
+    ask_a_deriver_keeps_its_output(alloc, &mut store)
+}
+
+fn ask_a_deriver_keeps_its_output(alloc: Global, store: &mut Store) -> Result<(), Fail> {
+    keep(store, "[0]-d.drv")?;
+    store.expect("bob", Request::ListDead, "")?;
     Ok(())
 }
 
@@ -94,11 +101,16 @@ fn a_deriver_keeps_its_output(rt: HostRuntime) -> Result<(), Fail> {
 fn a_self_reference_keeps_nothing(rt: HostRuntime) -> Result<(), Fail> {
     let alloc = rt.alloc();
     let mut store = Store::new(alloc, ANN_IS_TRUSTED)?;
-    assert_eq!(rt; store.put("[3]-s", &["[3]-s"])?.as_str(), "[3]-s");
-    assert_eq!(rt;
-        store.ask("bob", Request::Collect(false))?.as_str(),
-        "[3]-s; freed 1 paths 112 bytes"
-    );
+    ask_a_self_reference_keeps_nothing(alloc, &mut store)
+}
+
+fn ask_a_self_reference_keeps_nothing(alloc: Global, store: &mut Store) -> Result<(), Fail> {
+    store.put_as("[3]-s", &["[3]-s"], "[3]-s")?;
+    store.expect(
+        "bob",
+        Request::Collect(false),
+        "[3]-s; freed 1 paths 112 bytes",
+    )?;
     Ok(())
 }
 
@@ -106,13 +118,11 @@ fn a_self_reference_keeps_nothing(rt: HostRuntime) -> Result<(), Fail> {
 fn liveness_is_never_ignored(rt: HostRuntime) -> Result<(), Fail> {
     let alloc = rt.alloc();
     let mut store = Store::new(alloc, ANN_IS_TRUSTED)?;
-    assert_eq!(rt;
-        store.ask("bob", Request::Collect(true))?.as_str(),
-        "denied NoIgnoreLiveness"
-    );
-    assert_eq!(rt;
-        store.ask("ann", Request::Collect(true))?.as_str(),
-        "denied NoIgnoreLiveness"
-    );
+    ask_liveness_is_never_ignored(alloc, &mut store)
+}
+
+fn ask_liveness_is_never_ignored(alloc: Global, store: &mut Store) -> Result<(), Fail> {
+    store.expect("bob", Request::Collect(true), "denied NoIgnoreLiveness")?;
+    store.expect("ann", Request::Collect(true), "denied NoIgnoreLiveness")?;
     Ok(())
 }

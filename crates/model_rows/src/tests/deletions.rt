@@ -14,19 +14,25 @@ fn delete(alloc: Global, paths: &[&str]) -> Result<Request, Fail> {
 fn the_first_root_is_shown(rt: HostRuntime) -> Result<(), Fail> {
     let alloc = rt.alloc();
     let mut store = Store::new(alloc, ANN_IS_TRUSTED)?;
+    ask_the_first_root_is_shown(alloc, &mut store)
+}
+
+fn ask_the_first_root_is_shown(alloc: Global, store: &mut Store) -> Result<(), Fail> {
     store.put("[0]-p", &[])?;
     store.put("[1]-x", &["[0]-p"])?;
     store.put("[2]-y", &["[0]-p"])?;
     let pairs = runtime(alloc, &[("/proc/1/exe", "[2]-y"), ("/proc/2/exe", "[1]-x")])?;
-    assert_eq!(rt; store.ask("ann", pairs)?.as_str(), "runtime roots 2");
-    assert_eq!(rt;
-        store.ask("bob", delete(alloc, &["[0]-p"])?)?.as_str(),
-        "denied Live {censored} [1]-x"
-    );
-    assert_eq!(rt;
-        store.ask("ann", delete(alloc, &["[0]-p"])?)?.as_str(),
-        "denied Live /proc/2/exe [1]-x"
-    );
+    store.expect("ann", pairs, "runtime roots 2")?;
+    store.expect(
+        "bob",
+        delete(alloc, &["[0]-p"])?,
+        "denied Live {censored} [1]-x",
+    )?;
+    store.expect(
+        "ann",
+        delete(alloc, &["[0]-p"])?,
+        "denied Live /proc/2/exe [1]-x",
+    )?;
     Ok(())
 }
 
@@ -34,36 +40,28 @@ fn the_first_root_is_shown(rt: HostRuntime) -> Result<(), Fail> {
 fn one_that_lives_forbids_all(rt: HostRuntime) -> Result<(), Fail> {
     let alloc = rt.alloc();
     let mut store = Store::new(alloc, ANN_IS_TRUSTED)?;
+    ask_one_that_lives_forbids_all(alloc, &mut store)
+}
+
+fn ask_one_that_lives_forbids_all(alloc: Global, store: &mut Store) -> Result<(), Fail> {
     store.put("[0]-p", &[])?;
     store.put("[1]-x", &[])?;
     store.ask(
         "ann",
         Request::SetPermanent(owned(alloc, "r")?, full(alloc, "[1]-x")?),
     )?;
-    assert_eq!(rt;
-        store
-            .ask("bob", delete(alloc, &["[0]-p", "[1]-x"])?)?
-            .as_str(),
-        "denied Live gcroots/r [1]-x"
-    );
-    assert_eq!(rt;
-        store
-            .ask("bob", Request::Nar(full(alloc, "[0]-p")?))?
-            .as_str(),
-        "112 bytes"
-    );
-    assert_eq!(rt;
-        store
-            .ask("bob", Request::Nar(full(alloc, "[1]-x")?))?
-            .as_str(),
-        "112 bytes"
-    );
-    assert_eq!(rt;
-        store
-            .ask("bob", delete(alloc, &["[7]-z", "[1]-x"])?)?
-            .as_str(),
-        "denied Live gcroots/r [1]-x"
-    );
+    store.expect(
+        "bob",
+        delete(alloc, &["[0]-p", "[1]-x"])?,
+        "denied Live gcroots/r [1]-x",
+    )?;
+    store.expect("bob", Request::Nar(full(alloc, "[0]-p")?), "112 bytes")?;
+    store.expect("bob", Request::Nar(full(alloc, "[1]-x")?), "112 bytes")?;
+    store.expect(
+        "bob",
+        delete(alloc, &["[7]-z", "[1]-x"])?,
+        "denied Live gcroots/r [1]-x",
+    )?;
     Ok(())
 }
 
@@ -71,22 +69,21 @@ fn one_that_lives_forbids_all(rt: HostRuntime) -> Result<(), Fail> {
 fn referrers_go_too(rt: HostRuntime) -> Result<(), Fail> {
     let alloc = rt.alloc();
     let mut store = Store::new(alloc, ANN_IS_TRUSTED)?;
+    ask_referrers_go_too(alloc, &mut store)
+}
+
+fn ask_referrers_go_too(alloc: Global, store: &mut Store) -> Result<(), Fail> {
     store.put("[0]-p", &[])?;
     store.put("[1]-x", &["[0]-p"])?;
     store.put("[2]-y", &[])?;
-    assert_eq!(rt;
-        store.ask("bob", delete(alloc, &["[0]-p"])?)?.as_str(),
-        "[0]-p; [1]-x; freed 2 paths 224 bytes"
-    );
-    assert_eq!(rt;
-        store.ask("bob", delete(alloc, &["[0]-p"])?)?.as_str(),
-        "refused NotValid"
-    );
-    assert_eq!(rt;
-        store.ask("bob", delete(alloc, &[])?)?.as_str(),
-        "freed 0 paths 0 bytes"
-    );
-    assert_eq!(rt; store.ask("bob", Request::List)?.as_str(), "[2]-y; ");
+    store.expect(
+        "bob",
+        delete(alloc, &["[0]-p"])?,
+        "[0]-p; [1]-x; freed 2 paths 224 bytes",
+    )?;
+    store.expect("bob", delete(alloc, &["[0]-p"])?, "refused NotValid")?;
+    store.expect("bob", delete(alloc, &[])?, "freed 0 paths 0 bytes")?;
+    store.expect("bob", Request::List, "[2]-y; ")?;
     Ok(())
 }
 
@@ -94,14 +91,19 @@ fn referrers_go_too(rt: HostRuntime) -> Result<(), Fail> {
 fn liveness_is_never_ignored(rt: HostRuntime) -> Result<(), Fail> {
     let alloc = rt.alloc();
     let mut store = Store::new(alloc, ANN_IS_TRUSTED)?;
+    ask_liveness_is_never_ignored(alloc, &mut store)
+}
+
+fn ask_liveness_is_never_ignored(alloc: Global, store: &mut Store) -> Result<(), Fail> {
     store.put("[0]-p", &[])?;
     for user in ["ann", "bob"] {
         let mut named = Vec::new(alloc);
         named.push(full(alloc, "[0]-p")?)?;
-        assert_eq!(rt;
-            store.ask(user, Request::Delete(named, true))?.as_str(),
-            "denied NoIgnoreLiveness"
-        );
+        store.expect(
+            user,
+            Request::Delete(named, true),
+            "denied NoIgnoreLiveness",
+        )?;
     }
     Ok(())
 }

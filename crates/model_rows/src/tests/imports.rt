@@ -35,17 +35,15 @@ fn handed_in(
 fn an_address_stands_for_trust(rt: HostRuntime) -> Result<(), Fail> {
     let alloc = rt.alloc();
     let mut store = Store::new(alloc, ANN_IS_TRUSTED)?;
+    ask_an_address_stands_for_trust(alloc, &mut store)
+}
+
+fn ask_an_address_stands_for_trust(alloc: Global, store: &mut Store) -> Result<(), Fail> {
     let object = handed_in(alloc, MY_FILE, b"mycontent\n", None)?;
-    assert_eq!(rt;
-        store.ask("bob", Request::Import(object))?.as_str(),
-        "denied TrustedImport"
-    );
+    store.expect("bob", Request::Import(object), "denied TrustedImport")?;
     let mut object = handed_in(alloc, MY_FILE, b"mycontent\n", Some(ITS_ADDRESS))?;
     object.deriver = Some(store_path(alloc, "[5]-d.drv")?);
-    assert_eq!(rt;
-        store.ask("bob", Request::Import(object))?.as_str(),
-        MY_FILE
-    );
+    store.expect("bob", Request::Import(object), MY_FILE)?;
     let reply = store.ask_as("bob", "users", Request::Info(owned(alloc, MY_FILE)?))?;
     let deriver = match &reply {
         Reply::Done(Answer::Record(info)) => match &info.deriver {
@@ -54,7 +52,7 @@ fn an_address_stands_for_trust(rt: HostRuntime) -> Result<(), Fail> {
         },
         _ => "",
     };
-    assert_eq!(rt; deriver, "55555555555555555555555555555555-d.drv");
+    same(deriver, "55555555555555555555555555555555-d.drv")?;
     Ok(())
 }
 
@@ -62,28 +60,23 @@ fn an_address_stands_for_trust(rt: HostRuntime) -> Result<(), Fail> {
 fn what_differs_is_refused(rt: HostRuntime) -> Result<(), Fail> {
     let alloc = rt.alloc();
     let mut store = Store::new(alloc, ANN_IS_TRUSTED)?;
+    ask_what_differs_is_refused(alloc, &mut store)
+}
+
+fn ask_what_differs_is_refused(alloc: Global, store: &mut Store) -> Result<(), Fail> {
     let object = handed_in(
         alloc,
         "xv2iccirbrvklck36f1g7vldn5v58vck-myfile2",
         b"mycontent\n",
         Some(ITS_ADDRESS),
     )?;
-    assert_eq!(rt;
-        store.ask("bob", Request::Import(object))?.as_str(),
-        "refused CaMismatch"
-    );
+    store.expect("bob", Request::Import(object), "refused CaMismatch")?;
     let mut object = handed_in(alloc, MY_FILE, b"mycontent\n", Some(ITS_ADDRESS))?;
     object.nar = file(alloc, b"mycontenT\n")?;
-    assert_eq!(rt;
-        store.ask("bob", Request::Import(object))?.as_str(),
-        "refused NarHashMismatch"
-    );
+    store.expect("bob", Request::Import(object), "refused NarHashMismatch")?;
     let text = "text:sha256:1b8m03r63zqhnjf7l5wnldhh7c134ap5vpj0850ymkq1iyzicy5s";
     let object = handed_in(alloc, MY_FILE, b"mycontent\n", Some(text))?;
-    assert_eq!(rt;
-        store.ask("bob", Request::Import(object))?.as_str(),
-        "refused CaMismatch"
-    );
+    store.expect("bob", Request::Import(object), "refused CaMismatch")?;
     Ok(())
 }
 
@@ -91,19 +84,17 @@ fn what_differs_is_refused(rt: HostRuntime) -> Result<(), Fail> {
 fn references_are_valid(rt: HostRuntime) -> Result<(), Fail> {
     let alloc = rt.alloc();
     let mut store = Store::new(alloc, ANN_IS_TRUSTED)?;
+    ask_references_are_valid(alloc, &mut store)
+}
+
+fn ask_references_are_valid(alloc: Global, store: &mut Store) -> Result<(), Fail> {
     let mut object = handed_in(alloc, MY_FILE, b"mycontent\n", None)?;
     object.refs.push(store_path(alloc, "[4]-q")?)?;
-    assert_eq!(rt;
-        store.ask("ann", Request::Import(object))?.as_str(),
-        "refused MissingReference"
-    );
+    store.expect("ann", Request::Import(object), "refused MissingReference")?;
     let mut object = handed_in(alloc, MY_FILE, b"mycontent\n", Some(ITS_ADDRESS))?;
     let itself = StorePath::parse(alloc, &StoreDir::parse(alloc, "/nix/store")?, MY_FILE)?;
     object.refs.push(itself)?;
-    assert_eq!(rt;
-        store.ask("bob", Request::Import(object))?.as_str(),
-        "refused SelfReference"
-    );
+    store.expect("bob", Request::Import(object), "refused SelfReference")?;
     Ok(())
 }
 
@@ -111,16 +102,14 @@ fn references_are_valid(rt: HostRuntime) -> Result<(), Fail> {
 fn rules_come_before_tests(rt: HostRuntime) -> Result<(), Fail> {
     let alloc = rt.alloc();
     let mut store = Store::new(alloc, ANN_IS_TRUSTED)?;
+    ask_rules_come_before_tests(alloc, &mut store)
+}
+
+fn ask_rules_come_before_tests(alloc: Global, store: &mut Store) -> Result<(), Fail> {
     let object = imported(alloc, "[1]-x", &[], b"no archive")?;
-    assert_eq!(rt;
-        store.ask("bob", Request::Import(object))?.as_str(),
-        "denied TrustedImport"
-    );
+    store.expect("bob", Request::Import(object), "denied TrustedImport")?;
     let object = imported(alloc, "[1]-x", &[], b"no archive")?;
-    assert_eq!(rt;
-        store.ask("ann", Request::Import(object))?.as_str(),
-        "refused Archive(TooLarge)"
-    );
+    store.expect("ann", Request::Import(object), "refused Archive(TooLarge)")?;
     Ok(())
 }
 
@@ -128,24 +117,25 @@ fn rules_come_before_tests(rt: HostRuntime) -> Result<(), Fail> {
 fn what_stands_at_a_path_stays(rt: HostRuntime) -> Result<(), Fail> {
     let alloc = rt.alloc();
     let mut store = Store::new(alloc, ANN_IS_TRUSTED)?;
+    ask_what_stands_at_a_path_stays(alloc, &mut store)
+}
+
+fn ask_what_stands_at_a_path_stays(alloc: Global, store: &mut Store) -> Result<(), Fail> {
     let dir = StoreDir::parse(alloc, "/nix/store")?;
     let path = paths::text_path(alloc, &dir, &name(alloc, "t")?, &[], b"hello")?;
     let other = handed_in(alloc, path.as_str(), b"other", None)?;
-    assert_eq!(rt;
-        store.ask("ann", Request::Import(other))?.as_str(),
-        path.as_str()
-    );
+    store.expect("ann", Request::Import(other), path.as_str())?;
     let again = Request::AddText(
         name(alloc, "t")?,
         Vec::new(alloc),
         Vec::from_slice(alloc, b"hello")?,
     );
-    assert_eq!(rt; store.ask("bob", again)?.as_str(), path.as_str());
+    store.expect("bob", again, path.as_str())?;
     let reply = store.ask_as("bob", "users", Request::Nar(owned(alloc, path.as_str())?))?;
     let other = file(alloc, b"other")?;
-    assert!(rt; matches!(&reply, Reply::Done(Answer::Archive(bytes)) if bytes == &other));
+    holds(matches!(&reply, Reply::Done(Answer::Archive(bytes)) if bytes == &other))?;
     let reply = store.ask_as("bob", "users", Request::Info(owned(alloc, path.as_str())?))?;
-    assert!(rt; matches!(&reply, Reply::Done(Answer::Record(info)) if info.ca.is_none()));
+    holds(matches!(&reply, Reply::Done(Answer::Record(info)) if info.ca.is_none()))?;
     Ok(())
 }
 
@@ -160,15 +150,15 @@ fn self_reference(alloc: Global, address: &str) -> Result<String, Fail> {
 #[test]
 fn addresses_allow_no_self_reference(rt: HostRuntime) -> Result<(), Fail> {
     let alloc = rt.alloc();
-    assert_eq!(rt;
+    same(
         self_reference(alloc, ITS_ADDRESS)?.as_str(),
-        "refused SelfReference"
-    );
+        "refused SelfReference",
+    )?;
     let text = "text:sha256:1b8m03r63zqhnjf7l5wnldhh7c134ap5vpj0850ymkq1iyzicy5s";
-    assert_eq!(rt;
+    same(
         self_reference(alloc, text)?.as_str(),
-        "refused SelfReference"
-    );
+        "refused SelfReference",
+    )?;
     Ok(())
 }
 
@@ -185,21 +175,22 @@ fn referring(alloc: Global, count: usize, nar: &[u8]) -> Result<Request, Fail> {
 fn references_are_counted_as_listed(rt: HostRuntime) -> Result<(), Fail> {
     let alloc = rt.alloc();
     let mut store = Store::new(alloc, ANN_IS_TRUSTED)?;
+    ask_references_are_counted_as_listed(alloc, &mut store)
+}
+
+fn ask_references_are_counted_as_listed(alloc: Global, store: &mut Store) -> Result<(), Fail> {
     store.put("[4]-q", &[])?;
-    assert_eq!(rt;
-        store.ask("ann", referring(alloc, 4097, b"")?)?.as_str(),
-        "refused TooManyReferences"
-    );
-    assert_eq!(rt;
-        store.ask("ann", referring(alloc, 4096, b"")?)?.as_str(),
-        "refused Archive(Truncated)"
-    );
-    assert_eq!(rt;
-        store
-            .ask("ann", referring(alloc, 4096, EMPTY_FILE)?)?
-            .as_str(),
-        "[1]-x"
-    );
+    store.expect(
+        "ann",
+        referring(alloc, 4097, b"")?,
+        "refused TooManyReferences",
+    )?;
+    store.expect(
+        "ann",
+        referring(alloc, 4096, b"")?,
+        "refused Archive(Truncated)",
+    )?;
+    store.expect("ann", referring(alloc, 4096, EMPTY_FILE)?, "[1]-x")?;
     Ok(())
 }
 
@@ -207,12 +198,13 @@ fn references_are_counted_as_listed(rt: HostRuntime) -> Result<(), Fail> {
 fn a_valid_path_asks_for_no_references(rt: HostRuntime) -> Result<(), Fail> {
     let alloc = rt.alloc();
     let mut store = Store::new(alloc, ANN_IS_TRUSTED)?;
-    assert_eq!(rt; store.put("[1]-x", &[])?.as_str(), "[1]-x");
-    assert_eq!(rt; store.put("[1]-x", &["[4]-q"])?.as_str(), "[1]-x");
-    assert_eq!(rt;
-        store.put("[2]-y", &["[4]-q"])?.as_str(),
-        "refused MissingReference"
-    );
+    ask_a_valid_path_asks_for_no_references(alloc, &mut store)
+}
+
+fn ask_a_valid_path_asks_for_no_references(alloc: Global, store: &mut Store) -> Result<(), Fail> {
+    store.put_as("[1]-x", &[], "[1]-x")?;
+    store.put_as("[1]-x", &["[4]-q"], "[1]-x")?;
+    store.put_as("[2]-y", &["[4]-q"], "refused MissingReference")?;
     Ok(())
 }
 
@@ -220,22 +212,21 @@ fn a_valid_path_asks_for_no_references(rt: HostRuntime) -> Result<(), Fail> {
 fn derivations_are_tested_at_valid_paths(rt: HostRuntime) -> Result<(), Fail> {
     let alloc = rt.alloc();
     let mut store = Store::new(alloc, ANN_IS_TRUSTED)?;
+    ask_derivations_are_tested_at_valid_paths(alloc, &mut store)
+}
+
+fn ask_derivations_are_tested_at_valid_paths(alloc: Global, store: &mut Store) -> Result<(), Fail> {
     let nar = file(alloc, b"Derive([],[],[],\"p\",\"b\",[],[])")?;
     let derivation = imported(alloc, "[0]-d.drv", &[], nar.as_slice())?;
-    assert_eq!(rt;
-        store.ask("ann", Request::Import(derivation))?.as_str(),
-        "[0]-d.drv"
-    );
-    assert_eq!(rt;
-        store.put("[0]-d.drv", &[])?.as_str(),
-        "refused Derivation(BadDerivation)"
-    );
+    store.expect("ann", Request::Import(derivation), "[0]-d.drv")?;
+    store.put_as("[0]-d.drv", &[], "refused Derivation(BadDerivation)")?;
     let folder = archive(alloc, &Node::Directory(Vec::new(alloc)))?;
     let derivation = imported(alloc, "[0]-d.drv", &[], folder.as_slice())?;
-    assert_eq!(rt;
-        store.ask("ann", Request::Import(derivation))?.as_str(),
-        "refused Derivation(BadDerivation)"
-    );
+    store.expect(
+        "ann",
+        Request::Import(derivation),
+        "refused Derivation(BadDerivation)",
+    )?;
     Ok(())
 }
 
@@ -243,12 +234,13 @@ fn derivations_are_tested_at_valid_paths(rt: HostRuntime) -> Result<(), Fail> {
 fn digests_come_before_references(rt: HostRuntime) -> Result<(), Fail> {
     let alloc = rt.alloc();
     let mut store = Store::new(alloc, ANN_IS_TRUSTED)?;
+    ask_digests_come_before_references(alloc, &mut store)
+}
+
+fn ask_digests_come_before_references(alloc: Global, store: &mut Store) -> Result<(), Fail> {
     let mut object = imported(alloc, "[3]-s", &["[3]-s"], EMPTY_FILE)?;
     object.ca = Some(Ca::parse(alloc, ITS_ADDRESS)?);
     object.nar = file(alloc, b"x")?;
-    assert_eq!(rt;
-        store.ask("bob", Request::Import(object))?.as_str(),
-        "refused NarHashMismatch"
-    );
+    store.expect("bob", Request::Import(object), "refused NarHashMismatch")?;
     Ok(())
 }

@@ -27,42 +27,22 @@ fn delete(alloc: Global, number: u32) -> Result<Request, Fail> {
 fn a_generation_is_reused(rt: HostRuntime) -> Result<(), Fail> {
     let alloc = rt.alloc();
     let mut store = Store::new(alloc, ANN_IS_TRUSTED)?;
+    ask_a_generation_is_reused(alloc, &mut store)
+}
+
+fn ask_a_generation_is_reused(alloc: Global, store: &mut Store) -> Result<(), Fail> {
     store.put("[0]-a", &[])?;
     store.put("[1]-b", &[])?;
-    assert_eq!(rt;
-        store.ask("bob", set(alloc, "[0]-a")?)?.as_str(),
-        "generation 1"
-    );
-    assert_eq!(rt;
-        store.ask("bob", set(alloc, "[1]-b")?)?.as_str(),
-        "generation 2"
-    );
-    assert_eq!(rt;
-        store.ask("bob", roll_back(alloc)?)?.as_str(),
-        "generation 1"
-    );
-    assert_eq!(rt;
-        store.ask("bob", set(alloc, "[1]-b")?)?.as_str(),
-        "generation 2"
-    );
-    assert_eq!(rt;
-        store.ask("bob", delete(alloc, 2)?)?.as_str(),
-        "refused CurrentGeneration"
-    );
-    assert_eq!(rt; store.ask("bob", delete(alloc, 1)?)?.as_str(), "done");
-    assert_eq!(rt; store.ask("bob", Request::ListDead)?.as_str(), "[0]-a; ");
-    assert_eq!(rt;
-        store.ask("bob", roll_back(alloc)?)?.as_str(),
-        "refused NoOlderGeneration"
-    );
-    assert_eq!(rt;
-        store.ask("bob", delete(alloc, 7)?)?.as_str(),
-        "refused NoGeneration"
-    );
-    assert_eq!(rt;
-        store.ask("bob", switch(alloc, 0)?)?.as_str(),
-        "refused NoGeneration"
-    );
+    store.expect("bob", set(alloc, "[0]-a")?, "generation 1")?;
+    store.expect("bob", set(alloc, "[1]-b")?, "generation 2")?;
+    store.expect("bob", roll_back(alloc)?, "generation 1")?;
+    store.expect("bob", set(alloc, "[1]-b")?, "generation 2")?;
+    store.expect("bob", delete(alloc, 2)?, "refused CurrentGeneration")?;
+    store.expect("bob", delete(alloc, 1)?, "done")?;
+    store.expect("bob", Request::ListDead, "[0]-a; ")?;
+    store.expect("bob", roll_back(alloc)?, "refused NoOlderGeneration")?;
+    store.expect("bob", delete(alloc, 7)?, "refused NoGeneration")?;
+    store.expect("bob", switch(alloc, 0)?, "refused NoGeneration")?;
     Ok(())
 }
 
@@ -70,19 +50,17 @@ fn a_generation_is_reused(rt: HostRuntime) -> Result<(), Fail> {
 fn numbers_rise_from_the_highest(rt: HostRuntime) -> Result<(), Fail> {
     let alloc = rt.alloc();
     let mut store = Store::new(alloc, ANN_IS_TRUSTED)?;
+    ask_numbers_rise_from_the_highest(alloc, &mut store)
+}
+
+fn ask_numbers_rise_from_the_highest(alloc: Global, store: &mut Store) -> Result<(), Fail> {
     for path in ["[0]-a", "[1]-b", "[2]-c"] {
         store.put(path, &[])?;
         store.ask("bob", set(alloc, path)?)?;
     }
-    assert_eq!(rt;
-        store.ask("bob", roll_back(alloc)?)?.as_str(),
-        "generation 2"
-    );
-    assert_eq!(rt; store.ask("bob", delete(alloc, 3)?)?.as_str(), "done");
-    assert_eq!(rt;
-        store.ask("bob", set(alloc, "[2]-c")?)?.as_str(),
-        "generation 3"
-    );
+    store.expect("bob", roll_back(alloc)?, "generation 2")?;
+    store.expect("bob", delete(alloc, 3)?, "done")?;
+    store.expect("bob", set(alloc, "[2]-c")?, "generation 3")?;
     Ok(())
 }
 
@@ -90,6 +68,10 @@ fn numbers_rise_from_the_highest(rt: HostRuntime) -> Result<(), Fail> {
 fn the_last_number(rt: HostRuntime) -> Result<(), Fail> {
     let alloc = rt.alloc();
     let mut store = Store::new(alloc, ANN_IS_TRUSTED)?;
+    ask_the_last_number(alloc, &mut store)
+}
+
+fn ask_the_last_number(alloc: Global, store: &mut Store) -> Result<(), Fail> {
     store.put("[0]-a", &[])?;
     store.put("[1]-b", &[])?;
     let mut generations = BTreeMap::new(alloc);
@@ -102,14 +84,8 @@ fn the_last_number(rt: HostRuntime) -> Result<(), Fail> {
         .world
         .profiles
         .insert((owned(alloc, "bob")?, owned(alloc, "work")?), profile)?;
-    assert_eq!(rt;
-        store.ask("bob", set(alloc, "[0]-a")?)?.as_str(),
-        "generation 9999"
-    );
-    assert_eq!(rt;
-        store.ask("bob", set(alloc, "[1]-b")?)?.as_str(),
-        "refused GenerationLimit"
-    );
+    store.expect("bob", set(alloc, "[0]-a")?, "generation 9999")?;
+    store.expect("bob", set(alloc, "[1]-b")?, "refused GenerationLimit")?;
     Ok(())
 }
 
@@ -117,30 +93,16 @@ fn the_last_number(rt: HostRuntime) -> Result<(), Fail> {
 fn profiles_of_others(rt: HostRuntime) -> Result<(), Fail> {
     let alloc = rt.alloc();
     let mut store = Store::new(alloc, ANN_IS_TRUSTED)?;
-    assert_eq!(rt;
-        store.ask("bob", roll_back(alloc)?)?.as_str(),
-        "refused NoProfile"
-    );
-    assert_eq!(rt;
-        store.ask("ann", roll_back(alloc)?)?.as_str(),
-        "denied OwnRoot"
-    );
-    assert_eq!(rt;
-        store.ask("ann", switch(alloc, 1)?)?.as_str(),
-        "denied OwnRoot"
-    );
-    assert_eq!(rt;
-        store.ask("ann", set(alloc, "[0]-a")?)?.as_str(),
-        "denied OwnRoot"
-    );
-    assert_eq!(rt;
-        store.ask("ann", delete(alloc, 1)?)?.as_str(),
-        "refused NoProfile"
-    );
-    assert_eq!(rt;
-        store.ask("cid", delete(alloc, 1)?)?.as_str(),
-        "denied OwnRoot"
-    );
+    ask_profiles_of_others(alloc, &mut store)
+}
+
+fn ask_profiles_of_others(alloc: Global, store: &mut Store) -> Result<(), Fail> {
+    store.expect("bob", roll_back(alloc)?, "refused NoProfile")?;
+    store.expect("ann", roll_back(alloc)?, "denied OwnRoot")?;
+    store.expect("ann", switch(alloc, 1)?, "denied OwnRoot")?;
+    store.expect("ann", set(alloc, "[0]-a")?, "denied OwnRoot")?;
+    store.expect("ann", delete(alloc, 1)?, "refused NoProfile")?;
+    store.expect("cid", delete(alloc, 1)?, "denied OwnRoot")?;
     Ok(())
 }
 
@@ -148,21 +110,22 @@ fn profiles_of_others(rt: HostRuntime) -> Result<(), Fail> {
 fn names_of_profiles(rt: HostRuntime) -> Result<(), Fail> {
     let alloc = rt.alloc();
     let mut store = Store::new(alloc, ANN_IS_TRUSTED)?;
+    ask_names_of_profiles(alloc, &mut store)
+}
+
+fn ask_names_of_profiles(alloc: Global, store: &mut Store) -> Result<(), Fail> {
     let back = Request::Rollback(owned(alloc, "bob")?, owned(alloc, "a/b")?);
-    assert_eq!(rt; store.ask("bob", back)?.as_str(), "refused BadRootName");
+    store.expect("bob", back, "refused BadRootName")?;
     let switched = Request::Switch(owned(alloc, "bob")?, owned(alloc, "")?, 1);
-    assert_eq!(rt; store.ask("bob", switched)?.as_str(), "refused BadRootName");
+    store.expect("bob", switched, "refused BadRootName")?;
     let deleted = Request::DeleteGeneration(owned(alloc, "bob")?, owned(alloc, "-")?, 1);
-    assert_eq!(rt; store.ask("bob", deleted)?.as_str(), "refused BadRootName");
+    store.expect("bob", deleted, "refused BadRootName")?;
     let misnamed = Request::SetProfile(
         owned(alloc, "bob")?,
         owned(alloc, "-")?,
         full(alloc, "[0]-p")?,
     );
-    assert_eq!(rt; store.ask("bob", misnamed)?.as_str(), "refused BadRootName");
-    assert_eq!(rt;
-        store.ask("bob", set(alloc, "[0]-p")?)?.as_str(),
-        "refused NotValid"
-    );
+    store.expect("bob", misnamed, "refused BadRootName")?;
+    store.expect("bob", set(alloc, "[0]-p")?, "refused NotValid")?;
     Ok(())
 }

@@ -22,31 +22,19 @@ pub(super) fn runtime(alloc: Global, pairs: &[(&str, &str)]) -> Result<Request, 
 fn roots_of_another_user(rt: HostRuntime) -> Result<(), Fail> {
     let alloc = rt.alloc();
     let mut store = Store::new(alloc, ANN_IS_TRUSTED)?;
+    ask_roots_of_another_user(alloc, &mut store)
+}
+
+fn ask_roots_of_another_user(alloc: Global, store: &mut Store) -> Result<(), Fail> {
     store.put("[1]-x", &[])?;
-    assert_eq!(rt;
-        store
-            .ask("ann", set_user_root(alloc, "bob", "r", "[1]-x")?)?
-            .as_str(),
-        "denied OwnRoot"
-    );
-    assert_eq!(rt;
-        store
-            .ask("bob", set_user_root(alloc, "bob", "r", "[1]-x")?)?
-            .as_str(),
-        "done"
-    );
-    assert_eq!(rt;
-        store
-            .ask("ann", drop_user_root(alloc, "bob", "r")?)?
-            .as_str(),
-        "done"
-    );
-    assert_eq!(rt;
-        store
-            .ask("ann", drop_user_root(alloc, "bob", "r")?)?
-            .as_str(),
-        "refused NoRoot"
-    );
+    store.expect(
+        "ann",
+        set_user_root(alloc, "bob", "r", "[1]-x")?,
+        "denied OwnRoot",
+    )?;
+    store.expect("bob", set_user_root(alloc, "bob", "r", "[1]-x")?, "done")?;
+    store.expect("ann", drop_user_root(alloc, "bob", "r")?, "done")?;
+    store.expect("ann", drop_user_root(alloc, "bob", "r")?, "refused NoRoot")?;
     Ok(())
 }
 
@@ -54,46 +42,32 @@ fn roots_of_another_user(rt: HostRuntime) -> Result<(), Fail> {
 fn permanent_roots(rt: HostRuntime) -> Result<(), Fail> {
     let alloc = rt.alloc();
     let mut store = Store::new(alloc, ANN_IS_TRUSTED)?;
+    ask_permanent_roots(alloc, &mut store)
+}
+
+fn ask_permanent_roots(alloc: Global, store: &mut Store) -> Result<(), Fail> {
     store.put("[1]-x", &[])?;
-    assert_eq!(rt;
-        store
-            .ask(
-                "ann",
-                Request::SetPermanent(owned(alloc, "r")?, full(alloc, "[1]-x")?)
-            )?
-            .as_str(),
-        "done"
-    );
-    assert_eq!(rt;
-        store
-            .ask("ann", Request::DropPermanent(owned(alloc, "r")?))?
-            .as_str(),
-        "done"
-    );
-    assert_eq!(rt;
-        store
-            .ask("bob", Request::DropPermanent(owned(alloc, "r")?))?
-            .as_str(),
-        "denied TrustedPermanentRoot"
-    );
-    assert_eq!(rt;
-        store
-            .ask(
-                "ann",
-                Request::SetPermanent(owned(alloc, "r")?, full(alloc, "[0]-p")?)
-            )?
-            .as_str(),
-        "refused NotValid"
-    );
-    assert_eq!(rt;
-        store
-            .ask(
-                "ann",
-                Request::SetPermanent(owned(alloc, "-r")?, full(alloc, "[0]-p")?)
-            )?
-            .as_str(),
-        "refused BadRootName"
-    );
+    store.expect(
+        "ann",
+        Request::SetPermanent(owned(alloc, "r")?, full(alloc, "[1]-x")?),
+        "done",
+    )?;
+    store.expect("ann", Request::DropPermanent(owned(alloc, "r")?), "done")?;
+    store.expect(
+        "bob",
+        Request::DropPermanent(owned(alloc, "r")?),
+        "denied TrustedPermanentRoot",
+    )?;
+    store.expect(
+        "ann",
+        Request::SetPermanent(owned(alloc, "r")?, full(alloc, "[0]-p")?),
+        "refused NotValid",
+    )?;
+    store.expect(
+        "ann",
+        Request::SetPermanent(owned(alloc, "-r")?, full(alloc, "[0]-p")?),
+        "refused BadRootName",
+    )?;
     Ok(())
 }
 
@@ -101,29 +75,25 @@ fn permanent_roots(rt: HostRuntime) -> Result<(), Fail> {
 fn runtime_labels(rt: HostRuntime) -> Result<(), Fail> {
     let alloc = rt.alloc();
     let mut store = Store::new(alloc, ANN_IS_TRUSTED)?;
+    ask_runtime_labels(alloc, &mut store)
+}
+
+fn ask_runtime_labels(alloc: Global, store: &mut Store) -> Result<(), Fail> {
     store.put("[0]-p", &[])?;
     let pairs = runtime(alloc, &[("a", "[0]-p"), ("b", "[0]-p")])?;
-    assert_eq!(rt; store.ask("ann", pairs)?.as_str(), "runtime roots 2");
-    assert_eq!(rt;
-        store.ask("bob", Request::ListRoots)?.as_str(),
-        "{censored} [0]-p; "
-    );
-    assert_eq!(rt;
-        store.ask("ann", Request::ListRoots)?.as_str(),
-        "a [0]-p; b [0]-p; "
-    );
-    assert_eq!(rt;
-        store
-            .ask("bob", Request::ListRootsOf(full(alloc, "[0]-p")?))?
-            .as_str(),
-        "{censored} [0]-p; "
-    );
-    assert_eq!(rt;
-        store
-            .ask("ann", Request::ListRootsOf(full(alloc, "[0]-p")?))?
-            .as_str(),
-        "a [0]-p; b [0]-p; "
-    );
+    store.expect("ann", pairs, "runtime roots 2")?;
+    store.expect("bob", Request::ListRoots, "{censored} [0]-p; ")?;
+    store.expect("ann", Request::ListRoots, "a [0]-p; b [0]-p; ")?;
+    store.expect(
+        "bob",
+        Request::ListRootsOf(full(alloc, "[0]-p")?),
+        "{censored} [0]-p; ",
+    )?;
+    store.expect(
+        "ann",
+        Request::ListRootsOf(full(alloc, "[0]-p")?),
+        "a [0]-p; b [0]-p; ",
+    )?;
     Ok(())
 }
 
@@ -131,27 +101,26 @@ fn runtime_labels(rt: HostRuntime) -> Result<(), Fail> {
 fn runtime_pairs(rt: HostRuntime) -> Result<(), Fail> {
     let alloc = rt.alloc();
     let mut store = Store::new(alloc, ANN_IS_TRUSTED)?;
+    ask_runtime_pairs(alloc, &mut store)
+}
+
+fn ask_runtime_pairs(alloc: Global, store: &mut Store) -> Result<(), Fail> {
     store.put("[0]-p", &[])?;
     let pairs = runtime(alloc, &[("a", "[0]-p"), ("a", "[0]-p"), ("a", "[1]-x")])?;
-    assert_eq!(rt; store.ask("ann", pairs)?.as_str(), "runtime roots 1");
-    assert_eq!(rt;
-        store
-            .ask("ann", runtime(alloc, &[("a b", "[0]-p")])?)?
-            .as_str(),
-        "refused BadLabel"
-    );
+    store.expect("ann", pairs, "runtime roots 1")?;
+    store.expect(
+        "ann",
+        runtime(alloc, &[("a b", "[0]-p")])?,
+        "refused BadLabel",
+    )?;
     let long = repeated(alloc, "a", 257)?;
-    assert_eq!(rt;
-        store
-            .ask("ann", runtime(alloc, &[(long.as_str(), "[0]-p")])?)?
-            .as_str(),
-        "refused BadLabel"
-    );
-    assert_eq!(rt; store.ask("ann", Request::ListRoots)?.as_str(), "a [0]-p; ");
-    assert_eq!(rt;
-        store.ask("bob", runtime(alloc, &[])?)?.as_str(),
-        "denied TrustedRuntimeRoots"
-    );
+    store.expect(
+        "ann",
+        runtime(alloc, &[(long.as_str(), "[0]-p")])?,
+        "refused BadLabel",
+    )?;
+    store.expect("ann", Request::ListRoots, "a [0]-p; ")?;
+    store.expect("bob", runtime(alloc, &[])?, "denied TrustedRuntimeRoots")?;
     Ok(())
 }
 
@@ -172,6 +141,10 @@ fn four(alloc: Global) -> Result<Store, Fail> {
 fn kinds_come_in_order(rt: HostRuntime) -> Result<(), Fail> {
     let alloc = rt.alloc();
     let mut store = four(alloc)?;
+    ask_kinds_come_in_order(alloc, &mut store)
+}
+
+fn ask_kinds_come_in_order(alloc: Global, store: &mut Store) -> Result<(), Fail> {
     store.ask("ann", runtime(alloc, &[("a", "[0]-p")])?)?;
     let set = Request::SetProfile(
         owned(alloc, "bob")?,
@@ -184,13 +157,12 @@ fn kinds_come_in_order(rt: HostRuntime) -> Result<(), Fail> {
     store.ask("ann", set_permanent(alloc, "c", "[2]-y")?)?;
     let listed =
         "gcroots/c [2]-y; gcroots/b [3]-z; gcroots/per-user/bob/r [2]-y; profiles/per-user/bob/work-1-link [1]-x; a [0]-p; ";
-    assert_eq!(rt; store.ask("ann", Request::ListRoots)?.as_str(), listed);
-    assert_eq!(rt;
-        store
-            .ask("bob", Request::ListRootsOf(full(alloc, "[3]-z")?))?
-            .as_str(),
-        "gcroots/b [3]-z; "
-    );
+    store.expect("ann", Request::ListRoots, listed)?;
+    store.expect(
+        "bob",
+        Request::ListRootsOf(full(alloc, "[3]-z")?),
+        "gcroots/b [3]-z; ",
+    )?;
     Ok(())
 }
 
@@ -198,30 +170,35 @@ fn kinds_come_in_order(rt: HostRuntime) -> Result<(), Fail> {
 fn one_root_at_a_time(rt: HostRuntime) -> Result<(), Fail> {
     let alloc = rt.alloc();
     let mut store = four(alloc)?;
+    ask_one_root_at_a_time(alloc, &mut store)
+}
+
+fn ask_one_root_at_a_time(alloc: Global, store: &mut Store) -> Result<(), Fail> {
     store.ask("ann", set_permanent(alloc, "r", "[0]-p")?)?;
     store.ask("ann", set_permanent(alloc, "s", "[1]-x")?)?;
     store.ask("ann", set_permanent(alloc, "r", "[2]-y")?)?;
-    assert_eq!(rt;
-        store.ask("ann", Request::ListRoots)?.as_str(),
-        "gcroots/s [1]-x; gcroots/r [2]-y; "
-    );
+    store.expect(
+        "ann",
+        Request::ListRoots,
+        "gcroots/s [1]-x; gcroots/r [2]-y; ",
+    )?;
     store.ask("ann", Request::DropPermanent(owned(alloc, "r")?))?;
     store.ask("bob", set_user_root(alloc, "bob", "r", "[0]-p")?)?;
     store.ask("bob", set_user_root(alloc, "bob", "s", "[1]-x")?)?;
     store.ask("bob", set_user_root(alloc, "bob", "r", "[3]-z")?)?;
     store.ask("bob", drop_user_root(alloc, "bob", "s")?)?;
-    assert_eq!(rt;
-        store.ask("bob", Request::ListRoots)?.as_str(),
-        "gcroots/s [1]-x; gcroots/per-user/bob/r [3]-z; "
-    );
+    store.expect(
+        "bob",
+        Request::ListRoots,
+        "gcroots/s [1]-x; gcroots/per-user/bob/r [3]-z; ",
+    )?;
     store.ask("ann", runtime(alloc, &[("a", "[0]-p")])?)?;
     store.ask("ann", runtime(alloc, &[("b", "[1]-x")])?)?;
-    assert_eq!(rt;
-        store
-            .ask("ann", Request::ListRootsOf(full(alloc, "[1]-x")?))?
-            .as_str(),
-        "gcroots/s [1]-x; b [1]-x; "
-    );
+    store.expect(
+        "ann",
+        Request::ListRootsOf(full(alloc, "[1]-x")?),
+        "gcroots/s [1]-x; b [1]-x; ",
+    )?;
     Ok(())
 }
 
@@ -229,40 +206,40 @@ fn one_root_at_a_time(rt: HostRuntime) -> Result<(), Fail> {
 fn names_of_roots(rt: HostRuntime) -> Result<(), Fail> {
     let alloc = rt.alloc();
     let mut store = Store::new(alloc, ANN_IS_TRUSTED)?;
-    assert_eq!(rt;
-        store
-            .ask("ann", Request::DropPermanent(owned(alloc, "r")?))?
-            .as_str(),
-        "refused NoRoot"
-    );
-    assert_eq!(rt;
-        store
-            .ask("ann", Request::DropPermanent(owned(alloc, "a/b")?))?
-            .as_str(),
-        "refused BadRootName"
-    );
-    assert_eq!(rt;
-        store
-            .ask("ann", drop_user_root(alloc, "bob", "")?)?
-            .as_str(),
-        "refused BadRootName"
-    );
-    assert_eq!(rt;
-        store.ask("ann", drop_user_root(alloc, "-", "r")?)?.as_str(),
-        "refused BadRootName"
-    );
-    assert_eq!(rt;
-        store
-            .ask("bob", set_permanent(alloc, "r", "[0]-p")?)?
-            .as_str(),
-        "denied TrustedPermanentRoot"
-    );
-    assert_eq!(rt;
-        store
-            .ask("bob", Request::ListRootsOf(full(alloc, "[0]-p")?))?
-            .as_str(),
-        "refused NotValid"
-    );
+    ask_names_of_roots(alloc, &mut store)
+}
+
+fn ask_names_of_roots(alloc: Global, store: &mut Store) -> Result<(), Fail> {
+    store.expect(
+        "ann",
+        Request::DropPermanent(owned(alloc, "r")?),
+        "refused NoRoot",
+    )?;
+    store.expect(
+        "ann",
+        Request::DropPermanent(owned(alloc, "a/b")?),
+        "refused BadRootName",
+    )?;
+    store.expect(
+        "ann",
+        drop_user_root(alloc, "bob", "")?,
+        "refused BadRootName",
+    )?;
+    store.expect(
+        "ann",
+        drop_user_root(alloc, "-", "r")?,
+        "refused BadRootName",
+    )?;
+    store.expect(
+        "bob",
+        set_permanent(alloc, "r", "[0]-p")?,
+        "denied TrustedPermanentRoot",
+    )?;
+    store.expect(
+        "bob",
+        Request::ListRootsOf(full(alloc, "[0]-p")?),
+        "refused NotValid",
+    )?;
     Ok(())
 }
 
@@ -278,23 +255,25 @@ fn repeated(alloc: Global, text: &str, count: usize) -> Result<String, AllocErro
 fn labels_of_runtime_roots(rt: HostRuntime) -> Result<(), Fail> {
     let alloc = rt.alloc();
     let mut store = Store::new(alloc, ANN_IS_TRUSTED)?;
+    ask_labels_of_runtime_roots(alloc, &mut store)
+}
+
+fn ask_labels_of_runtime_roots(alloc: Global, store: &mut Store) -> Result<(), Fail> {
     store.put("[0]-p", &[])?;
     let longest = repeated(alloc, "a", 256)?;
     for label in ["!", "~", longest.as_str()] {
-        assert_eq!(rt;
-            store
-                .ask("ann", runtime(alloc, &[(label, "[0]-p")])?)?
-                .as_str(),
-            "runtime roots 1"
-        );
+        store.expect(
+            "ann",
+            runtime(alloc, &[(label, "[0]-p")])?,
+            "runtime roots 1",
+        )?;
     }
     for label in ["", " ", "\x7f"] {
-        assert_eq!(rt;
-            store
-                .ask("ann", runtime(alloc, &[(label, "[0]-p")])?)?
-                .as_str(),
-            "refused BadLabel"
-        );
+        store.expect(
+            "ann",
+            runtime(alloc, &[(label, "[0]-p")])?,
+            "refused BadLabel",
+        )?;
     }
     Ok(())
 }
