@@ -1,2 +1,3 @@
+pub mod Empty
 pub mod NewWorld
 mod NewRows
