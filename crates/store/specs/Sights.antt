@@ -24,7 +24,7 @@ pub record SeesRoot (class : Class) (r : Root) : Type 0 where
   pub trusted : IsTrue (is_trusted class) → seen_root class r ≡ (r.label, r.target)
   pub others : IsFalse (is_trusted class) → HidesRuntimeLabel r (seen_root class r)
 
--- the one list in its order, without what came before, is the other
+-- the third list has the items of the second in their order, each once, and none that is in the first
 abbrev pub AreFirsts : List Pair → List Pair → List Pair → Type 0
 AreFirsts before [] ys = ys ≡ []
 AreFirsts before (x ∷ xs) ys =
