@@ -5,7 +5,7 @@ use Rattle.std.specs.List.{filter, AllByRecursion}
 use Rattle.std.specs.Option.{option_map_or}
 use Rattle.std.specs.List.Sorted.{IsStrictlySortedBy}
 use Rattle.std.specs.declared.cmp.Ordering.{Ordering}
-use Rattle.std.specs.declared.cmp.Ordering.TheVariants.{Less, Equal, Greater}
+use Rattle.std.specs.declared.cmp.Ordering.TheVariants.{Less}
 use Rattle.std.specs.Ordering.{is_lt}
 use Rattle.std.specs.Cmp.Lexicographic.{nat_list_cmp_total}
 use Rattle.std.specs.FinMap as finite
@@ -14,7 +14,7 @@ use Rattle.std.proofs.lemmas.Bool.{false≢true}
 use Rattle.std.proofs.lemmas.List.Kept.{IsStrictlySortedBy-filter}
 use Rattle.std.proofs.lemmas.List.Sums.{sum_by-cons}
 use Rattle.paths.specs.Root.{bytes_cmp}
-use Rattle.live.proofs.Members.{at_head, behind, both_T}
+use Rattle.live.proofs.Members.{at_head, behind, lesser, both_T}
 use Rattle.policy.specs.Settings.{Settings}
 use Rattle.tables.specs.World.{Path, Object, World, has, all_paths}
 use Rattle.store.specs.Request.{collect, delete}
@@ -27,11 +27,6 @@ use Rattle.store.proofs.Filtered.{in_filtered, from_filtered}
 use Rattle.store.proofs.Worlds.{get-keeping, kept_if}
 
 -- ---- keys in order
-
-lesser : (r : Ordering) → T (is_lt r) → r ≡ Less
-lesser Less h = refl
-lesser Equal h = absurd h
-lesser Greater h = absurd h
 
 module _ {K X : Type 0} (R : K → K → Ordering) where
   all_below : (k : K) (es : List (K × X)) → T (below_all R k es) → AllByRecursion (λ y. R k y ≡ Less) (map (λ (e : K × X). e.0) es)

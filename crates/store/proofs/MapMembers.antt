@@ -3,12 +3,13 @@ use Rattle.std.proofs.Common.{◌≡◌, List, [], ◌∷◌, Bool, true, false,
 use Rattle.std.specs.Prelude.{Contains, is_some}
 use Rattle.std.specs.declared.cmp.Ordering.{Ordering}
 use Rattle.std.specs.declared.cmp.Ordering.TheVariants.{Less}
-use Rattle.std.specs.Ordering.{eq_by_cmp, is_eq, ordering_reverse}
+use Rattle.std.specs.Ordering.{eq_by_cmp, is_eq, nat_cmp, ordering_reverse}
 use Rattle.std.specs.Cmp.{IsTotalOrder, Equal-is, tied_itself, then_total}
 use Rattle.std.specs.Cmp.Lexicographic.{on_texts}
 use Rattle.std.specs.FinMap as finite
 use Rattle.std.specs.FinMap.Entries.{find as find_entry, is_sorted, below_all}
 use Rattle.std.proofs.lemmas.Bool.{false≢true}
+use Rattle.std.proofs.lemmas.Option.{same_Some}
 use Rattle.paths.specs.Root.{bytes_cmp, set_of}
 use Rattle.tables.specs.World.{Pair, pair_cmp}
 use Rattle.live.proofs.Members.{any_from, some_of_any, at_head, behind, cases, no_member, both_T, below}
@@ -19,6 +20,9 @@ use Rattle.store.proofs.Filtered.{in_mapped}
 
 pub bytes_antisymmetric : finite.IsAntisymmetric bytes_cmp
 bytes_antisymmetric = finite.slice_cmp-IsAntisymmetric finite.nat_cmp-IsAntisymmetric
+
+pub nat_antisymmetric : finite.IsAntisymmetric nat_cmp
+nat_antisymmetric = finite.nat_cmp-IsAntisymmetric
 
 pub pair_total : IsTotalOrder pair_cmp
 pair_total = then_total (on_texts (λ (p : Pair). p.0)) (on_texts (λ (p : Pair). p.1))
@@ -49,13 +53,10 @@ module _ {K X : Type 0} {R : K → K → Ordering} where
       apart h = cc
   entry_found same (e ∷ es) k x is = by (eq_by_cmp R k e.0) refl is (entry_found same es k x)
     where
-      some_is : (a b : X) → Some a ≡ Some b → a ≡ b
-      some_is a b h = cc
-
       by : (b : Bool) → eq_by_cmp R k e.0 ≡ b → cond b (Some e.1) (find_entry R k es) ≡ Some x → (find_entry R k es ≡ Some x → Contains es (k, x)) → Contains (e ∷ es) (k, x)
       by true t h later =
           let key = tied_is same k e.0 t in
-          let value = some_is e.1 x h in
+          let value = same_Some e.1 x h in
           subst (λ (d : K × X). Contains (e ∷ es) d) (λ i. (sym key i, value i)) (at_head e es)
       by false t h later = behind e (k, x) es (later h)
 
@@ -85,11 +86,8 @@ module _ {K X : Type 0} {R : K → K → Ordering} (o : IsTotalOrder R) (same : 
   pub inserted_entry : (m : finite.FinMap R X) (k : K) (v : X) (q : K) (x : X) → finite.get (finite.insert m k v) q ≡ Some x → ((q ≡ k) × (v ≡ x)) ⊎ (finite.get m q ≡ Some x)
   inserted_entry m k v q x e = by (eq_by_cmp R q k) refl (sym (finite.get-insert o m k v q) ∙ e)
     where
-      some_is : (a b : X) → Some a ≡ Some b → a ≡ b
-      some_is a b h = cc
-
       by : (b : Bool) → eq_by_cmp R q k ≡ b → cond b (Some v) (finite.get m q) ≡ Some x → ((q ≡ k) × (v ≡ x)) ⊎ (finite.get m q ≡ Some x)
-      by true t h = inl (tied_is same q k t, some_is v x h)
+      by true t h = inl (tied_is same q k t, same_Some v x h)
       by false t h = inr h
 
   pub inserted_key : (m : finite.FinMap R X) (k : K) (v : X) (q : K) → IsTrue (finite.contains_key (finite.insert m k v) q) → (q ≡ k) ⊎ IsTrue (finite.contains_key m q)
@@ -125,12 +123,6 @@ module _ {K X : Type 0} {R : K → K → Ordering} (o : IsTotalOrder R) (same : 
 
   pub other_key : (m : finite.FinMap R X) (k q : K) → eq_by_cmp R q k ≡ false → IsTrue (finite.contains_key m q) → IsTrue (finite.contains_key (finite.remove m k) q)
   other_key m k q apart h = ap is_some (finite.get-remove o m k q) ∙ ap (λ b. is_some (cond b None (finite.get m q))) apart ∙ h
-
-pub no_key : {K : Type 0} (X : Type 0) (R : K → K → Ordering) (k : K) → IsTrue (finite.contains_key (finite.empty {X = X} {R = R}) k) → ⊥
-no_key X R k h = false≢true (sym (ap is_some (finite.get-empty {X = X} R k)) ∙ h)
-
-pub no_entry : {K X : Type 0} (R : K → K → Ordering) (k : K) (x : X) → finite.get (finite.empty {X = X} {R = R}) k ≡ Some x → ⊥
-no_entry R k x e = false≢true (ap is_some (sym (finite.get-empty R k) ∙ e))
 
 -- a key of the set of a list is a member of it
 pub set_member : {K : Type 0} {R : K → K → Ordering} → IsTotalOrder R → finite.IsAntisymmetric R → (xs : List K) (k : K) → IsTrue (finite.contains_key (set_of R xs) k) → Contains xs k

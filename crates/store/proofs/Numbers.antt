@@ -8,27 +8,22 @@ use Rattle.std.specs.declared.cmp.Ordering.TheVariants.{Less}
 use Rattle.std.specs.Cmp.{nat_cmp_total, ranked}
 use Rattle.std.specs.FinMap as finite
 use Rattle.std.proofs.lemmas.Bool.{false≢true, ltb-true, lt-ltb}
+use Rattle.std.proofs.lemmas.Option.{same_Some}
 use Rattle.std.proofs.lemmas.List.Kept.{IsStrictlySortedBy-filter}
 use Rattle.live.proofs.Members.{at_head, behind, cases, no_member}
 use Rattle.live.proofs.Reach.{same_is, same_itself}
 use Rattle.tables.specs.World.{Path, Profile}
 use Rattle.store.specs.Profiles.{has_generation, numbers, highest, is_path, is_highest, number_for, previous}
 use Rattle.store.specs.Generations.{IsHighest, IsNumberFor, again, next, first, IsPrevious}
-use Rattle.store.proofs.MapMembers.{key_listed, listed_key}
+use Rattle.store.proofs.MapMembers.{nat_antisymmetric, key_listed, listed_key}
 use Rattle.store.proofs.Filtered.{in_filtered, from_filtered}
 use Rattle.store.proofs.Freed.{keys_rise}
-
-pub nat_same : finite.IsAntisymmetric nat_cmp
-nat_same = finite.nat_cmp-IsAntisymmetric
-
-some_is : {X : Type 0} (a b : X) → Some a ≡ Some b → a ≡ b
-some_is a b h = cc
 
 -- ---- the last of a list that rises
 
 greatest_after : (x : ℕ) (xs : List ℕ) (n : ℕ) → IsStrictlySortedBy nat_cmp (x ∷ xs) → last_or (Some x) xs ≡ Some n → (x ≤ n) × ((y : ℕ) → Contains xs y → y ≤ n)
 unfolding IsStrictlySortedBy
-greatest_after x [] n rise e = (let same : x ≡ n = some_is x n e in omega (arith, same), λ y c. absurd (no_member y c))
+greatest_after x [] n rise e = (let same : x ≡ n = same_Some x n e in omega (arith, same), λ y c. absurd (no_member y c))
 greatest_after x (z ∷ zs) n rise e =
     let later = greatest_after z zs n rise.1 e in
     let less : x < z = ranked x z Less (sym rise.0.0) in (
@@ -58,7 +53,7 @@ last_none [] e y c = no_member y c
 last_none (x ∷ xs) e y c = false≢true (sym (ap is_some e) ∙ last_there x xs)
 
 last_after : (x : ℕ) (xs : List ℕ) (n : ℕ) → last_or (Some x) xs ≡ Some n → (x ≡ n) ⊎ Contains xs n
-last_after x [] n e = inl (some_is x n e)
+last_after x [] n e = inl (same_Some x n e)
 last_after x (z ∷ zs) n e = elim (last_after z zs n e) as (λ _. (x ≡ n) ⊎ Contains (z ∷ zs) n) [
   | inl same ↦ inr (subst (λ u. Contains (z ∷ zs) u) same (at_head z zs))
   | inr later ↦ inr (behind z n zs later)
@@ -78,13 +73,13 @@ module _ (p : Profile) where
   none_there e m = by (has_generation p m) refl
     where
       by : (b : Bool) → has_generation p m ≡ b → IsFalse b
-      by true h = absurd (last_none (numbers p) e m (key_listed nat_same p.generations m h))
+      by true h = absurd (last_none (numbers p) e m (key_listed nat_antisymmetric p.generations m h))
       by false h = refl
 
   is_top : (n : ℕ) → last_or None (numbers p) ≡ Some n → IsHighest p n
   is_top n e = record {
     there = listed_key nat_cmp_total p.generations n (last_in (numbers p) n e);
-    greatest = λ m h. last_greatest (numbers p) n (keys_rise nat_cmp p.generations) e m (key_listed nat_same p.generations m h);
+    greatest = λ m h. last_greatest (numbers p) n (keys_rise nat_cmp p.generations) e m (key_listed nat_antisymmetric p.generations m h);
   }
 
   highest_top : (n : ℕ) → last_or None (numbers p) ≡ Some n → IsHighest p (highest p)
@@ -116,7 +111,7 @@ module _ (p : Profile) where
         there = listed_key nat_cmp_total p.generations n in_both.0;
         lower = ltb-true n p.current in_both.1;
         none_between = λ m h above below. contradiction above (last_greatest (filter (λ k. nat_lt k p.current) (numbers p)) n (IsStrictlySortedBy-filter nat_cmp (λ k. nat_lt k p.current) (numbers p) (keys_rise nat_cmp p.generations)) e m
-            (in_filtered (λ k. nat_lt k p.current) (numbers p) m (key_listed nat_same p.generations m h) (lt-ltb m p.current below)));
+            (in_filtered (λ k. nat_lt k p.current) (numbers p) m (key_listed nat_antisymmetric p.generations m h) (lt-ltb m p.current below)));
       }
     where
       contradiction : {a b : ℕ} → a < b → b ≤ a → ⊥

@@ -12,10 +12,10 @@ use Rattle.store.specs.Profiles.{profile_or_new, profile_at, has_profile, has_ge
 use Rattle.store.specs.Tests.{tests}
 use Rattle.store.specs.Effects.{with_profile}
 use Rattle.store.specs.Generations.{ChangesProfile, SetsProfile, SetsAsTold, MovesTo, RollsBack, RollsBackAsTold, SwitchesAsTold, LosesGeneration, DeletesGenerations}
-use Rattle.store.proofs.MapMembers.{pair_total, pair_antisymmetric}
+use Rattle.store.proofs.MapMembers.{nat_antisymmetric, pair_total, pair_antisymmetric}
 use Rattle.store.proofs.Changed.{at_inserted, beside_inserted, at_removed, beside_removed}
 use Rattle.store.proofs.Passed.{met, each_passed}
-use Rattle.store.proofs.Numbers.{nat_same, highest_path, chosen, before}
+use Rattle.store.proofs.Numbers.{highest_path, chosen, before}
 use lib.Dec.{T}
 
 change : (w : World) (owned : Pair) (now : Profile) → ChangesProfile w (with_profile w owned now) owned now
@@ -48,8 +48,8 @@ is_set p t = by (is_highest p t) refl
     by true e = record { current = refl; target = highest_path p t e; others = λ m apart. refl }
     by false e = record {
       current = refl;
-      target = at_inserted nat_cmp_total nat_same p.generations (highest p + 1) t;
-      others = λ m apart. beside_inserted nat_cmp_total nat_same p.generations (highest p + 1) t m apart;
+      target = at_inserted nat_cmp_total nat_antisymmetric p.generations (highest p + 1) t;
+      others = λ m apart. beside_inserted nat_cmp_total nat_antisymmetric p.generations (highest p + 1) t m apart;
     }
 
 pub sets : SetsAsTold
@@ -122,8 +122,8 @@ deletes_generations s w c owner name n a new h = (
     not_current = differs (profile_at w (owner, name)).current n (met (not ((profile_at w (owner, name)).current == n)) _ (each_passed (tests s w (delete_generation owner name n)) h.1 _ (3, omega arith, refl)));
     now = without_generation (profile_at w (owner, name)) n;
     change = change w (owner, name) (without_generation (profile_at w (owner, name)) n);
-    gone = at_removed nat_cmp_total nat_same (profile_at w (owner, name)).generations n;
-    others = λ m apart. beside_removed nat_cmp_total nat_same (profile_at w (owner, name)).generations n m apart;
+    gone = at_removed nat_cmp_total nat_antisymmetric (profile_at w (owner, name)).generations n;
+    others = λ m apart. beside_removed nat_cmp_total nat_antisymmetric (profile_at w (owner, name)).generations n m apart;
     current = refl;
   }),
 )

@@ -1,5 +1,5 @@
 -- Hiding labels before or after ordering gives the same, once equal pairs are one.
-use Rattle.std.proofs.Common.{◌≡◌, List, [], ◌∷◌, length, map, Bool, true, false, not, cond, refl, sym, ap, arith, ◌∙◌, subst}
+use Rattle.std.proofs.Common.{◌≡◌, List, [], ◌∷◌, map, Bool, true, false, not, cond, refl, sym, ap, ◌∙◌, subst}
 use Rattle.std.specs.Prelude.{Contains}
 use Rattle.std.specs.List.{filter}
 use Rattle.std.specs.declared.cmp.Ordering.{Ordering}
@@ -14,6 +14,7 @@ use Rattle.live.proofs.Members.{at_head, not_both, below, both_T}
 use Rattle.live.proofs.Reach.{same_itself}
 use Rattle.live.proofs.Order.{root_total, root_antisymmetric, member_ordered}
 use Rattle.tables.specs.World.{Pair}
+use Rattle.tables.proofs.Empty.{no_entries}
 use Rattle.store.specs.Seen.{plain, censored, same_pair, each_once}
 use Rattle.store.proofs.Filtered.{in_mapped, from_mapped, from_filtered}
 use Rattle.store.proofs.Censored.{below_hidden}
@@ -52,19 +53,12 @@ put_first m (e ∷ es) f t = by (root_cmp m e.0) refl
         ∙ ap (λ qs. plain m ∷ qs) (twice (λ q. not (same_pair (plain m) q)) rest)))
     by Greater o = absurd (f e.0 (at_head e.0 (map (λ (d : Root × Unit {0}). d.0) es)) (root_total.antisymm e.0 m ∙ ap ordering_reverse o))
 
-no_length : (es : List (Root × Unit {0})) → length es ≡ 0 → es ≡ []
-no_length [] e = refl
-no_length (x ∷ es) e = absurd (omega arith)
-
-no_entries : finite.entries (finite.empty {X = Unit {0}} {R = root_cmp}) ≡ []
-no_entries = no_length _ (sym (finite.len-entries (finite.empty {X = Unit {0}} {R = root_cmp})) ∙ finite.len-empty root_cmp (Unit {0}))
-
 pair_itself : (m : Root) → same_pair (plain m) (plain m) ≡ true
 pair_itself m = and_from (same m.label m.label) (same m.target m.target) (same_itself m.label) (same_itself m.target)
 
 ordered : (xs : List Root) → Rises xs → each_once (map plain (in_order xs)) ≡ each_once (map plain xs)
 unfolding in_order
-ordered [] r = ap (λ (es : List (Root × Unit {0})). each_once (map plain (map (λ (e : Root × Unit {0}). e.0) es))) no_entries
+ordered [] r = ap (λ (es : List (Root × Unit {0})). each_once (map plain (map (λ (e : Root × Unit {0}). e.0) es))) (no_entries (Unit {0}) root_cmp)
 ordered (x ∷ xs) r =
     ap (λ (es : List (Root × Unit {0})). each_once (map plain (map (λ (e : Root × Unit {0}). e.0) es))) (finite.entries-insert root_total (set_of root_cmp xs) x tt)
     ∙ put_first x (finite.entries (set_of root_cmp xs)) (λ y c. r.0 y (member_ordered xs y c)) (pair_itself x)

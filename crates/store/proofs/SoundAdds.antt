@@ -5,6 +5,7 @@ use Rattle.std.specs.List.{list_all}
 use Rattle.std.specs.Cmp.Lexicographic.{nat_list_cmp_total}
 use Rattle.std.specs.FinMap as finite
 use Rattle.std.proofs.lemmas.Bool.{or_cases, false≢true, not-true, leb-true}
+use Rattle.std.proofs.lemmas.Option.{same_Some}
 use Rattle.sha2.specs.Sha256.{sha256}
 use Rattle.nar.specs.declared.error.NarError.{NarError}
 use Rattle.nar.specs.Tree.{Tree, regular, symlink, directory, IsBytes}
@@ -144,7 +145,8 @@ keys-set_of : (refs : List Path) → set_of bytes_cmp (finite.keys (set_of bytes
 keys-set_of refs = same_set nat_list_cmp_total bytes_antisymmetric (set_of bytes_cmp (finite.keys (set_of bytes_cmp refs))) (set_of bytes_cmp refs) (λ k.
     contains_key-set_of nat_list_cmp_total (finite.keys (set_of bytes_cmp refs)) k ∙ sym (finite.contains_key-keys (set_of bytes_cmp refs) k))
 
-same_path : (kind dir name : List ℕ) (refs : List Path) (inner : List ℕ) → path_of kind dir name (finite.keys (set_of bytes_cmp refs)) inner ≡ path_of kind dir name refs inner
+-- a path over the references as a set is that over their list
+pub same_path : (kind dir name : List ℕ) (refs : List Path) (inner : List ℕ) → path_of kind dir name (finite.keys (set_of bytes_cmp refs)) inner ≡ path_of kind dir name refs inner
 unfolding path_of in_path_order
 same_path kind dir name refs inner =
     ap (λ (m : Set bytes_cmp). base32 (fold20 (sha256 (fingerprint_of kind dir (finite.keys m) inner name))) ++ codes "-" ++ name) (keys-set_of refs)
@@ -204,9 +206,6 @@ added_sound dir w p refs deriver ca nar fit sound = by (has w p) refl
 none_deriver : (d : Path) → None ≡ Some d → IsTrue (is_base_name d)
 none_deriver d e = absurd (false≢true (ap is_some e))
 
-some_is : (a b : ContentAddress) → Some a ≡ Some b → a ≡ b
-some_is a b e = cc
-
 -- ---- the three adds
 
 module _ (s : Settings) (w : World) (sound : IsSound s.store_dir w) where
@@ -224,7 +223,7 @@ module _ (s : Settings) (w : World) (sound : IsSound s.store_dir w) where
         few = met (nat_le (length refs) most_references) too_many_references (each_passed ts e _ (0, omega arith, refl));
         full = met (is_complete w p refs) missing_reference (each_passed ts e _ (4, omega arith, refl));
         no_self = λ a is. not-true (holds refs p) (met (not (holds refs p)) self_reference (each_passed ts e _ (2, omega arith, refl)));
-        address = λ a is. subst (λ (x : ContentAddress). IsTrue (verifies x s.store_dir p (finite.keys (set_of bytes_cmp refs)) (text_archive contents))) (some_is (text_address contents) a is) (text_verified s.store_dir name refs contents bytes fits);
+        address = λ a is. subst (λ (x : ContentAddress). IsTrue (verifies x s.store_dir p (finite.keys (set_of bytes_cmp refs)) (text_archive contents))) (same_Some (text_address contents) a is) (text_verified s.store_dir name refs contents bytes fits);
         derivation = λ d. record {
           executable = false;
           contents = contents;
@@ -247,7 +246,7 @@ module _ (s : Settings) (w : World) (sound : IsSound s.store_dir w) where
         few = met (nat_le (length refs) most_references) too_many_references (each_passed ts e _ (0, omega arith, refl));
         full = met (is_complete w p refs) missing_reference (each_passed ts e _ (4, omega arith, refl));
         no_self = λ a is. not-true (holds refs p) (met (not (holds refs p)) self_reference (each_passed ts e _ (2, omega arith, refl)));
-        address = λ a is. subst (λ (x : ContentAddress). IsTrue (verifies x s.store_dir p (finite.keys (set_of bytes_cmp refs)) b)) (some_is (source_address b) a is) (source_verified s.store_dir name refs b);
+        address = λ a is. subst (λ (x : ContentAddress). IsTrue (verifies x s.store_dir p (finite.keys (set_of bytes_cmp refs)) b)) (same_Some (source_address b) a is) (source_verified s.store_dir name refs b);
         derivation = λ d. read_derivation s.store_dir b bytes (asked p (tree_fault s.store_dir (outcome_of b)) (each_passed ts e _ (3, omega arith, refl)) d);
       }) sound
 

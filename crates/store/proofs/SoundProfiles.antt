@@ -6,32 +6,28 @@ use Rattle.std.specs.Ordering.{eq_by_cmp, nat_cmp}
 use Rattle.std.specs.Cmp.{nat_cmp_total}
 use Rattle.std.specs.FinMap as finite
 use Rattle.std.proofs.lemmas.Bool.{and_parts, false≢true, not-true, false_from_ne_true, leb-true}
+use Rattle.std.proofs.lemmas.Option.{same_Some}
 use Rattle.std.proofs.Math.Dec.{eqb_refl}
 use Rattle.paths.specs.Names.{is_plain_name}
 use Rattle.live.proofs.Members.{at_head, behind}
 use Rattle.tables.specs.World.{Path, Pair, Profile, World, has}
 use Rattle.tables.specs.Sound.{IsSoundProfile, IsSound}
+use Rattle.tables.proofs.Empty.{no_key, no_entry}
 use Rattle.store.specs.Profiles.{last_number, profile_or_new, profile_at, has_profile, has_generation, numbers, highest, is_path, is_highest, number_for, previous, switched, set_to, rolled_back, without_generation}
 use Rattle.store.specs.Effects.{with_profile}
-use Rattle.store.proofs.MapMembers.{pair_total, pair_antisymmetric, tied_is, listed_key, inserted_key, inserted_entry, contains_key-inserted, removed_key, removed_entry, other_key, no_key, no_entry}
+use Rattle.store.proofs.MapMembers.{nat_antisymmetric, pair_total, pair_antisymmetric, tied_is, listed_key, inserted_key, inserted_entry, contains_key-inserted, removed_key, removed_entry, other_key}
 use Rattle.store.proofs.Filtered.{from_filtered}
 use Rattle.store.proofs.SoundParts.{with_roots}
 use lib.Dec.{T}
-
-nat_same : finite.IsAntisymmetric nat_cmp
-nat_same = finite.nat_cmp-IsAntisymmetric
 
 -- ---- the last of a list
 
 last_is : {X : Type 0} (o : Option X) (xs : List X) (x : X) → last_or o xs ≡ Some x → (o ≡ Some x) ⊎ Contains xs x
 last_is {X} o [] x e = inl e
 last_is {X} o (y ∷ ys) x e = elim (last_is (Some y) ys x e) as (λ _. (o ≡ Some x) ⊎ Contains (y ∷ ys) x) [
-  | inl is ↦ inr (subst (λ u. Contains (y ∷ ys) u) (some_is y x is) (at_head y ys))
+  | inl is ↦ inr (subst (λ u. Contains (y ∷ ys) u) (same_Some y x is) (at_head y ys))
   | inr later ↦ inr (behind y x ys later)
 ]
-  where
-    some_is : (a b : X) → Some a ≡ Some b → a ≡ b
-    some_is a b h = cc
 
 last_member : {X : Type 0} (xs : List X) (x : X) → last_or None xs ≡ Some x → Contains xs x
 last_member xs x e = elim (last_is None xs x e) as (λ _. Contains xs x) [
@@ -126,10 +122,10 @@ module _ (dir : List ℕ) (w : World) (sound : IsSound dir w) where
           record {
             owner = names.0;
             name = names.1;
-            current = contains_key-inserted nat_cmp_total nat_same (profile_at w (owner, name)).generations (highest (profile_at w (owner, name)) + 1) t;
-            lowest = λ n h. low n (inserted_key nat_cmp_total nat_same (profile_at w (owner, name)).generations (highest (profile_at w (owner, name)) + 1) t n h);
-            highest = λ n h. high least n (inserted_key nat_cmp_total nat_same (profile_at w (owner, name)).generations (highest (profile_at w (owner, name)) + 1) t n h);
-            targets = λ n u f. target n u (inserted_entry nat_cmp_total nat_same (profile_at w (owner, name)).generations (highest (profile_at w (owner, name)) + 1) t n u f);
+            current = contains_key-inserted nat_cmp_total nat_antisymmetric (profile_at w (owner, name)).generations (highest (profile_at w (owner, name)) + 1) t;
+            lowest = λ n h. low n (inserted_key nat_cmp_total nat_antisymmetric (profile_at w (owner, name)).generations (highest (profile_at w (owner, name)) + 1) t n h);
+            highest = λ n h. high least n (inserted_key nat_cmp_total nat_antisymmetric (profile_at w (owner, name)).generations (highest (profile_at w (owner, name)) + 1) t n h);
+            targets = λ n u f. target n u (inserted_entry nat_cmp_total nat_antisymmetric (profile_at w (owner, name)).generations (highest (profile_at w (owner, name)) + 1) t n u f);
           }
 
   previous_there : (p : Profile) → IsTrue (is_some (previous p)) → IsTrue (finite.contains_key p.generations (unwrap_or (previous p) p.current))
@@ -159,10 +155,10 @@ module _ (dir : List ℕ) (w : World) (sound : IsSound dir w) where
       changed (owner, name) (without_generation (profile_at w (owner, name)) n) (record {
         owner = is.owner;
         name = is.name;
-        current = other_key nat_cmp_total nat_same (profile_at w (owner, name)).generations n (profile_at w (owner, name)).current (apart (profile_at w (owner, name)).current other) is.current;
-        lowest = λ k h. is.lowest k (removed_key nat_cmp_total nat_same (profile_at w (owner, name)).generations n k h);
-        highest = λ k h. is.highest k (removed_key nat_cmp_total nat_same (profile_at w (owner, name)).generations n k h);
-        targets = λ k t e. is.targets k t (removed_entry nat_cmp_total nat_same (profile_at w (owner, name)).generations n k t e);
+        current = other_key nat_cmp_total nat_antisymmetric (profile_at w (owner, name)).generations n (profile_at w (owner, name)).current (apart (profile_at w (owner, name)).current other) is.current;
+        lowest = λ k h. is.lowest k (removed_key nat_cmp_total nat_antisymmetric (profile_at w (owner, name)).generations n k h);
+        highest = λ k h. is.highest k (removed_key nat_cmp_total nat_antisymmetric (profile_at w (owner, name)).generations n k h);
+        targets = λ k t e. is.targets k t (removed_entry nat_cmp_total nat_antisymmetric (profile_at w (owner, name)).generations n k t e);
       })
     where
       true_of : (b : Bool) → T b → b ≡ true
@@ -171,5 +167,5 @@ module _ (dir : List ℕ) (w : World) (sound : IsSound dir w) where
 
       apart : (k : ℕ) → IsTrue (not (k == n)) → eq_by_cmp nat_cmp k n ≡ false
       apart k h = false_from_ne_true (eq_by_cmp nat_cmp k n) (λ tie.
-          let one = tied_is nat_same k n tie in
+          let one = tied_is nat_antisymmetric k n tie in
           false≢true (sym (not-true (k == n) h) ∙ (ap (λ (x : ℕ). x == n) one ∙ true_of (n == n) (eqb_refl n))))

@@ -1,5 +1,6 @@
 -- One reply, one world: what a step determines once its failures are given.
 use Rattle.std.proofs.Common.{◌≡◌, [], ◌∷◌, Some, None, sym, ap, ◌∙◌, refl, subst}
+use Rattle.std.proofs.lemmas.Option.{same_Some}
 use Rattle.tables.specs.World.{World}
 use Rattle.policy.specs.Settings.{Settings}
 use Rattle.policy.specs.Caller.{Caller}
@@ -25,19 +26,13 @@ module _ (s : Settings) (v : World) (c : Caller) (q : Request) (n m : World) whe
       apart : (Some r ≡ None) → ⊥
       apart k = cc
 
-  one_rule : (x y : Rule) → Some x ≡ Some y → x ≡ y
-  one_rule x y e = cc
-
-  one_refusal : (x y : Refusal) → Some x ≡ Some y → x ≡ y
-  one_refusal x y e = cc
-
   pub unique : (b d : Reply) → FailAlike b d → Step s v c q b n → Step s v c q d m → (b ≡ d) × (n ≡ m)
   unique (failed f) (failed g) e h k = (ap failed e, h.1 ∙ sym k.1)
   unique (done a) (done b) e h k = (ap done (h.2 ∙ sym k.2), h.3 ∙ sym k.3)
   unique (denied r x) (denied t y) e h k =
-      let same = one_rule r t (sym h.0 ∙ k.0) in
+      let same = same_Some r t (sym h.0 ∙ k.0) in
       (ap (denied r) h.1 ∙ ap (λ (u : Rule). denied u (shown s v c q u)) same ∙ ap (denied t) (sym k.1), h.2 ∙ sym k.2)
-  unique (refused r) (refused t) e h k = (ap refused (one_refusal r t (sym h.1 ∙ k.1)), h.2 ∙ sym k.2)
+  unique (refused r) (refused t) e h k = (ap refused (same_Some r t (sym h.1 ∙ k.1)), h.2 ∙ sym k.2)
   unique (done a) (denied r x) e h k = absurd (no_rule r k.0 h.0)
   unique (denied r x) (done a) e h k = absurd (no_rule r h.0 k.0)
   unique (refused t) (denied r x) e h k = absurd (no_rule r k.0 h.0)

@@ -6,6 +6,7 @@ use Rattle.std.specs.FinMap as finite
 use Rattle.std.specs.Cmp.{nat_cmp_total}
 use Rattle.std.specs.Cmp.Lexicographic.{nat_list_cmp_total}
 use Rattle.std.proofs.lemmas.Bool.{false≢true}
+use Rattle.std.proofs.lemmas.Option.{slice_get-map}
 use Rattle.std.proofs.lemmas.List.Elements.{Contains-append_cases}
 use Rattle.paths.specs.Root.{Root, in_order}
 use Rattle.live.specs.Reach.{reaches}
@@ -134,17 +135,13 @@ targets_live s w sound r c =
 
 -- ---- the first line of a listing
 
-first_found : {X : Type 0} (f : X → Bool) (xs : List X) → slice_get (filter f xs) 0 ≡ find f xs
+pub first_found : {X : Type 0} (f : X → Bool) (xs : List X) → slice_get (filter f xs) 0 ≡ find f xs
 first_found f [] = refl
 first_found {X} f (x ∷ xs) = by (f x) (first_found f xs)
   where
     by : (b : Bool) → slice_get (filter f xs) 0 ≡ find f xs → slice_get (cond b (x ∷ filter f xs) (filter f xs)) 0 ≡ cond b (Some x) (find f xs)
     by true later = refl
     by false later = later
-
-first_mapped : {X Y : Type 0} (f : X → Y) (xs : List X) → slice_get (map f xs) 0 ≡ option_map f (slice_get xs 0)
-first_mapped f [] = refl
-first_mapped f (x ∷ xs) = refl
 
 first_once : (ps : List Pair) → slice_get (each_once ps) 0 ≡ slice_get ps 0
 first_once [] = refl
@@ -156,12 +153,12 @@ mapped_twice f g (Some x) = refl
 
 first_seen : (class : Class) (rs : List Root) → slice_get (seen class rs) 0 ≡ option_map (seen_root class) (slice_get rs 0)
 first_seen class rs = elim (is_trusted class) as (λ b. slice_get (cond b (map plain rs) (each_once (map plain (map censored rs)))) 0 ≡ option_map (λ r. plain (cond b r (censored r))) (slice_get rs 0)) [
-  | true ↦ first_mapped plain rs
-  | false ↦ first_once (map plain (map censored rs)) ∙ first_mapped plain (map censored rs) ∙ ap (option_map plain) (first_mapped censored rs) ∙ mapped_twice censored plain (slice_get rs 0)
+  | true ↦ slice_get-map plain rs 0
+  | false ↦ first_once (map plain (map censored rs)) ∙ slice_get-map plain (map censored rs) 0 ∙ ap (option_map plain) (slice_get-map censored rs 0) ∙ mapped_twice censored plain (slice_get rs 0)
 ]
 
 -- putting the roots of a world in order again changes nothing
-ordered_again : (w : World) → in_order (roots_of w) ≡ roots_of w
+pub ordered_again : (w : World) → in_order (roots_of w) ≡ roots_of w
 ordered_again w = same_order (roots_of w) (lasting_roots w ++ runtime_roots w) (λ r c. member_ordered (lasting_roots w ++ runtime_roots w) r c) (λ r c. ordered_member (lasting_roots w ++ runtime_roots w) r c)
 
 pub first_shown : FirstIsShownFirst
