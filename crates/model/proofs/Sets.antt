@@ -32,11 +32,6 @@ pub joined : (a b r : Bool) → (a || (b || r)) ≡ ((a || b) || r)
 joined true b r = refl
 joined false b r = refl
 
-one_first : (n x r : Bool) → ((n || (x || false)) || r) ≡ (n || (x || r))
-one_first true x r = refl
-one_first false true r = refl
-one_first false false r = refl
-
 pub or_none : (b : Bool) → (b || false) ≡ b
 or_none true = refl
 or_none false = refl

@@ -75,13 +75,6 @@ seen_push class before r = by (is_trusted class)
         ap each_once (ap (map plain) (map-append censored before (r ∷ [])) ∙ map-append plain (map censored before) (censored r ∷ []))
         ∙ each_once_push (map plain (map censored before)) (plain (censored r))
 
-pub seen_none : (class : Class) → [] ≡ seen class []
-seen_none class = by (is_trusted class)
-  where
-    by : (t : Bool) → [] ≡ (if t then map plain [] else each_once (map plain (map censored [])))
-    by true = refl
-    by false = refl
-
 module _ (class : Class) (before : List Root) (r : Root) (ps : List Pair) (p : Pair) (shown : ps ≡ seen class before) (one : p ≡ seen_root class r) where
   tested : (b : Bool) → b ≡ (not (is_trusted class) && list_any (λ q. same_pair q p) ps) → seen class (before ++ r ∷ []) ≡ cond b ps (ps ++ p ∷ [])
   tested b test =

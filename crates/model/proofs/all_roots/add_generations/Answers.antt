@@ -2,7 +2,7 @@ use Rattle.std.proofs.Common.{map, string_bytes, refl, sym, ap, ap₂, ◌∙◌
 use Rattle.std.specs.Cmp.{nat_cmp_total}
 use Rattle.std.specs.Ordering.{nat_cmp}
 use Rattle.std.specs.FinMap as finite
-use Rattle.paths.specs.Root.{root_cmp, bytes_cmp, permanent_label, user_label, generation_label}
+use Rattle.paths.specs.Root.{generation_label}
 use Rattle.paths.specs.Root as roots
 use Rattle.tables.specs.World.{generation_root}
 use Rattle.model.specs.Maps.{pair_bytes}

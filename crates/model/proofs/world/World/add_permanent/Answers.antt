@@ -1,6 +1,6 @@
 use Rattle.std.proofs.Common.{map, string_bytes, refl, sym, ap, ◌∙◌}
 use Rattle.std.specs.Cmp.Lexicographic.{nat_list_cmp_total}
-use Rattle.paths.specs.Root.{root_cmp, bytes_cmp, permanent_label, user_label, generation_label}
+use Rattle.paths.specs.Root.{bytes_cmp, permanent_label}
 use Rattle.paths.specs.Root as roots
 use Rattle.tables.specs.World.{permanent_root}
 use Rattle.store.proofs.MapMembers.{bytes_antisymmetric}

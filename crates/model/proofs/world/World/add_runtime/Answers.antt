@@ -1,5 +1,4 @@
 use Rattle.std.proofs.Common.{map, string_bytes, refl, sym, ap, ◌∙◌}
-use Rattle.paths.specs.Root.{root_cmp, bytes_cmp, permanent_label, user_label, generation_label}
 use Rattle.paths.specs.Root as roots
 use Rattle.tables.specs.World.{pair_cmp, runtime_root}
 use Rattle.store.proofs.MapMembers.{pair_total, pair_antisymmetric}

@@ -1,5 +1,5 @@
 use Rattle.std.proofs.Common.{map, string_bytes, refl, sym, ap, ap₂, ◌∙◌}
-use Rattle.paths.specs.Root.{root_cmp, bytes_cmp, permanent_label, user_label, generation_label}
+use Rattle.paths.specs.Root.{user_label}
 use Rattle.paths.specs.Root as roots
 use Rattle.tables.specs.World.{pair_cmp, user_root}
 use Rattle.store.proofs.MapMembers.{pair_total, pair_antisymmetric}
