@@ -1,36 +1,22 @@
 -- An address verifies over the set of references where it does over their list.
-use Rattle.std.proofs.Common.{◌≡◌, ℕ, ◌++◌, List, ◌&&◌, Some, None, Option, refl, sym, ap, ◌∙◌}
+use Rattle.std.proofs.Common.{◌≡◌, ℕ, List, ◌&&◌, Some, None, Option, refl, ap}
 use Rattle.std.specs.Prelude.{codes}
 use Rattle.std.specs.Str.{bytes_eq}
-use Rattle.std.specs.Cmp.Lexicographic.{nat_list_cmp_total}
 use Rattle.std.specs.FinMap as finite
 use Rattle.sha2.specs.Sha256.{sha256}
 use Rattle.nar.specs.Outcome.{outcome_of}
 use Rattle.paths.specs.declared.content_address.Method.{Method}
 use Rattle.paths.specs.declared.content_address.Method.TheVariants.{Text, Source}
-use Rattle.paths.specs.Base32.{base32}
-use Rattle.paths.specs.Fold.{fold20}
-use Rattle.paths.specs.Root.{bytes_cmp, Set, set_of}
+use Rattle.paths.specs.Root.{bytes_cmp, set_of}
 use Rattle.paths.specs.StorePath.{name_of}
-use Rattle.paths.specs.Path.{fingerprint_of, in_path_order, path_of}
 use Rattle.paths.specs.ContentAddress.{ContentAddress, plain_contents, is_made_of, text_verifies, method_verifies, verifies}
-use Rattle.live.proofs.Order.{contains_key-set_of, same_set}
-use Rattle.store.proofs.MapMembers.{bytes_antisymmetric}
+use Rattle.store.proofs.SoundAdds.{same_path}
 
 abbrev Path : Type 0
 Path = List ℕ
 
 abbrev as_set : List Path → List Path
 as_set refs = finite.keys (set_of bytes_cmp refs)
-
-keys-set_of : (refs : List Path) → set_of bytes_cmp (as_set refs) ≡ set_of bytes_cmp refs
-keys-set_of refs = same_set nat_list_cmp_total bytes_antisymmetric (set_of bytes_cmp (as_set refs)) (set_of bytes_cmp refs) (λ k.
-    contains_key-set_of nat_list_cmp_total (as_set refs) k ∙ sym (finite.contains_key-keys (set_of bytes_cmp refs) k))
-
-same_path : (kind dir name : List ℕ) (refs : List Path) (inner : List ℕ) → path_of kind dir name (as_set refs) inner ≡ path_of kind dir name refs inner
-unfolding path_of in_path_order
-same_path kind dir name refs inner =
-    ap (λ (m : Set bytes_cmp). base32 (fold20 (sha256 (fingerprint_of kind dir (finite.keys m) inner name))) ++ codes "-" ++ name) (keys-set_of refs)
 
 module _ (digest dir path : List ℕ) (refs : List Path) where
   same_made : (kind inner : List ℕ) → is_made_of kind digest inner dir path (as_set refs) ≡ is_made_of kind digest inner dir path refs

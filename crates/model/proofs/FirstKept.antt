@@ -1,26 +1,19 @@
 -- The first root of a path, and the first named path that lives.
-use Rattle.std.proofs.Common.{◌≡◌, ℕ, List, [], ◌∷◌, map, length, take, ◌<◌, ◌++◌, get_or, zero, suc, Bool, true, false, cond, ◌||◌, Some, Option, option_map, slice_get, refl, sym, ap, ◌∙◌, arith}
+use Rattle.std.proofs.Common.{◌≡◌, ℕ, List, [], ◌∷◌, map, length, take, ◌<◌, get_or, zero, suc, Bool, true, false, cond, ◌||◌, Some, Option, option_map, slice_get, refl, sym, ap, ◌∙◌, arith}
 use Rattle.std.specs.Prelude.{is_some}
-use Rattle.std.specs.List.{filter, find, list_any}
+use Rattle.std.specs.List.{find, list_any}
 use Rattle.std.proofs.lemmas.Bool.{or_parts}
-use Rattle.paths.specs.Root.{Root, in_order}
+use Rattle.std.proofs.lemmas.Option.{slice_get-map}
+use Rattle.paths.specs.Root.{Root}
 use Rattle.live.specs.Reach.{reaches}
-use Rattle.live.proofs.Order.{member_ordered, ordered_member, same_order}
-use Rattle.tables.specs.World.{Path, World, lasting_roots, runtime_roots, roots_of}
+use Rattle.tables.specs.World.{Path, World, roots_of}
 use Rattle.policy.specs.Settings.{Settings}
 use Rattle.store.specs.Liveness.{graph_of, keep_of, lives, first_root_of, roots_that_keep}
+use Rattle.store.proofs.WorldLives.{first_found, ordered_again}
 use Rattle.model.specs.declared.root.Root.{Root as Rooted}
 use Rattle.model.specs.View.{root_view}
 
--- ---- what is found first
-
-first_found : {X : Type 0} (f : X → Bool) (xs : List X) → slice_get (filter f xs) 0 ≡ find f xs
-first_found f [] = refl
-first_found {X} f (x ∷ xs) = by (f x) (first_found f xs)
-  where
-    by : (b : Bool) → slice_get (filter f xs) 0 ≡ find f xs → slice_get (cond b (x ∷ filter f xs) (filter f xs)) 0 ≡ cond b (Some x) (find f xs)
-    by true later = refl
-    by false later = later
+-- ---- the first root of a path
 
 some_found : {X : Type 0} (f : X → Bool) (xs : List X) → list_any f xs ≡ is_some (find f xs)
 some_found f [] = refl
@@ -30,22 +23,13 @@ some_found {X} f (x ∷ xs) = by (f x) (some_found f xs)
     by true later = refl
     by false later = later
 
-first_mapped : {X Y : Type 0} (f : X → Y) (xs : List X) → slice_get (map f xs) 0 ≡ option_map f (slice_get xs 0)
-first_mapped f [] = refl
-first_mapped f (x ∷ xs) = refl
-
--- ---- the first root of a path
-
-ordered_again : (w : World) → in_order (roots_of w) ≡ roots_of w
-ordered_again w = same_order (roots_of w) (lasting_roots w ++ runtime_roots w) (λ r c. member_ordered (lasting_roots w ++ runtime_roots w) r c) (λ r c. ordered_member (lasting_roots w ++ runtime_roots w) r c)
-
 module _ (s : Settings) (w : World) (p : Path) (kept : List Rooted) (r : Option Rooted) (all : map root_view kept ≡ roots_that_keep s w p) (first : r ≡ slice_get kept 0) where
   test : Root → Bool
   test q = reaches (keep_of s) (graph_of w) q.target p
 
   found : option_map root_view r ≡ find test (roots_of w)
   unfolding test
-  found = ap (option_map root_view) first ∙ sym (first_mapped root_view kept) ∙ ap (λ rs. slice_get rs 0) all ∙ first_found test (roots_of w)
+  found = ap (option_map root_view) first ∙ sym (slice_get-map root_view kept 0) ∙ ap (λ rs. slice_get rs 0) all ∙ first_found test (roots_of w)
 
   -- the first of the roots that keep a path is its first root
   pub first_is : first_root_of s w p ≡ option_map root_view r

@@ -9,16 +9,18 @@ use Rattle.std.specs.declared.alloc.Global.{Global}
 use Rattle.std.specs.Cmp.Lexicographic.{nat_list_cmp_total}
 use Rattle.std.specs.FinMap as finite
 use Rattle.std.specs.FinMap.Entries.{is_sorted, below_all}
+use Rattle.std.proofs.lemmas.List.{nil_from_length}
 use Rattle.std.proofs.lemmas.List.Folds.{list_any-append}
 use Rattle.paths.specs.Root.{bytes_cmp}
 use Rattle.live.specs.Graph.{Path, same, holds, Links, Keep, listed, kept_by, kept_if_valid, is_edge}
+use Rattle.live.proofs.Members.{both_T}
 use Rattle.live.proofs.Order.{contains_key-set_of}
 use Rattle.tables.specs.World.{Object, World, has, all_paths}
 use Rattle.store.specs.Liveness.{links_of, linked, graph_of}
 use Rattle.store.proofs.MapMembers.{bytes_antisymmetric}
 use Rattle.store.proofs.Worlds.{get-graph, valid_is}
 use Rattle.model.specs.Maps.{seen_map, seen_set}
-use Rattle.model.proofs.Trees.{listed as entries_seen}
+use Rattle.model.proofs.Trees.{from_both, listed as entries_seen}
 
 pub list_any-map : {A B : Type 0} (p : B → Bool) (f : A → B) (xs : List A) → list_any p (map f xs) ≡ list_any (λ x. p (f x)) xs
 list_any-map p f [] = refl
@@ -60,28 +62,18 @@ edge_in keep w a b = ap₂ (λ v o. v && holds (kept_if_valid keep o) b) (valid_
 links : List (Path × Object) → List (Path × Links)
 links es = map (λ e. (e.0, links_of e.1)) es
 
-both_T : (a b : Bool) → T a → T b → T (a && b)
-both_T true b p q = q
-both_T false b p q = absurd p
-
-left_T : (a b : Bool) → T (a && b) → T a
-left_T true b h = tt
-left_T false b h = absurd h
-
-right_T : (a b : Bool) → T (a && b) → T b
-right_T true b h = h
-right_T false b h = absurd h
-
 below_links : (k : Path) (es : List (Path × Object)) → T (below_all bytes_cmp k es) → T (below_all bytes_cmp k (links es))
 unfolding links
 below_links k [] h = tt
-below_links k (e ∷ es) h = both_T (is_lt (bytes_cmp k e.0)) _ (left_T (is_lt (bytes_cmp k e.0)) _ h) (below_links k es (right_T (is_lt (bytes_cmp k e.0)) _ h))
+below_links k (e ∷ es) h =
+    let parts = both_T (is_lt (bytes_cmp k e.0)) (below_all bytes_cmp k es) h in from_both (is_lt (bytes_cmp k e.0)) _ parts.0 (below_links k es parts.1)
 
 sorted_links : (es : List (Path × Object)) → T (is_sorted bytes_cmp es) → T (is_sorted bytes_cmp (links es))
 unfolding links
 sorted_links [] h = tt
 sorted_links (e ∷ es) h =
-    both_T (below_all bytes_cmp e.0 (links es)) _ (below_links e.0 es (left_T (below_all bytes_cmp e.0 es) _ h)) (sorted_links es (right_T (below_all bytes_cmp e.0 es) _ h))
+    let parts = both_T (below_all bytes_cmp e.0 es) (is_sorted bytes_cmp es) h in
+    from_both (below_all bytes_cmp e.0 (links es)) _ (below_links e.0 es parts.0) (sorted_links es parts.1)
 
 keys_linked : (es : List (Path × Object)) → map (λ (e : Path × Links). e.0) (links es) ≡ map (λ (e : Path × Object). e.0) es
 unfolding links
@@ -99,5 +91,4 @@ graph_keys w =
     ∙ ap (map (λ (e : Path × Links). e.0)) (finite.entries-from_sorted bytes_cmp (links es) sorted) ∙ keys_linked es
 
 pub no_items : {A : Type 0} (xs : List A) → length xs < 1 → xs ≡ []
-no_items [] h = refl
-no_items (x ∷ xs) h = absurd (omega arith)
+no_items xs h = nil_from_length xs (omega (arith, h))

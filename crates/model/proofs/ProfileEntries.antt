@@ -1,5 +1,5 @@
 -- Profiles in memory, and what they are seen as.
-use Rattle.std.proofs.Common.{◌≡◌, ℕ, ◌+◌, List, [], ◌∷◌, map, Bool, true, false, Some, None, Option, is_some, length, arith, refl, sym, ap, ◌∙◌, String, string_bytes}
+use Rattle.std.proofs.Common.{◌≡◌, ℕ, ◌+◌, List, [], map, Bool, true, false, Some, None, Option, is_some, refl, sym, ap, ◌∙◌, String, string_bytes}
 use Rattle.std.specs.Prelude.{if◌then◌else◌, nat_lt, unwrap_or, option_map}
 use Rattle.std.specs.Option.{option_copied}
 use Rattle.std.specs.List.{last_or, filter}
@@ -13,6 +13,7 @@ use Rattle.std.proofs.lemmas.Bool.{false≢true}
 use Rattle.std.proofs.lemmas.List.{map-id}
 use denote.Ref.{Bor}
 use Rattle.tables.specs.World.{Path, Pair, Profile, pair_cmp}
+use Rattle.tables.proofs.Empty.{no_entries}
 use Rattle.store.specs.Profiles.{highest, is_path, is_highest, number_for, set_to, switched, new_profile, profile_or_new, previous}
 use Rattle.store.proofs.MapMembers.{bytes_antisymmetric, pair_total, pair_antisymmetric, tied_is}
 use Rattle.model.specs.declared.world.Profile.{Profile as InMemory}
@@ -77,12 +78,8 @@ seen_copied f (Some p) = refl
 
 -- ---- a profile that isn't there
 
-no_length : {A : Type 0} (es : List A) → length es ≡ 0 → es ≡ []
-no_length [] e = refl
-no_length (x ∷ es) e = absurd (omega arith)
-
 no_numbers : finite.keys (finite.empty {X = Path} {R = nat_cmp}) ≡ []
-no_numbers = ap (map (λ (e : ℕ × Path). e.0)) (no_length _ (sym (finite.len-entries (finite.empty {X = Path} {R = nat_cmp})) ∙ finite.len-empty nat_cmp Path))
+no_numbers = ap (map (λ (e : ℕ × Path). e.0)) (no_entries Path nat_cmp)
 
 none_highest : highest new_profile ≡ 0
 none_highest = ap (λ ks. unwrap_or (last_or None ks) 0) no_numbers

@@ -12,9 +12,9 @@ use Rattle.std.specs.FinMap as finite
 use Rattle.std.specs.FinMap.Entries.{find as find_entry, put, by_order, is_sorted, below_all, find-put}
 use Rattle.model.specs.Maps.{seen_map}
 
-both_T : (a b : Bool) → T a → T b → T (a && b)
-both_T true b p q = q
-both_T false b p q = absurd p
+pub from_both : (a b : Bool) → T a → T b → T (a && b)
+from_both true b p q = q
+from_both false b p q = absurd p
 
 module _ {K X L Y : Type 0} (R : L → L → Ordering) (key : K → L) (value : X → Y) where
   abbrev pub seen : List (K × X) → List (L × Y)
@@ -46,12 +46,12 @@ module _ {K X L Y : Type 0} (R : L → L → Ordering) (key : K → L) (value : 
 
   below_seen : (x : K) (es : List (K × X)) → AllByRecursion (λ y. cmp x y ≡ Less) (keys_of es) → T (below_all R (key x) (seen es))
   below_seen x [] h = tt
-  below_seen x (e ∷ es) h = both_T (is_lt (cmp x e.0)) (below_all R (key x) (seen es)) (subst (λ r. T (is_lt r)) (sym h.0) tt) (below_seen x es h.1)
+  below_seen x (e ∷ es) h = from_both (is_lt (cmp x e.0)) (below_all R (key x) (seen es)) (subst (λ r. T (is_lt r)) (sym h.0) tt) (below_seen x es h.1)
 
   sorted_seen : (es : List (K × X)) → IsStrictlySortedBy cmp (keys_of es) → T (is_sorted R (seen es))
   unfolding IsStrictlySortedBy
   sorted_seen [] h = tt
-  sorted_seen (e ∷ es) h = both_T (below_all R (key e.0) (seen es)) (is_sorted R (seen es)) (below_seen e.0 es h.0) (sorted_seen es h.1)
+  sorted_seen (e ∷ es) h = from_both (below_all R (key e.0) (seen es)) (is_sorted R (seen es)) (below_seen e.0 es h.0) (sorted_seen es h.1)
 
   module _ (o : IsTotalOrder R) (same : finite.IsAntisymmetric R) where
     pub get_seen : (es : List (K × X)) (q : L) → finite.get (seen_map R key value es) q ≡ option_map value (lookup (λ k. eq_by_cmp R q (key k)) es)
