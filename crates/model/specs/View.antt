@@ -25,14 +25,15 @@ use Rattle.model.specs.declared.replying.Refusal.TheVariants.{Archive as BadArch
 use Rattle.model.specs.declared.replying.Reply.{Reply}
 use Rattle.model.specs.declared.replying.Reply.TheVariants.{Done, Denied, Refused, Failed}
 use Rattle.model.specs.Maps.{seen_map, seen_set, pair_bytes}
+use Rattle.model.specs.Parts.{outputs_view, references_view}
 
 abbrev pub object_view : Object → tables.Object
 object_view o = record {
   nar = o.nar.items;
-  references = seen_set bytes_cmp string_bytes o.references.keys;
+  references = references_view o.references.keys;
   deriver = option_map string_bytes o.deriver;
   ca = o.ca;
-  outputs = seen_map bytes_cmp string_bytes string_bytes o.outputs.entries;
+  outputs = outputs_view o.outputs.entries;
 }
 
 abbrev pub profile_view : Profile → tables.Profile
