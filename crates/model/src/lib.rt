@@ -20,6 +20,7 @@ mod listing;
 mod liveness;
 mod living;
 mod objects;
+mod owned_names;
 mod profile_changes;
 mod profiles;
 mod reach;

@@ -6,9 +6,9 @@ ghost use Rattle.store.specs.Request as asked;
 ghost use Rattle.model.specs.View.{world_view};
 ghost use Rattle.model.specs.Meets.{Meets};
 
+use crate::owned_names::are_plain;
 use crate::replying::{Answer, Refusal, Stop};
 use crate::world::World;
-use paths::is_plain_name;
 use std::alloc::Global;
 
 /// A path becomes the current generation of a profile.
@@ -21,7 +21,7 @@ pub(crate) fn set_profile(
 ) -> Result<Answer, Stop>
     ensures { (s : Settings) (c : Caller) → Meets s (world_view world.old) c (asked.set_profile (string_bytes owner) (string_bytes name) (string_bytes path)) result (world_view world.new) }
 {
-    if !(is_plain_name(owner.as_str()) && is_plain_name(name.as_str())) {
+    if !are_plain(owner.as_str(), name.as_str()) {
         return Err(Stop::Refused(Refusal::BadRootName));
     }
     if !world.has(path.as_str()) {
@@ -41,7 +41,7 @@ pub(crate) fn set_profile(
 pub(crate) fn rollback(world: &mut World, owner: String, name: String) -> Result<Answer, Stop>
     ensures { (s : Settings) (c : Caller) → Meets s (world_view world.old) c (asked.rollback (string_bytes owner) (string_bytes name)) result (world_view world.new) }
 {
-    if !(is_plain_name(owner.as_str()) && is_plain_name(name.as_str())) {
+    if !are_plain(owner.as_str(), name.as_str()) {
         return Err(Stop::Refused(Refusal::BadRootName));
     }
     let owned = (owner, name);
@@ -66,7 +66,7 @@ pub(crate) fn switch(
 ) -> Result<Answer, Stop>
     ensures { (s : Settings) (c : Caller) → Meets s (world_view world.old) c (asked.switch (string_bytes owner) (string_bytes name) number) result (world_view world.new) }
 {
-    if !(is_plain_name(owner.as_str()) && is_plain_name(name.as_str())) {
+    if !are_plain(owner.as_str(), name.as_str()) {
         return Err(Stop::Refused(Refusal::BadRootName));
     }
     let owned = (owner, name);
@@ -89,7 +89,7 @@ pub(crate) fn delete_generation(
 ) -> Result<Answer, Stop>
     ensures { (s : Settings) (c : Caller) → Meets s (world_view world.old) c (asked.delete_generation (string_bytes owner) (string_bytes name) number) result (world_view world.new) }
 {
-    if !(is_plain_name(owner.as_str()) && is_plain_name(name.as_str())) {
+    if !are_plain(owner.as_str(), name.as_str()) {
         return Err(Stop::Refused(Refusal::BadRootName));
     }
     let owned = (owner, name);

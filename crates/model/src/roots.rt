@@ -6,6 +6,7 @@ ghost use Rattle.store.specs.Request as asked;
 ghost use Rattle.model.specs.View.{world_view};
 ghost use Rattle.model.specs.Meets.{Meets};
 
+use crate::owned_names::are_plain;
 use crate::replying::{Answer, Refusal, Stop};
 use crate::world::World;
 use paths::is_plain_name;
@@ -47,7 +48,7 @@ pub(crate) fn set_user_root(
 ) -> Result<Answer, Stop>
     ensures { (s : Settings) (c : Caller) → Meets s (world_view world.old) c (asked.set_user_root (string_bytes owner) (string_bytes name) (string_bytes path)) result (world_view world.new) }
 {
-    if !(is_plain_name(owner.as_str()) && is_plain_name(name.as_str())) {
+    if !are_plain(owner.as_str(), name.as_str()) {
         return Err(Stop::Refused(Refusal::BadRootName));
     }
     if !world.has(path.as_str()) {
@@ -61,7 +62,7 @@ pub(crate) fn set_user_root(
 pub(crate) fn drop_user_root(world: &mut World, owner: String, name: String) -> Result<Answer, Stop>
     ensures { (s : Settings) (c : Caller) → Meets s (world_view world.old) c (asked.drop_user_root (string_bytes owner) (string_bytes name)) result (world_view world.new) }
 {
-    if !(is_plain_name(owner.as_str()) && is_plain_name(name.as_str())) {
+    if !are_plain(owner.as_str(), name.as_str()) {
         return Err(Stop::Refused(Refusal::BadRootName));
     }
     let owned = (owner, name);
