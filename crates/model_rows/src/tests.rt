@@ -6,7 +6,6 @@ use policy::{Caller, Config};
 use sha2::{Digest, Sha256};
 use std::alloc::{AllocError, Global};
 use std::fmt::Write;
-use std::process::Abort;
 use std::test::Fail;
 
 mod adds;
