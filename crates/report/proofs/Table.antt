@@ -2,6 +2,7 @@
 use Rattle.std.proofs.Common.{◌≡◌, ℕ, List, [], ◌∷◌, ◌++◌, codes, decimal, Some, Option, refl, sym, ap, ◌∙◌, IsTrue, bytes_eq, map}
 use Rattle.std.specs.List.{find, range_with_len}
 use Rattle.std.specs.Fmt.{digits}
+use Rattle.std.proofs.lemmas.Option.{same_Some}
 use Rattle.policy.specs.declared.error.KeyWord.{KeyWord}
 use Rattle.policy.specs.declared.error.KeyWord.TheVariants.{Syntax, UnknownKey, StoreDir, AllowedUsers, TrustedUsers, KeepOutputs, KeepDerivations, Groups}
 use Rattle.report.specs.declared.refusal.Refusal.{Refusal}
@@ -189,8 +190,5 @@ said_of NoRoute = refl
 said_of BadMethod = refl
 said_of BadBodyHead = refl
 
-same : (a b : Refusal) → Some a ≡ Some b → a ≡ b
-same a b e = cc
-
 pub differ : RefusalsDiffer
-differ a b e = same a b (sym (said_of a) ∙ ap said e ∙ said_of b)
+differ a b e = same_Some a b (sym (said_of a) ∙ ap said e ∙ said_of b)

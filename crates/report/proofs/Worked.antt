@@ -1,11 +1,10 @@
 -- Worked texts, by computation, and the usage of a store that was just made.
-use Rattle.std.proofs.Common.{◌≡◌, ℕ, List, [], ◌∷◌, length, map, not, refl, sym, ap, ◌∙◌, arith}
+use Rattle.std.proofs.Common.{◌≡◌, ℕ, List, [], map, not, refl, ap}
 use Rattle.std.specs.Fmt.{digits}
 use Rattle.std.specs.List.{filter}
-use Rattle.std.specs.FinMap as finite
-use Rattle.std.specs.declared.cmp.Ordering.{Ordering}
 use Rattle.paths.specs.Base32.{base32, digits_of}
 use Rattle.tables.specs.World.{Path, no_world, all_paths}
+use Rattle.tables.proofs.Empty.{no_entries}
 use Rattle.store.specs.Reply.{usage}
 use Rattle.store.specs.Liveness.{lives, usage_of}
 use Rattle.report.specs.Replies.{answer_text}
@@ -63,13 +62,6 @@ unfolding digits base32 digits_of
 record_text = record { source = refl; derived = refl; both = refl }
 
 -- ---- a store that was just made
-
-no_length : {A : Type 0} (xs : List A) → length xs ≡ 0 → xs ≡ []
-no_length [] e = refl
-no_length (x ∷ xs) e = absurd (omega arith)
-
-no_entries : {K : Type 0} (X : Type 0) (R : K → K → Ordering) → finite.entries (finite.empty {X = X} {R = R}) ≡ []
-no_entries X R = no_length (finite.entries (finite.empty {X = X} {R = R})) (sym (finite.len-entries finite.empty) ∙ finite.len-empty R X)
 
 no_paths : all_paths no_world ≡ []
 no_paths = ap (map (λ e. e.0)) (no_entries _ _)
