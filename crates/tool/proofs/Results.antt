@@ -78,10 +78,6 @@ pub unread : (fault : Option Refusal) (most : ℕ) (known : Option (List ℕ)) �
 unread (Some fault) most known = Keeps-refl known
 unread None most known = ([], Consumes-nil known, omega arith)
 
--- no fault was there before
-pub read_after : (fault : Option Refusal) (most : ℕ) (old new : Option (List ℕ)) → fault ≡ None → TakesAtMost most old new → ReadsFor fault most old new
-read_after fault most old new none taken = subst (λ f. ReadsFor f most old new) (sym none) taken
-
 -- a fact of each text that is found is one of its bytes
 pub with_text : (r : Result (String Global) Stop) (P : Type 0) → IfOk r (λ text. P) → IfOk (result_text r) (λ bytes. P)
 with_text (Ok text) P h = h
@@ -91,6 +87,3 @@ with_text (Err stop) P h = tt
 pub within : (fault : Option Refusal) (most bound : ℕ) (old new : Option (List ℕ)) → most ≤ bound → ReadsFor fault most old new → TakesAtMost bound old new
 within (Some fault) most bound old new fits kept = ([], Consumes-kept old old new [] (Consumes-nil old) kept, omega arith)
 within None most bound old new fits taken = (taken.0, taken.1, omega (arith, taken.2))
-
-pub nothing_taken : (most : ℕ) (known : Option (List ℕ)) → TakesAtMost most known known
-nothing_taken most known = ([], Consumes-nil known, omega arith)

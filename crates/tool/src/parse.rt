@@ -4,7 +4,7 @@ ghost use Rattle.clap.specs.Kinds.{Kinds, HasKind};
 ghost use Rattle.clap.specs.Walk.{rows_of, texts};
 ghost use Rattle.clap.specs.Matches.{found_of};
 ghost use Rattle.clap.specs.Simple.{subcommand_rows_of};
-ghost use Rattle.tool.specs.Line.{line_view, line_of, line_from, asked_by, asked_view, object_in, object_view, values_named, Misses, IsRefusal, IsLine, IsUsageFault};
+ghost use Rattle.tool.specs.Line.{line_view, line_from, asked_by, asked_view, object_in, object_view, values_named, Misses, IsRefusal, IsLine, IsUsageFault};
 
 use crate::error::CommandError;
 use crate::grammar::nixkeep;
