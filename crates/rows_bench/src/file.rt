@@ -3,7 +3,7 @@
 ghost use Rattle.std.specs.Prelude.{◌≡◌, false};
 
 use crate::fault::Fault;
-use crate::{line, put, shown};
+use crate::{line, put, shown, taken};
 use rows::finding::Finding;
 use rows::{making, opening, transaction};
 use sqlite::{Alter, Connection};
@@ -50,9 +50,7 @@ pub fn put_line<S: Alter>(
     text: &str,
 ) -> Result<(), Fault> {
     let line = line::read(alloc, text)?;
-    if !conn.is_autocommit() || opening::open(alloc, conn)? != Finding::Ours {
-        return Err(Fault::Tables);
-    }
+    taken::take(alloc, conn)?;
     let mut tx = transaction::begin(conn);
     put::put(&mut tx, &line)?;
     transaction::commit(tx)?;

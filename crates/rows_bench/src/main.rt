@@ -9,6 +9,7 @@ mod line;
 mod names;
 mod put;
 mod shown;
+mod taken;
 mod timed;
 mod watch;
 

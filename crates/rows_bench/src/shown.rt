@@ -1,11 +1,11 @@
 //! The rows of the nine tables, printed as the lines that `line` reads.
 
 use crate::fault::Fault;
-use rows::finding::Finding;
+use crate::taken;
 use rows::objects::Object;
 use rows::{
-    generations, meta, objects, opening, outputs, permanent, profiles, references, runtime,
-    transaction, user_roots,
+    generations, meta, objects, outputs, permanent, profiles, references, runtime, transaction,
+    user_roots,
 };
 use sqlite::{Alter, Connection};
 use std::alloc::{AllocError, Global};
@@ -27,9 +27,7 @@ fn settings<S: Alter>(
     conn: &mut Connection<S>,
 ) -> Result<(), Fault> {
     let alloc = rt.alloc();
-    if !conn.is_autocommit() || opening::open(alloc, conn)? != Finding::Ours {
-        return Err(Fault::Tables);
-    }
+    taken::take(alloc, conn)?;
     let mut tx = transaction::begin(conn);
     for row in &meta::all(alloc, &mut tx)? {
         let word = hex(alloc, &row.word)?;
@@ -44,9 +42,7 @@ fn references<S: Alter>(
     conn: &mut Connection<S>,
 ) -> Result<(), Fault> {
     let alloc = rt.alloc();
-    if !conn.is_autocommit() || opening::open(alloc, conn)? != Finding::Ours {
-        return Err(Fault::Tables);
-    }
+    taken::take(alloc, conn)?;
     let mut tx = transaction::begin(conn);
     for row in &references::all(alloc, &mut tx)? {
         let base = hex(alloc, &row.base)?;
@@ -61,9 +57,7 @@ fn outputs<S: Alter>(
     conn: &mut Connection<S>,
 ) -> Result<(), Fault> {
     let alloc = rt.alloc();
-    if !conn.is_autocommit() || opening::open(alloc, conn)? != Finding::Ours {
-        return Err(Fault::Tables);
-    }
+    taken::take(alloc, conn)?;
     let mut tx = transaction::begin(conn);
     for row in &outputs::all(alloc, &mut tx)? {
         let base = hex(alloc, &row.base)?;
@@ -79,9 +73,7 @@ fn permanent_roots<S: Alter>(
     conn: &mut Connection<S>,
 ) -> Result<(), Fault> {
     let alloc = rt.alloc();
-    if !conn.is_autocommit() || opening::open(alloc, conn)? != Finding::Ours {
-        return Err(Fault::Tables);
-    }
+    taken::take(alloc, conn)?;
     let mut tx = transaction::begin(conn);
     for row in &permanent::all(alloc, &mut tx)? {
         let name = hex(alloc, &row.name)?;
@@ -96,9 +88,7 @@ fn roots_of_users<S: Alter>(
     conn: &mut Connection<S>,
 ) -> Result<(), Fault> {
     let alloc = rt.alloc();
-    if !conn.is_autocommit() || opening::open(alloc, conn)? != Finding::Ours {
-        return Err(Fault::Tables);
-    }
+    taken::take(alloc, conn)?;
     let mut tx = transaction::begin(conn);
     for row in &user_roots::all(alloc, &mut tx)? {
         let owner = hex(alloc, &row.owner)?;
@@ -114,9 +104,7 @@ fn profiles<S: Alter>(
     conn: &mut Connection<S>,
 ) -> Result<(), Fault> {
     let alloc = rt.alloc();
-    if !conn.is_autocommit() || opening::open(alloc, conn)? != Finding::Ours {
-        return Err(Fault::Tables);
-    }
+    taken::take(alloc, conn)?;
     let mut tx = transaction::begin(conn);
     for row in &profiles::all(alloc, &mut tx)? {
         let owner = hex(alloc, &row.owner)?;
@@ -132,9 +120,7 @@ fn generations<S: Alter>(
     conn: &mut Connection<S>,
 ) -> Result<(), Fault> {
     let alloc = rt.alloc();
-    if !conn.is_autocommit() || opening::open(alloc, conn)? != Finding::Ours {
-        return Err(Fault::Tables);
-    }
+    taken::take(alloc, conn)?;
     let mut tx = transaction::begin(conn);
     for row in &generations::all(alloc, &mut tx)? {
         let owner = hex(alloc, &row.owner)?;
@@ -151,9 +137,7 @@ fn runtime_roots<S: Alter>(
     conn: &mut Connection<S>,
 ) -> Result<(), Fault> {
     let alloc = rt.alloc();
-    if !conn.is_autocommit() || opening::open(alloc, conn)? != Finding::Ours {
-        return Err(Fault::Tables);
-    }
+    taken::take(alloc, conn)?;
     let mut tx = transaction::begin(conn);
     for row in &runtime::all(alloc, &mut tx)? {
         let label = hex(alloc, &row.label)?;
@@ -173,29 +157,18 @@ fn object(rt: &(impl Print + AllocGlobal), row: &Object) -> io::Result<()> {
     println!(rt; "object {base} {nar} {hash} {deriver} {ca}")
 }
 
-fn object_of<S: Alter>(
-    rt: &(impl Print + AllocGlobal),
-    conn: &mut Connection<S>,
-    base: &str,
-) -> Result<(), Fault> {
-    let alloc = rt.alloc();
-    if !conn.is_autocommit() || opening::open(alloc, conn)? != Finding::Ours {
-        return Err(Fault::Tables);
-    }
-    let mut tx = transaction::begin(conn);
-    for row in &objects::of(alloc, &mut tx, base)? {
-        object(rt, row)?;
-    }
-    Ok(())
-}
-
 fn objects<S: Alter>(
     rt: &(impl Print + AllocGlobal),
     conn: &mut Connection<S>,
 ) -> Result<(), Fault> {
-    for row in &conn.query_all("SELECT base FROM object ORDER BY base", &[])? {
-        let base: String = row.get(0)?;
-        object_of(rt, conn, base.as_str())?;
+    let alloc = rt.alloc();
+    taken::take(alloc, conn)?;
+    let mut tx = transaction::begin(conn);
+    for base in &objects::keys(alloc, &mut tx)? {
+        let found = objects::get(alloc, &mut tx, base.as_str())?;
+        if let Some(row) = &found {
+            object(rt, row)?;
+        }
     }
     Ok(())
 }

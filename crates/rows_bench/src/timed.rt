@@ -8,10 +8,9 @@ ghost use Rattle.rows.specs.Calls.{IsReady, IsUnderWay};
 use crate::fault::Fault;
 use crate::names::{ROUNDS, SIZE, base};
 use crate::put::put_object;
-use crate::watch;
+use crate::{taken, watch};
 use rows::failure::Failure;
-use rows::finding::Finding;
-use rows::{objects, opening, outputs, references, transaction};
+use rows::{objects, outputs, references, transaction};
 use sqlite::{Alter, Connection, Transaction};
 use std::alloc::Global;
 use std::rt::Clock;
@@ -89,9 +88,7 @@ fn objects_in<S: Alter>(
     nar: &[u8],
 ) -> Result<(), Fault> {
     let alloc = rt.alloc();
-    if !conn.is_autocommit() || opening::open(alloc, conn)? != Finding::Ours {
-        return Err(Fault::Tables);
-    }
+    taken::take(alloc, conn)?;
     let start = Instant::now(rt)?;
     add_all(alloc, conn, count, nar)?;
     watch::told(rt, start)
@@ -109,9 +106,7 @@ fn references_in<S: Alter>(
     conn: &mut Connection<S>,
 ) -> Result<(), Fault> {
     let alloc = rt.alloc();
-    if !conn.is_autocommit() || opening::open(alloc, conn)? != Finding::Ours {
-        return Err(Fault::Tables);
-    }
+    taken::take(alloc, conn)?;
     let mut tx = transaction::begin(conn);
     let start = Instant::now(rt)?;
     let _all = references::all(alloc, &mut tx)?;
@@ -161,9 +156,7 @@ fn delete_in<S: Alter>(
     count: u32,
 ) -> Result<(), Fault> {
     let alloc = rt.alloc();
-    if !conn.is_autocommit() || opening::open(alloc, conn)? != Finding::Ours {
-        return Err(Fault::Tables);
-    }
+    taken::take(alloc, conn)?;
     let start = Instant::now(rt)?;
     let mut tx = transaction::begin(conn);
     remove_all(alloc, &mut tx, count)?;
@@ -188,10 +181,10 @@ fn archive<S: Alter>(
     ensures clean { HasCleanDisk (state S.Store tx.new.conn.now) → HasCleanDisk (state S.Store tx.old.conn.now) }
 {
     let name = base(alloc, number)?;
-    let found = objects::of(alloc, tx, name.as_str())?;
-    Ok(match found.as_slice() {
-        [only] => only.nar.len(),
-        _ => 0,
+    let found = objects::get(alloc, tx, name.as_str())?;
+    Ok(match &found {
+        Some(object) => object.nar.len(),
+        None => 0,
     })
 }
 
@@ -218,9 +211,7 @@ fn archives_in<S: Alter>(
     count: u32,
 ) -> Result<(), Fault> {
     let alloc = rt.alloc();
-    if !conn.is_autocommit() || opening::open(alloc, conn)? != Finding::Ours {
-        return Err(Fault::Tables);
-    }
+    taken::take(alloc, conn)?;
     let start = Instant::now(rt)?;
     let mut tx = transaction::begin(conn);
     let bytes = read_all(alloc, &mut tx, count)?;
