@@ -93,12 +93,18 @@ unfolding outputs
 outputs_three cx tables all {s0} {s1} {s2} is {e0} {t0} is0 {e1} {t1} is1 {e2} {t2} is2 at n0 n1 n2 h0 h1 h2 last budget enough =
     rw (is, one_shown cx tables [] s0 e0 t0 n0 at 0 last (budget) is0 h0 enough.0, one_shown cx tables (shown_column n0 1 ∷ []) s1 e1 t1 n1 at 1 (Some Binary) (budget - 1) is1 h1 enough.1.0, one_shown cx tables (shown_column n0 1 ∷ shown_column n1 2 ∷ []) s2 e2 t2 n2 at 2 (Some Binary) (budget - 1 - 1) is2 h2 enough.1.1.0)
 
+pub outputs_four_at : (cx : Context) (tables : List Bound) (all : List Shown) {s0 s1 s2 s3 : Shown} → all ≡ s0 ∷ s1 ∷ s2 ∷ s3 ∷ [] → {e0 : Expr} {t0 : Name} → out-Shown s0 ≡ Shown-F.One e0 None t0 → {e1 : Expr} {t1 : Name} → out-Shown s1 ≡ Shown-F.One e1 None t1 → {e2 : Expr} {t2 : Name} → out-Shown s2 ≡ Shown-F.One e2 None t2 → {e3 : Expr} {t3 : Name} → out-Shown s3 ≡ Shown-F.One e3 None t3
+    → (at p0 p1 p2 p3 : ℕ) (n0 n1 n2 n3 : Name) → IsShownAs cx e0 n0 at p0 → IsShownAs cx e1 n1 at p1 → IsShownAs cx e2 n2 at p2 → IsShownAs cx e3 n3 at p3 → (last : Option Collation) (budget : ℕ) → AreAbove 4 budget
+    → outputs lower cx tables all (plain_state budget last) ≡ Ok (shown_column n0 (p0 + 1) ∷ shown_column n1 (p1 + 1) ∷ shown_column n2 (p2 + 1) ∷ shown_column n3 (p3 + 1) ∷ [], plain_state (budget - 1 - 1 - 1 - 1) (Some Binary))
+unfolding outputs
+outputs_four_at cx tables all {s0} {s1} {s2} {s3} is {e0} {t0} is0 {e1} {t1} is1 {e2} {t2} is2 {e3} {t3} is3 at p0 p1 p2 p3 n0 n1 n2 n3 h0 h1 h2 h3 last budget enough =
+    rw (is, one_shown cx tables [] s0 e0 t0 n0 at p0 last (budget) is0 h0 enough.0, one_shown cx tables (shown_column n0 (p0 + 1) ∷ []) s1 e1 t1 n1 at p1 (Some Binary) (budget - 1) is1 h1 enough.1.0, one_shown cx tables (shown_column n0 (p0 + 1) ∷ shown_column n1 (p1 + 1) ∷ []) s2 e2 t2 n2 at p2 (Some Binary) (budget - 1 - 1) is2 h2 enough.1.1.0, one_shown cx tables (shown_column n0 (p0 + 1) ∷ shown_column n1 (p1 + 1) ∷ shown_column n2 (p2 + 1) ∷ []) s3 e3 t3 n3 at p3 (Some Binary) (budget - 1 - 1 - 1) is3 h3 enough.1.1.1.0)
+
+-- the first four of the table
 pub outputs_four : (cx : Context) (tables : List Bound) (all : List Shown) {s0 s1 s2 s3 : Shown} → all ≡ s0 ∷ s1 ∷ s2 ∷ s3 ∷ [] → {e0 : Expr} {t0 : Name} → out-Shown s0 ≡ Shown-F.One e0 None t0 → {e1 : Expr} {t1 : Name} → out-Shown s1 ≡ Shown-F.One e1 None t1 → {e2 : Expr} {t2 : Name} → out-Shown s2 ≡ Shown-F.One e2 None t2 → {e3 : Expr} {t3 : Name} → out-Shown s3 ≡ Shown-F.One e3 None t3
     → (at : ℕ) (n0 n1 n2 n3 : Name) → IsShownAs cx e0 n0 at 0 → IsShownAs cx e1 n1 at 1 → IsShownAs cx e2 n2 at 2 → IsShownAs cx e3 n3 at 3 → (last : Option Collation) (budget : ℕ) → AreAbove 4 budget
     → outputs lower cx tables all (plain_state budget last) ≡ Ok (shown_column n0 1 ∷ shown_column n1 2 ∷ shown_column n2 3 ∷ shown_column n3 4 ∷ [], plain_state (budget - 1 - 1 - 1 - 1) (Some Binary))
-unfolding outputs
-outputs_four cx tables all {s0} {s1} {s2} {s3} is {e0} {t0} is0 {e1} {t1} is1 {e2} {t2} is2 {e3} {t3} is3 at n0 n1 n2 n3 h0 h1 h2 h3 last budget enough =
-    rw (is, one_shown cx tables [] s0 e0 t0 n0 at 0 last (budget) is0 h0 enough.0, one_shown cx tables (shown_column n0 1 ∷ []) s1 e1 t1 n1 at 1 (Some Binary) (budget - 1) is1 h1 enough.1.0, one_shown cx tables (shown_column n0 1 ∷ shown_column n1 2 ∷ []) s2 e2 t2 n2 at 2 (Some Binary) (budget - 1 - 1) is2 h2 enough.1.1.0, one_shown cx tables (shown_column n0 1 ∷ shown_column n1 2 ∷ shown_column n2 3 ∷ []) s3 e3 t3 n3 at 3 (Some Binary) (budget - 1 - 1 - 1) is3 h3 enough.1.1.1.0)
+outputs_four cx tables all is is0 is1 is2 is3 at n0 n1 n2 n3 h0 h1 h2 h3 last budget enough = outputs_four_at cx tables all is is0 is1 is2 is3 at 0 1 2 3 n0 n1 n2 n3 h0 h1 h2 h3 last budget enough
 
 pub outputs_five : (cx : Context) (tables : List Bound) (all : List Shown) {s0 s1 s2 s3 s4 : Shown} → all ≡ s0 ∷ s1 ∷ s2 ∷ s3 ∷ s4 ∷ [] → {e0 : Expr} {t0 : Name} → out-Shown s0 ≡ Shown-F.One e0 None t0 → {e1 : Expr} {t1 : Name} → out-Shown s1 ≡ Shown-F.One e1 None t1 → {e2 : Expr} {t2 : Name} → out-Shown s2 ≡ Shown-F.One e2 None t2 → {e3 : Expr} {t3 : Name} → out-Shown s3 ≡ Shown-F.One e3 None t3 → {e4 : Expr} {t4 : Name} → out-Shown s4 ≡ Shown-F.One e4 None t4
     → (at : ℕ) (n0 n1 n2 n3 n4 : Name) → IsShownAs cx e0 n0 at 0 → IsShownAs cx e1 n1 at 1 → IsShownAs cx e2 n2 at 2 → IsShownAs cx e3 n3 at 3 → IsShownAs cx e4 n4 at 4 → (last : Option Collation) (budget : ℕ) → AreAbove 5 budget

@@ -18,6 +18,7 @@ pub mod One
 pub mod Steps
 pub mod SettingLemmas
 pub mod ObjectLemmas
+pub mod ListingLemmas
 pub mod ReferenceLemmas
 pub mod OutputLemmas
 pub mod PermanentRootLemmas

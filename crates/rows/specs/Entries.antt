@@ -5,9 +5,10 @@ use Rattle.sqlite_value.specs.declared.value.Value.{Value}
 use Rattle.sqlite_value.specs.declared.value.Value.TheVariants.{Null, Int, Text, Blob}
 use Rattle.sqlite_value.specs.Order.{Row, column}
 use Rattle.std.specs.FinMap as finite
-use Rattle.rows.specs.Contents.{Bytes, Pair, Triple, Stored, texts_cmp}
+use Rattle.rows.specs.Contents.{Bytes, Pair, Triple, Stored, Described, texts_cmp}
 use Rattle.rows.specs.declared.meta.Setting.{Setting}
 use Rattle.rows.specs.declared.objects.Object.{Object}
+use Rattle.rows.specs.declared.objects.Listed.{Listed}
 use Rattle.rows.specs.declared.references.Reference.{Reference}
 use Rattle.rows.specs.declared.outputs.Output.{Output}
 use Rattle.rows.specs.declared.permanent.PermanentRoot.{PermanentRoot}
@@ -43,6 +44,12 @@ IsStored objects base o = MatchOption o (finite.get objects base ≡ None) (λ e
 
 abbrev pub ShowsObject : Row → Object → Type 0
 ShowsObject row e = (column row 0 ≡ Text (string_bytes e.base)) × (column row 1 ≡ Blob e.nar.items) × (column row 2 ≡ Blob e.hash.items) × ShowsOptional (column row 3) e.deriver × ShowsOptional (column row 4) e.ca
+
+abbrev pub listed_of : Listed → Bytes × Described
+listed_of e = (string_bytes e.base, record { hash = e.hash.items; deriver = option_map string_bytes e.deriver; ca = option_map string_bytes e.ca })
+
+abbrev pub ShowsListed : Row → Listed → Type 0
+ShowsListed row e = (column row 0 ≡ Text (string_bytes e.base)) × (column row 1 ≡ Blob e.hash.items) × ShowsOptional (column row 2) e.deriver × ShowsOptional (column row 3) e.ca
 
 abbrev pub reference_of : Reference → Pair × Unit {0}
 reference_of e = ((string_bytes e.base, string_bytes e.target), tt)

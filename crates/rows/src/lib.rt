@@ -11,6 +11,8 @@ mod finding_tests;
 mod form;
 pub mod generations;
 mod keyed;
+#[cfg(test)]
+mod listing_tests;
 pub mod making;
 pub mod meta;
 mod nine;

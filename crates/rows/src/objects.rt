@@ -7,8 +7,8 @@ ghost use Rattle.sqlite.specs.State.{HasCleanDisk, KeepsCommit, Survives};
 ghost use Rattle.sqlite.specs.Held.{state};
 ghost use Rattle.rows.specs.Failures.{FailsFor};
 ghost use Rattle.rows.specs.Calls.{IsUnderWay, Changes, Stays};
-ghost use Rattle.rows.specs.Contents.{texts_cmp, contents_of};
-ghost use Rattle.rows.specs.Entries.{stored_of, ShowsObject, IsStored, stored};
+ghost use Rattle.rows.specs.Contents.{texts_cmp, contents_of, without_archive};
+ghost use Rattle.rows.specs.Entries.{stored_of, ShowsObject, listed_of, ShowsListed, IsStored, stored};
 
 use crate::entry::Entry;
 use crate::failure::Failure;
@@ -46,6 +46,52 @@ impl Entry for Object {
     }
 }
 
+/// One object without its archive.
+#[derive(Debug, Drop)]
+pub struct Listed {
+    pub base: String,
+    pub hash: Vec<u8>,
+    pub deriver: Option<String>,
+    pub ca: Option<String>,
+}
+
+impl Entry for Listed {
+    ghost is_shown = { ShowsListed };
+
+    ghost is_below = { λ a b. is_lt (texts_cmp (listed_of a).0 (listed_of b).0) };
+
+    fn read(row: &Row) -> Result<Listed, Failure> {
+        Ok(Listed {
+            base: row.get(0)?,
+            hash: row.get(1)?,
+            deriver: row.get(2)?,
+            ca: row.get(3)?,
+        })
+    }
+
+    fn is_below(&self, other: &Listed) -> bool {
+        self.base < other.base
+    }
+}
+
+/// All objects without their archives, in the order of their bases.
+pub fn all<S: Alter>(alloc: Global, tx: &mut Transaction<'_, S>) -> Result<Vec<Listed>, Failure>
+    requires { HasCleanDisk (state S.Store tx.old.conn.now) → IsUnderWay (state S.Store tx.old.conn.now) }
+    ensures same_reference { tx.new.conn.ghost_name ≡ tx.old.conn.ghost_name }
+    ensures reads { HasCleanDisk (state S.Store tx.new.conn.now) → IfOk result (λ all. Stays (state S.Store tx.old.conn.now) (state S.Store tx.new.conn.now)
+        × (map listed_of all.items ≡ map without_archive (finite.entries (contents_of (state S.Store tx.old.conn.now).now).objects))) }
+    ensures cause { HasCleanDisk (state S.Store tx.new.conn.now) → IfErr result (FailsFor (state S.Store tx.old.conn.now) (state S.Store tx.new.conn.now)) }
+    ensures failed { HasCleanDisk (state S.Store tx.new.conn.now) → OnErr result (KeepsCommit (state S.Store tx.old.conn.now) (state S.Store tx.new.conn.now)) }
+    ensures survives { Survives (state S.Store tx.old.conn.now) (state S.Store tx.new.conn.now) (λ _. ⊥) }
+{
+    statement::select(
+        alloc,
+        tx,
+        "SELECT base, hash, deriver, ca FROM object ORDER BY base",
+        &[],
+    )
+}
+
 /// The bases of all objects, in order. It copies no archive.
 pub fn keys<S: Alter>(alloc: Global, tx: &mut Transaction<'_, S>) -> Result<Vec<String>, Failure>
     requires { HasCleanDisk (state S.Store tx.old.conn.now) → IsUnderWay (state S.Store tx.old.conn.now) }
@@ -78,7 +124,7 @@ pub fn get<S: Alter>(
 }
 
 /// The object of this base, if there is one, as a list of at most one.
-pub fn of<S: Alter>(
+fn of<S: Alter>(
     alloc: Global,
     tx: &mut Transaction<'_, S>,
     base: &str,

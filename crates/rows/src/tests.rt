@@ -187,9 +187,9 @@ fn first_shown<S: Alter>(alloc: Global, tx: &mut Transaction<'_, S>) -> Result<S
     ensures clean { HasCleanDisk (state S.Store tx.new.conn.now) → HasCleanDisk (state S.Store tx.old.conn.now) }
 {
     let settings = meta::all(alloc, tx)?;
-    let objects = objects::of(alloc, tx, "b")?;
+    let object = objects::get(alloc, tx, "b")?;
     let references = references::all(alloc, tx)?;
-    Ok(format!(in alloc; "{settings:?}{objects:?}{references:?}")?)
+    Ok(format!(in alloc; "{settings:?}{object:?}{references:?}")?)
 }
 
 fn next_shown<S: Alter>(alloc: Global, tx: &mut Transaction<'_, S>) -> Result<String, Failure>
@@ -366,7 +366,7 @@ pub(crate) fn run<S: Alter>(conn: &mut Connection<S>, texts: &[&str]) -> Result<
 }
 
 const FILLED: &str = "[Setting { word: \"schema\", value: \"1\" }]\
-    [Object { base: \"b\", nar: [], hash: [104], deriver: Some(\"a\"), ca: None }]\
+    Some(Object { base: \"b\", nar: [], hash: [104], deriver: Some(\"a\"), ca: None })\
     [Reference { base: \"b\", target: \"a\" }, Reference { base: \"b\", target: \"b\" }]\
     [Output { base: \"a\", name: \"out\", target: \"b\" }]\
     [PermanentRoot { name: \"p\", target: \"a\" }]\
@@ -385,7 +385,7 @@ const PARTS: &str =
     [Generation { owner: \"1000\", name: \"q\", number: 1, target: \"a\" }, Generation { owner: \"1000\", name: \"q\", number: 2, target: \"b\" }]";
 
 const CLEARED: &str =
-    "[][][][][][][][Generation { owner: \"1000\", name: \"q\", number: 2, target: \"b\" }][]";
+    "[]None[][][][][][Generation { owner: \"1000\", name: \"q\", number: 2, target: \"b\" }][]";
 
 fn expect(what: &str, text: &str, wanted: &str) -> Result<(), Fail> {
     if text != wanted {
@@ -516,7 +516,7 @@ fn is_made<S: Alter>(alloc: Global, conn: &mut Connection<S>) -> Result<(), Fail
 
 const MADE: &str =
     "[Setting { word: \"schema\", value: \"1\" }, Setting { word: \"store-dir\", value: \"/nix/store\" }]\
-    [][][][][][][][]";
+    None[][][][][][][]";
 
 #[test]
 fn made_beside_others(rt: HostRuntime) -> Result<(), Fail> {

@@ -1,0 +1,20 @@
+use Rattle.std.proofs.Common.{arith}
+use Rattle.sqlite.specs.State.{HasCleanDisk}
+use Rattle.sqlite.specs.Held.{state}
+use Rattle.rows.proofs.Causes.{refused_by}
+use Rattle.rows.proofs.ListingLemmas.{reads_all, same_all}
+use Rattle.rows.proofs.objects.all.Goals as goal
+
+pub returns-clause-reads : goal.returns-clause-reads
+returns-clause-reads g c clean =
+    let old = state g.S.Store c.args.tx.now.conn.now in
+    let new = state g.S.Store c.select.new.tx.conn.now in
+    let early : HasCleanDisk old = omega (arith, c.select.ensures.survives.clean) in
+    reads_all old new c.select.result (c.requires early) (c.select.ensures.shown clean) c.select.ensures.rises
+
+pub returns-clause-cause : goal.returns-clause-cause
+returns-clause-cause g c clean =
+    let old = state g.S.Store c.args.tx.now.conn.now in
+    let new = state g.S.Store c.select.new.tx.conn.now in
+    let early : HasCleanDisk old = omega (arith, c.select.ensures.survives.clean) in
+    refused_by c.select.result old new _ (λ it. same_all old new (c.requires early) _ it.0 it.1) (c.select.ensures.cause clean)
