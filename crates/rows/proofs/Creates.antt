@@ -30,6 +30,8 @@ use Rattle.rows.proofs.Means.{Means, understood_as}
 use Rattle.rows.proofs.Writes.{went, same_value}
 use Rattle.rows.proofs.Truths.{and_so, not_so}
 use Rattle.rows.proofs.Finds.{found_by_place}
+use Rattle.rows.proofs.Lists.{one_list, two_lists}
+use Rattle.rows.proofs.Frozen.{spared, frozen_then}
 
 -- ---- what the text means
 
@@ -128,6 +130,7 @@ makes_in text title cs key old new count making lacks inside h =
       schema = ap (λ (d : Database). d.schema) now ∙ is;
       kept = subst (λ (d : Database). AllByRecursion (λ t. d.trees t.tree ≡ old.now.trees t.tree) s.tables) (sym now) made.others;
       empty = (ap (λ (d : Database). d.trees (next_tree s)) now ∙ made.empty, tt);
+      frozen = λ sound. spared old.now new.now sound w.frozen;
       committed = w.shown.committed_is ∙ rw inside refl;
       mode = w.shown.mode ∙ inside;
     }
@@ -140,14 +143,6 @@ making_after title cs key rest old new clear under h = record {
 }
 
 -- ---- one after another
-
-pub one_list : {X : Type 0} (P : X → Type 0) (xs ys : List X) → AllByRecursion P (xs ++ ys) → AllByRecursion P xs × AllByRecursion P ys
-one_list P [] ys h = (tt, h)
-one_list P (x ∷ xs) ys h = let both = one_list P xs ys h.1 in ((h.0, both.0), both.1)
-
-pub two_lists : {X : Type 0} (P : X → Type 0) (xs ys : List X) → AllByRecursion P xs → AllByRecursion P ys → AllByRecursion P (xs ++ ys)
-two_lists P [] ys h k = k
-two_lists P (x ∷ xs) ys h k = (h.0, two_lists P xs ys h.1 k)
 
 grouped : {X : Type 0} (xs ys zs : List X) → (xs ++ ys) ++ zs ≡ xs ++ (ys ++ zs)
 grouped [] ys zs = refl
@@ -190,6 +185,7 @@ makes_then ts us a b c h k =
       schema = k.schema ∙ ap (λ (x : Schema). all_created x us) h.schema ∙ sym (all_after s ts us);
       kept = kept_then a.now.trees b.now.trees c.now.trees s.tables h.kept both.0;
       empty = subst (AllByRecursion (λ (t : Table). c.now.trees t.tree ≡ [])) (sym (placed_after s ts us)) (two_lists (λ (t : Table). c.now.trees t.tree ≡ []) (placed s ts) _ (empty_then b.now.trees c.now.trees (placed s ts) h.empty both.1) made);
+      frozen = λ sound. frozen_then a.now b.now c.now.trees ts h.schema (h.frozen sound) (k.frozen h.sound);
       committed = k.committed ∙ h.committed;
       mode = k.mode;
     }

@@ -3,6 +3,8 @@ pub mod Truths
 pub mod Optional
 pub mod Scans
 pub mod Finds
+pub mod Lists
+pub mod Frozen
 pub mod Writes
 pub mod Members
 pub mod Means

@@ -18,6 +18,7 @@ use Rattle.rows.specs.Finding.{HasNone}
 use Rattle.rows.specs.Contents.{Bytes, contents_of, texts_cmp, pair_cmp, triple_cmp, is_pair, pair_of, is_object, object_of, member_of, is_triple, target_of, is_profile, profile_of, is_generation, generation_of, map_of, rows_named}
 use Rattle.rows.specs.Calls.{IsKeyed}
 use Rattle.rows.specs.Making.{IsMade, IsMadeIn, IsMadeOf, LeavesMade, AreSettings, first_contents, placed, ours_created, others_placed}
+use Rattle.rows.proofs.Frozen.{frozen_before}
 use Rattle.rows.proofs.Creates.{tables_after}
 use Rattle.rows.proofs.Settles.{keyed_none}
 use Rattle.rows.proofs.Stood.{Parts, StandsAs, tree_is, all_stand, each_stands, by_names, are_low}
@@ -79,6 +80,7 @@ made_is dir old new sound none h =
       schema = h.schema;
       contents = contents_made dir old.now.schema new.now stand h.made.settings h.made.empty;
       theirs = theirs_of old.now new.now.trees old.now.schema.tables h.made.kept;
+      frozen = h.made.frozen sound;
       ready = record {
         ours = record { sound = h.sound; has = each_stands new.now h.sound old.now.schema (meta_parts ∷ others) stand; keyed = keyed_made dir old.now.schema new.now stand h.made.settings h.made.empty };
         settled = h.settled;
@@ -94,4 +96,5 @@ leaves_made dir old trees sound none h =
       theirs = subst (AllByRecursion (λ (t : Table). is_our_name t.name ≡ false → trees t.tree ≡ old.trees t.tree)) (sym (tables_after old.schema our_tables))
           (all-append (λ (t : Table). is_our_name t.name ≡ false → trees t.tree ≡ old.trees t.tree) old.schema.tables _ (theirs_of old trees old.schema.tables h.kept)
           (all_weaker (λ (t : Table). is_our_name t.name ≡ true) (λ t. is_our_name t.name ≡ false → trees t.tree ≡ old.trees t.tree) (λ t ours other. absurd (let e = sym ours ∙ other in cc)) (placed old.schema our_tables) (ours_placed old.schema)));
+      frozen = record { rows = λ tree is. (h.frozen sound).rows tree (frozen_before old.schema our_tables tree is); texts = (h.frozen sound).texts; version = (h.frozen sound).version };
     }

@@ -85,6 +85,7 @@ module _ (a : Table) (old new : State) (rows : List Row) (stands : Stands old.no
     schema = sets.schema;
     contents = contents;
     theirs = theirs_kept named;
+    unshown = sets.unshown;
     ours = ours_kept ours keeps;
     committed = sets.committed;
     mode = sets.mode;

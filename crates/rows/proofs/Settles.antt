@@ -27,7 +27,9 @@ use Rattle.rows.proofs.Writes.{SetsRows, inserts_in}
 use Rattle.rows.proofs.Entries.{put_map}
 use Rattle.rows.proofs.Members.{keyed_put}
 use Rattle.rows.proofs.SettingLemmas.{insert_text, insert_is, terms}
-use Rattle.rows.proofs.Creates.{one_list, kept_then, makes_then}
+use Rattle.rows.proofs.Lists.{one_list, rises, all_below}
+use Rattle.rows.proofs.Frozen.{frozen_of, frozen_then}
+use Rattle.rows.proofs.Creates.{kept_then, makes_then}
 
 -- ---- where a table stands that was just made
 
@@ -66,14 +68,6 @@ has_still a b word value has h = record { named = λ is_open. subst (λ (x : Sch
 
 -- ---- no table has the next tree
 
-pub rises : {X : Type 0} (g : X → ℕ) (xs : List X) (n : ℕ) → n ≤ fold (λ m x. max m (g x + 1)) n xs
-rises g [] n = omega arith
-rises g (x ∷ xs) n = omega (arith, rises g xs (max n (g x + 1)))
-
-pub all_below : {X : Type 0} (g : X → ℕ) (xs : List X) (n : ℕ) → AllByRecursion (λ x. g x < fold (λ m x. max m (g x + 1)) n xs) xs
-all_below g [] n = tt
-all_below g (x ∷ xs) n = (omega (arith, rises g xs (max n (g x + 1))), all_below g xs (max n (g x + 1)))
-
 others_apart : (ts : List Table) (m n : ℕ) → m ≤ n → AllByRecursion (λ t. t.tree < m) ts → AllByRecursion (λ t. t.tree ≢ n) ts
 others_apart [] m n h k = tt
 others_apart (t ∷ ts) m n h k = (λ e. absurd (omega (arith, h, k.0, e)), others_apart ts m n h k.1)
@@ -107,6 +101,7 @@ puts old new word value count has h =
       schema = sets.schema;
       rows = subst (IsPut word value rows) (sym own) made;
       others = sets.others;
+      frozen = λ sound. frozen_of old.now new.now.trees sound sets.unshown;
       committed = sets.committed;
       mode = sets.mode;
     }
@@ -151,6 +146,7 @@ meta_made dir a b c d free h p q =
       schema = q.schema ∙ p.schema ∙ h.schema;
       kept = kept_then a.now.trees c.now.trees d.now.trees s.tables (kept_then a.now.trees b.now.trees c.now.trees s.tables h.kept (kept_off b.now.trees c.now.trees tree s.tables off old_c)) (kept_off c.now.trees d.now.trees tree s.tables off old_d);
       settings = subst (λ n. AreSettings dir (d.now.trees n)) tree_d made;
+      frozen = λ sound. frozen_then a.now b.now d.now.trees (meta ∷ []) h.schema (h.frozen sound) (frozen_then b.now c.now d.now.trees [] p.schema (p.frozen h.sound) (q.frozen p.sound));
       committed = q.committed ∙ p.committed ∙ h.committed;
       mode = q.mode;
     }
@@ -173,6 +169,7 @@ all_made dir a b c d h p q =
         kept = kept_then a.now.trees b.now.trees d.now.trees s.tables h.kept both.0;
         settings = subst (AreSettings dir) (sym both.1.0) h.settings;
         empty = subst (λ (x : Schema). AllByRecursion (λ t. d.now.trees t.tree ≡ []) (placed x other_tables)) h.schema rest.empty;
+        frozen = λ sound. frozen_then a.now b.now d.now.trees (meta ∷ []) h.schema (h.frozen sound) (rest.frozen h.sound);
       };
       committed = rest.committed ∙ h.committed;
       mode = rest.mode;

@@ -9,6 +9,7 @@ use Rattle.sqlite.specs.Effect.{Database}
 use Rattle.sqlite.specs.State.{State, Shows, KeepsCommit, Survives}
 use Rattle.rows.specs.Forms.{is_our_name}
 use Rattle.rows.specs.Contents.{Contents, contents_of}
+use Rattle.rows.specs.Frozen.{IsUnshown, KeepsUnshown}
 use Rattle.rows.specs.Calls.{IsOurs, IsUnderWay, IsCommitted, KeepsTheirs, Leaves, Changes, Stays}
 
 theirs_walk : (a b c : Database) (ts : List Table) → AllByRecursion (λ t. is_our_name t.name ≡ false → b.trees t.tree ≡ a.trees t.tree) ts → AllByRecursion (λ t. is_our_name t.name ≡ false → c.trees t.tree ≡ b.trees t.tree) ts
@@ -27,6 +28,7 @@ changes_then a b c f g h k = record {
   schema = k.schema ∙ h.schema;
   contents = k.contents ∙ ap g h.contents;
   theirs = theirs_then a.now b.now c.now h.schema h.theirs k.theirs;
+  unshown = λ tree hidden. k.unshown tree (subst (λ (s : Schema). IsUnshown s tree) (sym h.schema) hidden) ∙ h.unshown tree hidden;
   ours = k.ours;
   committed = k.committed ∙ h.committed;
   mode = k.mode;
@@ -54,6 +56,7 @@ stays_then a b c f h k = record {
   schema = k.schema ∙ ap (λ (d : Database). d.schema) h.now;
   contents = k.contents ∙ ap (λ d. f (contents_of d)) h.now;
   theirs = subst (λ (d : Database). KeepsTheirs d c.now) h.now k.theirs;
+  unshown = subst (λ (d : Database). KeepsUnshown d c.now.trees) h.now k.unshown;
   ours = k.ours;
   committed = k.committed ∙ h.committed;
   mode = k.mode;
@@ -66,6 +69,7 @@ then_stays a b c f h k = record {
   schema = ap (λ (d : Database). d.schema) k.now ∙ h.schema;
   contents = ap contents_of k.now ∙ h.contents;
   theirs = subst (λ (d : Database). KeepsTheirs a.now d) (sym k.now) h.theirs;
+  unshown = subst (λ (d : Database). KeepsUnshown a.now d.trees) (sym k.now) h.unshown;
   ours = k.ours;
   committed = k.committed ∙ h.committed;
   mode = k.mode;
@@ -78,7 +82,7 @@ stays_twice a b c h k = record { was_open = h.was_open; is_open = k.is_open; now
 -- ---- what a crash leaves of a commit
 
 leaves_now : (d : Database) (db : Trees) → db ≡ d.trees → Leaves d db (contents_of d)
-leaves_now d db is = subst (λ (trees : Trees). Leaves d trees (contents_of d)) (sym is) (record { ours = refl; theirs = all_of (λ (t : Table). is_our_name t.name ≡ false → d.trees t.tree ≡ d.trees t.tree) (λ t other. refl) d.schema.tables })
+leaves_now d db is = subst (λ (trees : Trees). Leaves d trees (contents_of d)) (sym is) (record { ours = refl; theirs = all_of (λ (t : Table). is_our_name t.name ≡ false → d.trees t.tree ≡ d.trees t.tree) (λ t other. refl) d.schema.tables; frozen = record { rows = λ tree is. refl; texts = λ row there foreign. there; version = refl } })
 
 pub leaves_by : (old new : State) → Survives old new (λ db. db ≡ old.now.trees) → Survives old new (λ db. Leaves old.now db (contents_of old.now))
 leaves_by old new h = record {

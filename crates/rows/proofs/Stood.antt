@@ -28,7 +28,8 @@ use Rattle.rows.specs.Finding.{IsFree}
 use Rattle.rows.specs.Contents.{Bytes}
 use Rattle.rows.specs.Making.{all_created, placed}
 use Rattle.rows.proofs.Creates.{is_clear, unused_after}
-use Rattle.rows.proofs.Settles.{rises, all_below, not_next, last_found, last_there}
+use Rattle.rows.proofs.Lists.{rises, all_below}
+use Rattle.rows.proofs.Settles.{not_next, last_found, last_there}
 use Rattle.rows.proofs.Truths.{and_so, not_so}
 use Rattle.rows.proofs.Finds.{found_by_place}
 

@@ -3,6 +3,7 @@ use Rattle.std.proofs.Common.{◌≡◌, ◌⊎◌, inl, inr, ℕ, ◌/◌, pos,
 use Rattle.sqlite_value.specs.declared.value.Value.TheVariants.{Null, Int}
 use Rattle.sqlite_value.specs.Order.{Row}
 use Rattle.sqlite_trees.specs.Tree.{Trees}
+use Rattle.sqlite_trees.proofs.ListLemmas.{all-slice_get}
 use Rattle.sqlite_sql.specs.Term.{Term, lit, col}
 use Rattle.sqlite_sql.specs.Query.{Query, inner, end, IsAnswer}
 use Rattle.sqlite_sql.specs.Program.{overlay}
@@ -32,6 +33,7 @@ use Rattle.sqlite_schema.specs.Rules.{ParentKey, key_in, key_places, declared_or
 use Rattle.sqlite_rules.specs.declared.action.Deed.{Deed}
 use Rattle.sqlite_rules.specs.Action.{Work, work_by, work_for, works, deed_for, pairs}
 use Rattle.rows.specs.Standing.{points_at, is_unreferred}
+use Rattle.rows.specs.Frozen.{KeepsUnshown}
 use Rattle.rows.proofs.Truths.{and_so}
 use Rattle.rows.proofs.Finds.{found_by_place}
 
@@ -43,6 +45,7 @@ pub record SetsRows (old new : State) (tree : ℕ) (rows : List Row) : Type 0 wh
   pub schema : new.now.schema ≡ old.now.schema
   pub rows_are : new.now.trees tree ≡ rows
   pub others : AllByRecursion (λ t. t.tree ≢ tree → new.now.trees t.tree ≡ old.now.trees t.tree) old.now.schema.tables
+  pub unshown : KeepsUnshown old.now new.now.trees
   pub committed : new.committed ≡ old.committed
   pub mode : new.in_transaction ≡ true
 
@@ -164,6 +167,7 @@ module _ (name : List ℕ) (columns : List Column) (key : List ℕ) (tree at wid
           schema = ap (λ (d : Database). d.schema) whole;
           rows_are = a.rows;
           others = a.tables;
+          unshown = λ t hidden. a.others t (λ e. all-slice_get (λ (x : Table). x.tree ≢ t) old.now.schema.tables at table there hidden.0 (sym e)) hidden.1;
           committed = w.shown.committed_is ∙ rw inside refl;
           mode = w.shown.mode ∙ inside;
         },
@@ -202,6 +206,7 @@ module _ (name : List ℕ) (columns : List Column) (key : List ℕ) (tree at : �
           schema = ap (λ (d : Database). d.schema) whole;
           rows_are = a.rows;
           others = a.tables;
+          unshown = λ t hidden. a.others t (λ e. all-slice_get (λ (x : Table). x.tree ≢ t) old.now.schema.tables at from there hidden.0 (sym e)) hidden.1;
           committed = w.shown.committed_is ∙ rw inside refl;
           mode = w.shown.mode ∙ inside;
         },

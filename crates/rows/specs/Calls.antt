@@ -11,6 +11,7 @@ use Rattle.sqlite.specs.State.{State}
 use Rattle.rows.specs.Forms.{our_tables, is_our_name}
 use Rattle.rows.specs.Standing.{HasTables}
 use Rattle.rows.specs.Contents.{Contents, contents_of, rows_named}
+use Rattle.rows.specs.Frozen.{KeepsUnshown, KeepsFrozen}
 
 -- each row has a rowid of its own, an integer
 pub record IsKeyed (rows : List Row) : Type 0 where
@@ -37,18 +38,20 @@ pub record IsUnderWay (s : State) : Type 0 where
 abbrev pub KeepsTheirs : Database → Database → Type 0
 KeepsTheirs old new = AllByRecursion (λ t. is_our_name t.name ≡ false → new.trees t.tree ≡ old.trees t.tree) old.schema.tables
 
--- what a crash may leave, or a commit: our tables hold this, and each other table has the rows that it had
+-- what a crash may leave, or a commit: our tables hold this, each other table has the rows that it had, and what the schema doesn't show is kept
 pub record Leaves (old : Database) (trees : Trees) (contents : Contents) : Type 0 where
   pub ours : contents_of (record old { trees = trees }) ≡ contents
   pub theirs : KeepsTheirs old (record old { trees = trees })
+  pub frozen : KeepsFrozen old trees
 
--- Inside a transaction, which goes on: our tables hold what the change makes of what they held, and each other table has the rows that it had.
+-- Inside a transaction, which goes on: our tables hold what the change makes of what they held, each other table has the rows that it had, and what the schema doesn't show is as it was.
 pub record Changes (old new : State) (change : Contents → Contents) : Type 0 where
   pub was_open : IsTrue old.is_open
   pub is_open : IsTrue new.is_open
   pub schema : new.now.schema ≡ old.now.schema
   pub contents : contents_of new.now ≡ change (contents_of old.now)
   pub theirs : KeepsTheirs old.now new.now
+  pub unshown : KeepsUnshown old.now new.now.trees
   pub ours : IsOurs new.now
   pub committed : new.committed ≡ old.committed
   pub mode : new.in_transaction ≡ true

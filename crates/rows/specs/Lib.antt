@@ -1,6 +1,7 @@
 pub mod Forms
 pub mod Standing
 pub mod Contents
+pub mod Frozen
 pub mod Calls
 pub mod Failures
 pub mod Entries

@@ -14,6 +14,7 @@ use Rattle.sqlite.specs.State.{State}
 use Rattle.rows.specs.Forms.{meta, object, refs, outs, permanent, user_root, profile, generation, runtime, our_tables}
 use Rattle.rows.specs.Standing.{IsNamed, tree_named}
 use Rattle.rows.specs.Contents.{Bytes, Contents, contents_of, texts_cmp, is_pair, pair_of, map_of, rows_named}
+use Rattle.rows.specs.Frozen.{KeepsFrozen}
 use Rattle.rows.specs.Calls.{IsKeyed, IsReady, KeepsTheirs, Leaves}
 
 -- the tables made in this order
@@ -60,19 +61,21 @@ pub record AreSettings (dir : Bytes) (rows : List Row) : Type 0 where
   pub keyed : IsKeyed rows
   pub settings : map_of texts_cmp is_pair pair_of rows ≡ first_settings dir
 
--- each table keeps its rows, and ours are as they are made
+-- each table keeps its rows, also a frozen one, and ours are as they are made
 pub record IsMadeOf (dir : Bytes) (db : Database) (trees : Trees) : Type 0 where
   pub kept : AllByRecursion (λ t. trees t.tree ≡ db.trees t.tree) db.schema.tables
   pub settings : AreSettings dir (trees (next_tree db.schema))
   pub empty : AllByRecursion (λ t. trees t.tree ≡ []) (others_placed db.schema)
+  pub frozen : IsDatabase db → KeepsFrozen db trees
 
--- All nine were made at once, and the connection is ready: ours hold the settings alone, and theirs the rows that they had.
+-- All nine were made at once, and the connection is ready: ours hold the settings alone, and theirs the rows that they had, also where the schema doesn't show them.
 pub record IsMade (dir : Bytes) (old new : State) : Type 0 where
   pub was_open : IsTrue old.is_open
   pub is_open : IsTrue new.is_open
   pub schema : new.now.schema ≡ ours_created old.now.schema
   pub contents : contents_of new.now ≡ first_contents dir
   pub theirs : KeepsTheirs old.now new.now
+  pub frozen : KeepsFrozen old.now new.now.trees
   pub ready : IsReady new
 
 -- what a crash may leave of the making, if it leaves any of it: all of it
@@ -106,6 +109,7 @@ pub record Makes (tables : List Table) (old new : State) : Type 0 where
   pub schema : new.now.schema ≡ all_created old.now.schema tables
   pub kept : AllByRecursion (λ t. new.now.trees t.tree ≡ old.now.trees t.tree) old.now.schema.tables
   pub empty : AllByRecursion (λ t. new.now.trees t.tree ≡ []) (placed old.now.schema tables)
+  pub frozen : IsDatabase old.now → KeepsFrozen old.now new.now.trees
   pub committed : new.committed ≡ old.committed
   pub mode : new.in_transaction ≡ true
 
@@ -117,6 +121,7 @@ pub record MakesMeta (dir : Bytes) (old new : State) : Type 0 where
   pub schema : new.now.schema ≡ created old.now.schema meta
   pub kept : AllByRecursion (λ t. new.now.trees t.tree ≡ old.now.trees t.tree) old.now.schema.tables
   pub settings : AreSettings dir (new.now.trees (next_tree old.now.schema))
+  pub frozen : IsDatabase old.now → KeepsFrozen old.now new.now.trees
   pub committed : new.committed ≡ old.committed
   pub mode : new.in_transaction ≡ true
 
@@ -138,6 +143,7 @@ pub record Puts (word value : Bytes) (old new : State) : Type 0 where
   pub schema : new.now.schema ≡ old.now.schema
   pub rows : IsPut word value (rows_named old.now (codes "meta")) (rows_named new.now (codes "meta"))
   pub others : AllByRecursion (λ t. t.tree ≢ tree_named old.now.schema (codes "meta") → new.now.trees t.tree ≡ old.now.trees t.tree) old.now.schema.tables
+  pub frozen : IsDatabase old.now → KeepsFrozen old.now new.now.trees
   pub committed : new.committed ≡ old.committed
   pub mode : new.in_transaction ≡ true
 
