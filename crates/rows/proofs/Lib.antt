@@ -32,6 +32,7 @@ pub mod OwnRowids
 pub mod RowidTexts
 pub mod Opened
 pub mod Gone
+pub mod Refusals
 pub mod Causes
 pub mod Under
 pub mod Creates

@@ -1,5 +1,5 @@
 -- Which failure an error of the database is, and what a failure says of its call.
-use Rattle.std.specs.Prelude.{◌≡◌, ◌⊎◌, false, Option, Some, None, ⊤}
+use Rattle.std.specs.Prelude.{◌≡◌, ◌≢◌, ◌⊎◌, false, IsTrue, Option, Some, None, ⊤}
 use Rattle.sqlite_trees.specs.declared.error.StoreError.TheVariants.{Io}
 use Rattle.sqlite.specs.State.{State, HasCause, IsUnchanged, IsRolledBack}
 use Rattle.sqlite.specs.declared.error.ErrorCode.TheVariants.{OutOfMemory, TooBig, SystemIoFailure, DiskFull, Closed}
@@ -29,6 +29,14 @@ IsExcused old new Memory = ⊤
 IsExcused old new Size = ⊤
 IsExcused old new Disk = HasCause old new ⊤ Io ⊎ (old.is_open ≡ false)
 
--- the store failed and the transaction is undone, or the call was refused and nothing changes
+-- the store failed and the transaction is undone, or the call was refused, for no size, and nothing changes
 abbrev pub FailsFor : State → State → Failure → Type 0
-FailsFor old new f = (IsExcused old new f × IsRolledBack old new) ⊎ IsUnchanged old new
+FailsFor old new f = (IsExcused old new f × IsRolledBack old new) ⊎ (IsUnchanged old new × (f ≢ Size))
+
+-- the store failed at a commit, which no size does, and the transaction is undone
+abbrev pub FailsToCommit : State → State → Failure → Type 0
+FailsToCommit old new f = IsExcused old new f × IsRolledBack old new × (f ≢ Size)
+
+-- the store failed, or a statement was refused and the connection is open still
+abbrev pub FailsToMake : State → State → Failure → Type 0
+FailsToMake old new f = IsExcused old new f ⊎ IsTrue new.is_open

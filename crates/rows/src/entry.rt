@@ -1,8 +1,9 @@
 //! Entries of a table, as the rows of an answer show them.
 
-ghost use Rattle.std.specs.Prelude.{◌≡◌, IfOk, IsTrue, List, Bool, true, length};
+ghost use Rattle.std.specs.Prelude.{◌≡◌, ◌≢◌, IfOk, IfErr, IsTrue, List, Bool, true, length};
 ghost use Rattle.std.specs.List.{AllZip, AllAdjacentBelow};
 ghost use Rattle.sqlite_value.specs.declared.value.Value.{Value};
+ghost use Rattle.rows.specs.declared.failure.Failure.TheVariants.{Size};
 
 use crate::failure::Failure;
 use sqlite::Row;
@@ -47,6 +48,7 @@ impl Entry for String {
 pub(crate) fn entries<T: Entry>(alloc: Global, rows: &[Row]) -> Result<Vec<T>, Failure>
     ensures shown { IfOk result (λ all. AllZip T.is_shown rows.now all.items) }
     ensures rises { IfOk result (λ all. AllAdjacentBelow (λ x y. true ≡ T.is_below x y) all.items (length all.items)) }
+    ensures sized { IfErr result (λ f. f ≢ Size) }
 {
     let all = read_all(alloc, rows)?;
     if !rises(&all) {
@@ -55,12 +57,25 @@ pub(crate) fn entries<T: Entry>(alloc: Global, rows: &[Row]) -> Result<Vec<T>, F
     Ok(all)
 }
 
+/// A row that isn't as its table has them is `Disk`.
+fn read<T: Entry>(row: &Row) -> Result<T, Failure>
+    ensures shown { IfOk result (T.is_shown row.now) }
+    ensures sized { IfErr result (λ f. f ≢ Size) }
+{
+    match T::read(row) {
+        Ok(entry) => Ok(entry),
+        Err(Failure::Memory) => Err(Failure::Memory),
+        Err(_) => Err(Failure::Disk),
+    }
+}
+
 fn read_all<T: Entry>(alloc: Global, rows: &[Row]) -> Result<Vec<T>, Failure>
-    ensures { IfOk result (λ all. AllZip T.is_shown rows.now all.items) }
+    ensures shown { IfOk result (λ all. AllZip T.is_shown rows.now all.items) }
+    ensures sized { IfErr result (λ f. f ≢ Size) }
 {
     let mut all = Vec::new(alloc);
     for row in rows {
-        all.push(T::read(row)?)?;
+        all.push(read(row)?)?;
     }
     Ok(all)
 }

@@ -1,9 +1,10 @@
 //! A transaction over our tables: what is written inside it is committed at once, or not at all.
 
-ghost use Rattle.std.specs.Prelude.{◌≡◌, true, false, IsTrue, OnOk, OnErr};
+ghost use Rattle.std.specs.Prelude.{◌≡◌, true, false, IsTrue, IfErr, OnOk, OnErr};
 ghost use Rattle.sqlite.specs.State.{HasCleanDisk, IsRolledBack, Survives};
 ghost use Rattle.sqlite.specs.Held.{state};
 ghost use Rattle.rows.specs.Contents.{contents_of};
+ghost use Rattle.rows.specs.Failures.{FailsToCommit};
 ghost use Rattle.rows.specs.Calls.{IsUnderWay, IsReady, IsCommitted, Leaves};
 
 use crate::failure::Failure;
@@ -25,6 +26,7 @@ pub fn commit<S: Alter>(tx: Transaction<'_, S>) -> Result<(), Failure>
     requires { HasCleanDisk (state S.Store tx.conn.now) → IsUnderWay (state S.Store tx.conn.now) }
     ensures ended { tx.exit.0.now.in_transaction ≡ false }
     ensures done { HasCleanDisk (state S.Store tx.exit.0.now) → OnOk result (IsCommitted (state S.Store tx.entry.conn.now) (state S.Store tx.exit.0.now)) }
+    ensures cause { HasCleanDisk (state S.Store tx.exit.0.now) → IfErr result (FailsToCommit (state S.Store tx.entry.conn.now) (state S.Store tx.exit.0.now)) }
     ensures failed { HasCleanDisk (state S.Store tx.exit.0.now) → OnErr result (IsRolledBack (state S.Store tx.entry.conn.now) (state S.Store tx.exit.0.now)) }
     ensures survives { Survives (state S.Store tx.entry.conn.now) (state S.Store tx.exit.0.now) (λ db. db ≡ (state S.Store tx.entry.conn.now).now.trees) }
     ensures leaves { Survives (state S.Store tx.entry.conn.now) (state S.Store tx.exit.0.now) (λ db. Leaves (state S.Store tx.entry.conn.now).now db (contents_of (state S.Store tx.entry.conn.now).now)) }

@@ -3,6 +3,7 @@ use Rattle.sqlite.specs.State.{HasCleanDisk}
 use Rattle.sqlite.specs.Held.{state}
 use Rattle.rows.proofs.Scans.{on_ok}
 use Rattle.rows.proofs.Made.{made_is, leaves_made}
+use Rattle.rows.proofs.Causes.{each_err, make_fails}
 use Rattle.rows.proofs.making.make.Goals as goal
 
 pub returns-clause-done : goal.returns-clause-done
@@ -11,6 +12,9 @@ returns-clause-done g c clean =
     let new = state g.S.Store c.make_and_commit.new.conn in
     let early : HasCleanDisk old = omega (arith, c.make_and_commit.ensures.survives.clean) in
     on_ok c.make_and_commit.result _ _ (λ made. made_is c.args.store_dir.now old new (c.schema-listed.ensures.live made.was_open).0 (c.requires.none early made.was_open) made) (c.make_and_commit.ensures.done clean)
+
+pub returns-clause-cause : goal.returns-clause-cause
+returns-clause-cause g c clean = each_err c.make_and_commit.result _ (λ f. make_fails _ _ _ f clean c.make_and_commit.ensures.survives)
 
 pub returns-clause-survives : goal.returns-clause-survives
 returns-clause-survives g c =

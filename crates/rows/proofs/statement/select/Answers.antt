@@ -1,6 +1,6 @@
 use Rattle.std.proofs.Common.{inr}
-use Rattle.rows.proofs.Causes.{each_err}
+use Rattle.rows.proofs.Causes.{err_with}
 use Rattle.rows.proofs.statement.select.Goals as goal
 
 pub returns-clause-cause : goal.returns-clause-cause
-returns-clause-cause g c clean = each_err c.entries.result _ (λ f. inr (_, c.in_ok-rows.ensures.shown clean))
+returns-clause-cause g c clean = err_with c.entries.result _ _ (λ f small. inr ((_, c.in_ok-rows.ensures.shown clean), small)) c.entries.ensures.sized
