@@ -1,5 +1,5 @@
 -- No statement is refused for a size: a row that is too large fails the store, and that undoes the transaction.
-use Rattle.std.proofs.Common.{◌≡◌, ◌≢◌, ◌⊎◌, inl, inr, ℕ, ℤ, List, [], ◌∷◌, Bool, true, false, Result, Ok, Err, Some, None, Option, sym, ap, subst, ◌∙◌}
+use Rattle.std.proofs.Common.{◌≡◌, ◌≢◌, inl, inr, ℕ, ℤ, List, [], ◌∷◌, Bool, true, false, Result, Ok, Err, Some, None, Option, sym, subst}
 use Rattle.std.specs.Prelude.{MatchBool, option_map, is_some, slice_get, ⊤}
 use Rattle.sqlite_value.specs.Order.{Row}
 use Rattle.sqlite_trees.specs.Tree.{Trees}
@@ -27,13 +27,12 @@ use Rattle.sqlite_catalog.specs.Change.{without_index, without_view}
 use Rattle.sqlite_catalog.specs.Calls.{RefusesToDropIndex}
 use Rattle.sqlite_catalog.specs.declared.error.Refusal as alter
 use Rattle.sqlite_catalog.specs.declared.error.Refusal.TheVariants as why
-use Rattle.sqlite.specs.declared.error.ErrorCode.TheVariants as code
 use Rattle.sqlite.specs.declared.error.Error.{Error}
-use Rattle.sqlite.specs.declared.error.Error.TheVariants.{SqliteFailure, InvalidQuery}
+use Rattle.sqlite.specs.declared.error.Error.TheVariants.{InvalidQuery}
 use Rattle.sqlite.specs.declared.run.Mode.{Mode}
 use Rattle.sqlite.specs.Effect.{Database, RefusesQuery, RefusesToRead, RefusesToAlter, edit_error, alter_error}
 use Rattle.sqlite.specs.Rows.{Part, Queried, Sourced, Edited, Gives, Refuses, Then, Written, nothing, Task, stamped, sequence, Counter, CounterIn, Counts, CountsIn, counting, Updates, Deletes, Inserts, InsertsOr, Puts, Clears, Resolves, Meets, Upserts, Judged, Tries, TriesEach, passes_over, rowids_for, mended}
-use Rattle.sqlite.specs.Does.{Tally, Does, Tested, AtPlace, MakesTable, MakesSequence, MakesIndex, MakesView, Leaves, Defines, IsKeptAside, Shows, Returns, Concludes, WritesRows, OnRows, Empties, UncountsIn, Drops, OnTable, Redefines}
+use Rattle.sqlite.specs.Does.{Tally, Does, AtPlace, MakesTable, MakesSequence, MakesIndex, MakesView, Leaves, Defines, IsKeptAside, Shows, Returns, Concludes, WritesRows, OnRows, Empties, UncountsIn, Drops, OnTable, Redefines}
 use Rattle.rows.specs.declared.failure.Failure.TheVariants.{Size, Disk}
 use Rattle.rows.specs.Failures.{failure_of}
 
