@@ -6,13 +6,9 @@ mod entry;
 pub mod failure;
 pub mod file;
 pub mod finding;
-#[cfg(test)]
-mod finding_tests;
 mod form;
 pub mod generations;
 mod keyed;
-#[cfg(test)]
-mod listing_tests;
 pub mod making;
 pub mod meta;
 mod nine;
@@ -26,7 +22,5 @@ mod rowids;
 pub mod runtime;
 mod standing;
 mod statement;
-#[cfg(test)]
-mod tests;
 pub mod transaction;
 pub mod user_roots;

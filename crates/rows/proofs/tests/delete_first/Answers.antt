@@ -1,9 +1,0 @@
-use Rattle.rows.proofs.Scans.{on_ok}
-use Rattle.rows.proofs.Under.{changes_under}
-use Rattle.rows.proofs.tests.delete_first.Goals as goal
-
-pub delete_of-requires-2 : goal.delete_of-requires-2
-delete_of-requires-2 g c clean = changes_under _ _ _ (c.in_ok-delete_of.ensures.done clean)
-
-pub returns-clause-goes_on : goal.returns-clause-goes_on
-returns-clause-goes_on g c clean = on_ok c.delete_of-2.result _ _ (changes_under _ _ _) (c.delete_of-2.ensures.done clean)
