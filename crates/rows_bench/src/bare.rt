@@ -54,12 +54,15 @@ fn add<S: Alter>(
 }
 
 /// As `timed::objects`.
-pub fn objects(rt: &HostRuntime, path: &str, count: u32) -> Result<(), Fault> {
-    let mut conn = Connection::open(rt, path)?;
+pub fn objects<S: Alter>(
+    rt: &(impl Print + Clock + AllocGlobal),
+    conn: &mut Connection<S>,
+    count: u32,
+) -> Result<(), Fault> {
     let nar = vec![in rt.alloc(); 7u8; SIZE]?;
     let start = Instant::now(rt)?;
     for number in 0..count {
-        add(rt.alloc(), &mut conn, number, &nar)?;
+        add(rt.alloc(), conn, number, &nar)?;
     }
     watch::told(rt, start)
 }
@@ -78,10 +81,12 @@ fn references_in<S: Alter>(
 }
 
 /// As `timed::references`.
-pub fn references(rt: &HostRuntime, path: &str) -> Result<(), Fault> {
-    let mut conn = Connection::open(rt, path)?;
+pub fn references<S: Alter>(
+    rt: &(impl Print + Clock),
+    conn: &mut Connection<S>,
+) -> Result<(), Fault> {
     for _ in 0..ROUNDS {
-        references_in(rt, &mut conn)?;
+        references_in(rt, conn)?;
     }
     Ok(())
 }
@@ -93,7 +98,8 @@ fn remove<S: Alter>(tx: &mut Transaction<'_, S>, name: &str) -> Result<(), Error
     Ok(())
 }
 
-fn delete_in<S: Alter>(
+/// As `timed::delete`.
+pub fn delete<S: Alter>(
     rt: &(impl Print + Clock + AllocGlobal),
     conn: &mut Connection<S>,
     count: u32,
@@ -109,12 +115,6 @@ fn delete_in<S: Alter>(
     }
     tx.commit()?;
     watch::told(rt, start)
-}
-
-/// As `timed::delete`.
-pub fn delete(rt: &HostRuntime, path: &str, count: u32) -> Result<(), Fault> {
-    let mut conn = Connection::open(rt, path)?;
-    delete_in(rt, &mut conn, count)
 }
 
 fn archive<S: Alter>(
@@ -153,8 +153,11 @@ fn archives_in<S: Alter>(
 }
 
 /// As `timed::archives`.
-pub fn archives(rt: &HostRuntime, path: &str, count: u32) -> Result<(), Fault> {
-    let mut conn = Connection::open(rt, path)?;
-    archives_in(rt, &mut conn, count)?;
+pub fn archives<S: Alter>(
+    rt: &HostRuntime,
+    conn: &mut Connection<S>,
+    count: u32,
+) -> Result<(), Fault> {
+    archives_in(rt, conn, count)?;
     watch::peak(rt)
 }

@@ -1,7 +1,7 @@
 //! Without words: the tables are made in memory, filled with a row each, and shown.
 
 use crate::fault::Fault;
-use crate::file::{make_in, put_line};
+use crate::file::{make, put_line};
 use crate::shown;
 use sqlite::Connection;
 use std::io;
@@ -20,7 +20,7 @@ const LINES: [&str; 9] = [
 
 fn filled(rt: &(impl Print + AllocGlobal)) -> Result<(), Fault> {
     let mut conn = Connection::open_in_memory(rt.alloc())?;
-    make_in(&mut conn, "/nix/store")?;
+    make(&mut conn, "/nix/store")?;
     for line in LINES {
         put_line(rt.alloc(), &mut conn, line)?;
     }

@@ -1,9 +1,7 @@
 //! What is done with a file, apart from timing.
 
-ghost use Rattle.std.specs.Prelude.{◌≡◌, false};
-
 use crate::fault::Fault;
-use crate::{line, put, shown, taken};
+use crate::{line, put, taken};
 use rows::finding::Finding;
 use rows::{making, opening, transaction};
 use sqlite::{Alter, Connection};
@@ -11,12 +9,14 @@ use std::alloc::Global;
 use std::io::Read;
 
 /// Prints what the file holds of the nine tables.
-pub fn find(rt: &HostRuntime, path: &str) -> Result<(), Fault> {
-    let mut conn = match Connection::open(rt, path) {
-        Ok(conn) => conn,
-        Err(error) => return Ok(println!(rt; "not opened: {error:?}")?),
-    };
-    let text = match opening::open(rt.alloc(), &mut conn)? {
+pub fn find<S: Alter>(
+    rt: &(impl Print + AllocGlobal),
+    conn: &mut Connection<S>,
+) -> Result<(), Fault> {
+    if !conn.is_autocommit() {
+        return Err(Fault::Tables);
+    }
+    let text = match opening::open(rt.alloc(), conn)? {
         Finding::Ours => "ours",
         Finding::Nothing => "nothing",
         Finding::Other => "anything else",
@@ -25,23 +25,17 @@ pub fn find(rt: &HostRuntime, path: &str) -> Result<(), Fault> {
     Ok(())
 }
 
-pub fn make_in<S: Alter>(conn: &mut Connection<S>, store_dir: &str) -> Result<(), Fault>
-    requires alone { conn.old.in_transaction ≡ false }
-{
+/// Makes the nine tables where there are none of them.
+pub fn make<S: Alter>(conn: &mut Connection<S>, store_dir: &str) -> Result<(), Fault> {
+    if !conn.is_autocommit() {
+        return Err(Fault::Tables);
+    }
     let found = opening::find(conn);
     if let Finding::Nothing = found {
         making::make(conn, store_dir)?;
         return Ok(());
     }
     Err(Fault::Tables)
-}
-
-/// Makes the nine tables in a file that has none of them.
-pub fn make(rt: &HostRuntime, path: &str, store_dir: &str) -> Result<(), Fault> {
-    let mut conn = Connection::open(rt, path)?;
-    make_in(&mut conn, store_dir)?;
-    conn.close()?;
-    Ok(())
 }
 
 pub fn put_line<S: Alter>(
@@ -58,21 +52,11 @@ pub fn put_line<S: Alter>(
 }
 
 /// Puts the rows that come on standard input, a line for each.
-pub fn put(rt: &HostRuntime, path: &str) -> Result<(), Fault> {
+pub fn put<S: Alter>(rt: &HostRuntime, conn: &mut Connection<S>) -> Result<(), Fault> {
     let mut text = String::new(rt.alloc());
     rt.stdin().read_to_string(&mut text)?;
-    let mut conn = Connection::open(rt, path)?;
     for line in text.as_str().lines() {
-        put_line(rt.alloc(), &mut conn, line)?;
+        put_line(rt.alloc(), conn, line)?;
     }
-    conn.close()?;
-    Ok(())
-}
-
-/// Prints the rows of all nine tables, a line for each.
-pub fn show(rt: &HostRuntime, path: &str) -> Result<(), Fault> {
-    let mut conn = Connection::open(rt, path)?;
-    shown::all(rt, &mut conn)?;
-    conn.close()?;
     Ok(())
 }

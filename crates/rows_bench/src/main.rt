@@ -10,9 +10,11 @@ mod names;
 mod put;
 mod shown;
 mod taken;
+mod task;
 mod timed;
 mod watch;
 
+use crate::task::{Task, Work};
 use std::{env, io};
 
 const USAGE: &str = "usage: rows_bench [find FILE | make FILE DIR | put FILE | show FILE | \
@@ -22,28 +24,35 @@ fn number(word: &String) -> Option<u32> {
     word.as_str().parse::<u32>().ok()
 }
 
+/// The task that the words name, and the number that some take.
+fn named<'a>(words: &'a [String]) -> Option<Task<'a>> {
+    let count = words.get(3).and_then(number).unwrap_or(0);
+    match (words.get(1)?.as_str(), words.len()) {
+        ("find", 3) => Some(Task::Find),
+        ("make", 4) => Some(Task::Make(words.get(3)?.as_str())),
+        ("put", 3) => Some(Task::Put),
+        ("show", 3) => Some(Task::Show),
+        ("objects", 4) => Some(Task::Time(Work::Objects(count))),
+        ("references", 3) => Some(Task::Time(Work::References)),
+        ("delete", 4) => Some(Task::Time(Work::Delete(count))),
+        ("archives", 4) => Some(Task::Time(Work::Archives(count))),
+        ("objects", 5) => Some(Task::TimeBare(Work::Objects(count))),
+        ("references", 4) => Some(Task::TimeBare(Work::References)),
+        ("delete", 5) => Some(Task::TimeBare(Work::Delete(count))),
+        ("archives", 5) => Some(Task::TimeBare(Work::Archives(count))),
+        _ => None,
+    }
+}
+
 fn main(rt: HostRuntime) -> io::Result<()> {
     let words: Vec<String> = env::args(&rt)?.collect(rt.alloc())?;
-    let (Some(task), Some(path)) = (words.get(1), words.get(2)) else {
+    let Some(path) = words.get(2) else {
         return example::run(&rt);
     };
-    let count = words.get(3).and_then(number).unwrap_or(0);
-    let done = match (task.as_str(), words.len()) {
-        ("find", 3) => file::find(&rt, path.as_str()),
-        ("make", 4) => file::make(&rt, path.as_str(), words[3].as_str()),
-        ("put", 3) => file::put(&rt, path.as_str()),
-        ("show", 3) => file::show(&rt, path.as_str()),
-        ("objects", 4) => timed::objects(&rt, path.as_str(), count),
-        ("references", 3) => timed::references(&rt, path.as_str()),
-        ("delete", 4) => timed::delete(&rt, path.as_str(), count),
-        ("archives", 4) => timed::archives(&rt, path.as_str(), count),
-        ("objects", 5) => bare::objects(&rt, path.as_str(), count),
-        ("references", 4) => bare::references(&rt, path.as_str()),
-        ("delete", 5) => bare::delete(&rt, path.as_str(), count),
-        ("archives", 5) => bare::archives(&rt, path.as_str(), count),
-        _ => return println!(rt; "{USAGE}"),
+    let Some(task) = named(words.as_slice()) else {
+        return println!(rt; "{USAGE}");
     };
-    match done {
+    match task::do_on(&rt, path.as_str(), task) {
         Ok(()) => Ok(()),
         Err(fault) => println!(rt; "failed: {fault:?}"),
     }

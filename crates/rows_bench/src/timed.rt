@@ -95,10 +95,13 @@ fn objects_in<S: Alter>(
 }
 
 /// Puts so many objects with three references each, a transaction for each.
-pub fn objects(rt: &HostRuntime, path: &str, count: u32) -> Result<(), Fault> {
+pub fn objects<S: Alter>(
+    rt: &(impl Print + Clock + AllocGlobal),
+    conn: &mut Connection<S>,
+    count: u32,
+) -> Result<(), Fault> {
     let nar = vec![in rt.alloc(); 7u8; SIZE]?;
-    let mut conn = Connection::open(rt, path)?;
-    objects_in(rt, &mut conn, count, &nar)
+    objects_in(rt, conn, count, &nar)
 }
 
 fn references_in<S: Alter>(
@@ -114,10 +117,12 @@ fn references_in<S: Alter>(
 }
 
 /// Reads all references, some rounds of it.
-pub fn references(rt: &HostRuntime, path: &str) -> Result<(), Fault> {
-    let mut conn = Connection::open(rt, path)?;
+pub fn references<S: Alter>(
+    rt: &(impl Print + Clock + AllocGlobal),
+    conn: &mut Connection<S>,
+) -> Result<(), Fault> {
     for _ in 0..ROUNDS {
-        references_in(rt, &mut conn)?;
+        references_in(rt, conn)?;
     }
     Ok(())
 }
@@ -150,7 +155,8 @@ fn remove_all<S: Alter>(
     Ok(())
 }
 
-fn delete_in<S: Alter>(
+/// Removes the first objects with their references and outputs, all in one transaction.
+pub fn delete<S: Alter>(
     rt: &(impl Print + Clock + AllocGlobal),
     conn: &mut Connection<S>,
     count: u32,
@@ -162,12 +168,6 @@ fn delete_in<S: Alter>(
     remove_all(alloc, &mut tx, count)?;
     transaction::commit(tx)?;
     watch::told(rt, start)
-}
-
-/// Removes the first objects with their references and outputs, all in one transaction.
-pub fn delete(rt: &HostRuntime, path: &str, count: u32) -> Result<(), Fault> {
-    let mut conn = Connection::open(rt, path)?;
-    delete_in(rt, &mut conn, count)
 }
 
 fn archive<S: Alter>(
@@ -221,8 +221,11 @@ fn archives_in<S: Alter>(
 }
 
 /// Reads the archives of the first objects one after another, and prints the most memory that was held.
-pub fn archives(rt: &HostRuntime, path: &str, count: u32) -> Result<(), Fault> {
-    let mut conn = Connection::open(rt, path)?;
-    archives_in(rt, &mut conn, count)?;
+pub fn archives<S: Alter>(
+    rt: &HostRuntime,
+    conn: &mut Connection<S>,
+    count: u32,
+) -> Result<(), Fault> {
+    archives_in(rt, conn, count)?;
     watch::peak(rt)
 }
