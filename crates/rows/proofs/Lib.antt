@@ -30,6 +30,8 @@ pub mod GenerationLemmas
 pub mod RuntimeRootLemmas
 pub mod OwnRowids
 pub mod RowidTexts
+pub mod ReadableRows
+pub mod ReadableTexts
 pub mod Opened
 pub mod Gone
 pub mod Refusals

@@ -39,7 +39,7 @@ use Rattle.rows.proofs.Alike.{map_made}
 
 -- ---- what the text means
 
-abbrev query : ℕ → Query
+abbrev pub query : ℕ → Query
 query tree = record {
   from = inner tree end;
   filter = [];
@@ -61,7 +61,7 @@ draft tree = record { from = chain (Inner tree ∷ []); filter = []; group = Non
 abbrev outputs : List Out
 outputs = shown_column (codes "base") 1 ∷ shown_column (codes "hash") 3 ∷ shown_column (codes "deriver") 4 ∷ shown_column (codes "ca") 5 ∷ []
 
-abbrev names : List (List ℕ)
+abbrev pub names : List (List ℕ)
 names = codes "base" ∷ codes "hash" ∷ codes "deriver" ∷ codes "ca" ∷ []
 
 abbrev pub all_text : List ℕ
@@ -71,7 +71,7 @@ all_typed : (s : Schema) (at tree : ℕ) → IsKnown s (codes "object") at (reco
 unfolding everything
 all_typed s at tree known = rw (known.low, known.by_tree)
 
-all_is : Compiles object.name object.columns object.primary all_text (λ at tree. Select (whole tree) names)
+pub all_is : Compiles object.name object.columns object.primary all_text (λ at tree. Select (whole tree) names)
 unfolding everything
 all_is s at tree known =
     let there = known.named.1 in (

@@ -100,7 +100,7 @@ deletes old new name count under h =
 
 -- ---- reading them
 
-abbrev query : List Term → ℕ → Query
+abbrev pub query : List Term → ℕ → Query
 query filter tree = record {
   from = inner tree end;
   filter = filter;
@@ -122,7 +122,7 @@ draft filter tree = record { from = chain (Inner tree ∷ []); filter = filter; 
 abbrev outputs : List Out
 outputs = shown_column (codes "name") 1 ∷ shown_column (codes "target") 2 ∷ []
 
-abbrev names : List (List ℕ)
+abbrev pub names : List (List ℕ)
 names = codes "name" ∷ codes "target" ∷ []
 
 fits : (params : Row) (filter : List Term) (tree : ℕ) (r : Row) (t : PermanentRoot) → ShowsPermanentRoot (shows (query filter tree) params r) t → (is_pair r ≡ true) × (pair_of r ≡ permanent_of t)
@@ -135,7 +135,7 @@ all_typed : (s : Schema) (at tree : ℕ) → IsKnown s (codes "permanent") at (r
 unfolding everything
 all_typed s at tree known = rw (known.low, known.by_tree)
 
-all_is : Compiles permanent.name permanent.columns permanent.primary all_text (λ at tree. Select (whole [] tree) names)
+pub all_is : Compiles permanent.name permanent.columns permanent.primary all_text (λ at tree. Select (whole [] tree) names)
 unfolding everything
 all_is s at tree known =
     let there = known.named.1 in (

@@ -109,7 +109,7 @@ deletes old new owner name count under h =
 
 -- ---- reading them
 
-abbrev query : List Term → ℕ → Query
+abbrev pub query : List Term → ℕ → Query
 query filter tree = record {
   from = inner tree end;
   filter = filter;
@@ -131,7 +131,7 @@ draft filter tree = record { from = chain (Inner tree ∷ []); filter = filter; 
 abbrev outputs : List Out
 outputs = shown_column (codes "owner") 1 ∷ shown_column (codes "name") 2 ∷ shown_column (codes "cur") 3 ∷ []
 
-abbrev names : List (List ℕ)
+abbrev pub names : List (List ℕ)
 names = codes "owner" ∷ codes "name" ∷ codes "cur" ∷ []
 
 fits : (params : Row) (filter : List Term) (tree : ℕ) (r : Row) (t : Profile) → ShowsProfile (shows (query filter tree) params r) t → (is_profile r ≡ true) × (profile_of r ≡ current_of t)
@@ -144,7 +144,7 @@ all_typed : (s : Schema) (at tree : ℕ) → IsKnown s (codes "profile") at (rec
 unfolding everything
 all_typed s at tree known = rw (known.low, known.by_tree)
 
-all_is : Compiles profile.name profile.columns profile.primary all_text (λ at tree. Select (whole [] tree) names)
+pub all_is : Compiles profile.name profile.columns profile.primary all_text (λ at tree. Select (whole [] tree) names)
 unfolding everything
 all_is s at tree known =
     let there = known.named.1 in (

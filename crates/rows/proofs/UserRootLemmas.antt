@@ -108,7 +108,7 @@ deletes old new owner name count under h =
 
 -- ---- reading them
 
-abbrev query : List Term → ℕ → Query
+abbrev pub query : List Term → ℕ → Query
 query filter tree = record {
   from = inner tree end;
   filter = filter;
@@ -130,7 +130,7 @@ draft filter tree = record { from = chain (Inner tree ∷ []); filter = filter; 
 abbrev outputs : List Out
 outputs = shown_column (codes "owner") 1 ∷ shown_column (codes "name") 2 ∷ shown_column (codes "target") 3 ∷ []
 
-abbrev names : List (List ℕ)
+abbrev pub names : List (List ℕ)
 names = codes "owner" ∷ codes "name" ∷ codes "target" ∷ []
 
 fits : (params : Row) (filter : List Term) (tree : ℕ) (r : Row) (t : UserRoot) → ShowsUserRoot (shows (query filter tree) params r) t → (is_triple r ≡ true) × (target_of r ≡ user_root_of t)
@@ -143,7 +143,7 @@ all_typed : (s : Schema) (at tree : ℕ) → IsKnown s (codes "user_root") at (r
 unfolding everything
 all_typed s at tree known = rw (known.low, known.by_tree)
 
-all_is : Compiles user_root.name user_root.columns user_root.primary all_text (λ at tree. Select (whole [] tree) names)
+pub all_is : Compiles user_root.name user_root.columns user_root.primary all_text (λ at tree. Select (whole [] tree) names)
 unfolding everything
 all_is s at tree known =
     let there = known.named.1 in (

@@ -8,4 +8,5 @@ pub mod Entries
 pub mod Shapes
 pub mod Finding
 pub mod Making
+pub mod Texts
 pub mod Opened

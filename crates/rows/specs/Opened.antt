@@ -5,11 +5,12 @@ use Rattle.rows.specs.declared.finding.Finding.{Finding}
 use Rattle.rows.specs.declared.finding.Finding.TheVariants.{Ours, Nothing}
 use Rattle.rows.specs.Standing.{HasTables}
 use Rattle.rows.specs.Finding.{HasNone}
+use Rattle.rows.specs.Texts.{HasReadable}
 use Rattle.rows.specs.Calls.{IsReady}
 
 -- this is what the database holds of ours; and if it holds all, it is ready
 pub record IsFound (f : Finding) (s : State) : Type 0 where
-  pub ours : f ≡ Ours ↔ HasTables s.now.schema
+  pub ours : f ≡ Ours ↔ HasTables s.now.schema × HasReadable s.now
   pub nothing : f ≡ Nothing ↔ HasNone s.now.schema
   pub ready : f ≡ Ours → IsReady s
   pub settled : s.now ≡ s.committed

@@ -1,4 +1,4 @@
-//! Taking up a connection: what its schema holds of ours, and that the rows of our tables can be told apart.
+//! Taking up a connection: what its database holds of ours, and that the rows of our tables can be told apart.
 
 ghost use Rattle.std.specs.Prelude.{◌≡◌, ◌↔◌, false, IsTrue, IfOk, OnOk};
 ghost use Rattle.sqlite.specs.Effect.{IsDatabase};
@@ -6,36 +6,41 @@ ghost use Rattle.sqlite.specs.State.{HasCleanDisk, IsLive, KeepsCommit, Survives
 ghost use Rattle.sqlite.specs.Held.{state};
 ghost use Rattle.rows.specs.Standing.{HasTables};
 ghost use Rattle.rows.specs.Finding.{HasNone};
+ghost use Rattle.rows.specs.Texts.{HasReadable};
 ghost use Rattle.rows.specs.Calls.{IsInside, IsOurs, IsReady};
 ghost use Rattle.rows.specs.declared.finding.Finding.TheVariants.{Ours, Nothing};
 
 use crate::failure::Failure;
 use crate::finding::{self, Finding};
 use crate::keyed;
+use crate::readable;
 use sqlite::{Alter, Connection, Transaction};
 use std::alloc::Global;
 
-/// Succeeds if each row of our tables has a rowid of its own.
-fn test<S: Alter>(alloc: Global, tx: &mut Transaction<'_, S>) -> Result<(), Failure>
+/// Whether each text of our tables is UTF-8. Fails with `Disk` if two rows of a table share a rowid.
+fn test<S: Alter>(alloc: Global, tx: &mut Transaction<'_, S>) -> Result<bool, Failure>
     requires inside { HasCleanDisk (state S.Store tx.old.conn.now) → IsInside (state S.Store tx.old.conn.now) }
     requires sound { HasCleanDisk (state S.Store tx.old.conn.now) → IsTrue (state S.Store tx.old.conn.now).is_open → IsDatabase (state S.Store tx.old.conn.now).now }
     requires settled { HasCleanDisk (state S.Store tx.old.conn.now) → IsTrue (state S.Store tx.old.conn.now).is_open → (state S.Store tx.old.conn.now).now ≡ (state S.Store tx.old.conn.now).committed }
     ensures same_reference { tx.new.conn.ghost_name ≡ tx.old.conn.ghost_name }
     ensures ours { HasCleanDisk (state S.Store tx.new.conn.now) → OnOk result (IsOurs (state S.Store tx.new.conn.now).committed) }
+    ensures told { HasCleanDisk (state S.Store tx.new.conn.now) → IfOk result (λ all. IsTrue all ↔ HasReadable (state S.Store tx.old.conn.now).now) }
     ensures kept { HasCleanDisk (state S.Store tx.new.conn.now) → KeepsCommit (state S.Store tx.old.conn.now) (state S.Store tx.new.conn.now) }
     ensures survives { Survives (state S.Store tx.old.conn.now) (state S.Store tx.new.conn.now) (λ _. ⊥) }
 {
-    keyed::all(alloc, tx)
+    keyed::all(alloc, tx)?;
+    readable::all(tx)
 }
 
-/// Succeeds if each row of our tables has a rowid of its own. Nothing changes.
-fn check<S: Alter>(alloc: Global, conn: &mut Connection<S>) -> Result<(), Failure>
+/// Whether each text of our tables is UTF-8. Fails with `Disk` if two rows of a table share a rowid. Nothing changes.
+fn check<S: Alter>(alloc: Global, conn: &mut Connection<S>) -> Result<bool, Failure>
     requires alone { conn.old.in_transaction ≡ false }
     requires has { HasCleanDisk (state S.Store conn.old) → IsTrue (state S.Store conn.old).is_open → HasTables (state S.Store conn.old).now.schema }
     requires sound { HasCleanDisk (state S.Store conn.old) → IsTrue (state S.Store conn.old).is_open → IsDatabase (state S.Store conn.old).now }
     requires settled { HasCleanDisk (state S.Store conn.old) → IsTrue (state S.Store conn.old).is_open → (state S.Store conn.old).now ≡ (state S.Store conn.old).committed }
     ensures alone { conn.new.in_transaction ≡ false }
     ensures ready { HasCleanDisk (state S.Store conn.new) → IsTrue (state S.Store conn.new).is_open → OnOk result (IsReady (state S.Store conn.new)) }
+    ensures told { HasCleanDisk (state S.Store conn.new) → IsTrue (state S.Store conn.new).is_open → IfOk result (λ all. IsTrue all ↔ HasReadable (state S.Store conn.old).now) }
     ensures same { HasCleanDisk (state S.Store conn.new) → IsTrue (state S.Store conn.new).is_open → ((state S.Store conn.new).now ≡ (state S.Store conn.old).now) × ((state S.Store conn.new).committed ≡ (state S.Store conn.old).committed) }
     ensures survives { Survives (state S.Store conn.old) (state S.Store conn.new) (λ _. ⊥) }
 {
@@ -54,12 +59,12 @@ pub fn find<S: Alter>(conn: &Connection<S>) -> Finding
     finding::find(conn.schema())
 }
 
-/// What the connection's schema holds of ours. If it is `Ours`, the connection is ready for transactions.
-/// Nothing changes. The answer is `Disk` too if two rows of a table of ours share a rowid.
+/// What the connection's database holds of ours: `Ours` if all nine tables stand and each text in them is UTF-8. Then
+/// the connection is ready for transactions. Nothing changes. The answer is `Disk` too if two rows of a table of ours share a rowid.
 pub fn open<S: Alter>(alloc: Global, conn: &mut Connection<S>) -> Result<Finding, Failure>
     requires alone { conn.old.in_transaction ≡ false }
     ensures alone { conn.new.in_transaction ≡ false }
-    ensures ours { IfOk result (λ f. f ≡ Ours ↔ HasTables (state S.Store conn.old).now.schema) }
+    ensures ours { HasCleanDisk (state S.Store conn.new) → IsTrue (state S.Store conn.new).is_open → IfOk result (λ f. f ≡ Ours ↔ HasTables (state S.Store conn.old).now.schema × HasReadable (state S.Store conn.old).now) }
     ensures nothing { IfOk result (λ f. f ≡ Nothing ↔ HasNone (state S.Store conn.old).now.schema) }
     ensures ready { HasCleanDisk (state S.Store conn.new) → IsTrue (state S.Store conn.new).is_open → IfOk result (λ f. f ≡ Ours → IsReady (state S.Store conn.new)) }
     ensures same { HasCleanDisk (state S.Store conn.new) → IsTrue (state S.Store conn.new).is_open → ((state S.Store conn.new).now ≡ (state S.Store conn.old).now) × ((state S.Store conn.new).committed ≡ (state S.Store conn.old).committed) }
@@ -69,7 +74,9 @@ pub fn open<S: Alter>(alloc: Global, conn: &mut Connection<S>) -> Result<Finding
     prove!(settled);
     let found = find(conn);
     if let Finding::Ours = found {
-        check(alloc, conn)?;
+        if !check(alloc, conn)? {
+            return Ok(Finding::Other);
+        }
     }
     Ok(found)
 }

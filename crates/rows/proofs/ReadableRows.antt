@@ -1,0 +1,135 @@
+-- That the texts of a table are UTF-8 exactly where those are that a query over all its rows shows.
+use Rattle.std.proofs.Common.{◌≡◌, ◌↔◌, ℕ, zero, suc, ◌+◌, ◌<◌, List, [], ◌∷◌, Bool, true, false, ◌&&◌, IsTrue, Result, Ok, Err, IfOk, OnOk, length, refl, sym, ap, subst, ◌∙◌, arith}
+use Rattle.std.specs.List.{AllByRecursion}
+use Rattle.sqlite_value.specs.declared.value.Value.TheVariants.{Null}
+use Rattle.sqlite_value.specs.Order.{Row, column}
+use Rattle.sqlite_trees.specs.Tree.{Trees}
+use Rattle.sqlite_rules.specs.Lists.{Has}
+use Rattle.sqlite_rules.proofs.ListLemmas.{all_has, all_from}
+use Rattle.sqlite_sql.specs.Query.{Query, IsAnswer}
+use Rattle.sqlite_sql.specs.Program.{overlay}
+use Rattle.sqlite_schema.specs.declared.schema.Column.{Column}
+use Rattle.sqlite_schema.specs.declared.command.Command.TheVariants.{Select}
+use Rattle.sqlite.specs.Effect.{Database}
+use Rattle.sqlite.specs.State.{State, Shown as Answered}
+use Rattle.sqlite.proofs.Callers.{reads_as}
+use Rattle.rows.specs.Forms.{strict, meta, object, refs, outs, permanent, user_root, profile, generation, runtime}
+use Rattle.rows.specs.Standing.{Stands, tree_named}
+use Rattle.rows.specs.Contents.{rows_named}
+use Rattle.rows.specs.Texts.{IsReadable, IsReadableRow, AreReadable, HasReadable}
+use Rattle.rows.specs.Calls.{IsInside, Rests}
+use Rattle.rows.proofs.Means.{means_command}
+use Rattle.rows.proofs.Scans.{IsScan, shows, scan_sound, scan_complete, shown_same}
+use Rattle.rows.proofs.Statements.{Compiles}
+use Rattle.rows.proofs.Writes.{overlay_low}
+use Rattle.rows.proofs.OwnRowids.{inside_after, rests_then}
+
+-- so many columns of a row, from this one on
+abbrev pub cells : ℕ → ℕ → Row → Row
+cells at zero row = []
+cells at (suc n) row = column row at ∷ cells (suc at) n row
+
+-- each of these columns is readable
+abbrev pub AreOfUtf8 : ℕ → Row → Type 0
+AreOfUtf8 n row = (at : ℕ) → at < n → IsReadable (column row (at + 1))
+
+cell_is : (at n : ℕ) (row : Row) (k : ℕ) → k < n → column (cells at n row) k ≡ column row (k + at)
+cell_is at zero row k low = absurd (omega (arith, low))
+cell_is at (suc n) row zero low = let next : at ≡ 0 + at = omega arith in ap (column row) next
+cell_is at (suc n) row (suc k) low = let next : k + suc at ≡ suc k + at = omega arith in cell_is (suc at) n row k (omega (arith, low)) ∙ ap (column row) next
+
+count : (at n : ℕ) (row : Row) → length (cells at n row) ≡ n
+count at zero row = refl
+count at (suc n) row = ap suc (count (suc at) n row)
+
+pub all_cells : (n : ℕ) (row : Row) → IsReadableRow (cells 1 n row) ↔ AreOfUtf8 n row
+all_cells n row = (
+  λ h at low. subst IsReadable (cell_is 1 n row at low) (h at (subst (λ m. at < m) (sym (count 1 n row)) low)),
+  λ h at low. let within = subst (λ m. at < m) (count 1 n row) low in subst IsReadable (sym (cell_is 1 n row at within)) (h at within),
+)
+
+-- the rows that were shown, and whether their texts are UTF-8
+abbrev pub Tells : List ℕ → State → State → Bool → Type 0
+Tells text old new b = (rows : List Row) × Answered text [] old new rows × (IsTrue b ↔ AllByRecursion IsReadableRow rows)
+
+module _ (name : List ℕ) (columns : List Column) (key : List ℕ) (text : List ℕ) (names : List (List ℕ)) (query : ℕ → Query) (scan : (tree : ℕ) → IsScan (query tree) tree) (whole : (tree : ℕ) → (query tree).filter ≡ [])
+    (is : Compiles name columns key text (λ at tree. Select (record { lets = []; body = query tree }) names)) where
+  -- nothing changes, and the texts of the table are UTF-8 exactly where those are that were shown
+  pub told_if : (old new : State) → Stands old.now.schema (strict name columns key) → ((tree : ℕ) (r : Row) → Has (rows_named old.now name) r → IsReadableRow (shows (query tree) [] r) ↔ AreOfUtf8 (length columns) r)
+      → (b : Bool) → Tells text old new b → Rests old new × (IsTrue b ↔ AreReadable (strict name columns key) (rows_named old.now name))
+  told_if old new stands each b h =
+      let tree = tree_named old.now.schema name in
+      let db = overlay old.now.trees [] in
+      let same_rows : db tree ≡ old.now.trees tree = overlay_low old.now.trees tree stands.known.low in
+      let m = means_command old.now.schema text _ (is old.now.schema stands.at tree stands.known) in
+      let got = reads_as text [] old new old.now.schema refl _ m.0 m.1 m.2 h.0 h.1 in
+      let answer : IsAnswer (query tree) db [] h.0 = got.answer Null in
+      let same = shown_same text [] old new h.0 m.1 h.1 in (
+        record { was_open = same.0.was_open; is_open = same.0.is_open; now = same.0.now_is; committed = same.0.committed_is; mode = same.0.mode },
+        (
+          λ yes row at there low.
+            (each tree row there).0 (all_has IsReadableRow h.0 _ (h.2.0 yes) (scan_complete (query tree) tree (scan tree) db [] h.0 answer row (subst (λ rows. Has rows row) (sym same_rows) there) (rw (whole tree) refl))) at low,
+          λ all. h.2.1 (all_from IsReadableRow h.0 (λ x shown.
+            let r = scan_sound (query tree) tree (scan tree) db [] h.0 answer x shown in
+            let there = subst (λ rows. Has rows r.0) same_rows r.1 in
+            subst IsReadableRow (sym r.3) ((each tree r.0 there).1 (λ at low. all r.0 at there low)))),
+        ),
+      )
+
+-- ---- one table after another
+
+pub if_ok : {T E : Type 0} (r : Result T E) (P Q : T → Type 0) → ((x : T) → P x → Q x) → IfOk r P → IfOk r Q
+if_ok (Ok x) P Q f h = f x h
+if_ok (Err e) P Q f h = tt
+
+pub inside_told : {E : Type 0} (old new : State) (r : Result Bool E) (P : Bool → Type 0) → IsInside old → IfOk r (λ b. Rests old new × P b) → OnOk r (IsInside new)
+inside_told old new (Ok b) P inside h = inside_after old new inside h.0
+inside_told old new (Err e) P inside h = tt
+
+-- ---- three tables in a row
+
+rests_three : (a b d e : State) → Rests a b → Rests b d → Rests d e → Rests a e
+rests_three a b d e h k l = rests_then a b e h (rests_then b d e k l)
+
+both_true : (p q r : Bool) → IsTrue (p && q && r) → IsTrue p × IsTrue q × IsTrue r
+both_true true true true h = (refl, refl, refl)
+both_true true true false h = absurd cc
+both_true true false r h = absurd cc
+both_true false q r h = absurd cc
+
+true_both : (p q r : Bool) → IsTrue p × IsTrue q × IsTrue r → IsTrue (p && q && r)
+true_both true true true h = refl
+true_both true true false h = h.2
+true_both true false r h = let no = h.1 in absurd cc
+true_both false q r h = let no = h.0 in absurd cc
+
+-- what three tests say, one after another, and nothing changes
+pub all_three : (A B D : Database → Type 0) (a b d e : State) (p q r : Bool) → Rests a b × (IsTrue p ↔ A a.now) → Rests b d × (IsTrue q ↔ B b.now) → Rests d e × (IsTrue r ↔ D d.now) → Rests a e × (IsTrue (p && q && r) ↔ A a.now × B a.now × D a.now)
+all_three A B D a b d e p q r h k l =
+    let second : b.now ≡ a.now = h.0.now in
+    let third : d.now ≡ a.now = k.0.now ∙ second in
+    let q_is = subst (λ (x : Database). IsTrue q ↔ B x) second k.1 in
+    let r_is = subst (λ (x : Database). IsTrue r ↔ D x) third l.1 in (
+      rests_three a b d e h.0 k.0 l.0,
+      (
+        λ yes. let each = both_true p q r yes in (h.1.0 each.0, q_is.0 each.1, r_is.0 each.2),
+        λ all. true_both p q r (h.1.1 all.0, q_is.1 all.1, r_is.1 all.2),
+      ),
+    )
+
+-- what the tests of all nine say
+pub all_nine : (a b d e : State) (p q r : Bool) → Rests a b × (IsTrue p ↔ AreReadable meta (rows_named a.now meta.name) × AreReadable object (rows_named a.now object.name) × AreReadable refs (rows_named a.now refs.name))
+    → Rests b d × (IsTrue q ↔ AreReadable outs (rows_named b.now outs.name) × AreReadable permanent (rows_named b.now permanent.name) × AreReadable user_root (rows_named b.now user_root.name))
+    → Rests d e × (IsTrue r ↔ AreReadable profile (rows_named d.now profile.name) × AreReadable generation (rows_named d.now generation.name) × AreReadable runtime (rows_named d.now runtime.name))
+    → Rests a e × (IsTrue (p && q && r) ↔ HasReadable a.now)
+unfolding HasReadable
+all_nine a b d e p q r h k l =
+    let both = all_three (λ (x : Database). AreReadable meta (rows_named x meta.name) × AreReadable object (rows_named x object.name) × AreReadable refs (rows_named x refs.name))
+        (λ (x : Database). AreReadable outs (rows_named x outs.name) × AreReadable permanent (rows_named x permanent.name) × AreReadable user_root (rows_named x user_root.name))
+        (λ (x : Database). AreReadable profile (rows_named x profile.name) × AreReadable generation (rows_named x generation.name) × AreReadable runtime (rows_named x runtime.name)) a b d e p q r h k l in (
+      both.0,
+      (
+        λ yes. let each = both.1.0 yes in (each.0.0, (each.0.1, (each.0.2, (each.1.0, (each.1.1, (each.1.2, (each.2.0, (each.2.1, (each.2.2, tt))))))))),
+        λ all. both.1.1 ((all.0, all.1.0, all.1.1.0), (all.1.1.1.0, all.1.1.1.1.0, all.1.1.1.1.1.0), (all.1.1.1.1.1.1.0, all.1.1.1.1.1.1.1.0, all.1.1.1.1.1.1.1.1.0)),
+      ),
+    )

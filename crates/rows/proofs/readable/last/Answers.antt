@@ -1,0 +1,58 @@
+use Rattle.std.proofs.Common.{codes, arith}
+use Rattle.sqlite.specs.Effect.{Database}
+use Rattle.sqlite.specs.State.{HasCleanDisk}
+use Rattle.sqlite.specs.Held.{state}
+use Rattle.sqlite.proofs.StateLemmas.{survives_then}
+use Rattle.sqlite.proofs.InsideLemmas.{keeps_then}
+use Rattle.rows.specs.Contents.{rows_named}
+use Rattle.rows.specs.Forms.{profile, generation, runtime}
+use Rattle.rows.specs.Texts.{AreReadable}
+use Rattle.rows.proofs.ReadableRows.{all_three}
+use Rattle.rows.proofs.readable.last.Goals as goal
+
+pub returns-in_err-generation-clause-kept : goal.returns-in_err-generation-clause-kept
+returns-in_err-generation-clause-kept g c clean =
+    let one = state g.S.Store c.args.tx.now.conn.now in
+    let two = state g.S.Store c.profile.new.tx.conn.now in
+    let three = state g.S.Store c.generation.new.tx.conn.now in
+    let clean2 : HasCleanDisk two = omega (arith, c.generation.ensures.survives.clean) in
+    keeps_then one two three (c.profile.ensures.kept clean2) (c.generation.ensures.kept clean)
+
+pub returns-in_err-runtime-clause-kept : goal.returns-in_err-runtime-clause-kept
+returns-in_err-runtime-clause-kept g c clean =
+    let one = state g.S.Store c.args.tx.now.conn.now in
+    let two = state g.S.Store c.profile.new.tx.conn.now in
+    let three = state g.S.Store c.generation.new.tx.conn.now in
+    let four = state g.S.Store c.runtime.new.tx.conn.now in
+    let clean3 : HasCleanDisk three = omega (arith, c.runtime.ensures.survives.clean) in
+    let clean2 : HasCleanDisk two = omega (arith, c.generation.ensures.survives.clean) in
+    keeps_then one three four (keeps_then one two three (c.profile.ensures.kept clean2) (c.generation.ensures.kept clean3)) (c.runtime.ensures.kept clean)
+
+pub returns-clause-kept : goal.returns-clause-kept
+returns-clause-kept g c clean =
+    let one = state g.S.Store c.args.tx.now.conn.now in
+    let two = state g.S.Store c.profile.new.tx.conn.now in
+    let three = state g.S.Store c.generation.new.tx.conn.now in
+    let four = state g.S.Store c.runtime.new.tx.conn.now in
+    let clean3 : HasCleanDisk three = omega (arith, c.runtime.ensures.survives.clean) in
+    let clean2 : HasCleanDisk two = omega (arith, c.generation.ensures.survives.clean) in
+    keeps_then one three four (keeps_then one two three (c.profile.ensures.kept clean2) (c.generation.ensures.kept clean3)) (c.runtime.ensures.kept clean)
+
+pub returns-clause-survives : goal.returns-clause-survives
+returns-clause-survives g c =
+    let one = state g.S.Store c.args.tx.now.conn.now in
+    let two = state g.S.Store c.profile.new.tx.conn.now in
+    let three = state g.S.Store c.generation.new.tx.conn.now in
+    let four = state g.S.Store c.runtime.new.tx.conn.now in
+    survives_then one three four (λ _. ⊥) (λ _. ⊥) (λ _. ⊥) (λ clean db h. h) (λ clean db h. h) (survives_then one two three (λ _. ⊥) (λ _. ⊥) (λ _. ⊥) (λ clean db h. h) (λ clean db h. h) c.profile.ensures.survives c.generation.ensures.survives) c.runtime.ensures.survives
+
+pub returns-clause-told : goal.returns-clause-told
+returns-clause-told g c clean =
+    let one = state g.S.Store c.args.tx.now.conn.now in
+    let two = state g.S.Store c.profile.new.tx.conn.now in
+    let three = state g.S.Store c.generation.new.tx.conn.now in
+    let four = state g.S.Store c.runtime.new.tx.conn.now in
+    let clean3 : HasCleanDisk three = omega (arith, c.runtime.ensures.survives.clean) in
+    let clean2 : HasCleanDisk two = omega (arith, c.generation.ensures.survives.clean) in
+    all_three (λ (d : Database). AreReadable profile (rows_named d (codes "profile"))) (λ (d : Database). AreReadable generation (rows_named d (codes "generation"))) (λ (d : Database). AreReadable runtime (rows_named d (codes "runtime")))
+        one two three four _ _ _ (c.in_ok-profile.ensures.told clean2) (c.in_ok-generation.ensures.told clean3) (c.in_ok-runtime.ensures.told clean)

@@ -1,0 +1,58 @@
+use Rattle.std.proofs.Common.{codes, arith}
+use Rattle.sqlite.specs.Effect.{Database}
+use Rattle.sqlite.specs.State.{HasCleanDisk}
+use Rattle.sqlite.specs.Held.{state}
+use Rattle.sqlite.proofs.StateLemmas.{survives_then}
+use Rattle.sqlite.proofs.InsideLemmas.{keeps_then}
+use Rattle.rows.specs.Contents.{rows_named}
+use Rattle.rows.specs.Forms.{outs, permanent, user_root}
+use Rattle.rows.specs.Texts.{AreReadable}
+use Rattle.rows.proofs.ReadableRows.{all_three}
+use Rattle.rows.proofs.readable.next.Goals as goal
+
+pub returns-in_err-permanent-clause-kept : goal.returns-in_err-permanent-clause-kept
+returns-in_err-permanent-clause-kept g c clean =
+    let one = state g.S.Store c.args.tx.now.conn.now in
+    let two = state g.S.Store c.outs.new.tx.conn.now in
+    let three = state g.S.Store c.permanent.new.tx.conn.now in
+    let clean2 : HasCleanDisk two = omega (arith, c.permanent.ensures.survives.clean) in
+    keeps_then one two three (c.outs.ensures.kept clean2) (c.permanent.ensures.kept clean)
+
+pub returns-in_err-user_root-clause-kept : goal.returns-in_err-user_root-clause-kept
+returns-in_err-user_root-clause-kept g c clean =
+    let one = state g.S.Store c.args.tx.now.conn.now in
+    let two = state g.S.Store c.outs.new.tx.conn.now in
+    let three = state g.S.Store c.permanent.new.tx.conn.now in
+    let four = state g.S.Store c.user_root.new.tx.conn.now in
+    let clean3 : HasCleanDisk three = omega (arith, c.user_root.ensures.survives.clean) in
+    let clean2 : HasCleanDisk two = omega (arith, c.permanent.ensures.survives.clean) in
+    keeps_then one three four (keeps_then one two three (c.outs.ensures.kept clean2) (c.permanent.ensures.kept clean3)) (c.user_root.ensures.kept clean)
+
+pub returns-clause-kept : goal.returns-clause-kept
+returns-clause-kept g c clean =
+    let one = state g.S.Store c.args.tx.now.conn.now in
+    let two = state g.S.Store c.outs.new.tx.conn.now in
+    let three = state g.S.Store c.permanent.new.tx.conn.now in
+    let four = state g.S.Store c.user_root.new.tx.conn.now in
+    let clean3 : HasCleanDisk three = omega (arith, c.user_root.ensures.survives.clean) in
+    let clean2 : HasCleanDisk two = omega (arith, c.permanent.ensures.survives.clean) in
+    keeps_then one three four (keeps_then one two three (c.outs.ensures.kept clean2) (c.permanent.ensures.kept clean3)) (c.user_root.ensures.kept clean)
+
+pub returns-clause-survives : goal.returns-clause-survives
+returns-clause-survives g c =
+    let one = state g.S.Store c.args.tx.now.conn.now in
+    let two = state g.S.Store c.outs.new.tx.conn.now in
+    let three = state g.S.Store c.permanent.new.tx.conn.now in
+    let four = state g.S.Store c.user_root.new.tx.conn.now in
+    survives_then one three four (λ _. ⊥) (λ _. ⊥) (λ _. ⊥) (λ clean db h. h) (λ clean db h. h) (survives_then one two three (λ _. ⊥) (λ _. ⊥) (λ _. ⊥) (λ clean db h. h) (λ clean db h. h) c.outs.ensures.survives c.permanent.ensures.survives) c.user_root.ensures.survives
+
+pub returns-clause-told : goal.returns-clause-told
+returns-clause-told g c clean =
+    let one = state g.S.Store c.args.tx.now.conn.now in
+    let two = state g.S.Store c.outs.new.tx.conn.now in
+    let three = state g.S.Store c.permanent.new.tx.conn.now in
+    let four = state g.S.Store c.user_root.new.tx.conn.now in
+    let clean3 : HasCleanDisk three = omega (arith, c.user_root.ensures.survives.clean) in
+    let clean2 : HasCleanDisk two = omega (arith, c.permanent.ensures.survives.clean) in
+    all_three (λ (d : Database). AreReadable outs (rows_named d (codes "outs"))) (λ (d : Database). AreReadable permanent (rows_named d (codes "permanent"))) (λ (d : Database). AreReadable user_root (rows_named d (codes "user_root")))
+        one two three four _ _ _ (c.in_ok-outs.ensures.told clean2) (c.in_ok-permanent.ensures.told clean3) (c.in_ok-user_root.ensures.told clean)
