@@ -1,5 +1,6 @@
 -- What our tables hold once they are made, and that they stand.
 use Rattle.std.proofs.Common.{◌≡◌, List, [], ◌∷◌, codes, Bool, true, false, refl, sym, ap, subst, ◌∙◌}
+use Rattle.std.specs.Prelude.{IsUtf8}
 use Rattle.std.specs.declared.cmp.Ordering.{Ordering}
 use Rattle.std.specs.FinMap as finite
 use Rattle.std.specs.Fmt.{digits}
@@ -16,6 +17,7 @@ use Rattle.sqlite.specs.State.{State}
 use Rattle.rows.specs.Forms.{meta, object, refs, outs, permanent, user_root, profile, generation, runtime, our_tables, is_our_name}
 use Rattle.rows.specs.Finding.{HasNone}
 use Rattle.rows.specs.Contents.{Bytes, contents_of, texts_cmp, pair_cmp, triple_cmp, is_pair, pair_of, is_object, object_of, member_of, is_triple, target_of, is_profile, profile_of, is_generation, generation_of, map_of, rows_named}
+use Rattle.rows.specs.Texts.{AreReadable, HasReadable}
 use Rattle.rows.specs.Calls.{IsKeyed}
 use Rattle.rows.specs.Making.{IsMade, IsMadeIn, IsMadeOf, LeavesMade, AreSettings, first_contents, placed, ours_created, others_placed}
 use Rattle.rows.proofs.Frozen.{frozen_before}
@@ -37,6 +39,9 @@ standing old sound none = all_stand old.schema (meta_parts ∷ others) refl none
 nothing : {K X : Type 0} {R : K → K → Ordering} (kind : Row → Bool) (entry : Row → K × X) → map_of R kind entry [] ≡ finite.from_entries []
 unfolding map_of
 nothing kind entry = refl
+
+no_rows : (t : Table) (rows : List Row) → rows ≡ [] → AreReadable t rows
+no_rows t rows is = subst (AreReadable t) (sym is) (λ row at there low. absurd there)
 
 module _ (dir : Bytes) (s : Schema) (d : Database) (stand : AllByRecursion (StandsAs d.schema) (placed s our_tables)) (settings : AreSettings dir (d.trees (next_tree s))) (empty : AllByRecursion (λ t. d.trees t.tree ≡ []) (others_placed s)) where
   own : rows_named d (codes "meta") ≡ d.trees (next_tree s)
@@ -63,6 +68,17 @@ module _ (dir : Bytes) (s : Schema) (d : Database) (stand : AllByRecursion (Stan
   keyed_made =
       (subst IsKeyed (sym own) settings.keyed, by_names (λ n. IsKeyed (d.trees n)) d.schema (created s meta) others stand.1 (all_weaker (λ (t : Table). d.trees t.tree ≡ []) (λ t. IsKeyed (d.trees t.tree)) (λ t is. subst IsKeyed (sym is) keyed_none) (others_placed s) empty))
 
+  pub readable_made : IsUtf8 dir → HasReadable d
+  unfolding others_placed HasReadable
+  readable_made utf8 =
+      let none = by_names (λ n. d.trees n ≡ []) d.schema (created s meta) others stand.1 empty in (
+        subst (AreReadable meta) (sym own) (settings.readable utf8),
+        (
+          no_rows object _ none.0,
+          (no_rows refs _ none.1.0, (no_rows outs _ none.1.1.0, (no_rows permanent _ none.1.1.1.0, (no_rows user_root _ none.1.1.1.1.0, (no_rows profile _ none.1.1.1.1.1.0, (no_rows generation _ none.1.1.1.1.1.1.0, (no_rows runtime _ none.1.1.1.1.1.1.1.0, tt))))))),
+        ),
+      )
+
 theirs_of : (old : Database) (trees : Trees) (ts : List Table) → AllByRecursion (λ t. trees t.tree ≡ old.trees t.tree) ts → AllByRecursion (λ t. is_our_name t.name ≡ false → trees t.tree ≡ old.trees t.tree) ts
 theirs_of old trees ts kept = all_weaker (λ (t : Table). trees t.tree ≡ old.trees t.tree) (λ t. is_our_name t.name ≡ false → trees t.tree ≡ old.trees t.tree) (λ t same other. same) ts kept
 
@@ -71,8 +87,8 @@ unfolding everything
 ours_placed s = (refl, (refl, (refl, (refl, (refl, (refl, (refl, (refl, (refl, tt)))))))))
 
 -- by the maps
-pub made_is : (dir : Bytes) (old new : State) → IsDatabase old.now → HasNone old.now.schema → IsMadeIn dir old new → IsMade dir old new
-made_is dir old new sound none h =
+pub made_is : (dir : Bytes) (old new : State) → IsDatabase old.now → HasNone old.now.schema → IsUtf8 dir → IsMadeIn dir old new → IsMade dir old new
+made_is dir old new sound none utf8 h =
     let stand = subst (λ (s : Schema). AllByRecursion (StandsAs s) (placed old.now.schema our_tables)) (sym h.schema) (standing old.now sound none) in
     record {
       was_open = h.was_open;
@@ -81,6 +97,7 @@ made_is dir old new sound none h =
       contents = contents_made dir old.now.schema new.now stand h.made.settings h.made.empty;
       theirs = theirs_of old.now new.now.trees old.now.schema.tables h.made.kept;
       frozen = h.made.frozen sound;
+      readable = readable_made dir old.now.schema new.now stand h.made.settings h.made.empty utf8;
       ready = record {
         ours = record { sound = h.sound; has = each_stands new.now h.sound old.now.schema (meta_parts ∷ others) stand; keyed = keyed_made dir old.now.schema new.now stand h.made.settings h.made.empty };
         settled = h.settled;

@@ -1,9 +1,9 @@
 -- That `meta` is made with its two settings.
-use Rattle.std.proofs.Common.{◌≡◌, ◌≢◌, ◌<◌, ◌≤◌, ◌+◌, ℕ, suc, List, [], ◌∷◌, ◌++◌, codes, Bool, true, false, cond, not, ◌&&◌, Some, None, Option, Ok, length, refl, sym, ap, subst, ◌∙◌, arith, IsTrue}
-use Rattle.std.specs.Prelude.{slice_get, option_and_then, option_map, unwrap_or}
+use Rattle.std.proofs.Common.{◌≡◌, ◌≢◌, ◌<◌, ◌≤◌, ◌+◌, ℕ, suc, List, [], ◌∷◌, ◌++◌, codes, Bool, true, false, cond, not, ◌&&◌, Some, None, Option, Ok, length, refl, sym, ap, subst, ◌∙◌, arith, IsTrue, zero, ℤ, inl, inr}
+use Rattle.std.specs.Prelude.{IsUtf8, slice_get, option_and_then, option_map, unwrap_or}
 use Rattle.std.specs.FinMap as finite
 use Rattle.std.specs.List.{AllByRecursion, position_from}
-use Rattle.sqlite_value.specs.Order.{Row}
+use Rattle.sqlite_value.specs.Order.{Row, column}
 use Rattle.sqlite_value.specs.declared.value.Value.TheVariants.{Int, Text}
 use Rattle.sqlite_trees.specs.Tree.{Trees, put_row}
 use Rattle.sqlite_schema.specs.declared.schema.Schema.{Schema}
@@ -17,6 +17,7 @@ use Rattle.sqlite.specs.State.{State, Shows, ExecutesInside}
 use Rattle.rows.specs.Forms.{meta, object, refs, outs, permanent, user_root, profile, generation, runtime}
 use Rattle.rows.specs.Standing.{IsNamed, tree_named}
 use Rattle.rows.specs.Contents.{Bytes, texts_cmp, is_pair, pair_of, map_of, rows_named}
+use Rattle.rows.specs.Texts.{IsReadable, AreReadable}
 use Rattle.rows.specs.Calls.{IsKeyed}
 use Rattle.rows.specs.Making.{IsUnused, Makes, MakesMeta, MakesAll, IsMadeOf, AreSettings, first_settings, IsPut, HasMeta, Puts, IsMadeIn, all_created, placed, ours_created, others_placed, other_tables}
 use Rattle.rows.specs.Finding.{IsFree}
@@ -25,7 +26,7 @@ use Rattle.rows.proofs.Truths.{cast_null, free_of}
 use Rattle.rows.proofs.Means.{means_command}
 use Rattle.rows.proofs.Writes.{SetsRows, inserts_in}
 use Rattle.rows.proofs.Entries.{put_map}
-use Rattle.rows.proofs.Members.{keyed_put}
+use Rattle.rows.proofs.Members.{from_put, keyed_put}
 use Rattle.rows.proofs.SettingLemmas.{insert_text, insert_is, terms}
 use Rattle.rows.proofs.Lists.{one_list, rises, all_below}
 use Rattle.rows.proofs.Frozen.{frozen_of, frozen_then}
@@ -81,6 +82,17 @@ kept_off a b tree (t ∷ ts) h k = (k.0 h.0, kept_off a b tree ts h.1 k.1)
 
 -- ---- one setting
 
+two_readable : (n : ℤ) (a b : Bytes) → IsUtf8 a → IsUtf8 b → (at : ℕ) → at < 2 → IsReadable (column (Int n ∷ Text a ∷ Text b ∷ []) (at + 1))
+two_readable n a b first second zero low = first
+two_readable n a b first second (suc zero) low = second
+two_readable n a b first second (suc (suc at)) low = absurd (omega (arith, low))
+
+put_readable : (n : ℤ) (a b : Bytes) (rows : List Row) → IsUtf8 a → IsUtf8 b → AreReadable meta rows → AreReadable meta (put_row (Int n ∷ Text a ∷ Text b ∷ []) rows)
+put_readable n a b rows first second old row at there low = elim (from_put (Int n ∷ Text a ∷ Text b ∷ []) rows row there) [
+  | inl is ↦ subst (λ (r : Row). IsReadable (column r (at + 1))) (sym is) (two_readable n a b first second at low)
+  | inr was ↦ old row at was low
+]
+
 pub puts : (old new : State) (word value : Bytes) (count : ℕ) → HasMeta old → ExecutesInside 0 insert_text (Text word ∷ Text value ∷ []) old new (Ok count) → Puts word value old new
 puts old new word value count has h =
     let found = has.named h.1.was_open in
@@ -92,7 +104,7 @@ puts old new word value count has h =
     let fresh : (not (is_taken rows row) && true) ≡ true = rw cast_null at it.0.fresh in
     let free = free_of _ _ fresh in
     let sets : SetsRows old new tree (put_row row rows) = rw cast_null at it.1 in
-    let made : IsPut word value rows (put_row row rows) = record { keyed = keyed_put row rows free refl; put = λ none. put_map texts_total texts_antisymmetric is_pair pair_of row rows free refl none } in
+    let made : IsPut word value rows (put_row row rows) = record { keyed = keyed_put row rows free refl; readable = put_readable (next_rowid rows) word value rows; put = λ none. put_map texts_total texts_antisymmetric is_pair pair_of row rows free refl none } in
     let own : rows_named new.now (codes "meta") ≡ put_row row rows = ap (λ s. new.now.trees (tree_named s (codes "meta"))) sets.schema ∙ sets.rows_are in
     record {
       was_open = sets.was_open;
@@ -118,6 +130,10 @@ none_in_none = refl
 pub keyed_none : IsKeyed []
 keyed_none = record { ints = λ a h. absurd h; once = λ a b h k e. absurd h }
 
+words_utf8 : IsUtf8 (codes "schema") × IsUtf8 (codes "1") × IsUtf8 (codes "store-dir")
+unfolding lib.Utf8.encode
+words_utf8 = ((codes "schema", (refl, refl)), (codes "1", (refl, refl)), (codes "store-dir", (refl, refl)))
+
 pub meta_made : (dir : Bytes) (a b c d : State) → IsUnused a.now.schema (codes "meta") → Makes (meta ∷ []) a b → Puts (codes "schema") (codes "1") b c → Puts (codes "store-dir") dir c d → MakesMeta dir a d
 meta_made dir a b c d free h p q =
     let s = a.now.schema in
@@ -133,7 +149,8 @@ meta_made dir a b c d free h p q =
     let free_c : finite.get (settings_in (rows_named c.now (codes "meta"))) (codes "store-dir") ≡ None = ap (λ m. finite.get m (codes "store-dir")) map_c ∙ after in
     let map_d : settings_in (rows_named d.now (codes "meta")) ≡ first_settings dir = q.rows.put free_c ∙ ap (λ m. finite.insert m (codes "store-dir") dir) map_c in
     let keyed : IsKeyed (rows_named d.now (codes "meta")) = q.rows.keyed (p.rows.keyed (subst IsKeyed (sym rows_b) keyed_none)) in
-    let made : AreSettings dir (rows_named d.now (codes "meta")) = record { keyed = keyed; settings = map_d } in
+    let none : AreReadable meta (rows_named b.now (codes "meta")) = subst (AreReadable meta) (sym rows_b) (λ row at there low. absurd there) in
+    let made : AreSettings dir (rows_named d.now (codes "meta")) = record { keyed = keyed; readable = λ utf8. q.rows.readable words_utf8.2 utf8 (p.rows.readable words_utf8.0 words_utf8.1 none); settings = map_d } in
     let old_c : AllByRecursion (λ t. t.tree ≢ tree → c.now.trees t.tree ≡ b.now.trees t.tree) s.tables = (one_list (λ (t : Table). t.tree ≢ tree → c.now.trees t.tree ≡ b.now.trees t.tree) s.tables _
     (subst (λ (x : Schema). AllByRecursion (λ t. t.tree ≢ tree → c.now.trees t.tree ≡ b.now.trees t.tree) x.tables) h.schema (subst (λ n. AllByRecursion (λ t. t.tree ≢ n → c.now.trees t.tree ≡ b.now.trees t.tree) b.now.schema.tables) tree_b p.others))).0 in
     let old_d : AllByRecursion (λ t. t.tree ≢ tree → d.now.trees t.tree ≡ c.now.trees t.tree) s.tables = (one_list (λ (t : Table). t.tree ≢ tree → d.now.trees t.tree ≡ c.now.trees t.tree) s.tables _

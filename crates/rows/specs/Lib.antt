@@ -2,11 +2,11 @@ pub mod Forms
 pub mod Standing
 pub mod Contents
 pub mod Frozen
+pub mod Texts
 pub mod Calls
 pub mod Failures
 pub mod Entries
 pub mod Shapes
 pub mod Finding
 pub mod Making
-pub mod Texts
 pub mod Opened

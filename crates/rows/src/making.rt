@@ -80,5 +80,7 @@ pub fn make<S: Alter>(conn: &mut Connection<S>, store_dir: &str) -> Result<(), F
 {
     // What an open connection shows lists its schema.
     let _listed = conn.schema();
+    // And a text is UTF-8.
+    let _text = store_dir.as_bytes();
     make_and_commit(conn, store_dir)
 }

@@ -1,4 +1,5 @@
-use Rattle.std.proofs.Common.{inl, inr, arith}
+use Rattle.std.proofs.Common.{inl, inr, subst, arith}
+use Rattle.std.specs.Prelude.{IsUtf8}
 use Rattle.sqlite.specs.State.{HasCleanDisk}
 use Rattle.sqlite.specs.Held.{state}
 use Rattle.rows.proofs.Scans.{on_ok}
@@ -11,7 +12,7 @@ returns-clause-done g c clean =
     let old = state g.S.Store c.args.conn.now in
     let new = state g.S.Store c.make_and_commit.new.conn in
     let early : HasCleanDisk old = omega (arith, c.make_and_commit.ensures.survives.clean) in
-    on_ok c.make_and_commit.result _ _ (λ made. made_is c.args.store_dir.now old new (c.schema-listed.ensures.live made.was_open).0 (c.requires.none early made.was_open) made) (c.make_and_commit.ensures.done clean)
+    on_ok c.make_and_commit.result _ _ (λ made. made_is c.args.store_dir.now old new (c.schema-listed.ensures.live made.was_open).0 (c.requires.none early made.was_open) (subst IsUtf8 c.as_bytes-text.ensures.value c.as_bytes-text.ensures.utf8) made) (c.make_and_commit.ensures.done clean)
 
 pub returns-clause-cause : goal.returns-clause-cause
 returns-clause-cause g c clean = each_err c.make_and_commit.result _ (λ f. make_fails _ _ _ f clean c.make_and_commit.ensures.survives)
