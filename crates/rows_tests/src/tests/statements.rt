@@ -2,6 +2,7 @@
 
 use crate::tests::steps::{Step, in_memory, on_file};
 use crate::tests::texts::{AFTER, AROUND, BEFORE, TABLES};
+use rows::finding::Finding;
 use std::fs;
 use std::test::Fail;
 
@@ -55,9 +56,23 @@ const STAYS_BEFORE: &[Step<'static>] = &[Step::Answers("SELECT max(t) FROM note"
 
 const STAYS_AFTER: &[Step<'static>] = &[Step::Answers("SELECT max(t) FROM later", "z")];
 
+/// A text that isn't UTF-8 stands in a column that is no part of a key.
+const SPOILED: &[Step<'static>] = &[
+    Step::Finds(Finding::Ours),
+    Step::Run(&["INSERT INTO outs VALUES ('a', 'out', CAST(x'ff' AS TEXT))"]),
+    Step::Finds(Finding::Other),
+    Step::Run(&["DELETE FROM outs"]),
+    Step::Finds(Finding::Ours),
+];
+
 #[test]
 fn statements_in_memory(rt: HostRuntime) -> Result<(), Fail> {
     in_memory(rt.alloc(), &[OURS, FILLS, CLEARS])
+}
+
+#[test]
+fn texts_of_other_bytes(rt: HostRuntime) -> Result<(), Fail> {
+    in_memory(rt.alloc(), &[OURS, SPOILED])
 }
 
 #[test]

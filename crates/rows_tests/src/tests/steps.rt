@@ -1,6 +1,7 @@
 //! The steps of a test over one connection.
 
 use crate::tests::{put, removed, shown, taken};
+use rows::finding::Finding;
 use sqlite::{Alter, Connection, Error};
 use std::alloc::Global;
 use std::rt::HostRuntime;
@@ -10,6 +11,8 @@ use std::test::Fail;
 pub enum Step<'a> {
     /// These texts are run.
     Run(&'a [&'a str]),
+    /// This is found when the connection is taken up.
+    Finds(Finding),
     /// The nine tables are made where there is nothing of them.
     Make,
     /// Rows are put into each table.
@@ -41,6 +44,15 @@ fn run<S: Alter>(conn: &mut Connection<S>, texts: &[&str]) -> Result<(), Error> 
     Ok(())
 }
 
+fn finds<S: Alter>(alloc: Global, conn: &mut Connection<S>, wanted: Finding) -> Result<(), Fail> {
+    let found = taken::found(alloc, conn)?;
+    if found == wanted {
+        Ok(())
+    } else {
+        Err(Fail::new(format_args!("{found:?}, and not {wanted:?}")))
+    }
+}
+
 fn shows<S: Alter>(alloc: Global, conn: &mut Connection<S>, wanted: &str) -> Result<(), Fail> {
     let mut text = String::new(alloc);
     shown::all(alloc, conn, &mut text)?;
@@ -65,6 +77,7 @@ fn answers<S: Alter>(conn: &mut Connection<S>, query: &str, wanted: &str) -> Res
 fn take<S: Alter>(alloc: Global, conn: &mut Connection<S>, step: &Step<'_>) -> Result<(), Fail> {
     match step {
         Step::Run(texts) => run(conn, texts)?,
+        Step::Finds(wanted) => finds(alloc, conn, *wanted)?,
         Step::Make => taken::make(conn)?,
         Step::Fill => put::fill(alloc, conn)?,
         Step::Clear => removed::clear(alloc, conn)?,

@@ -24,6 +24,14 @@ pub fn begin<S: Alter>(
     Ok(transaction::begin(conn))
 }
 
+/// What the connection holds of ours; where it is inside a transaction, the answer is `Disk`.
+pub fn found<S: Alter>(alloc: Global, conn: &mut Connection<S>) -> Result<Finding, Failure> {
+    if !conn.is_autocommit() {
+        return Err(Failure::Disk);
+    }
+    opening::open(alloc, conn)
+}
+
 /// Makes the nine tables where there is nothing of them.
 pub fn make<S: Alter>(conn: &mut Connection<S>) -> Result<(), Failure> {
     if !conn.is_autocommit() {
