@@ -8,8 +8,7 @@ use Rattle.rows.specs.Standing.{HasTables}
 use Rattle.rows.specs.Finding.{HasNone}
 use Rattle.rows.specs.Texts.{HasReadable}
 use Rattle.rows.specs.Opened.{IsFound}
-use Rattle.sqlite.specs.Effect.{Database}
-use Rattle.sqlite.specs.Effect.{IsDatabase}
+use Rattle.sqlite.specs.Effect.{Database, IsDatabase}
 use Rattle.rows.specs.declared.failure.Failure.{Failure}
 use Rattle.rows.specs.Forms.{our_tables}
 use Rattle.rows.specs.Contents.{rows_named}

@@ -3,7 +3,6 @@ use Rattle.std.proofs.Common.{◌≡◌, ◌↔◌, ℕ, zero, suc, ◌+◌, ◌
 use Rattle.std.specs.List.{AllByRecursion}
 use Rattle.sqlite_value.specs.declared.value.Value.TheVariants.{Null}
 use Rattle.sqlite_value.specs.Order.{Row, column}
-use Rattle.sqlite_trees.specs.Tree.{Trees}
 use Rattle.sqlite_rules.specs.Lists.{Has}
 use Rattle.sqlite_rules.proofs.ListLemmas.{all_has, all_from}
 use Rattle.sqlite_sql.specs.Query.{Query, IsAnswer}
@@ -68,11 +67,11 @@ module _ (name : List ℕ) (columns : List Column) (key : List ℕ) (text : List
         record { was_open = same.0.was_open; is_open = same.0.is_open; now = same.0.now_is; committed = same.0.committed_is; mode = same.0.mode },
         (
           λ yes row at there low.
-            (each tree row there).0 (all_has IsReadableRow h.0 _ (h.2.0 yes) (scan_complete (query tree) tree (scan tree) db [] h.0 answer row (subst (λ rows. Has rows row) (sym same_rows) there) (rw (whole tree) refl))) at low,
+              (each tree row there).0 (all_has IsReadableRow h.0 _ (h.2.0 yes) (scan_complete (query tree) tree (scan tree) db [] h.0 answer row (subst (λ rows. Has rows row) (sym same_rows) there) (rw (whole tree) refl))) at low,
           λ all. h.2.1 (all_from IsReadableRow h.0 (λ x shown.
-            let r = scan_sound (query tree) tree (scan tree) db [] h.0 answer x shown in
-            let there = subst (λ rows. Has rows r.0) same_rows r.1 in
-            subst IsReadableRow (sym r.3) ((each tree r.0 there).1 (λ at low. all r.0 at there low)))),
+              let r = scan_sound (query tree) tree (scan tree) db [] h.0 answer x shown in
+              let there = subst (λ rows. Has rows r.0) same_rows r.1 in
+              subst IsReadableRow (sym r.3) ((each tree r.0 there).1 (λ at low. all r.0 at there low)))),
         ),
       )
 
@@ -125,8 +124,8 @@ pub all_nine : (a b d e : State) (p q r : Bool) → Rests a b × (IsTrue p ↔ A
 unfolding HasReadable
 all_nine a b d e p q r h k l =
     let both = all_three (λ (x : Database). AreReadable meta (rows_named x meta.name) × AreReadable object (rows_named x object.name) × AreReadable refs (rows_named x refs.name))
-        (λ (x : Database). AreReadable outs (rows_named x outs.name) × AreReadable permanent (rows_named x permanent.name) × AreReadable user_root (rows_named x user_root.name))
-        (λ (x : Database). AreReadable profile (rows_named x profile.name) × AreReadable generation (rows_named x generation.name) × AreReadable runtime (rows_named x runtime.name)) a b d e p q r h k l in (
+    (λ (x : Database). AreReadable outs (rows_named x outs.name) × AreReadable permanent (rows_named x permanent.name) × AreReadable user_root (rows_named x user_root.name))
+    (λ (x : Database). AreReadable profile (rows_named x profile.name) × AreReadable generation (rows_named x generation.name) × AreReadable runtime (rows_named x runtime.name)) a b d e p q r h k l in (
       both.0,
       (
         λ yes. let each = both.1.0 yes in (each.0.0, (each.0.1, (each.0.2, (each.1.0, (each.1.1, (each.1.2, (each.2.0, (each.2.1, (each.2.2, tt))))))))),

@@ -12,8 +12,7 @@ ghost use Rattle.rows.specs.declared.finding.Finding.TheVariants.{Ours, Nothing}
 
 use crate::failure::Failure;
 use crate::finding::{self, Finding};
-use crate::keyed;
-use crate::readable;
+use crate::{keyed, readable};
 use sqlite::{Alter, Connection, Transaction};
 use std::alloc::Global;
 

@@ -35,7 +35,10 @@ fn object<S: Alter>(tx: &mut Transaction<'_, S>) -> Result<bool, Failure>
     ensures kept { HasCleanDisk (state S.Store tx.new.conn.now) → KeepsCommit (state S.Store tx.old.conn.now) (state S.Store tx.new.conn.now) }
     ensures survives { Survives (state S.Store tx.old.conn.now) (state S.Store tx.new.conn.now) (λ _. ⊥) }
 {
-    check(tx, "SELECT base, hash, deriver, ca FROM object ORDER BY base")
+    check(
+        tx,
+        "SELECT base, hash, deriver, ca FROM object ORDER BY base",
+    )
 }
 
 fn refs<S: Alter>(tx: &mut Transaction<'_, S>) -> Result<bool, Failure>
@@ -59,7 +62,10 @@ fn outs<S: Alter>(tx: &mut Transaction<'_, S>) -> Result<bool, Failure>
     ensures kept { HasCleanDisk (state S.Store tx.new.conn.now) → KeepsCommit (state S.Store tx.old.conn.now) (state S.Store tx.new.conn.now) }
     ensures survives { Survives (state S.Store tx.old.conn.now) (state S.Store tx.new.conn.now) (λ _. ⊥) }
 {
-    check(tx, "SELECT base, name, target FROM outs ORDER BY base, name")
+    check(
+        tx,
+        "SELECT base, name, target FROM outs ORDER BY base, name",
+    )
 }
 
 fn permanent<S: Alter>(tx: &mut Transaction<'_, S>) -> Result<bool, Failure>
@@ -83,7 +89,10 @@ fn user_root<S: Alter>(tx: &mut Transaction<'_, S>) -> Result<bool, Failure>
     ensures kept { HasCleanDisk (state S.Store tx.new.conn.now) → KeepsCommit (state S.Store tx.old.conn.now) (state S.Store tx.new.conn.now) }
     ensures survives { Survives (state S.Store tx.old.conn.now) (state S.Store tx.new.conn.now) (λ _. ⊥) }
 {
-    check(tx, "SELECT owner, name, target FROM user_root ORDER BY owner, name")
+    check(
+        tx,
+        "SELECT owner, name, target FROM user_root ORDER BY owner, name",
+    )
 }
 
 fn profile<S: Alter>(tx: &mut Transaction<'_, S>) -> Result<bool, Failure>
@@ -95,7 +104,10 @@ fn profile<S: Alter>(tx: &mut Transaction<'_, S>) -> Result<bool, Failure>
     ensures kept { HasCleanDisk (state S.Store tx.new.conn.now) → KeepsCommit (state S.Store tx.old.conn.now) (state S.Store tx.new.conn.now) }
     ensures survives { Survives (state S.Store tx.old.conn.now) (state S.Store tx.new.conn.now) (λ _. ⊥) }
 {
-    check(tx, "SELECT owner, name, cur FROM profile ORDER BY owner, name")
+    check(
+        tx,
+        "SELECT owner, name, cur FROM profile ORDER BY owner, name",
+    )
 }
 
 fn generation<S: Alter>(tx: &mut Transaction<'_, S>) -> Result<bool, Failure>
@@ -107,7 +119,10 @@ fn generation<S: Alter>(tx: &mut Transaction<'_, S>) -> Result<bool, Failure>
     ensures kept { HasCleanDisk (state S.Store tx.new.conn.now) → KeepsCommit (state S.Store tx.old.conn.now) (state S.Store tx.new.conn.now) }
     ensures survives { Survives (state S.Store tx.old.conn.now) (state S.Store tx.new.conn.now) (λ _. ⊥) }
 {
-    check(tx, "SELECT owner, name, num, target FROM generation ORDER BY owner, name, num")
+    check(
+        tx,
+        "SELECT owner, name, num, target FROM generation ORDER BY owner, name, num",
+    )
 }
 
 fn runtime<S: Alter>(tx: &mut Transaction<'_, S>) -> Result<bool, Failure>
@@ -119,7 +134,10 @@ fn runtime<S: Alter>(tx: &mut Transaction<'_, S>) -> Result<bool, Failure>
     ensures kept { HasCleanDisk (state S.Store tx.new.conn.now) → KeepsCommit (state S.Store tx.old.conn.now) (state S.Store tx.new.conn.now) }
     ensures survives { Survives (state S.Store tx.old.conn.now) (state S.Store tx.new.conn.now) (λ _. ⊥) }
 {
-    check(tx, "SELECT label, target FROM runtime ORDER BY label, target")
+    check(
+        tx,
+        "SELECT label, target FROM runtime ORDER BY label, target",
+    )
 }
 
 fn first<S: Alter>(tx: &mut Transaction<'_, S>) -> Result<bool, Failure>

@@ -55,4 +55,4 @@ returns-clause-told g c clean =
     let clean3 : HasCleanDisk three = omega (arith, c.refs.ensures.survives.clean) in
     let clean2 : HasCleanDisk two = omega (arith, c.object.ensures.survives.clean) in
     all_three (λ (d : Database). AreReadable meta (rows_named d (codes "meta"))) (λ (d : Database). AreReadable object (rows_named d (codes "object"))) (λ (d : Database). AreReadable refs (rows_named d (codes "refs")))
-        one two three four _ _ _ (c.in_ok-meta.ensures.told clean2) (c.in_ok-object.ensures.told clean3) (c.in_ok-refs.ensures.told clean)
+    one two three four _ _ _ (c.in_ok-meta.ensures.told clean2) (c.in_ok-object.ensures.told clean3) (c.in_ok-refs.ensures.told clean)

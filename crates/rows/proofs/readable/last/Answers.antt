@@ -55,4 +55,4 @@ returns-clause-told g c clean =
     let clean3 : HasCleanDisk three = omega (arith, c.runtime.ensures.survives.clean) in
     let clean2 : HasCleanDisk two = omega (arith, c.generation.ensures.survives.clean) in
     all_three (λ (d : Database). AreReadable profile (rows_named d (codes "profile"))) (λ (d : Database). AreReadable generation (rows_named d (codes "generation"))) (λ (d : Database). AreReadable runtime (rows_named d (codes "runtime")))
-        one two three four _ _ _ (c.in_ok-profile.ensures.told clean2) (c.in_ok-generation.ensures.told clean3) (c.in_ok-runtime.ensures.told clean)
+    one two three four _ _ _ (c.in_ok-profile.ensures.told clean2) (c.in_ok-generation.ensures.told clean3) (c.in_ok-runtime.ensures.told clean)

@@ -55,4 +55,4 @@ returns-clause-told g c clean =
     let clean3 : HasCleanDisk three = omega (arith, c.user_root.ensures.survives.clean) in
     let clean2 : HasCleanDisk two = omega (arith, c.permanent.ensures.survives.clean) in
     all_three (λ (d : Database). AreReadable outs (rows_named d (codes "outs"))) (λ (d : Database). AreReadable permanent (rows_named d (codes "permanent"))) (λ (d : Database). AreReadable user_root (rows_named d (codes "user_root")))
-        one two three four _ _ _ (c.in_ok-outs.ensures.told clean2) (c.in_ok-permanent.ensures.told clean3) (c.in_ok-user_root.ensures.told clean)
+    one two three four _ _ _ (c.in_ok-outs.ensures.told clean2) (c.in_ok-permanent.ensures.told clean3) (c.in_ok-user_root.ensures.told clean)
