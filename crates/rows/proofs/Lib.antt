@@ -15,6 +15,9 @@ pub mod Places
 pub mod ContentsLemmas
 pub mod Statements
 pub mod Typed
+pub mod UniqueKeys
+pub mod MappedRows
+pub mod ReadableMaps
 pub mod Alike
 pub mod One
 pub mod Steps

@@ -17,10 +17,11 @@ use Rattle.sqlite.specs.State.{State}
 use Rattle.rows.specs.Forms.{meta, object, refs, outs, permanent, user_root, profile, generation, runtime, our_tables, is_our_name}
 use Rattle.rows.specs.Finding.{HasNone}
 use Rattle.rows.specs.Contents.{Bytes, contents_of, texts_cmp, pair_cmp, triple_cmp, is_pair, pair_of, is_object, object_of, member_of, is_triple, target_of, is_profile, profile_of, is_generation, generation_of, map_of, rows_named}
-use Rattle.rows.specs.Texts.{AreReadable, HasReadable}
+use Rattle.rows.specs.Texts.{AreReadableRows, HasReadableRows}
 use Rattle.rows.specs.Calls.{IsKeyed}
 use Rattle.rows.specs.Making.{IsMade, IsMadeIn, IsMadeOf, LeavesMade, AreSettings, first_contents, placed, ours_created, others_placed}
 use Rattle.rows.proofs.Frozen.{frozen_before}
+use Rattle.rows.proofs.ReadableMaps.{readable_by_maps}
 use Rattle.rows.proofs.Creates.{tables_after}
 use Rattle.rows.proofs.Settles.{keyed_none}
 use Rattle.rows.proofs.Stood.{Parts, StandsAs, tree_is, all_stand, each_stands, by_names, are_low}
@@ -40,8 +41,8 @@ nothing : {K X : Type 0} {R : K → K → Ordering} (kind : Row → Bool) (entry
 unfolding map_of
 nothing kind entry = refl
 
-no_rows : (t : Table) (rows : List Row) → rows ≡ [] → AreReadable t rows
-no_rows t rows is = subst (AreReadable t) (sym is) (λ row at there low. absurd there)
+no_rows : (t : Table) (rows : List Row) → rows ≡ [] → AreReadableRows t rows
+no_rows t rows is = subst (AreReadableRows t) (sym is) (λ row at there low. absurd there)
 
 module _ (dir : Bytes) (s : Schema) (d : Database) (stand : AllByRecursion (StandsAs d.schema) (placed s our_tables)) (settings : AreSettings dir (d.trees (next_tree s))) (empty : AllByRecursion (λ t. d.trees t.tree ≡ []) (others_placed s)) where
   own : rows_named d (codes "meta") ≡ d.trees (next_tree s)
@@ -68,11 +69,11 @@ module _ (dir : Bytes) (s : Schema) (d : Database) (stand : AllByRecursion (Stan
   keyed_made =
       (subst IsKeyed (sym own) settings.keyed, by_names (λ n. IsKeyed (d.trees n)) d.schema (created s meta) others stand.1 (all_weaker (λ (t : Table). d.trees t.tree ≡ []) (λ t. IsKeyed (d.trees t.tree)) (λ t is. subst IsKeyed (sym is) keyed_none) (others_placed s) empty))
 
-  pub readable_made : IsUtf8 dir → HasReadable d
-  unfolding others_placed HasReadable
+  pub readable_made : IsUtf8 dir → HasReadableRows d
+  unfolding others_placed HasReadableRows
   readable_made utf8 =
       let none = by_names (λ n. d.trees n ≡ []) d.schema (created s meta) others stand.1 empty in (
-        subst (AreReadable meta) (sym own) (settings.readable utf8),
+        subst (AreReadableRows meta) (sym own) (settings.readable utf8),
         (
           no_rows object _ none.0,
           (no_rows refs _ none.1.0, (no_rows outs _ none.1.1.0, (no_rows permanent _ none.1.1.1.0, (no_rows user_root _ none.1.1.1.1.0, (no_rows profile _ none.1.1.1.1.1.0, (no_rows generation _ none.1.1.1.1.1.1.0, (no_rows runtime _ none.1.1.1.1.1.1.1.0, tt))))))),
@@ -90,6 +91,8 @@ ours_placed s = (refl, (refl, (refl, (refl, (refl, (refl, (refl, (refl, (refl, t
 pub made_is : (dir : Bytes) (old new : State) → IsDatabase old.now → HasNone old.now.schema → IsUtf8 dir → IsMadeIn dir old new → IsMade dir old new
 made_is dir old new sound none utf8 h =
     let stand = subst (λ (s : Schema). AllByRecursion (StandsAs s) (placed old.now.schema our_tables)) (sym h.schema) (standing old.now sound none) in
+    let has = each_stands new.now h.sound old.now.schema (meta_parts ∷ others) stand in
+    let keyed = keyed_made dir old.now.schema new.now stand h.made.settings h.made.empty in
     record {
       was_open = h.was_open;
       is_open = h.is_open;
@@ -97,9 +100,9 @@ made_is dir old new sound none utf8 h =
       contents = contents_made dir old.now.schema new.now stand h.made.settings h.made.empty;
       theirs = theirs_of old.now new.now.trees old.now.schema.tables h.made.kept;
       frozen = h.made.frozen sound;
-      readable = readable_made dir old.now.schema new.now stand h.made.settings h.made.empty utf8;
+      readable = (readable_by_maps new.now h.sound has keyed).0 (readable_made dir old.now.schema new.now stand h.made.settings h.made.empty utf8);
       ready = record {
-        ours = record { sound = h.sound; has = each_stands new.now h.sound old.now.schema (meta_parts ∷ others) stand; keyed = keyed_made dir old.now.schema new.now stand h.made.settings h.made.empty };
+        ours = record { sound = h.sound; has = has; keyed = keyed };
         settled = h.settled;
       };
     }

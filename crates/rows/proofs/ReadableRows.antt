@@ -15,7 +15,7 @@ use Rattle.sqlite.proofs.Callers.{reads_as}
 use Rattle.rows.specs.Forms.{strict, meta, object, refs, outs, permanent, user_root, profile, generation, runtime}
 use Rattle.rows.specs.Standing.{Stands, tree_named}
 use Rattle.rows.specs.Contents.{rows_named}
-use Rattle.rows.specs.Texts.{IsReadable, IsReadableRow, AreReadable, HasReadable}
+use Rattle.rows.specs.Texts.{IsReadable, IsReadableRow, AreReadableRows, HasReadableRows}
 use Rattle.rows.specs.Calls.{IsInside, Rests}
 use Rattle.rows.proofs.Means.{means_command}
 use Rattle.rows.proofs.Scans.{IsScan, shows, scan_sound, scan_complete, shown_same}
@@ -55,7 +55,7 @@ module _ (name : List ℕ) (columns : List Column) (key : List ℕ) (text : List
     (is : Compiles name columns key text (λ at tree. Select (record { lets = []; body = query tree }) names)) where
   -- nothing changes, and the texts of the table are UTF-8 exactly where those are that were shown
   pub told_if : (old new : State) → Stands old.now.schema (strict name columns key) → ((tree : ℕ) (r : Row) → Has (rows_named old.now name) r → IsReadableRow (shows (query tree) [] r) ↔ AreOfUtf8 (length columns) r)
-      → (b : Bool) → Tells text old new b → Rests old new × (IsTrue b ↔ AreReadable (strict name columns key) (rows_named old.now name))
+      → (b : Bool) → Tells text old new b → Rests old new × (IsTrue b ↔ AreReadableRows (strict name columns key) (rows_named old.now name))
   told_if old new stands each b h =
       let tree = tree_named old.now.schema name in
       let db = overlay old.now.trees [] in
@@ -117,15 +117,15 @@ all_three A B D a b d e p q r h k l =
     )
 
 -- what the tests of all nine say
-pub all_nine : (a b d e : State) (p q r : Bool) → Rests a b × (IsTrue p ↔ AreReadable meta (rows_named a.now meta.name) × AreReadable object (rows_named a.now object.name) × AreReadable refs (rows_named a.now refs.name))
-    → Rests b d × (IsTrue q ↔ AreReadable outs (rows_named b.now outs.name) × AreReadable permanent (rows_named b.now permanent.name) × AreReadable user_root (rows_named b.now user_root.name))
-    → Rests d e × (IsTrue r ↔ AreReadable profile (rows_named d.now profile.name) × AreReadable generation (rows_named d.now generation.name) × AreReadable runtime (rows_named d.now runtime.name))
-    → Rests a e × (IsTrue (p && q && r) ↔ HasReadable a.now)
-unfolding HasReadable
+pub all_nine : (a b d e : State) (p q r : Bool) → Rests a b × (IsTrue p ↔ AreReadableRows meta (rows_named a.now meta.name) × AreReadableRows object (rows_named a.now object.name) × AreReadableRows refs (rows_named a.now refs.name))
+    → Rests b d × (IsTrue q ↔ AreReadableRows outs (rows_named b.now outs.name) × AreReadableRows permanent (rows_named b.now permanent.name) × AreReadableRows user_root (rows_named b.now user_root.name))
+    → Rests d e × (IsTrue r ↔ AreReadableRows profile (rows_named d.now profile.name) × AreReadableRows generation (rows_named d.now generation.name) × AreReadableRows runtime (rows_named d.now runtime.name))
+    → Rests a e × (IsTrue (p && q && r) ↔ HasReadableRows a.now)
+unfolding HasReadableRows
 all_nine a b d e p q r h k l =
-    let both = all_three (λ (x : Database). AreReadable meta (rows_named x meta.name) × AreReadable object (rows_named x object.name) × AreReadable refs (rows_named x refs.name))
-    (λ (x : Database). AreReadable outs (rows_named x outs.name) × AreReadable permanent (rows_named x permanent.name) × AreReadable user_root (rows_named x user_root.name))
-    (λ (x : Database). AreReadable profile (rows_named x profile.name) × AreReadable generation (rows_named x generation.name) × AreReadable runtime (rows_named x runtime.name)) a b d e p q r h k l in (
+    let both = all_three (λ (x : Database). AreReadableRows meta (rows_named x meta.name) × AreReadableRows object (rows_named x object.name) × AreReadableRows refs (rows_named x refs.name))
+    (λ (x : Database). AreReadableRows outs (rows_named x outs.name) × AreReadableRows permanent (rows_named x permanent.name) × AreReadableRows user_root (rows_named x user_root.name))
+    (λ (x : Database). AreReadableRows profile (rows_named x profile.name) × AreReadableRows generation (rows_named x generation.name) × AreReadableRows runtime (rows_named x runtime.name)) a b d e p q r h k l in (
       both.0,
       (
         λ yes. let each = both.1.0 yes in (each.0.0, (each.0.1, (each.0.2, (each.1.0, (each.1.1, (each.1.2, (each.2.0, (each.2.1, (each.2.2, tt))))))))),

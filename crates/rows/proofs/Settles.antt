@@ -17,7 +17,7 @@ use Rattle.sqlite.specs.State.{State, Shows, ExecutesInside}
 use Rattle.rows.specs.Forms.{meta, object, refs, outs, permanent, user_root, profile, generation, runtime}
 use Rattle.rows.specs.Standing.{IsNamed, tree_named}
 use Rattle.rows.specs.Contents.{Bytes, texts_cmp, is_pair, pair_of, map_of, rows_named}
-use Rattle.rows.specs.Texts.{IsReadable, AreReadable}
+use Rattle.rows.specs.Texts.{IsReadable, AreReadableRows}
 use Rattle.rows.specs.Calls.{IsKeyed}
 use Rattle.rows.specs.Making.{IsUnused, Makes, MakesMeta, MakesAll, IsMadeOf, AreSettings, first_settings, IsPut, HasMeta, Puts, IsMadeIn, all_created, placed, ours_created, others_placed, other_tables}
 use Rattle.rows.specs.Finding.{IsFree}
@@ -87,7 +87,7 @@ two_readable n a b first second zero low = first
 two_readable n a b first second (suc zero) low = second
 two_readable n a b first second (suc (suc at)) low = absurd (omega (arith, low))
 
-put_readable : (n : ℤ) (a b : Bytes) (rows : List Row) → IsUtf8 a → IsUtf8 b → AreReadable meta rows → AreReadable meta (put_row (Int n ∷ Text a ∷ Text b ∷ []) rows)
+put_readable : (n : ℤ) (a b : Bytes) (rows : List Row) → IsUtf8 a → IsUtf8 b → AreReadableRows meta rows → AreReadableRows meta (put_row (Int n ∷ Text a ∷ Text b ∷ []) rows)
 put_readable n a b rows first second old row at there low = elim (from_put (Int n ∷ Text a ∷ Text b ∷ []) rows row there) [
   | inl is ↦ subst (λ (r : Row). IsReadable (column r (at + 1))) (sym is) (two_readable n a b first second at low)
   | inr was ↦ old row at was low
@@ -149,7 +149,7 @@ meta_made dir a b c d free h p q =
     let free_c : finite.get (settings_in (rows_named c.now (codes "meta"))) (codes "store-dir") ≡ None = ap (λ m. finite.get m (codes "store-dir")) map_c ∙ after in
     let map_d : settings_in (rows_named d.now (codes "meta")) ≡ first_settings dir = q.rows.put free_c ∙ ap (λ m. finite.insert m (codes "store-dir") dir) map_c in
     let keyed : IsKeyed (rows_named d.now (codes "meta")) = q.rows.keyed (p.rows.keyed (subst IsKeyed (sym rows_b) keyed_none)) in
-    let none : AreReadable meta (rows_named b.now (codes "meta")) = subst (AreReadable meta) (sym rows_b) (λ row at there low. absurd there) in
+    let none : AreReadableRows meta (rows_named b.now (codes "meta")) = subst (AreReadableRows meta) (sym rows_b) (λ row at there low. absurd there) in
     let made : AreSettings dir (rows_named d.now (codes "meta")) = record { keyed = keyed; readable = λ utf8. q.rows.readable words_utf8.2 utf8 (p.rows.readable words_utf8.0 words_utf8.1 none); settings = map_d } in
     let old_c : AllByRecursion (λ t. t.tree ≢ tree → c.now.trees t.tree ≡ b.now.trees t.tree) s.tables = (one_list (λ (t : Table). t.tree ≢ tree → c.now.trees t.tree ≡ b.now.trees t.tree) s.tables _
     (subst (λ (x : Schema). AllByRecursion (λ t. t.tree ≢ tree → c.now.trees t.tree ≡ b.now.trees t.tree) x.tables) h.schema (subst (λ n. AllByRecursion (λ t. t.tree ≢ n → c.now.trees t.tree ≡ b.now.trees t.tree) b.now.schema.tables) tree_b p.others))).0 in

@@ -5,6 +5,7 @@ use Rattle.std.specs.Prelude.{None, if◌then◌else◌}
 use Rattle.sqlite_value.specs.declared.value.Value.{Value}
 use Rattle.sqlite_value.specs.declared.value.Value.TheVariants.{Null, Int, Real, Text, Blob}
 use Rattle.sqlite_value.specs.Order.{Row, column}
+use Rattle.sqlite_trees.specs.View.{is_int}
 use Rattle.sqlite_trees.proofs.ListLemmas.{all-slice_get}
 use Rattle.sqlite_rules.specs.Lists.{Has}
 use Rattle.sqlite_rules.proofs.ListLemmas.{all_has}
@@ -15,9 +16,9 @@ use Rattle.sqlite_schema.specs.declared.schema.Table.{Table}
 use Rattle.sqlite_schema.specs.declared.schema.Constraint.TheVariants.{Datatype, NotNull}
 use Rattle.sqlite_schema.specs.Rules.{is_of, has_affinity, are_typed, are_present, passes}
 use Rattle.sqlite.specs.Effect.{Database, IsDatabase}
-use Rattle.rows.specs.Forms.{object}
+use Rattle.rows.specs.Forms.{object, strict, col}
 use Rattle.rows.specs.Standing.{Stands, tree_named}
-use Rattle.rows.specs.Contents.{is_text, is_blob, is_text_or_null, is_object, rows_named}
+use Rattle.rows.specs.Contents.{is_text, is_blob, is_text_or_null, is_object, is_pair, is_triple, is_profile, is_generation, rows_named}
 use Rattle.rows.proofs.Truths.{and_so}
 
 -- each value is of the type of its column
@@ -87,3 +88,61 @@ objects_typed db sound stands row there =
     let fourth : is_text_or_null (column row 4) ≡ true = text_if_of _ (ap (is_of kind.Text) (sym (later (drop 1 (drop 1 (drop 1 row))) 0 ∙ later (drop 1 (drop 1 row)) 1 ∙ later (drop 1 row) 2 ∙ later row 3)) ∙ typed.1.1.1.0) in
     let fifth : is_text_or_null (column row 5) ≡ true = text_if_of _ (ap (is_of kind.Text) (sym (later (drop 1 (drop 1 (drop 1 (drop 1 row)))) 0 ∙ later (drop 1 (drop 1 (drop 1 row))) 1 ∙ later (drop 1 (drop 1 row)) 2 ∙ later (drop 1 row) 3 ∙ later row 4)) ∙ typed.1.1.1.1.0) in
     rw (first, second, third, fourth, fifth) refl
+
+-- ---- the rows of the other tables
+
+int_of : (v : Value) → is_of kind.Integer v ≡ true → not (is_null v) ≡ true → is_int v ≡ true
+int_of Null h k = cc
+int_of (Int n) h k = refl
+int_of (Real x) h k = cc
+int_of (Text t) h k = cc
+int_of (Blob b) h k = cc
+
+module _ (db : Database) (sound : IsDatabase db) (name a b : List ℕ) where
+  pub pairs_typed : (key : List ℕ) → Stands db.schema (strict name (col a kind.Text true ∷ col b kind.Text true ∷ []) key) → (row : Row) → Has (rows_named db name) row → is_pair row ≡ true
+  pairs_typed key stands row there =
+      let table = strict name (col a kind.Text true ∷ col b kind.Text true ∷ []) key in
+      let typed = are_of table.columns 0 (drop 1 row) refl (has_types db sound table stands row there) in
+      let one = and_so _ _ (has_values db sound table stands row there) in
+      let two = and_so _ _ one.1 in
+      let first : is_text (column row 1) ≡ true = text_of _ (ap (is_of kind.Text) (sym (later row 0)) ∙ typed.0) one.0 in
+      let second : is_text (column row 2) ≡ true = text_of _ (ap (is_of kind.Text) (sym (later (drop 1 row) 0 ∙ later row 1)) ∙ typed.1.0) two.0 in
+      rw (first, second) refl
+
+  pub triples_typed : (c key : List ℕ) → Stands db.schema (strict name (col a kind.Text true ∷ col b kind.Text true ∷ col c kind.Text true ∷ []) key) → (row : Row) → Has (rows_named db name) row → is_triple row ≡ true
+  triples_typed c key stands row there =
+      let table = strict name (col a kind.Text true ∷ col b kind.Text true ∷ col c kind.Text true ∷ []) key in
+      let typed = are_of table.columns 0 (drop 1 row) refl (has_types db sound table stands row there) in
+      let one = and_so _ _ (has_values db sound table stands row there) in
+      let two = and_so _ _ one.1 in
+      let three = and_so _ _ two.1 in
+      let first : is_text (column row 1) ≡ true = text_of _ (ap (is_of kind.Text) (sym (later row 0)) ∙ typed.0) one.0 in
+      let second : is_text (column row 2) ≡ true = text_of _ (ap (is_of kind.Text) (sym (later (drop 1 row) 0 ∙ later row 1)) ∙ typed.1.0) two.0 in
+      let third : is_text (column row 3) ≡ true = text_of _ (ap (is_of kind.Text) (sym (later (drop 1 (drop 1 row)) 0 ∙ later (drop 1 row) 1 ∙ later row 2)) ∙ typed.1.1.0) three.0 in
+      rw (first, second, third) refl
+
+  pub profiles_typed : (c key : List ℕ) → Stands db.schema (strict name (col a kind.Text true ∷ col b kind.Text true ∷ col c kind.Integer true ∷ []) key) → (row : Row) → Has (rows_named db name) row → is_profile row ≡ true
+  profiles_typed c key stands row there =
+      let table = strict name (col a kind.Text true ∷ col b kind.Text true ∷ col c kind.Integer true ∷ []) key in
+      let typed = are_of table.columns 0 (drop 1 row) refl (has_types db sound table stands row there) in
+      let one = and_so _ _ (has_values db sound table stands row there) in
+      let two = and_so _ _ one.1 in
+      let three = and_so _ _ two.1 in
+      let first : is_text (column row 1) ≡ true = text_of _ (ap (is_of kind.Text) (sym (later row 0)) ∙ typed.0) one.0 in
+      let second : is_text (column row 2) ≡ true = text_of _ (ap (is_of kind.Text) (sym (later (drop 1 row) 0 ∙ later row 1)) ∙ typed.1.0) two.0 in
+      let third : is_int (column row 3) ≡ true = int_of _ (ap (is_of kind.Integer) (sym (later (drop 1 (drop 1 row)) 0 ∙ later (drop 1 row) 1 ∙ later row 2)) ∙ typed.1.1.0) three.0 in
+      rw (first, second, third) refl
+
+  pub generations_typed : (c d key : List ℕ) → Stands db.schema (strict name (col a kind.Text true ∷ col b kind.Text true ∷ col c kind.Integer true ∷ col d kind.Text true ∷ []) key) → (row : Row) → Has (rows_named db name) row → is_generation row ≡ true
+  generations_typed c d key stands row there =
+      let table = strict name (col a kind.Text true ∷ col b kind.Text true ∷ col c kind.Integer true ∷ col d kind.Text true ∷ []) key in
+      let typed = are_of table.columns 0 (drop 1 row) refl (has_types db sound table stands row there) in
+      let one = and_so _ _ (has_values db sound table stands row there) in
+      let two = and_so _ _ one.1 in
+      let three = and_so _ _ two.1 in
+      let four = and_so _ _ three.1 in
+      let first : is_text (column row 1) ≡ true = text_of _ (ap (is_of kind.Text) (sym (later row 0)) ∙ typed.0) one.0 in
+      let second : is_text (column row 2) ≡ true = text_of _ (ap (is_of kind.Text) (sym (later (drop 1 row) 0 ∙ later row 1)) ∙ typed.1.0) two.0 in
+      let third : is_int (column row 3) ≡ true = int_of _ (ap (is_of kind.Integer) (sym (later (drop 1 (drop 1 row)) 0 ∙ later (drop 1 row) 1 ∙ later row 2)) ∙ typed.1.1.0) three.0 in
+      let fourth : is_text (column row 4) ≡ true = text_of _ (ap (is_of kind.Text) (sym (later (drop 1 (drop 1 (drop 1 row))) 0 ∙ later (drop 1 (drop 1 row)) 1 ∙ later (drop 1 row) 2 ∙ later row 3)) ∙ typed.1.1.1.0) four.0 in
+      rw (first, second, third, fourth) refl

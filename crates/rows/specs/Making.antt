@@ -15,7 +15,7 @@ use Rattle.rows.specs.Forms.{meta, object, refs, outs, permanent, user_root, pro
 use Rattle.rows.specs.Standing.{IsNamed, tree_named}
 use Rattle.rows.specs.Contents.{Bytes, Contents, contents_of, texts_cmp, is_pair, pair_of, map_of, rows_named}
 use Rattle.rows.specs.Frozen.{KeepsFrozen}
-use Rattle.rows.specs.Texts.{AreReadable, HasReadable}
+use Rattle.rows.specs.Texts.{AreReadable, AreReadableRows}
 use Rattle.rows.specs.Calls.{IsKeyed, IsReady, KeepsTheirs, Leaves}
 
 -- the tables made in this order
@@ -60,7 +60,7 @@ first_contents dir = record {
 -- the rows of `meta` say these, and can be told apart; a directory whose bytes are UTF-8 can be read
 pub record AreSettings (dir : Bytes) (rows : List Row) : Type 0 where
   pub keyed : IsKeyed rows
-  pub readable : IsUtf8 dir → AreReadable meta rows
+  pub readable : IsUtf8 dir → AreReadableRows meta rows
   pub settings : map_of texts_cmp is_pair pair_of rows ≡ first_settings dir
 
 -- each table keeps its rows, also a frozen one, and ours are as they are made
@@ -78,7 +78,7 @@ pub record IsMade (dir : Bytes) (old new : State) : Type 0 where
   pub contents : contents_of new.now ≡ first_contents dir
   pub theirs : KeepsTheirs old.now new.now
   pub frozen : KeepsFrozen old.now new.now.trees
-  pub readable : HasReadable new.now
+  pub readable : AreReadable (contents_of new.now)
   pub ready : IsReady new
 
 -- what a crash may leave of the making, if it leaves any of it: all of it
@@ -131,7 +131,7 @@ pub record MakesMeta (dir : Bytes) (old new : State) : Type 0 where
 -- the rows of `meta` with one setting more
 pub record IsPut (word value : Bytes) (old new : List Row) : Type 0 where
   pub keyed : IsKeyed old → IsKeyed new
-  pub readable : IsUtf8 word → IsUtf8 value → AreReadable meta old → AreReadable meta new
+  pub readable : IsUtf8 word → IsUtf8 value → AreReadableRows meta old → AreReadableRows meta new
   pub put : finite.get (map_of texts_cmp is_pair pair_of old) word ≡ None → map_of texts_cmp is_pair pair_of new ≡ finite.insert (map_of texts_cmp is_pair pair_of old) word value
 
 -- a transaction is under way over a schema in which `meta` stands by its name

@@ -5,12 +5,13 @@ use Rattle.rows.specs.declared.finding.Finding.{Finding}
 use Rattle.rows.specs.declared.finding.Finding.TheVariants.{Ours, Nothing}
 use Rattle.rows.specs.Standing.{HasTables}
 use Rattle.rows.specs.Finding.{HasNone}
-use Rattle.rows.specs.Texts.{HasReadable}
+use Rattle.rows.specs.Contents.{contents_of}
+use Rattle.rows.specs.Texts.{AreReadable}
 use Rattle.rows.specs.Calls.{IsReady}
 
 -- this is what the database holds of ours; and if it holds all, it is ready
 pub record IsFound (f : Finding) (s : State) : Type 0 where
-  pub ours : f ≡ Ours ↔ HasTables s.now.schema × HasReadable s.now
+  pub ours : f ≡ Ours ↔ HasTables s.now.schema × AreReadable (contents_of s.now)
   pub nothing : f ≡ Nothing ↔ HasNone s.now.schema
   pub ready : f ≡ Ours → IsReady s
   pub settled : s.now ≡ s.committed

@@ -6,7 +6,8 @@ ghost use Rattle.sqlite.specs.State.{HasCleanDisk, IsLive, KeepsCommit, Survives
 ghost use Rattle.sqlite.specs.Held.{state};
 ghost use Rattle.rows.specs.Standing.{HasTables};
 ghost use Rattle.rows.specs.Finding.{HasNone};
-ghost use Rattle.rows.specs.Texts.{HasReadable};
+ghost use Rattle.rows.specs.Contents.{contents_of};
+ghost use Rattle.rows.specs.Texts.{AreReadable};
 ghost use Rattle.rows.specs.Calls.{IsInside, IsOurs, IsReady};
 ghost use Rattle.rows.specs.declared.finding.Finding.TheVariants.{Ours, Nothing};
 
@@ -23,7 +24,7 @@ fn test<S: Alter>(alloc: Global, tx: &mut Transaction<'_, S>) -> Result<bool, Fa
     requires settled { HasCleanDisk (state S.Store tx.old.conn.now) → IsTrue (state S.Store tx.old.conn.now).is_open → (state S.Store tx.old.conn.now).now ≡ (state S.Store tx.old.conn.now).committed }
     ensures same_reference { tx.new.conn.ghost_name ≡ tx.old.conn.ghost_name }
     ensures ours { HasCleanDisk (state S.Store tx.new.conn.now) → OnOk result (IsOurs (state S.Store tx.new.conn.now).committed) }
-    ensures told { HasCleanDisk (state S.Store tx.new.conn.now) → IfOk result (λ all. IsTrue all ↔ HasReadable (state S.Store tx.old.conn.now).now) }
+    ensures told { HasCleanDisk (state S.Store tx.new.conn.now) → IfOk result (λ all. IsTrue all ↔ AreReadable (contents_of (state S.Store tx.old.conn.now).now)) }
     ensures kept { HasCleanDisk (state S.Store tx.new.conn.now) → KeepsCommit (state S.Store tx.old.conn.now) (state S.Store tx.new.conn.now) }
     ensures survives { Survives (state S.Store tx.old.conn.now) (state S.Store tx.new.conn.now) (λ _. ⊥) }
 {
@@ -39,7 +40,7 @@ fn check<S: Alter>(alloc: Global, conn: &mut Connection<S>) -> Result<bool, Fail
     requires settled { HasCleanDisk (state S.Store conn.old) → IsTrue (state S.Store conn.old).is_open → (state S.Store conn.old).now ≡ (state S.Store conn.old).committed }
     ensures alone { conn.new.in_transaction ≡ false }
     ensures ready { HasCleanDisk (state S.Store conn.new) → IsTrue (state S.Store conn.new).is_open → OnOk result (IsReady (state S.Store conn.new)) }
-    ensures told { HasCleanDisk (state S.Store conn.new) → IsTrue (state S.Store conn.new).is_open → IfOk result (λ all. IsTrue all ↔ HasReadable (state S.Store conn.old).now) }
+    ensures told { HasCleanDisk (state S.Store conn.new) → IsTrue (state S.Store conn.new).is_open → IfOk result (λ all. IsTrue all ↔ AreReadable (contents_of (state S.Store conn.old).now)) }
     ensures same { HasCleanDisk (state S.Store conn.new) → IsTrue (state S.Store conn.new).is_open → ((state S.Store conn.new).now ≡ (state S.Store conn.old).now) × ((state S.Store conn.new).committed ≡ (state S.Store conn.old).committed) }
     ensures survives { Survives (state S.Store conn.old) (state S.Store conn.new) (λ _. ⊥) }
 {
@@ -63,7 +64,7 @@ pub fn find<S: Alter>(conn: &Connection<S>) -> Finding
 pub fn open<S: Alter>(alloc: Global, conn: &mut Connection<S>) -> Result<Finding, Failure>
     requires alone { conn.old.in_transaction ≡ false }
     ensures alone { conn.new.in_transaction ≡ false }
-    ensures ours { HasCleanDisk (state S.Store conn.new) → IsTrue (state S.Store conn.new).is_open → IfOk result (λ f. f ≡ Ours ↔ HasTables (state S.Store conn.old).now.schema × HasReadable (state S.Store conn.old).now) }
+    ensures ours { HasCleanDisk (state S.Store conn.new) → IsTrue (state S.Store conn.new).is_open → IfOk result (λ f. f ≡ Ours ↔ HasTables (state S.Store conn.old).now.schema × AreReadable (contents_of (state S.Store conn.old).now)) }
     ensures nothing { IfOk result (λ f. f ≡ Nothing ↔ HasNone (state S.Store conn.old).now.schema) }
     ensures ready { HasCleanDisk (state S.Store conn.new) → IsTrue (state S.Store conn.new).is_open → IfOk result (λ f. f ≡ Ours → IsReady (state S.Store conn.new)) }
     ensures same { HasCleanDisk (state S.Store conn.new) → IsTrue (state S.Store conn.new).is_open → ((state S.Store conn.new).now ≡ (state S.Store conn.old).now) × ((state S.Store conn.new).committed ≡ (state S.Store conn.old).committed) }

@@ -6,7 +6,7 @@ ghost use Rattle.sqlite.specs.State.{HasCleanDisk, KeepsCommit, Survives};
 ghost use Rattle.sqlite.specs.Held.{state};
 ghost use Rattle.rows.specs.Contents.{rows_named};
 ghost use Rattle.rows.specs.Forms.{meta, object, refs, outs, permanent, user_root, profile, generation, runtime};
-ghost use Rattle.rows.specs.Texts.{AreReadable, HasReadable};
+ghost use Rattle.rows.specs.Texts.{AreReadableRows, HasReadableRows};
 ghost use Rattle.rows.specs.Calls.{IsInside, Rests};
 
 use crate::failure::Failure;
@@ -18,7 +18,7 @@ fn meta<S: Alter>(tx: &mut Transaction<'_, S>) -> Result<bool, Failure>
     ensures same_reference { tx.new.conn.ghost_name ≡ tx.old.conn.ghost_name }
     ensures inside { HasCleanDisk (state S.Store tx.new.conn.now) → OnOk result (IsInside (state S.Store tx.new.conn.now)) }
     ensures told { HasCleanDisk (state S.Store tx.new.conn.now) → IfOk result (λ all. Rests (state S.Store tx.old.conn.now) (state S.Store tx.new.conn.now)
-        × (IsTrue all ↔ AreReadable meta (rows_named (state S.Store tx.old.conn.now).now (codes "meta")))) }
+        × (IsTrue all ↔ AreReadableRows meta (rows_named (state S.Store tx.old.conn.now).now (codes "meta")))) }
     ensures kept { HasCleanDisk (state S.Store tx.new.conn.now) → KeepsCommit (state S.Store tx.old.conn.now) (state S.Store tx.new.conn.now) }
     ensures survives { Survives (state S.Store tx.old.conn.now) (state S.Store tx.new.conn.now) (λ _. ⊥) }
 {
@@ -31,7 +31,7 @@ fn object<S: Alter>(tx: &mut Transaction<'_, S>) -> Result<bool, Failure>
     ensures same_reference { tx.new.conn.ghost_name ≡ tx.old.conn.ghost_name }
     ensures inside { HasCleanDisk (state S.Store tx.new.conn.now) → OnOk result (IsInside (state S.Store tx.new.conn.now)) }
     ensures told { HasCleanDisk (state S.Store tx.new.conn.now) → IfOk result (λ all. Rests (state S.Store tx.old.conn.now) (state S.Store tx.new.conn.now)
-        × (IsTrue all ↔ AreReadable object (rows_named (state S.Store tx.old.conn.now).now (codes "object")))) }
+        × (IsTrue all ↔ AreReadableRows object (rows_named (state S.Store tx.old.conn.now).now (codes "object")))) }
     ensures kept { HasCleanDisk (state S.Store tx.new.conn.now) → KeepsCommit (state S.Store tx.old.conn.now) (state S.Store tx.new.conn.now) }
     ensures survives { Survives (state S.Store tx.old.conn.now) (state S.Store tx.new.conn.now) (λ _. ⊥) }
 {
@@ -46,7 +46,7 @@ fn refs<S: Alter>(tx: &mut Transaction<'_, S>) -> Result<bool, Failure>
     ensures same_reference { tx.new.conn.ghost_name ≡ tx.old.conn.ghost_name }
     ensures inside { HasCleanDisk (state S.Store tx.new.conn.now) → OnOk result (IsInside (state S.Store tx.new.conn.now)) }
     ensures told { HasCleanDisk (state S.Store tx.new.conn.now) → IfOk result (λ all. Rests (state S.Store tx.old.conn.now) (state S.Store tx.new.conn.now)
-        × (IsTrue all ↔ AreReadable refs (rows_named (state S.Store tx.old.conn.now).now (codes "refs")))) }
+        × (IsTrue all ↔ AreReadableRows refs (rows_named (state S.Store tx.old.conn.now).now (codes "refs")))) }
     ensures kept { HasCleanDisk (state S.Store tx.new.conn.now) → KeepsCommit (state S.Store tx.old.conn.now) (state S.Store tx.new.conn.now) }
     ensures survives { Survives (state S.Store tx.old.conn.now) (state S.Store tx.new.conn.now) (λ _. ⊥) }
 {
@@ -58,7 +58,7 @@ fn outs<S: Alter>(tx: &mut Transaction<'_, S>) -> Result<bool, Failure>
     ensures same_reference { tx.new.conn.ghost_name ≡ tx.old.conn.ghost_name }
     ensures inside { HasCleanDisk (state S.Store tx.new.conn.now) → OnOk result (IsInside (state S.Store tx.new.conn.now)) }
     ensures told { HasCleanDisk (state S.Store tx.new.conn.now) → IfOk result (λ all. Rests (state S.Store tx.old.conn.now) (state S.Store tx.new.conn.now)
-        × (IsTrue all ↔ AreReadable outs (rows_named (state S.Store tx.old.conn.now).now (codes "outs")))) }
+        × (IsTrue all ↔ AreReadableRows outs (rows_named (state S.Store tx.old.conn.now).now (codes "outs")))) }
     ensures kept { HasCleanDisk (state S.Store tx.new.conn.now) → KeepsCommit (state S.Store tx.old.conn.now) (state S.Store tx.new.conn.now) }
     ensures survives { Survives (state S.Store tx.old.conn.now) (state S.Store tx.new.conn.now) (λ _. ⊥) }
 {
@@ -73,7 +73,7 @@ fn permanent<S: Alter>(tx: &mut Transaction<'_, S>) -> Result<bool, Failure>
     ensures same_reference { tx.new.conn.ghost_name ≡ tx.old.conn.ghost_name }
     ensures inside { HasCleanDisk (state S.Store tx.new.conn.now) → OnOk result (IsInside (state S.Store tx.new.conn.now)) }
     ensures told { HasCleanDisk (state S.Store tx.new.conn.now) → IfOk result (λ all. Rests (state S.Store tx.old.conn.now) (state S.Store tx.new.conn.now)
-        × (IsTrue all ↔ AreReadable permanent (rows_named (state S.Store tx.old.conn.now).now (codes "permanent")))) }
+        × (IsTrue all ↔ AreReadableRows permanent (rows_named (state S.Store tx.old.conn.now).now (codes "permanent")))) }
     ensures kept { HasCleanDisk (state S.Store tx.new.conn.now) → KeepsCommit (state S.Store tx.old.conn.now) (state S.Store tx.new.conn.now) }
     ensures survives { Survives (state S.Store tx.old.conn.now) (state S.Store tx.new.conn.now) (λ _. ⊥) }
 {
@@ -85,7 +85,7 @@ fn user_root<S: Alter>(tx: &mut Transaction<'_, S>) -> Result<bool, Failure>
     ensures same_reference { tx.new.conn.ghost_name ≡ tx.old.conn.ghost_name }
     ensures inside { HasCleanDisk (state S.Store tx.new.conn.now) → OnOk result (IsInside (state S.Store tx.new.conn.now)) }
     ensures told { HasCleanDisk (state S.Store tx.new.conn.now) → IfOk result (λ all. Rests (state S.Store tx.old.conn.now) (state S.Store tx.new.conn.now)
-        × (IsTrue all ↔ AreReadable user_root (rows_named (state S.Store tx.old.conn.now).now (codes "user_root")))) }
+        × (IsTrue all ↔ AreReadableRows user_root (rows_named (state S.Store tx.old.conn.now).now (codes "user_root")))) }
     ensures kept { HasCleanDisk (state S.Store tx.new.conn.now) → KeepsCommit (state S.Store tx.old.conn.now) (state S.Store tx.new.conn.now) }
     ensures survives { Survives (state S.Store tx.old.conn.now) (state S.Store tx.new.conn.now) (λ _. ⊥) }
 {
@@ -100,7 +100,7 @@ fn profile<S: Alter>(tx: &mut Transaction<'_, S>) -> Result<bool, Failure>
     ensures same_reference { tx.new.conn.ghost_name ≡ tx.old.conn.ghost_name }
     ensures inside { HasCleanDisk (state S.Store tx.new.conn.now) → OnOk result (IsInside (state S.Store tx.new.conn.now)) }
     ensures told { HasCleanDisk (state S.Store tx.new.conn.now) → IfOk result (λ all. Rests (state S.Store tx.old.conn.now) (state S.Store tx.new.conn.now)
-        × (IsTrue all ↔ AreReadable profile (rows_named (state S.Store tx.old.conn.now).now (codes "profile")))) }
+        × (IsTrue all ↔ AreReadableRows profile (rows_named (state S.Store tx.old.conn.now).now (codes "profile")))) }
     ensures kept { HasCleanDisk (state S.Store tx.new.conn.now) → KeepsCommit (state S.Store tx.old.conn.now) (state S.Store tx.new.conn.now) }
     ensures survives { Survives (state S.Store tx.old.conn.now) (state S.Store tx.new.conn.now) (λ _. ⊥) }
 {
@@ -115,7 +115,7 @@ fn generation<S: Alter>(tx: &mut Transaction<'_, S>) -> Result<bool, Failure>
     ensures same_reference { tx.new.conn.ghost_name ≡ tx.old.conn.ghost_name }
     ensures inside { HasCleanDisk (state S.Store tx.new.conn.now) → OnOk result (IsInside (state S.Store tx.new.conn.now)) }
     ensures told { HasCleanDisk (state S.Store tx.new.conn.now) → IfOk result (λ all. Rests (state S.Store tx.old.conn.now) (state S.Store tx.new.conn.now)
-        × (IsTrue all ↔ AreReadable generation (rows_named (state S.Store tx.old.conn.now).now (codes "generation")))) }
+        × (IsTrue all ↔ AreReadableRows generation (rows_named (state S.Store tx.old.conn.now).now (codes "generation")))) }
     ensures kept { HasCleanDisk (state S.Store tx.new.conn.now) → KeepsCommit (state S.Store tx.old.conn.now) (state S.Store tx.new.conn.now) }
     ensures survives { Survives (state S.Store tx.old.conn.now) (state S.Store tx.new.conn.now) (λ _. ⊥) }
 {
@@ -130,7 +130,7 @@ fn runtime<S: Alter>(tx: &mut Transaction<'_, S>) -> Result<bool, Failure>
     ensures same_reference { tx.new.conn.ghost_name ≡ tx.old.conn.ghost_name }
     ensures inside { HasCleanDisk (state S.Store tx.new.conn.now) → OnOk result (IsInside (state S.Store tx.new.conn.now)) }
     ensures told { HasCleanDisk (state S.Store tx.new.conn.now) → IfOk result (λ all. Rests (state S.Store tx.old.conn.now) (state S.Store tx.new.conn.now)
-        × (IsTrue all ↔ AreReadable runtime (rows_named (state S.Store tx.old.conn.now).now (codes "runtime")))) }
+        × (IsTrue all ↔ AreReadableRows runtime (rows_named (state S.Store tx.old.conn.now).now (codes "runtime")))) }
     ensures kept { HasCleanDisk (state S.Store tx.new.conn.now) → KeepsCommit (state S.Store tx.old.conn.now) (state S.Store tx.new.conn.now) }
     ensures survives { Survives (state S.Store tx.old.conn.now) (state S.Store tx.new.conn.now) (λ _. ⊥) }
 {
@@ -146,7 +146,7 @@ fn first<S: Alter>(tx: &mut Transaction<'_, S>) -> Result<bool, Failure>
     ensures same_reference { tx.new.conn.ghost_name ≡ tx.old.conn.ghost_name }
     ensures inside { HasCleanDisk (state S.Store tx.new.conn.now) → OnOk result (IsInside (state S.Store tx.new.conn.now)) }
     ensures told { HasCleanDisk (state S.Store tx.new.conn.now) → IfOk result (λ all. Rests (state S.Store tx.old.conn.now) (state S.Store tx.new.conn.now)
-        × (IsTrue all ↔ AreReadable meta (rows_named (state S.Store tx.old.conn.now).now (codes "meta")) × AreReadable object (rows_named (state S.Store tx.old.conn.now).now (codes "object")) × AreReadable refs (rows_named (state S.Store tx.old.conn.now).now (codes "refs")))) }
+        × (IsTrue all ↔ AreReadableRows meta (rows_named (state S.Store tx.old.conn.now).now (codes "meta")) × AreReadableRows object (rows_named (state S.Store tx.old.conn.now).now (codes "object")) × AreReadableRows refs (rows_named (state S.Store tx.old.conn.now).now (codes "refs")))) }
     ensures kept { HasCleanDisk (state S.Store tx.new.conn.now) → KeepsCommit (state S.Store tx.old.conn.now) (state S.Store tx.new.conn.now) }
     ensures survives { Survives (state S.Store tx.old.conn.now) (state S.Store tx.new.conn.now) (λ _. ⊥) }
 {
@@ -161,7 +161,7 @@ fn next<S: Alter>(tx: &mut Transaction<'_, S>) -> Result<bool, Failure>
     ensures same_reference { tx.new.conn.ghost_name ≡ tx.old.conn.ghost_name }
     ensures inside { HasCleanDisk (state S.Store tx.new.conn.now) → OnOk result (IsInside (state S.Store tx.new.conn.now)) }
     ensures told { HasCleanDisk (state S.Store tx.new.conn.now) → IfOk result (λ all. Rests (state S.Store tx.old.conn.now) (state S.Store tx.new.conn.now)
-        × (IsTrue all ↔ AreReadable outs (rows_named (state S.Store tx.old.conn.now).now (codes "outs")) × AreReadable permanent (rows_named (state S.Store tx.old.conn.now).now (codes "permanent")) × AreReadable user_root (rows_named (state S.Store tx.old.conn.now).now (codes "user_root")))) }
+        × (IsTrue all ↔ AreReadableRows outs (rows_named (state S.Store tx.old.conn.now).now (codes "outs")) × AreReadableRows permanent (rows_named (state S.Store tx.old.conn.now).now (codes "permanent")) × AreReadableRows user_root (rows_named (state S.Store tx.old.conn.now).now (codes "user_root")))) }
     ensures kept { HasCleanDisk (state S.Store tx.new.conn.now) → KeepsCommit (state S.Store tx.old.conn.now) (state S.Store tx.new.conn.now) }
     ensures survives { Survives (state S.Store tx.old.conn.now) (state S.Store tx.new.conn.now) (λ _. ⊥) }
 {
@@ -176,7 +176,7 @@ fn last<S: Alter>(tx: &mut Transaction<'_, S>) -> Result<bool, Failure>
     ensures same_reference { tx.new.conn.ghost_name ≡ tx.old.conn.ghost_name }
     ensures inside { HasCleanDisk (state S.Store tx.new.conn.now) → OnOk result (IsInside (state S.Store tx.new.conn.now)) }
     ensures told { HasCleanDisk (state S.Store tx.new.conn.now) → IfOk result (λ all. Rests (state S.Store tx.old.conn.now) (state S.Store tx.new.conn.now)
-        × (IsTrue all ↔ AreReadable profile (rows_named (state S.Store tx.old.conn.now).now (codes "profile")) × AreReadable generation (rows_named (state S.Store tx.old.conn.now).now (codes "generation")) × AreReadable runtime (rows_named (state S.Store tx.old.conn.now).now (codes "runtime")))) }
+        × (IsTrue all ↔ AreReadableRows profile (rows_named (state S.Store tx.old.conn.now).now (codes "profile")) × AreReadableRows generation (rows_named (state S.Store tx.old.conn.now).now (codes "generation")) × AreReadableRows runtime (rows_named (state S.Store tx.old.conn.now).now (codes "runtime")))) }
     ensures kept { HasCleanDisk (state S.Store tx.new.conn.now) → KeepsCommit (state S.Store tx.old.conn.now) (state S.Store tx.new.conn.now) }
     ensures survives { Survives (state S.Store tx.old.conn.now) (state S.Store tx.new.conn.now) (λ _. ⊥) }
 {
@@ -193,7 +193,7 @@ pub(crate) fn all<S: Alter>(tx: &mut Transaction<'_, S>) -> Result<bool, Failure
     ensures same_reference { tx.new.conn.ghost_name ≡ tx.old.conn.ghost_name }
     ensures inside { HasCleanDisk (state S.Store tx.new.conn.now) → OnOk result (IsInside (state S.Store tx.new.conn.now)) }
     ensures told { HasCleanDisk (state S.Store tx.new.conn.now) → IfOk result (λ all. Rests (state S.Store tx.old.conn.now) (state S.Store tx.new.conn.now)
-        × (IsTrue all ↔ HasReadable (state S.Store tx.old.conn.now).now)) }
+        × (IsTrue all ↔ HasReadableRows (state S.Store tx.old.conn.now).now)) }
     ensures kept { HasCleanDisk (state S.Store tx.new.conn.now) → KeepsCommit (state S.Store tx.old.conn.now) (state S.Store tx.new.conn.now) }
     ensures survives { Survives (state S.Store tx.old.conn.now) (state S.Store tx.new.conn.now) (λ _. ⊥) }
 {

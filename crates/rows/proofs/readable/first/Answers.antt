@@ -6,7 +6,7 @@ use Rattle.sqlite.proofs.StateLemmas.{survives_then}
 use Rattle.sqlite.proofs.InsideLemmas.{keeps_then}
 use Rattle.rows.specs.Contents.{rows_named}
 use Rattle.rows.specs.Forms.{meta, object, refs}
-use Rattle.rows.specs.Texts.{AreReadable}
+use Rattle.rows.specs.Texts.{AreReadableRows}
 use Rattle.rows.proofs.ReadableRows.{all_three}
 use Rattle.rows.proofs.readable.first.Goals as goal
 
@@ -54,5 +54,5 @@ returns-clause-told g c clean =
     let four = state g.S.Store c.refs.new.tx.conn.now in
     let clean3 : HasCleanDisk three = omega (arith, c.refs.ensures.survives.clean) in
     let clean2 : HasCleanDisk two = omega (arith, c.object.ensures.survives.clean) in
-    all_three (λ (d : Database). AreReadable meta (rows_named d (codes "meta"))) (λ (d : Database). AreReadable object (rows_named d (codes "object"))) (λ (d : Database). AreReadable refs (rows_named d (codes "refs")))
+    all_three (λ (d : Database). AreReadableRows meta (rows_named d (codes "meta"))) (λ (d : Database). AreReadableRows object (rows_named d (codes "object"))) (λ (d : Database). AreReadableRows refs (rows_named d (codes "refs")))
     one two three four _ _ _ (c.in_ok-meta.ensures.told clean2) (c.in_ok-object.ensures.told clean3) (c.in_ok-refs.ensures.told clean)

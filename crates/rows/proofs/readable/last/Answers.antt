@@ -6,7 +6,7 @@ use Rattle.sqlite.proofs.StateLemmas.{survives_then}
 use Rattle.sqlite.proofs.InsideLemmas.{keeps_then}
 use Rattle.rows.specs.Contents.{rows_named}
 use Rattle.rows.specs.Forms.{profile, generation, runtime}
-use Rattle.rows.specs.Texts.{AreReadable}
+use Rattle.rows.specs.Texts.{AreReadableRows}
 use Rattle.rows.proofs.ReadableRows.{all_three}
 use Rattle.rows.proofs.readable.last.Goals as goal
 
@@ -54,5 +54,5 @@ returns-clause-told g c clean =
     let four = state g.S.Store c.runtime.new.tx.conn.now in
     let clean3 : HasCleanDisk three = omega (arith, c.runtime.ensures.survives.clean) in
     let clean2 : HasCleanDisk two = omega (arith, c.generation.ensures.survives.clean) in
-    all_three (λ (d : Database). AreReadable profile (rows_named d (codes "profile"))) (λ (d : Database). AreReadable generation (rows_named d (codes "generation"))) (λ (d : Database). AreReadable runtime (rows_named d (codes "runtime")))
+    all_three (λ (d : Database). AreReadableRows profile (rows_named d (codes "profile"))) (λ (d : Database). AreReadableRows generation (rows_named d (codes "generation"))) (λ (d : Database). AreReadableRows runtime (rows_named d (codes "runtime")))
     one two three four _ _ _ (c.in_ok-profile.ensures.told clean2) (c.in_ok-generation.ensures.told clean3) (c.in_ok-runtime.ensures.told clean)

@@ -6,7 +6,7 @@ use Rattle.sqlite.proofs.StateLemmas.{survives_then}
 use Rattle.sqlite.proofs.InsideLemmas.{keeps_then}
 use Rattle.rows.specs.Contents.{rows_named}
 use Rattle.rows.specs.Forms.{outs, permanent, user_root}
-use Rattle.rows.specs.Texts.{AreReadable}
+use Rattle.rows.specs.Texts.{AreReadableRows}
 use Rattle.rows.proofs.ReadableRows.{all_three}
 use Rattle.rows.proofs.readable.next.Goals as goal
 
@@ -54,5 +54,5 @@ returns-clause-told g c clean =
     let four = state g.S.Store c.user_root.new.tx.conn.now in
     let clean3 : HasCleanDisk three = omega (arith, c.user_root.ensures.survives.clean) in
     let clean2 : HasCleanDisk two = omega (arith, c.permanent.ensures.survives.clean) in
-    all_three (λ (d : Database). AreReadable outs (rows_named d (codes "outs"))) (λ (d : Database). AreReadable permanent (rows_named d (codes "permanent"))) (λ (d : Database). AreReadable user_root (rows_named d (codes "user_root")))
+    all_three (λ (d : Database). AreReadableRows outs (rows_named d (codes "outs"))) (λ (d : Database). AreReadableRows permanent (rows_named d (codes "permanent"))) (λ (d : Database). AreReadableRows user_root (rows_named d (codes "user_root")))
     one two three four _ _ _ (c.in_ok-outs.ensures.told clean2) (c.in_ok-permanent.ensures.told clean3) (c.in_ok-user_root.ensures.told clean)
