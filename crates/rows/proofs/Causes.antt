@@ -1,8 +1,7 @@
 -- Why a call on the tables fails.
-use Rattle.std.proofs.Common.{◌≡◌, ◌≢◌, ◌⊎◌, inl, inr, ℕ, List, Bool, true, false, Result, Ok, Err, Some, None, Option, refl, sym, ap, subst, ◌∙◌}
-use Rattle.std.specs.Prelude.{MatchBool, IfErr, IsTrue, ⊤}
+use Rattle.std.proofs.Common.{◌≡◌, ◌≢◌, ◌⊎◌, inl, inr, ℕ, List, Bool, true, false, Result, Ok, Err, Some, None, Option, sym, ap, subst, ◌∙◌}
+use Rattle.std.specs.Prelude.{MatchBool, IfErr}
 use Rattle.sqlite_value.specs.Order.{Row}
-use Rattle.sqlite_trees.specs.Tree.{Trees}
 use Rattle.sqlite_trees.specs.declared.error.StoreError.{StoreError}
 use Rattle.sqlite_trees.specs.declared.error.StoreError.TheVariants.{OutOfMemory, Io, Corrupt, Full, Broken, Unstorable}
 use Rattle.sqlite_schema.specs.declared.command.Command.{Command}
@@ -11,10 +10,10 @@ use Rattle.sqlite_resolve.specs.declared.compiled.Compiled.{Compiled}
 use Rattle.sqlite.specs.declared.error.Error.{Error}
 use Rattle.sqlite.specs.declared.error.Error.TheVariants.{ExecuteReturnedResults}
 use Rattle.sqlite.specs.Clock.{timed}
-use Rattle.sqlite.specs.State.{State, store_error, HasCleanDisk, HasCause, IsUnchanged, Fails, IsNotRun, IsNoStatement, IsMisplaced, Survives, ExecutesIn, ExecutesInside, RunsCommand, shows_rows, mode_of, text_of, FailsToQuery, FailsToShow, IsTooLate}
+use Rattle.sqlite.specs.State.{State, store_error, HasCause, IsUnchanged, Fails, IsNotRun, IsNoStatement, IsMisplaced, ExecutesIn, ExecutesInside, RunsCommand, shows_rows, mode_of, text_of, FailsToQuery, FailsToShow, IsTooLate}
 use Rattle.rows.specs.declared.failure.Failure.{Failure}
-use Rattle.rows.specs.declared.failure.Failure.TheVariants.{Memory, Size, Disk}
-use Rattle.rows.specs.Failures.{failure_of, IsExcused, FailsFor, FailsToMake}
+use Rattle.rows.specs.declared.failure.Failure.TheVariants.{Size}
+use Rattle.rows.specs.Failures.{failure_of, IsExcused, FailsFor}
 use Rattle.rows.proofs.Refusals.{IsUnsized, disk, named, write_unsized, read_unsized}
 
 excused : (old new : State) (too_big : Type 0) (cause : StoreError) → HasCause old new too_big cause → IsExcused old new (failure_of (store_error cause))
@@ -88,15 +87,3 @@ each_err (Err f) P h = h f
 pub err_with : {T : Type 0} (r : Result T Failure) (P Q : Failure → Type 0) → ((f : Failure) → P f → Q f) → IfErr r P → IfErr r Q
 err_with (Ok x) P Q so h = tt
 err_with (Err f) P Q so h = so f h
-
--- ---- the making
-
-shut_or : (old new : State) (b : Bool) → old.is_open ≡ b → (IsTrue old.is_open → IsTrue new.is_open ⊎ HasCause old new ⊤ Io) → FailsToMake old new Disk
-shut_or old new false is closes = inl (inr is)
-shut_or old new true is closes = elim (closes is) [ inl still ↦ inr still | inr fault ↦ inl (inl fault) ]
-
--- a connection shuts only for a fault
-pub make_fails : (old new : State) (P : Trees → Type 0) (f : Failure) → HasCleanDisk new → Survives old new P → FailsToMake old new f
-make_fails old new P Memory clean s = inl tt
-make_fails old new P Size clean s = inl tt
-make_fails old new P Disk clean s = shut_or old new old.is_open refl (s.closes clean)

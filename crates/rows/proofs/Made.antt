@@ -107,14 +107,21 @@ made_is dir old new sound none utf8 h =
       };
     }
 
-pub leaves_made : (dir : Bytes) (old : Database) (trees : Trees) → IsDatabase old → HasNone old.schema → IsMadeOf dir old trees → LeavesMade dir old trees
+pub leaves_made : (dir : Bytes) (old : Database) (trees : Trees) → IsDatabase old → HasNone old.schema → IsUtf8 dir → IsMadeOf dir old trees → LeavesMade dir old trees
 unfolding ours_created
-leaves_made dir old trees sound none h =
+leaves_made dir old trees sound none utf8 h =
     let d : Database = record { schema = ours_created old.schema; trees = trees } in
+    let stand = standing old sound none in
+    let has = each_stands d h.sound old.schema (meta_parts ∷ others) stand in
+    let keyed = keyed_made dir old.schema d stand h.settings h.empty in
     record {
-      ours = contents_made dir old.schema d (standing old sound none) h.settings h.empty;
-      theirs = subst (AllByRecursion (λ (t : Table). is_our_name t.name ≡ false → trees t.tree ≡ old.trees t.tree)) (sym (tables_after old.schema our_tables))
-          (all-append (λ (t : Table). is_our_name t.name ≡ false → trees t.tree ≡ old.trees t.tree) old.schema.tables _ (theirs_of old trees old.schema.tables h.kept)
-          (all_weaker (λ (t : Table). is_our_name t.name ≡ true) (λ t. is_our_name t.name ≡ false → trees t.tree ≡ old.trees t.tree) (λ t ours other. absurd (let e = sym ours ∙ other in cc)) (placed old.schema our_tables) (ours_placed old.schema)));
-      frozen = record { rows = λ tree is. (h.frozen sound).rows tree (frozen_before old.schema our_tables tree is); texts = (h.frozen sound).texts; version = (h.frozen sound).version };
+      ours = record { sound = h.sound; has = has; keyed = keyed };
+      readable = (readable_by_maps d h.sound has keyed).0 (readable_made dir old.schema d stand h.settings h.empty utf8);
+      left = record {
+        ours = contents_made dir old.schema d stand h.settings h.empty;
+        theirs = subst (AllByRecursion (λ (t : Table). is_our_name t.name ≡ false → trees t.tree ≡ old.trees t.tree)) (sym (tables_after old.schema our_tables))
+            (all-append (λ (t : Table). is_our_name t.name ≡ false → trees t.tree ≡ old.trees t.tree) old.schema.tables _ (theirs_of old trees old.schema.tables h.kept)
+            (all_weaker (λ (t : Table). is_our_name t.name ≡ true) (λ t. is_our_name t.name ≡ false → trees t.tree ≡ old.trees t.tree) (λ t ours other. absurd (let e = sym ours ∙ other in cc)) (placed old.schema our_tables) (ours_placed old.schema)));
+        frozen = record { rows = λ tree is. (h.frozen sound).rows tree (frozen_before old.schema our_tables tree is); texts = (h.frozen sound).texts; version = (h.frozen sound).version };
+      };
     }

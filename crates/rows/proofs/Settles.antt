@@ -183,6 +183,7 @@ all_made dir a b c d h p q =
       sound = rest.sound;
       schema = rest.schema ∙ ap (λ (x : Schema). all_created x other_tables) h.schema;
       made = record {
+        sound = subst (λ (x : Schema). IsDatabase (record { schema = x; trees = d.now.trees })) (rest.schema ∙ ap (λ (x : Schema). all_created x other_tables) h.schema) rest.sound;
         kept = kept_then a.now.trees b.now.trees d.now.trees s.tables h.kept both.0;
         settings = subst (AreSettings dir) (sym both.1.0) h.settings;
         empty = subst (λ (x : Schema). AllByRecursion (λ t. d.now.trees t.tree ≡ []) (placed x other_tables)) h.schema rest.empty;

@@ -1,5 +1,5 @@
 -- Which failure an error of the database is, and what a failure says of its call.
-use Rattle.std.specs.Prelude.{◌≡◌, ◌≢◌, ◌⊎◌, false, IsTrue, Option, Some, None, ⊤}
+use Rattle.std.specs.Prelude.{◌≡◌, ◌≢◌, ◌⊎◌, false, Option, Some, None, ⊤}
 use Rattle.sqlite_trees.specs.declared.error.StoreError.TheVariants.{Io}
 use Rattle.sqlite.specs.State.{State, HasCause, IsUnchanged, IsRolledBack}
 use Rattle.sqlite.specs.declared.error.ErrorCode.TheVariants.{OutOfMemory, TooBig, SystemIoFailure, DiskFull, Closed}
@@ -36,7 +36,3 @@ FailsFor old new f = (IsExcused old new f × IsRolledBack old new) ⊎ (IsUnchan
 -- the store failed at a commit, which no size does, and the transaction is undone
 abbrev pub FailsToCommit : State → State → Failure → Type 0
 FailsToCommit old new f = IsExcused old new f × IsRolledBack old new × (f ≢ Size)
-
--- the store failed, or a statement was refused and the connection is open still
-abbrev pub FailsToMake : State → State → Failure → Type 0
-FailsToMake old new f = IsExcused old new f ⊎ IsTrue new.is_open

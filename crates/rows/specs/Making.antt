@@ -16,7 +16,7 @@ use Rattle.rows.specs.Standing.{IsNamed, tree_named}
 use Rattle.rows.specs.Contents.{Bytes, Contents, contents_of, texts_cmp, is_pair, pair_of, map_of, rows_named}
 use Rattle.rows.specs.Frozen.{KeepsFrozen}
 use Rattle.rows.specs.Texts.{AreReadable, AreReadableRows}
-use Rattle.rows.specs.Calls.{IsKeyed, IsReady, KeepsTheirs, Leaves}
+use Rattle.rows.specs.Calls.{IsKeyed, IsOurs, IsReady, KeepsTheirs, Leaves}
 
 -- the tables made in this order
 abbrev pub all_created : Schema → List Table → Schema
@@ -65,6 +65,7 @@ pub record AreSettings (dir : Bytes) (rows : List Row) : Type 0 where
 
 -- each table keeps its rows, also a frozen one, and ours are as they are made
 pub record IsMadeOf (dir : Bytes) (db : Database) (trees : Trees) : Type 0 where
+  pub sound : IsDatabase (record { schema = ours_created db.schema; trees = trees })
   pub kept : AllByRecursion (λ t. trees t.tree ≡ db.trees t.tree) db.schema.tables
   pub settings : AreSettings dir (trees (next_tree db.schema))
   pub empty : AllByRecursion (λ t. trees t.tree ≡ []) (others_placed db.schema)
@@ -81,9 +82,11 @@ pub record IsMade (dir : Bytes) (old new : State) : Type 0 where
   pub readable : AreReadable (contents_of new.now)
   pub ready : IsReady new
 
--- what a crash may leave of the making, if it leaves any of it: all of it
-abbrev pub LeavesMade : Bytes → Database → Trees → Type 0
-LeavesMade dir db trees = Leaves (record db { schema = ours_created db.schema }) trees (first_contents dir)
+-- What a crash may leave of the making, if it leaves any of it: all nine tables stand, hold the settings alone, and can be read, and theirs have the rows that they had.
+pub record LeavesMade (dir : Bytes) (db : Database) (trees : Trees) : Type 0 where
+  pub ours : IsOurs (record { schema = ours_created db.schema; trees = trees })
+  pub readable : AreReadable (contents_of (record { schema = ours_created db.schema; trees = trees }))
+  pub left : Leaves (record db { schema = ours_created db.schema }) trees (first_contents dir)
 
 -- all nine were made at once, as their trees have them
 pub record IsMadeIn (dir : Bytes) (old new : State) : Type 0 where

@@ -1,10 +1,9 @@
 //! Making our tables, all at once, beside whatever tables there are.
 
-ghost use Rattle.std.specs.Prelude.{◌≡◌, ◌∷◌, false, OnOk, OnErr, IfErr, IsTrue};
+ghost use Rattle.std.specs.Prelude.{◌≡◌, ◌∷◌, false, OnOk, OnErr, IsTrue};
 ghost use Rattle.sqlite.specs.State.{HasCleanDisk, KeepsCommit, Survives};
 ghost use Rattle.sqlite.specs.Held.{state};
 ghost use Rattle.rows.specs.Forms.{meta};
-ghost use Rattle.rows.specs.Failures.{FailsToMake};
 ghost use Rattle.rows.specs.Finding.{HasNone};
 ghost use Rattle.rows.specs.Making.{IsMaking, HasMeta, Puts, MakesMeta, MakesAll, IsMade, IsMadeIn, IsMadeOf, LeavesMade, other_tables};
 
@@ -58,6 +57,7 @@ fn make_and_commit<S: Alter>(conn: &mut Connection<S>, store_dir: &str) -> Resul
     requires none { HasCleanDisk (state S.Store conn.old) → IsTrue (state S.Store conn.old).is_open → HasNone (state S.Store conn.old).now.schema }
     ensures alone { conn.new.in_transaction ≡ false }
     ensures done { HasCleanDisk (state S.Store conn.new) → OnOk result (IsMadeIn store_dir.now (state S.Store conn.old) (state S.Store conn.new)) }
+    ensures was_open { HasCleanDisk (state S.Store conn.new) → IsTrue (state S.Store conn.new).is_open → IsTrue (state S.Store conn.old).is_open }
     ensures failed { HasCleanDisk (state S.Store conn.new) → IsTrue (state S.Store conn.new).is_open → OnErr result (((state S.Store conn.new).now ≡ (state S.Store conn.old).committed) × ((state S.Store conn.new).committed ≡ (state S.Store conn.old).committed)) }
     ensures survives { Survives (state S.Store conn.old) (state S.Store conn.new) (λ db. IsTrue (state S.Store conn.old).is_open × IsMadeOf store_dir.now (state S.Store conn.old).now db) }
 {
@@ -74,7 +74,7 @@ pub fn make<S: Alter>(conn: &mut Connection<S>, store_dir: &str) -> Result<(), F
     requires none { HasCleanDisk (state S.Store conn.old) → IsTrue (state S.Store conn.old).is_open → HasNone (state S.Store conn.old).now.schema }
     ensures alone { conn.new.in_transaction ≡ false }
     ensures done { HasCleanDisk (state S.Store conn.new) → OnOk result (IsMade store_dir.now (state S.Store conn.old) (state S.Store conn.new)) }
-    ensures cause { HasCleanDisk (state S.Store conn.new) → IfErr result (FailsToMake (state S.Store conn.old) (state S.Store conn.new)) }
+    ensures was_open { HasCleanDisk (state S.Store conn.new) → IsTrue (state S.Store conn.new).is_open → IsTrue (state S.Store conn.old).is_open }
     ensures failed { HasCleanDisk (state S.Store conn.new) → IsTrue (state S.Store conn.new).is_open → OnErr result (((state S.Store conn.new).now ≡ (state S.Store conn.old).committed) × ((state S.Store conn.new).committed ≡ (state S.Store conn.old).committed)) }
     ensures survives { Survives (state S.Store conn.old) (state S.Store conn.new) (LeavesMade store_dir.now (state S.Store conn.old).now) }
 {

@@ -4,7 +4,6 @@ use Rattle.sqlite.specs.State.{HasCleanDisk}
 use Rattle.sqlite.specs.Held.{state}
 use Rattle.rows.proofs.Scans.{on_ok}
 use Rattle.rows.proofs.Made.{made_is, leaves_made}
-use Rattle.rows.proofs.Causes.{each_err, make_fails}
 use Rattle.rows.proofs.making.make.Goals as goal
 
 pub returns-clause-done : goal.returns-clause-done
@@ -13,9 +12,6 @@ returns-clause-done g c clean =
     let new = state g.S.Store c.make_and_commit.new.conn in
     let early : HasCleanDisk old = omega (arith, c.make_and_commit.ensures.survives.clean) in
     on_ok c.make_and_commit.result _ _ (λ made. made_is c.args.store_dir.now old new (c.schema-listed.ensures.live made.was_open).0 (c.requires.none early made.was_open) (subst IsUtf8 c.as_bytes-text.ensures.value c.as_bytes-text.ensures.utf8) made) (c.make_and_commit.ensures.done clean)
-
-pub returns-clause-cause : goal.returns-clause-cause
-returns-clause-cause g c clean = each_err c.make_and_commit.result _ (λ f. make_fails _ _ _ f clean c.make_and_commit.ensures.survives)
 
 pub returns-clause-survives : goal.returns-clause-survives
 returns-clause-survives g c =
@@ -30,6 +26,6 @@ returns-clause-survives g c =
       closes = s.closes;
       crash = λ clean db left. let early : HasCleanDisk old = omega (arith, s.clean) in elim (s.crash clean db left) [
         | inl was ↦ inl was
-        | inr made ↦ inr (leaves_made c.args.store_dir.now old.now db (c.schema-listed.ensures.live made.0).0 (c.requires.none early made.0) made.1)
+        | inr made ↦ inr (leaves_made c.args.store_dir.now old.now db (c.schema-listed.ensures.live made.0).0 (c.requires.none early made.0) (subst IsUtf8 c.as_bytes-text.ensures.value c.as_bytes-text.ensures.utf8) made.1)
       ];
     }
