@@ -20,6 +20,7 @@ fn made_beside_others(rt: HostRuntime) -> Result<(), Fail> {
             Step::Shows(MADE),
             Step::Run(&[AFTER]),
             Step::Shows(MADE),
+            Step::Answers("SELECT min(t) FROM note", "x"),
             Step::Answers("SELECT max(t) FROM note", "y"),
         ]],
     )

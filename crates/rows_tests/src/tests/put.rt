@@ -27,12 +27,13 @@ fn object<S: Alter>(
     base: &str,
     nar: &[u8],
     deriver: &Option<String>,
+    ca: &Option<String>,
 ) -> Result<(), Failure>
     requires { HasCleanDisk (state S.Store tx.old.conn.now) → IsUnderWay (state S.Store tx.old.conn.now) }
     ensures { HasCleanDisk (state S.Store tx.new.conn.now) → OnOk result (IsUnderWay (state S.Store tx.new.conn.now)) }
 {
     objects::delete(tx, base)?;
-    objects::insert(tx, base, nar, b"h", deriver, &None)
+    objects::insert(tx, base, nar, b"h", deriver, ca)
 }
 
 fn output<S: Alter>(
@@ -122,8 +123,10 @@ fn of_objects<S: Alter>(alloc: Global, tx: &mut Transaction<'_, S>) -> Result<()
     requires { HasCleanDisk (state S.Store tx.old.conn.now) → IsUnderWay (state S.Store tx.old.conn.now) }
     ensures { HasCleanDisk (state S.Store tx.new.conn.now) → OnOk result (IsUnderWay (state S.Store tx.new.conn.now)) }
 {
-    object(tx, "a", b"one", &None)?;
-    object(tx, "b", b"", &Some(String::from_str(alloc, "a")?))?;
+    let deriver = Some(String::from_str(alloc, "a")?);
+    let ca = Some(String::from_str(alloc, "c")?);
+    object(tx, "a", b"one", &None, &ca)?;
+    object(tx, "b", b"", &deriver, &None)?;
     reference(tx, "b", "a")?;
     reference(tx, "b", "b")?;
     output(tx, "a", "out", "b")

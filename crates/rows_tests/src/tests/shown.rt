@@ -45,6 +45,7 @@ const WHOLES: [Whole; 10] = [
 #[derive(Clone, Copy)]
 enum Part {
     Object,
+    NoObject,
     References,
     Outputs,
     PermanentRoots,
@@ -55,8 +56,9 @@ enum Part {
     Generations,
 }
 
-const PARTS: [Part; 9] = [
+const PARTS: [Part; 10] = [
     Part::Object,
+    Part::NoObject,
     Part::References,
     Part::Outputs,
     Part::PermanentRoots,
@@ -105,12 +107,13 @@ fn show_part<S: Alter>(
 {
     match read {
         Part::Object => add(text, objects::get(alloc, tx, "b")),
+        Part::NoObject => add(text, objects::get(alloc, tx, "c")),
         Part::References => add(text, references::of(alloc, tx, "b")),
-        Part::Outputs => add(text, outputs::of(alloc, tx, "b")),
+        Part::Outputs => add(text, outputs::of(alloc, tx, "a")),
         Part::PermanentRoots => add(text, permanent::of(alloc, tx, "p")),
         Part::UserRoots => add(text, user_roots::of(alloc, tx, "1000")),
         Part::UserRoot => add(text, user_roots::at(alloc, tx, "1000", "x")),
-        Part::Profiles => add(text, profiles::of(alloc, tx, "1001")),
+        Part::Profiles => add(text, profiles::of(alloc, tx, "1000")),
         Part::Profile => add(text, profiles::at(alloc, tx, "1000", "q")),
         Part::Generations => add(text, generations::of(alloc, tx, "1000", "q")),
     }

@@ -8,7 +8,7 @@ use std::test::Fail;
 
 const FILLED: &str = "[Setting { word: \"schema\", value: \"1\" }]\
     [\"a\", \"b\"]\
-    [Listed { base: \"a\", hash: [104], deriver: None, ca: None }, Listed { base: \"b\", hash: [104], deriver: Some(\"a\"), ca: None }]\
+    [Listed { base: \"a\", hash: [104], deriver: None, ca: Some(\"c\") }, Listed { base: \"b\", hash: [104], deriver: Some(\"a\"), ca: None }]\
     [Reference { base: \"b\", target: \"a\" }, Reference { base: \"b\", target: \"b\" }]\
     [Output { base: \"a\", name: \"out\", target: \"b\" }]\
     [PermanentRoot { name: \"p\", target: \"a\" }]\
@@ -19,16 +19,18 @@ const FILLED: &str = "[Setting { word: \"schema\", value: \"1\" }]\
 
 const PARTS: &str =
     "Some(Object { base: \"b\", nar: [], hash: [104], deriver: Some(\"a\"), ca: None })\
+    None\
     [Reference { base: \"b\", target: \"a\" }, Reference { base: \"b\", target: \"b\" }]\
-    []\
+    [Output { base: \"a\", name: \"out\", target: \"b\" }]\
     [PermanentRoot { name: \"p\", target: \"a\" }]\
     [UserRoot { owner: \"1000\", name: \"x\", target: \"a\" }]\
     [UserRoot { owner: \"1000\", name: \"x\", target: \"a\" }]\
-    []\
+    [Profile { owner: \"1000\", name: \"q\", current: 2 }]\
     [Profile { owner: \"1000\", name: \"q\", current: 2 }]\
     [Generation { owner: \"1000\", name: \"q\", number: 1, target: \"a\" }, Generation { owner: \"1000\", name: \"q\", number: 2, target: \"b\" }]";
 
-const CLEARED: &str = "[][\"a\"][Listed { base: \"a\", hash: [104], deriver: None, ca: None }]\
+const CLEARED: &str =
+    "[][\"a\"][Listed { base: \"a\", hash: [104], deriver: None, ca: Some(\"c\") }]\
     [][][][][][Generation { owner: \"1000\", name: \"q\", number: 2, target: \"b\" }][]";
 
 /// Rows are put, read, and removed in a transaction that is rolled back.
@@ -52,7 +54,10 @@ const THEIRS_BETWEEN: &[Step<'static>] = &[Step::Run(&AROUND)];
 const THEIRS_AFTER: &[Step<'static>] = &[Step::Run(&[AFTER])];
 
 /// Their rows stay.
-const STAYS_BEFORE: &[Step<'static>] = &[Step::Answers("SELECT max(t) FROM note", "y")];
+const STAYS_BEFORE: &[Step<'static>] = &[
+    Step::Answers("SELECT min(t) FROM note", "x"),
+    Step::Answers("SELECT max(t) FROM note", "y"),
+];
 
 const STAYS_AFTER: &[Step<'static>] = &[Step::Answers("SELECT max(t) FROM later", "z")];
 
