@@ -65,9 +65,9 @@ pub record Contents : Type 0 where
   pub refs : PairSet
   -- an object's path and the name of an output, and the output's path
   pub outs : finite.FinMap pair_cmp Bytes
-  -- each permanent root's label, and its target
+  -- each permanent root's name, and its target
   pub permanent : finite.FinMap texts_cmp Bytes
-  -- a user and a label, and the root's target
+  -- a user and a name, and the root's target
   pub user_roots : finite.FinMap pair_cmp Bytes
   -- a user and a profile's name, and the number of its current generation
   pub profiles : finite.FinMap pair_cmp ℤ

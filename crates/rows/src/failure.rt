@@ -3,14 +3,16 @@
 use sqlite::{Error, ErrorCode};
 use std::alloc::{AllocError, AllocFailed};
 
-/// Why a call failed. Nothing is committed by a call that fails.
+/// Why a call failed. It has committed nothing, but that what a commit was writing when the disk failed may stand when the
+/// database is opened again.
 #[derive(Clone, Copy, Debug, PartialEq, Eq)]
 pub enum Failure {
     /// Memory ran out.
     Memory,
     /// A row would be larger than a database can hold.
     Size,
-    /// The disk failed, an earlier failure of it had shut the connection, or a row was not as its table has them.
+    /// The disk failed, an earlier failure of it had shut the connection, a row was not as its table has them, or `sqlite`
+    /// refused a statement.
     Disk,
 }
 

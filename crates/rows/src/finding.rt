@@ -19,7 +19,7 @@ use sqlite_schema::schema::{Reference, Schema, Table};
 /// What a schema holds of ours. Tables of other names may stand beside ours, wherever they are.
 #[derive(Clone, Copy, Debug, PartialEq, Eq)]
 pub enum Finding {
-    /// None of our names is taken, and no foreign key refers to one of them.
+    /// None of our names is taken, no foreign key refers to one of them, and a table that counts its rowids has its counter.
     Nothing,
     /// All nine tables, each exactly of its form, and nothing of somebody else's acts on them.
     Ours,

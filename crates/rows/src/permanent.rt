@@ -16,7 +16,7 @@ use crate::statement;
 use sqlite::{Alter, Row, Transaction, params};
 use std::alloc::Global;
 
-/// One permanent root: its label, and the base name of its target.
+/// One permanent root: its name, and the base name of its target.
 #[derive(Debug, Drop)]
 pub struct PermanentRoot {
     pub name: String,

@@ -85,7 +85,7 @@ pub fn of<S: Alter>(
     )
 }
 
-/// Adds one reference. It must not be there yet: else the answer is `Disk`.
+/// Adds one reference. If it is there already, nothing changes, whatever the answer.
 pub fn insert<S: Alter>(
     tx: &mut Transaction<'_, S>,
     base: &str,

@@ -66,7 +66,7 @@ pub fn all<S: Alter>(
     )
 }
 
-/// Adds one runtime root. It must not be there yet: else the answer is `Disk`.
+/// Adds one runtime root. If it is there already, nothing changes, whatever the answer.
 pub fn insert<S: Alter>(
     tx: &mut Transaction<'_, S>,
     label: &str,

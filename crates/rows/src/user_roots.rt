@@ -17,7 +17,7 @@ use sqlite::{Alter, Row, Transaction, params};
 use std::alloc::Global;
 use std::cmp::Ordering;
 
-/// One root of a user: its owner, its label, and the base name of its target.
+/// One root of a user: its owner, its name, and the base name of its target.
 #[derive(Debug, Drop)]
 pub struct UserRoot {
     pub owner: String,
