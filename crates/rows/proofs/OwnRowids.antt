@@ -181,7 +181,7 @@ keyed_if name columns key text order old new stands is h =
     let got = reads_as text [] old new old.now.schema refl _ m.0 m.1 m.2 h.0 h.1 in
     let answer : IsAnswer (query order tree) (overlay old.now.trees []) [] h.0 = got.answer Null in
     let same = shown_same text [] old new h.0 m.1 h.1 in
-    (record { was_open = same.0.was_open; is_open = same.0.is_open; now = same.0.now_is; committed = same.0.committed_is; mode = same.0.mode }, subst IsKeyed (overlay_low old.now.trees tree stands.known.low) (keyed_from order tree (overlay old.now.trees []) h.0 h.2 answer h.3 h.4))
+    (record { was_open = same.0.was_open; is_open = same.0.is_open; now = same.0.now_is; committed = same.0.committed_is; mode = same.0.mode; marks = same.2 }, subst IsKeyed (overlay_low old.now.trees tree stands.known.low) (keyed_from order tree (overlay old.now.trees []) h.0 h.2 answer h.3 h.4))
 
 -- ---- what a sort and a test of neighbours say of integers
 
@@ -202,7 +202,7 @@ distinct_if ns sorted same apart = IsDistinct-IsPermutation (eq_by_cmp int_cmp) 
 -- ---- one table after another
 
 pub rests_then : (a b c : State) → Rests a b → Rests b c → Rests a c
-rests_then a b c h k = record { was_open = h.was_open; is_open = k.is_open; now = k.now ∙ h.now; committed = k.committed ∙ h.committed; mode = k.mode ∙ h.mode }
+rests_then a b c h k = record { was_open = h.was_open; is_open = k.is_open; now = k.now ∙ h.now; committed = k.committed ∙ h.committed; mode = k.mode ∙ h.mode; marks = k.marks ∙ h.marks }
 
 pub inside_after : (a b : State) → IsInside a → Rests a b → IsInside b
 inside_after a b inside h = record { has = λ is_open. subst (λ (d : Database). HasTables d.schema) (sym h.now) (inside.has h.was_open); mode = h.mode ∙ inside.mode }

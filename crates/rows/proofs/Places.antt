@@ -89,4 +89,5 @@ module _ (a : Table) (old new : State) (rows : List Row) (stands : Stands old.no
     ours = ours_kept ours keeps;
     committed = sets.committed;
     mode = sets.mode;
+    marks = sets.marks;
   }

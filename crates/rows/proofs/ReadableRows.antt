@@ -64,7 +64,7 @@ module _ (name : List ℕ) (columns : List Column) (key : List ℕ) (text : List
       let got = reads_as text [] old new old.now.schema refl _ m.0 m.1 m.2 h.0 h.1 in
       let answer : IsAnswer (query tree) db [] h.0 = got.answer Null in
       let same = shown_same text [] old new h.0 m.1 h.1 in (
-        record { was_open = same.0.was_open; is_open = same.0.is_open; now = same.0.now_is; committed = same.0.committed_is; mode = same.0.mode },
+        record { was_open = same.0.was_open; is_open = same.0.is_open; now = same.0.now_is; committed = same.0.committed_is; mode = same.0.mode; marks = same.2 },
         (
           λ yes row at there low.
               (each tree row there).0 (all_has IsReadableRow h.0 _ (h.2.0 yes) (scan_complete (query tree) tree (scan tree) db [] h.0 answer row (subst (λ rows. Has rows row) (sym same_rows) there) (rw (whole tree) refl))) at low,

@@ -120,7 +120,7 @@ failed_keeps sql params old new e (inr h) = unchanged_keeps old new h.5
 pub stays_shown : (sql : List ℕ) (params : Row) (old new : State) (rows : List Row) → IsUnderWay old → IsPlain (understood old.now.schema sql) → Shown sql params old new rows → Stays old new
 stays_shown sql params old new rows under plain h =
     let same = shown_same sql params old new rows plain h in
-    record { was_open = same.0.was_open; is_open = same.0.is_open; now = same.0.now_is; committed = same.0.committed_is; mode = same.0.mode ∙ under.mode; ours = subst IsOurs (sym same.0.now_is) (under.ours same.0.was_open) }
+    record { was_open = same.0.was_open; is_open = same.0.is_open; now = same.0.now_is; committed = same.0.committed_is; mode = same.0.mode ∙ under.mode; marks = same.2; ours = subst IsOurs (sym same.0.now_is) (under.ours same.0.was_open) }
 
 written : (old new : State) (sql : List ℕ) (c : Compiled) (params : Row) (rows : List Row) (what : Option Returning) → old.in_transaction ≡ true → ShowsRows old new sql c params rows what → KeepsCommit old new
 written old new sql c params rows None inside h = unchanged_keeps old new h.3

@@ -32,6 +32,7 @@ changes_then a b c f g h k = record {
   ours = k.ours;
   committed = k.committed ∙ h.committed;
   mode = k.mode;
+  marks = k.marks ∙ h.marks;
 }
 
 -- what was changed and then failed keeps the last commit
@@ -60,6 +61,7 @@ stays_then a b c f h k = record {
   ours = k.ours;
   committed = k.committed ∙ h.committed;
   mode = k.mode;
+  marks = k.marks ∙ h.marks;
 }
 
 pub then_stays : (a b c : State) (f : Contents → Contents) → Changes a b f → Stays b c → Changes a c f
@@ -73,11 +75,12 @@ then_stays a b c f h k = record {
   ours = k.ours;
   committed = k.committed ∙ h.committed;
   mode = k.mode;
+  marks = k.marks ∙ h.marks;
 }
 
 -- two reads in a row
 pub stays_twice : (a b c : State) → Stays a b → Stays b c → Stays a c
-stays_twice a b c h k = record { was_open = h.was_open; is_open = k.is_open; now = k.now ∙ h.now; ours = k.ours; committed = k.committed ∙ h.committed; mode = k.mode }
+stays_twice a b c h k = record { was_open = h.was_open; is_open = k.is_open; now = k.now ∙ h.now; ours = k.ours; committed = k.committed ∙ h.committed; mode = k.mode; marks = k.marks ∙ h.marks }
 
 -- ---- what a crash leaves of a commit
 

@@ -48,6 +48,7 @@ pub record SetsRows (old new : State) (tree : ℕ) (rows : List Row) : Type 0 wh
   pub unshown : KeepsUnshown old.now new.now.trees
   pub committed : new.committed ≡ old.committed
   pub mode : new.in_transaction ≡ true
+  pub marks : new.marks ≡ old.marks
 
 pub went : {B E R : Type 0} {b : B} {Stops : E → Type 0} → ((stop : E) × Stops stop × (Ok b ≡ Err stop)) ⊎ R → R
 went (inl stopped) = absurd (let e = stopped.2 in cc)
@@ -170,6 +171,7 @@ module _ (name : List ℕ) (columns : List Column) (key : List ℕ) (tree at wid
           unshown = λ t hidden. a.others t (λ e. all-slice_get (λ (x : Table). x.tree ≢ t) old.now.schema.tables at table there hidden.0 (sym e)) hidden.1;
           committed = w.shown.committed_is ∙ rw inside refl;
           mode = w.shown.mode ∙ inside;
+          marks = w.marks;
         },
       )
 
@@ -209,6 +211,7 @@ module _ (name : List ℕ) (columns : List Column) (key : List ℕ) (tree at : �
           unshown = λ t hidden. a.others t (λ e. all-slice_get (λ (x : Table). x.tree ≢ t) old.now.schema.tables at from there hidden.0 (sym e)) hidden.1;
           committed = w.shown.committed_is ∙ rw inside refl;
           mode = w.shown.mode ∙ inside;
+          marks = w.marks;
         },
       )
 

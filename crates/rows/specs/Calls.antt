@@ -44,7 +44,7 @@ pub record Leaves (old : Database) (trees : Trees) (contents : Contents) : Type 
   pub theirs : KeepsTheirs old (record old { trees = trees })
   pub frozen : KeepsFrozen old trees
 
--- Inside a transaction, which goes on: our tables hold what the change makes of what they held, each other table has the rows that it had, and what the schema doesn't show is as it was.
+-- Inside a transaction, which goes on: our tables hold what the change makes of what they held, each other table has the rows that it had, what the schema doesn't show is as it was, and so are the savepoints.
 pub record Changes (old new : State) (change : Contents → Contents) : Type 0 where
   pub was_open : IsTrue old.is_open
   pub is_open : IsTrue new.is_open
@@ -55,6 +55,7 @@ pub record Changes (old new : State) (change : Contents → Contents) : Type 0 w
   pub ours : IsOurs new.now
   pub committed : new.committed ≡ old.committed
   pub mode : new.in_transaction ≡ true
+  pub marks : new.marks ≡ old.marks
 
 -- Inside a transaction, which goes on: nothing changes.
 pub record Stays (old new : State) : Type 0 where
@@ -64,6 +65,7 @@ pub record Stays (old new : State) : Type 0 where
   pub ours : IsOurs new.now
   pub committed : new.committed ≡ old.committed
   pub mode : new.in_transaction ≡ true
+  pub marks : new.marks ≡ old.marks
 
 -- A transaction is under way over a schema in which our tables stand, unless a fault has shut the connection.
 pub record IsInside (s : State) : Type 0 where
@@ -77,6 +79,7 @@ pub record Rests (old new : State) : Type 0 where
   pub now : new.now ≡ old.now
   pub committed : new.committed ≡ old.committed
   pub mode : new.in_transaction ≡ old.in_transaction
+  pub marks : new.marks ≡ old.marks
 
 -- The transaction was committed: the tables hold what it saw, and so did the last commit leave them.
 pub record IsCommitted (old new : State) : Type 0 where
