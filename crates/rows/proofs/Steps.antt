@@ -40,13 +40,14 @@ pub keeps_after : (a b c : State) (f : Contents → Contents) → Changes a b f 
 keeps_after a b c f h k = record { was_open = λ _. h.was_open; committed = λ is_open. k.committed is_open ∙ h.committed }
 
 -- a commit leaves the tables ready
-pub committed_is : (old new : State) → IsUnderWay old → Shows old new old.now old.now false → IsCommitted old new
-committed_is old new under h = record {
+pub committed_is : (old new : State) → IsUnderWay old → Shows old new old.now old.now false → new.marks ≡ [] → IsCommitted old new
+committed_is old new under h none = record {
   was_open = h.was_open;
   is_open = h.is_open;
   now = h.now_is;
   ready = record { ours = subst IsOurs (sym h.now_is) (under.ours h.was_open); settled = h.now_is ∙ sym h.committed_is };
   mode = h.mode;
+  unmarked = none;
 }
 
 -- a read after a change, and a change after a read, is that change

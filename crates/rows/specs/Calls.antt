@@ -1,5 +1,5 @@
 -- What a call makes of the tables that a connection shows.
-use Rattle.std.specs.Prelude.{◌≡◌, true, false, List, IsTrue}
+use Rattle.std.specs.Prelude.{◌≡◌, true, false, List, [], IsTrue}
 use Rattle.std.specs.List.{AllByRecursion}
 use Rattle.std.specs.Ordering.{is_eq}
 use Rattle.sqlite_value.specs.Order.{Row, value_cmp}
@@ -88,3 +88,4 @@ pub record IsCommitted (old new : State) : Type 0 where
   pub now : new.now ≡ old.now
   pub ready : IsReady new
   pub mode : new.in_transaction ≡ false
+  pub unmarked : new.marks ≡ []
