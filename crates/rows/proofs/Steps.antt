@@ -1,16 +1,18 @@
 -- Calls one after another inside a transaction.
-use Rattle.std.proofs.Common.{◌≡◌, inl, inr, false, List, [], ◌∷◌, refl, sym, ap, subst, ◌∙◌}
+use Rattle.std.proofs.Common.{◌≡◌, inl, inr, false, List, [], ◌∷◌, refl, sym, ap, subst, ◌∙◌, arith}
 use Rattle.std.specs.List.{AllByRecursion}
 use Rattle.sqlite_trees.specs.Tree.{Trees}
 use Rattle.sqlite_trees.proofs.ListLemmas.{all_of}
 use Rattle.sqlite_schema.specs.declared.schema.Schema.{Schema}
 use Rattle.sqlite_schema.specs.declared.schema.Table.{Table}
-use Rattle.sqlite.specs.Effect.{Database}
-use Rattle.sqlite.specs.State.{State, Shows, KeepsCommit, Survives}
+use Rattle.sqlite.specs.Effect.{Database, IsDatabase}
+use Rattle.sqlite.specs.State.{State, HasCleanDisk, Shows, KeepsCommit, Survives}
+use Rattle.sqlite.proofs.StateLemmas.{survives_then}
 use Rattle.rows.specs.Forms.{is_our_name}
 use Rattle.rows.specs.Contents.{Contents, contents_of}
 use Rattle.rows.specs.Frozen.{IsUnshown, KeepsUnshown}
-use Rattle.rows.specs.Calls.{IsOurs, IsUnderWay, IsCommitted, KeepsTheirs, Leaves, Changes, Stays}
+use Rattle.rows.specs.Calls.{IsOurs, IsReady, IsUnderWay, IsCommitted, KeepsTheirs, Leaves, Changes, Stays}
+use Rattle.rows.proofs.Frozen.{frozen_of, frozen_then}
 
 theirs_walk : (a b c : Database) (ts : List Table) → AllByRecursion (λ t. is_our_name t.name ≡ false → b.trees t.tree ≡ a.trees t.tree) ts → AllByRecursion (λ t. is_our_name t.name ≡ false → c.trees t.tree ≡ b.trees t.tree) ts
     → AllByRecursion (λ t. is_our_name t.name ≡ false → c.trees t.tree ≡ a.trees t.tree) ts
@@ -97,3 +99,38 @@ leaves_by old new h = record {
   closes = h.closes;
   crash = λ clean db left. elim (h.crash clean db left) [ inl was ↦ inl was | inr is ↦ inr (leaves_now old.now db is) ];
 }
+
+-- ---- a whole transaction
+
+-- what a crash leaves of the changed tables, seen from those before the change
+leaves_from : (a b : State) (f : Contents → Contents) (db : Trees) → IsDatabase a.now → Changes a b f → Leaves b.now db (contents_of b.now) → Leaves a.now db (f (contents_of a.now))
+leaves_from a b f db sound h l = record {
+  ours = subst (λ (s : Schema). contents_of (record a.now { schema = s; trees = db }) ≡ f (contents_of a.now)) h.schema (l.ours ∙ h.contents);
+  theirs = theirs_then a.now b.now (record a.now { trees = db }) h.schema h.theirs l.theirs;
+  frozen = frozen_then a.now b.now db [] h.schema (frozen_of a.now b.now.trees sound h.unshown) l.frozen;
+}
+
+-- the disk was clean before a call, if it is after it
+clean_before : (a b : State) (P : Trees → Type 0) → Survives a b P → HasCleanDisk b → HasCleanDisk a
+clean_before a b P h clean = omega (arith, h.clean, clean)
+
+-- a crash leaves what it could leave before the transaction, or all that it changed
+pub survives_whole : (a b c : State) (f : Contents → Contents) → (HasCleanDisk a → IsUnderWay a) → (HasCleanDisk b → Changes a b f) → Survives a b (λ _. ⊥) → Survives b c (λ db. Leaves b.now db (contents_of b.now)) → Survives a c (λ db. Leaves a.now db (f (contents_of a.now)))
+survives_whole a b c f under h before after = survives_then a b c (λ _. ⊥) _ (λ db. Leaves a.now db (f (contents_of a.now))) (λ clean db none. absurd none) (λ clean db l.
+    let clean_b = clean_before b c _ after clean in
+    let changes = h clean_b in
+    leaves_from a b f db ((under (clean_before a b _ before clean_b)).ours changes.was_open).sound changes l) before after
+
+-- the maps are those that the change makes, the rest is as it was, and the connection is ready
+pub commits_change : (a b c : State) (f : Contents → Contents) → Changes a b f → IsCommitted b c → (contents_of c.now ≡ f (contents_of a.now)) × KeepsTheirs a.now c.now × KeepsUnshown a.now c.now.trees × IsReady c
+commits_change a b c f h k = (
+  ap contents_of k.now ∙ h.contents,
+  subst (λ (d : Database). KeepsTheirs a.now d) (sym k.now) h.theirs,
+  subst (λ (d : Database). KeepsUnshown a.now d.trees) (sym k.now) h.unshown,
+  k.ready,
+)
+
+-- a change and its commit are one: done, and all at once or not at all after a crash
+pub transaction_is : (a b c : State) (f : Contents → Contents) → (HasCleanDisk a → IsUnderWay a) → (HasCleanDisk b → Changes a b f) → Survives a b (λ _. ⊥) → (HasCleanDisk c → IsCommitted b c) → Survives b c (λ db. Leaves b.now db (contents_of b.now))
+    → (HasCleanDisk c → (contents_of c.now ≡ f (contents_of a.now)) × KeepsTheirs a.now c.now × KeepsUnshown a.now c.now.trees × IsReady c) × Survives a c (λ db. Leaves a.now db (f (contents_of a.now)))
+transaction_is a b c f under h before done after = (λ clean. commits_change a b c f (h (clean_before b c _ after clean)) (done clean), survives_whole a b c f under h before after)
