@@ -24,7 +24,7 @@ pub record IsOurs (db : Database) : Type 0 where
   pub has : HasTables db.schema
   pub keyed : AllByRecursion (λ t. IsKeyed (rows_named db t.name)) our_tables
 
--- between calls, outside a transaction
+-- between transactions: what the connection shows is ours, and so did the last commit leave it
 pub record IsReady (s : State) : Type 0 where
   pub ours : IsOurs s.now
   pub settled : s.now ≡ s.committed
@@ -72,7 +72,7 @@ pub record IsInside (s : State) : Type 0 where
   pub has : IsTrue s.is_open → HasTables s.now.schema
   pub mode : s.in_transaction ≡ true
 
--- nothing changes
+-- The same while the tables are tested, of which it isn't known yet that they are ours: nothing changes.
 pub record Rests (old new : State) : Type 0 where
   pub was_open : IsTrue old.is_open
   pub is_open : IsTrue new.is_open

@@ -8,7 +8,7 @@ use Rattle.sqlite.specs.Does.{lacks_sequence}
 use Rattle.rows.specs.Forms.{our_tables}
 use Rattle.rows.specs.Standing.{is_unreferred, is_alone, is_unguarded}
 
--- the table has the form, and is found by its tree too, which is no tree of a computed table
+-- the table has the form, and is found by its tree too, which is below the numbers that a query gives to tables of its own
 pub record HasForm (tables : List Table) (form found : Table) : Type 0 where
   pub same : found ≡ record form { tree = found.tree }
   pub by_tree : find (λ t. t.tree == found.tree) tables ≡ Some (record form { tree = found.tree })
@@ -20,6 +20,7 @@ pub record IsLeftAlone (s : Schema) (name : List ℕ) (tree : ℕ) (key : List �
   pub alone : is_alone s name tree ≡ true
   pub unguarded : is_unguarded s tree key ≡ true
 
+-- the table is ours: of the form, and left alone
 pub record IsThis (s : Schema) (form found : Table) : Type 0 where
   pub has_form : HasForm s.tables form found
   pub left_alone : IsLeftAlone s form.name found.tree form.primary

@@ -11,7 +11,7 @@ use Rattle.rows.specs.Forms.{our_tables}
 abbrev pub IsNamed : Schema → List ℕ → ℕ → Table → Type 0
 IsNamed s name at table = (table_named s name ≡ Some at) × (slice_get s.tables at ≡ Some table)
 
--- the table is found by its tree too, which is no tree of a computed table
+-- the table is found by its tree too, which is below the numbers that a query gives to tables of its own
 pub record IsKnown (s : Schema) (name : List ℕ) (at : ℕ) (table : Table) : Type 0 where
   pub named : IsNamed s name at table
   pub by_tree : find (λ t. t.tree == table.tree) s.tables ≡ Some table
