@@ -1,13 +1,15 @@
--- That the last commit is ours, where the rowids and texts that a transaction shows were tested.
-use Rattle.std.proofs.Common.{◌≡◌, ◌↔◌, Bool, Result, Ok, Err, IfOk, OnOk, IsTrue, sym, subst, ◌∙◌}
+-- That the last commit is ours, where the rowids and texts that a transaction shows were tested; and what an open that failed is told as.
+use Rattle.std.proofs.Common.{◌≡◌, ◌↔◌, Bool, Option, Some, None, Result, Ok, Err, IfOk, IfErr, IfSome, OnOk, IsTrue, sym, subst, ◌∙◌}
 use Rattle.std.specs.List.{AllByRecursion}
 use Rattle.sqlite.specs.State.{State}
+use Rattle.sqlite.specs.declared.error.Error.{Error}
 use Rattle.rows.specs.declared.finding.Finding.{Finding}
 use Rattle.rows.specs.declared.finding.Finding.TheVariants.{Ours, Nothing}
 use Rattle.rows.specs.Standing.{HasTables}
 use Rattle.rows.specs.Finding.{HasNone}
 use Rattle.rows.specs.Texts.{AreReadable, HasReadableRows}
-use Rattle.rows.specs.Opened.{IsFound}
+use Rattle.rows.specs.Failures.{opening_failure}
+use Rattle.rows.specs.Opened.{IsFound, answer_of}
 use Rattle.sqlite.specs.Effect.{Database, IsDatabase}
 use Rattle.rows.specs.declared.failure.Failure.{Failure}
 use Rattle.rows.specs.Forms.{our_tables}
@@ -27,10 +29,22 @@ tested a m n (Ok b) inside sound settled keyed told =
     (subst IsOurs (settled keyed.0.was_open ∙ sym keyed.0.committed ∙ sym told.0.committed) ours, then (subst (λ (d : Database). IsTrue b ↔ HasReadableRows d) keyed.0.now told.1) (readable_by_maps a.now ours.sound ours.has ours.keyed))
 
 -- what was found before the test is found after it, since nothing changed
-pub found_by : (f : Finding) (old new : State) → (f ≡ Ours ↔ HasTables old.now.schema × AreReadable (contents_of old.now)) → (f ≡ Nothing ↔ HasNone old.now.schema) → (f ≡ Ours → IsReady new) → (new.now ≡ old.now) × (new.committed ≡ old.committed) → old.now ≡ old.committed → IsFound f new
-found_by f old new ours nothing ready same was = record {
-  ours = subst (λ (d : Database). f ≡ Ours ↔ HasTables d.schema × AreReadable (contents_of d)) (sym same.0) ours;
-  nothing = subst (λ (d : Database). f ≡ Nothing ↔ HasNone d.schema) (sym same.0) nothing;
+pub found_by : (f : Finding) (old new : State) → (f ≡ Ours ↔ HasTables old.now.schema × AreReadable (contents_of old.now)) → (f ≡ Nothing ↔ HasNone old.now.schema) → (f ≡ Ours → IsReady new) → new.now ≡ old.now → new.now ≡ new.committed → IsFound f new
+found_by f old new ours nothing ready same settled = record {
+  ours = subst (λ (d : Database). f ≡ Ours ↔ HasTables d.schema × AreReadable (contents_of d)) (sym same) ours;
+  nothing = subst (λ (d : Database). f ≡ Nothing ↔ HasNone d.schema) (sym same) nothing;
   ready = ready;
-  settled = same.0 ∙ was ∙ sym same.1;
+  settled = settled;
 }
+
+none_told : {A : Type 0} (P : A → Type 0) (f : Option Failure) → IfOk (answer_of f) (λ o. IfSome o P)
+none_told P (Some f) = tt
+none_told P None = tt
+
+-- what holds of a connection that was opened carries over to what it is taken up as
+pub carried : {C A : Type 0} (G : C → Type 0) (Q : C → A → Type 0) (P : A → Type 0) → ((c : C) (it : A) → G c → Q c it → P it)
+    → (opened : Result C Error) (r : Result (Option A) Failure) → IfErr opened (λ e. r ≡ answer_of (opening_failure e)) → IfOk opened G → IfOk opened (λ c. IfOk r (λ o. IfSome o (Q c))) → IfOk r (λ o. IfSome o P)
+carried {A = A} G Q P step (Err e) r refused given taken = subst (λ (r : Result (Option A) Failure). IfOk r (λ o. IfSome o P)) (sym refused) (none_told P (opening_failure e))
+carried G Q P step (Ok c) (Err f) refused given taken = tt
+carried G Q P step (Ok c) (Ok None) refused given taken = tt
+carried G Q P step (Ok c) (Ok (Some it)) refused given taken = step c it given taken

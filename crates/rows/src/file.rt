@@ -1,24 +1,24 @@
 //! Opening a file: a database with what it holds of ours, or something else.
 
-ghost use Rattle.std.specs.Prelude.{◌≡◌, false, IsTrue, IfOk, IfSome};
-ghost use Rattle.sqlite.specs.State.{HasCleanDisk};
-ghost use Rattle.sqlite.specs.Held.{IsNew};
-ghost use Rattle.sqlite.specs.Files.{file_state, IsOpened};
+ghost use Rattle.std.specs.Prelude.{◌≡◌, false, Ok, None, IsTrue, IsSome, IfOk, IfErr, IfSome, OnOk, codes};
+ghost use Rattle.sqlite.specs.State.{HasCleanDisk, Survives};
+ghost use Rattle.sqlite.specs.Held.{state};
+ghost use Rattle.sqlite.specs.Files.{file_state};
 ghost use Rattle.rows.specs.Failures.{opening_failure};
-ghost use Rattle.rows.specs.Opened.{IsFound};
+ghost use Rattle.rows.specs.Opened.{IsFound, answer_of};
 
 use crate::failure::Failure;
 use crate::finding::Finding;
 use crate::opening;
-use sqlite::{Connection, Error, ErrorCode, File, FileStore};
+use sqlite::{Alter, Connection, Error, ErrorCode, File, FileStore};
 use std::alloc::Global;
 use std::rt::HostRuntime;
 
-/// A database in a file, and what it holds of ours. If that is `Ours`, it is ready for transactions.
-pub struct Opened {
+/// A database that was opened, and what it holds of ours. If that is `Ours`, it is ready for transactions.
+pub struct Opened<S: Alter> {
     /// The connection, outside a transaction.
-    pub conn: Connection<FileStore<File>>,
-    /// What the file holds of ours.
+    pub conn: Connection<S>,
+    /// What the database holds of ours.
     pub found: Finding,
 }
 
@@ -36,12 +36,36 @@ fn failure(error: Error) -> Option<Failure>
     }
 }
 
-fn connect(rt: &HostRuntime, path: &str) -> Result<Option<Connection<FileStore<File>>>, Failure>
-    ensures opened { IfOk result (λ o. IfSome o (λ c. HasCleanDisk (file_state c) → IsOpened c)) }
-    ensures fresh { IfOk result (λ o. IfSome o IsNew) }
+fn look<S: Alter + Drop>(alloc: Global, mut conn: Connection<S>) -> Result<Opened<S>, Failure>
+    requires alone { conn.in_transaction ≡ false }
+    ensures alone { IfOk result (λ it. it.conn.in_transaction ≡ false) }
+    ensures found { IfOk result (λ it. HasCleanDisk (state S.Store it.conn) → IsTrue (state S.Store it.conn).is_open → IsFound it.found (state S.Store it.conn)) }
+    ensures same { IfOk result (λ it. HasCleanDisk (state S.Store it.conn) → IsTrue (state S.Store it.conn).is_open → ((state S.Store it.conn).now ≡ (state S.Store conn).now) × ((state S.Store it.conn).committed ≡ (state S.Store conn).committed)) }
+    ensures survives { IfOk result (λ it. Survives (state S.Store conn) (state S.Store it.conn) (λ _. ⊥)) }
 {
-    match Connection::open(rt, path) {
-        Ok(conn) => Ok(Some(conn)),
+    let found = opening::open(alloc, &mut conn)?;
+    let settled = conn.is_autocommit();
+    prove!(settled);
+    Ok(Opened { conn, found })
+}
+
+/// Takes up what an open of `sqlite` answered: the connection, with what its database holds of ours; or the failure that kept it
+/// from opening, or `None` where that was another cause than memory, size or the disk. A connection that opened is never told as
+/// `None`; where what it holds can't be told, which is a failure, it is let go.
+pub fn take_up<S: Alter + Drop>(
+    alloc: Global,
+    opened: Result<Connection<S>, Error>,
+) -> Result<Option<Opened<S>>, Failure>
+    requires alone { IfOk opened (λ c. c.in_transaction ≡ false) }
+    ensures refused { IfErr opened (λ e. result ≡ answer_of (opening_failure e)) }
+    ensures taken { OnOk opened (IfOk result IsSome) }
+    ensures alone { IfOk result (λ o. IfSome o (λ it. it.conn.in_transaction ≡ false)) }
+    ensures found { IfOk result (λ o. IfSome o (λ it. HasCleanDisk (state S.Store it.conn) → IsTrue (state S.Store it.conn).is_open → IsFound it.found (state S.Store it.conn))) }
+    ensures same { IfOk opened (λ c. IfOk result (λ o. IfSome o (λ it. HasCleanDisk (state S.Store it.conn) → IsTrue (state S.Store it.conn).is_open → ((state S.Store it.conn).now ≡ (state S.Store c).now) × ((state S.Store it.conn).committed ≡ (state S.Store c).committed)))) }
+    ensures survives { IfOk opened (λ c. IfOk result (λ o. IfSome o (λ it. Survives (state S.Store c) (state S.Store it.conn) (λ _. ⊥)))) }
+{
+    match opened {
+        Ok(conn) => Ok(Some(look(alloc, conn)?)),
         Err(error) => match failure(error) {
             Some(failure) => Err(failure),
             None => Ok(None),
@@ -49,24 +73,15 @@ fn connect(rt: &HostRuntime, path: &str) -> Result<Option<Connection<FileStore<F
     }
 }
 
-fn take_up(alloc: Global, mut conn: Connection<FileStore<File>>) -> Result<Opened, Failure>
-    requires opened { HasCleanDisk (file_state conn) → IsOpened conn }
-    requires fresh { IsNew conn }
-    ensures alone { IfOk result (λ it. it.conn.in_transaction ≡ false) }
-    ensures found { IfOk result (λ it. HasCleanDisk (file_state it.conn) → IsTrue (file_state it.conn).is_open → IsFound it.found (file_state it.conn)) }
-{
-    let found = opening::open(alloc, &mut conn)?;
-    Ok(Opened { conn, found })
-}
-
-/// Opens the file at a path, or makes an empty database there. The answer is `None` where `sqlite` doesn't open what is there, for
-/// another cause than memory, size or the disk.
-pub fn open(rt: &HostRuntime, path: &str) -> Result<Option<Opened>, Failure>
+/// Opens the file at a path, or makes an empty database there, and takes it up. That the connection shows what the file held,
+/// where it wasn't empty, no clause says. A program that states it calls `Connection::open_from` and hands on to `take_up` the
+/// connection or the error.
+pub fn open(rt: &HostRuntime, path: &str) -> Result<Option<Opened<FileStore<File>>>, Failure>
+    ensures memory { path.now ≡ codes ":memory:" → result ≡ Ok None }
     ensures alone { IfOk result (λ o. IfSome o (λ it. it.conn.in_transaction ≡ false)) }
     ensures found { IfOk result (λ o. IfSome o (λ it. HasCleanDisk (file_state it.conn) → IsTrue (file_state it.conn).is_open → IsFound it.found (file_state it.conn))) }
+    ensures guarded { IfOk result (λ o. IfSome o (λ it. HasCleanDisk (file_state it.conn) → (file_state it.conn).IsShielded)) }
 {
-    match connect(rt, path)? {
-        Some(conn) => Ok(Some(take_up(rt.alloc(), conn)?)),
-        None => Ok(None),
-    }
+    let opened = Connection::open(rt, path);
+    take_up(rt.alloc(), opened)
 }
