@@ -1,9 +1,10 @@
-//! Files opened: one that is new, ours, somebody else's, and what is no database.
+//! Files opened: one that is new, ours, somebody else's, and what isn't opened.
 
 use crate::tests::steps::{Step, on_file};
 use rows::failure::Failure;
 use rows::file::{self, Opened};
 use rows::finding::Finding;
+use sqlite::Connection;
 use std::fs;
 use std::rt::HostRuntime;
 use std::test::Fail;
@@ -14,6 +15,14 @@ fn told(rt: &HostRuntime, path: &str) -> Result<Option<Finding>, Failure> {
         Some(Opened { conn: _, found }) => Ok(Some(found)),
         None => Ok(None),
     }
+}
+
+/// The same, while another connection has the file open.
+fn told_beside(rt: &HostRuntime, path: &str) -> Result<Option<Finding>, Fail> {
+    let other = Connection::open(rt, path)?;
+    let found = told(rt, path)?;
+    other.close()?;
+    Ok(found)
 }
 
 #[test]
@@ -37,7 +46,7 @@ fn a_new_file_and_ours(rt: HostRuntime) -> Result<(), Fail> {
 }
 
 #[test]
-fn what_is_no_database(rt: HostRuntime) -> Result<(), Fail> {
+fn what_is_not_opened(rt: HostRuntime) -> Result<(), Fail> {
     let _ = fs::remove_dir_all(&rt, "rows_no_file");
     fs::create_dir(&rt, "rows_no_file")?;
     let path = "rows_no_file/text";
@@ -47,6 +56,7 @@ fn what_is_no_database(rt: HostRuntime) -> Result<(), Fail> {
     assert_eq!(rt; told(&rt, "rows_no_file"), Ok(None));
     assert_eq!(rt; told(&rt, "rows_no_file/none/a.db"), Ok(None));
     assert_eq!(rt; told(&rt, ":memory:"), Ok(None));
+    assert_eq!(rt; told_beside(&rt, "rows_no_file/a.db")?, None);
     fs::remove_dir_all(&rt, "rows_no_file")?;
     Ok(())
 }
