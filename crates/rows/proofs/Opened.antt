@@ -48,3 +48,7 @@ carried {A = A} G Q P step (Err e) r refused given taken = subst (λ (r : Result
 carried G Q P step (Ok c) (Err f) refused given taken = tt
 carried G Q P step (Ok c) (Ok None) refused given taken = tt
 carried G Q P step (Ok c) (Ok (Some it)) refused given taken = step c it given taken
+
+pub any_ok : {T E : Type 0} (r : Result T E) (P : Type 0) → P → OnOk r P
+any_ok (Ok x) P h = h
+any_ok (Err e) P h = tt

@@ -1,6 +1,6 @@
 //! Taking up a connection: what its database holds of ours, and that the rows of our tables can be told apart.
 
-ghost use Rattle.std.specs.Prelude.{◌≡◌, ◌↔◌, false, IsTrue, IfOk, OnOk};
+ghost use Rattle.std.specs.Prelude.{◌≡◌, ◌↔◌, true, false, IsTrue, IfOk, OnOk};
 ghost use Rattle.sqlite.specs.Effect.{IsDatabase};
 ghost use Rattle.sqlite.specs.State.{HasCleanDisk, IsLive, KeepsCommit, Survives};
 ghost use Rattle.sqlite.specs.Held.{state};
@@ -13,7 +13,7 @@ ghost use Rattle.rows.specs.declared.finding.Finding.TheVariants.{Ours, Nothing}
 
 use crate::failure::Failure;
 use crate::finding::{self, Finding};
-use crate::{keyed, readable};
+use crate::{keyed, readable, statement};
 use sqlite::{Alter, Connection, Transaction};
 use std::alloc::Global;
 
@@ -25,6 +25,7 @@ fn test<S: Alter>(alloc: Global, tx: &mut Transaction<'_, S>) -> Result<bool, Fa
     ensures same_reference { tx.new.conn.ghost_name ≡ tx.old.conn.ghost_name }
     ensures ours { HasCleanDisk (state S.Store tx.new.conn.now) → OnOk result (IsOurs (state S.Store tx.new.conn.now).committed) }
     ensures told { HasCleanDisk (state S.Store tx.new.conn.now) → IfOk result (λ all. IsTrue all ↔ AreReadable (contents_of (state S.Store tx.old.conn.now).now)) }
+    ensures open { HasCleanDisk (state S.Store tx.new.conn.now) → OnOk result (IsTrue (state S.Store tx.old.conn.now).is_open) }
     ensures kept { HasCleanDisk (state S.Store tx.new.conn.now) → KeepsCommit (state S.Store tx.old.conn.now) (state S.Store tx.new.conn.now) }
     ensures survives { Survives (state S.Store tx.old.conn.now) (state S.Store tx.new.conn.now) (λ _. ⊥) }
 {
@@ -40,6 +41,7 @@ fn check<S: Alter>(alloc: Global, conn: &mut Connection<S>) -> Result<bool, Fail
     requires settled { HasCleanDisk (state S.Store conn.old) → IsTrue (state S.Store conn.old).is_open → (state S.Store conn.old).now ≡ (state S.Store conn.old).committed }
     ensures alone { conn.new.in_transaction ≡ false }
     ensures ready { HasCleanDisk (state S.Store conn.new) → IsTrue (state S.Store conn.new).is_open → OnOk result (IsReady (state S.Store conn.new)) }
+    ensures open { HasCleanDisk (state S.Store conn.new) → OnOk result (IsTrue (state S.Store conn.old).is_open) }
     ensures told { HasCleanDisk (state S.Store conn.new) → IsTrue (state S.Store conn.new).is_open → IfOk result (λ all. IsTrue all ↔ AreReadable (contents_of (state S.Store conn.old).now)) }
     ensures was_open { HasCleanDisk (state S.Store conn.new) → IsTrue (state S.Store conn.new).is_open → IsTrue (state S.Store conn.old).is_open }
     ensures same { HasCleanDisk (state S.Store conn.new) → IsTrue (state S.Store conn.new).is_open → ((state S.Store conn.new).now ≡ (state S.Store conn.old).now) × ((state S.Store conn.new).committed ≡ (state S.Store conn.old).committed) }
@@ -49,6 +51,35 @@ fn check<S: Alter>(alloc: Global, conn: &mut Connection<S>) -> Result<bool, Fail
     let tested = test(alloc, &mut tx);
     tx.rollback();
     tested
+}
+
+/// Succeeds if no fault has shut the connection.
+#[tactic(auto, using(crate::proofs::Scans::shown_open))]
+fn ask<S: Alter>(tx: &mut Transaction<'_, S>) -> Result<(), Failure>
+    requires { HasCleanDisk (state S.Store tx.old.conn.now) → (state S.Store tx.old.conn.now).in_transaction ≡ true }
+    ensures same_reference { tx.new.conn.ghost_name ≡ tx.old.conn.ghost_name }
+    ensures open { HasCleanDisk (state S.Store tx.new.conn.now) → OnOk result (IsTrue (state S.Store tx.old.conn.now).is_open) }
+    ensures kept { HasCleanDisk (state S.Store tx.new.conn.now) → KeepsCommit (state S.Store tx.old.conn.now) (state S.Store tx.new.conn.now) }
+    ensures survives { Survives (state S.Store tx.old.conn.now) (state S.Store tx.new.conn.now) (λ _. ⊥) }
+{
+    let _one = statement::query(tx, "SELECT 1", &[])?;
+    Ok(())
+}
+
+/// Succeeds if no fault has shut the connection. Nothing changes.
+fn probe<S: Alter>(conn: &mut Connection<S>) -> Result<(), Failure>
+    requires alone { conn.old.in_transaction ≡ false }
+    requires settled { HasCleanDisk (state S.Store conn.old) → IsTrue (state S.Store conn.old).is_open → (state S.Store conn.old).now ≡ (state S.Store conn.old).committed }
+    ensures alone { conn.new.in_transaction ≡ false }
+    ensures open { HasCleanDisk (state S.Store conn.new) → OnOk result (IsTrue (state S.Store conn.old).is_open) }
+    ensures was_open { HasCleanDisk (state S.Store conn.new) → IsTrue (state S.Store conn.new).is_open → IsTrue (state S.Store conn.old).is_open }
+    ensures same { HasCleanDisk (state S.Store conn.new) → IsTrue (state S.Store conn.new).is_open → ((state S.Store conn.new).now ≡ (state S.Store conn.old).now) × ((state S.Store conn.new).committed ≡ (state S.Store conn.old).committed) }
+    ensures survives { Survives (state S.Store conn.old) (state S.Store conn.new) (λ _. ⊥) }
+{
+    let mut tx = conn.transaction();
+    let asked = ask(&mut tx);
+    tx.rollback();
+    asked
 }
 
 /// What the connection's schema holds of ours.
@@ -61,10 +92,12 @@ pub fn find<S: Alter>(conn: &Connection<S>) -> Finding
 }
 
 /// What the connection's database holds of ours: `Ours` if all nine tables stand and each text in them is UTF-8. Then
-/// the connection is ready for transactions. Nothing changes. The answer is `Disk` too if two rows of a table of ours share a rowid.
+/// the connection is ready for transactions. Nothing changes. It fails where a fault has shut the connection, and if two rows of a table of ours
+/// share a rowid.
 pub fn open<S: Alter>(alloc: Global, conn: &mut Connection<S>) -> Result<Finding, Failure>
     requires alone { conn.old.in_transaction ≡ false }
     ensures alone { conn.new.in_transaction ≡ false }
+    ensures open { HasCleanDisk (state S.Store conn.new) → OnOk result (IsTrue (state S.Store conn.old).is_open) }
     ensures ours { HasCleanDisk (state S.Store conn.new) → IsTrue (state S.Store conn.new).is_open → IfOk result (λ f. f ≡ Ours ↔ HasTables (state S.Store conn.old).now.schema × AreReadable (contents_of (state S.Store conn.old).now)) }
     ensures nothing { IfOk result (λ f. f ≡ Nothing ↔ HasNone (state S.Store conn.old).now.schema) }
     ensures ready { HasCleanDisk (state S.Store conn.new) → IsTrue (state S.Store conn.new).is_open → IfOk result (λ f. f ≡ Ours → IsReady (state S.Store conn.new)) }
@@ -79,6 +112,8 @@ pub fn open<S: Alter>(alloc: Global, conn: &mut Connection<S>) -> Result<Finding
         if !check(alloc, conn)? {
             return Ok(Finding::Other);
         }
+    } else {
+        probe(conn)?;
     }
     Ok(found)
 }

@@ -2,7 +2,7 @@ use Rattle.std.proofs.Common.{arith}
 use Rattle.sqlite.specs.State.{HasCleanDisk}
 use Rattle.sqlite.specs.Held.{state}
 use Rattle.sqlite.proofs.InsideLemmas.{keeps_then}
-use Rattle.rows.proofs.Opened.{tested}
+use Rattle.rows.proofs.Opened.{any_ok, tested}
 use Rattle.rows.proofs.opening.test.Goals as goal
 
 pub returns-clause-ours : goal.returns-clause-ours
@@ -30,3 +30,9 @@ returns-clause-kept g c clean =
     let n = state g.S.Store c.all-2.new.tx.conn.now in
     let clean2 : HasCleanDisk m = omega (arith, c.all-2.ensures.survives.clean) in
     keeps_then a m n (c.all.ensures.kept clean2) (c.all-2.ensures.kept clean)
+
+pub returns-clause-open : goal.returns-clause-open
+returns-clause-open g c clean =
+    let m = state g.S.Store c.all.new.tx.conn.now in
+    let clean2 : HasCleanDisk m = omega (arith, c.all-2.ensures.survives.clean) in
+    any_ok c.all-2.result _ (c.in_ok-all.ensures.keyed clean2).0.was_open
