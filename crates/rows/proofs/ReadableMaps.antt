@@ -136,7 +136,7 @@ module _ (rows : List Row) (typed : (row : Row) → Has rows row → is_generati
       columns row there one two four (suc (suc (suc zero))) low = readable_of (column row 4) (and_so _ _ (typed row there)).1 four
       columns row there one two four (suc (suc (suc (suc at)))) low = absurd (omega (arith, low))
 
-blob_readable : (v : Value) → is_blob v ≡ true → IsReadable v
+pub blob_readable : (v : Value) → is_blob v ≡ true → IsReadable v
 blob_readable Null h = tt
 blob_readable (Int n) h = tt
 blob_readable (Real x) h = tt

@@ -1,14 +1,12 @@
 -- That the texts of each table of ours are UTF-8 exactly where those are that the read of all its rows shows.
 use Rattle.std.proofs.Common.{◌≡◌, ◌↔◌, zero, suc, [], ◌∷◌, Bool, true, IsTrue, arith, refl}
-use Rattle.sqlite_value.specs.declared.value.Value.{Value}
-use Rattle.sqlite_value.specs.declared.value.Value.TheVariants.{Null, Int, Real, Text, Blob}
 use Rattle.sqlite_value.specs.Order.{Row, column}
 use Rattle.sqlite_schema.specs.declared.schema.Table.{Table}
 use Rattle.sqlite.specs.Effect.{IsDatabase}
 use Rattle.sqlite.specs.State.{State}
 use Rattle.rows.specs.Forms.{meta, object, refs, outs, permanent, user_root, profile, generation, runtime}
 use Rattle.rows.specs.Standing.{Stands}
-use Rattle.rows.specs.Contents.{is_blob, rows_named}
+use Rattle.rows.specs.Contents.{rows_named}
 use Rattle.rows.specs.Texts.{IsReadable, IsReadableRow, AreReadableRows}
 use Rattle.rows.specs.Calls.{Rests}
 use Rattle.rows.proofs.SettingLemmas as settings
@@ -22,6 +20,7 @@ use Rattle.rows.proofs.GenerationLemmas as generations
 use Rattle.rows.proofs.RuntimeRootLemmas as runtime_roots
 use Rattle.rows.proofs.Truths.{and_so}
 use Rattle.rows.proofs.Typed.{objects_typed}
+use Rattle.rows.proofs.ReadableMaps.{blob_readable}
 use Rattle.rows.proofs.ReadableRows.{Tells, AreOfUtf8, told_if, all_cells}
 
 -- whether the texts of a table are UTF-8, and nothing changes
@@ -53,13 +52,6 @@ pub runtime_told : (old new : State) → Stands old.now.schema runtime → (b : 
 runtime_told old new stands = told_if runtime.name runtime.columns runtime.primary runtime_roots.all_text runtime_roots.names (runtime_roots.query []) (λ tree. record { from = refl; group = refl; distinct = refl; whole = λ params rows. refl }) (λ tree. refl) runtime_roots.all_is old new stands (λ tree r there. all_cells 2 r)
 
 -- ---- the objects, whose archives are not shown: they are no texts
-
-blob_readable : (v : Value) → is_blob v ≡ true → IsReadable v
-blob_readable Null h = tt
-blob_readable (Int n) h = tt
-blob_readable (Real x) h = tt
-blob_readable (Text t) h = absurd cc
-blob_readable (Blob b) h = tt
 
 abbrev shown_of : Row → Row
 shown_of r = column r 1 ∷ column r 3 ∷ column r 4 ∷ column r 5 ∷ []

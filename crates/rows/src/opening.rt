@@ -92,8 +92,8 @@ pub fn find<S: Alter>(conn: &Connection<S>) -> Finding
 }
 
 /// What the connection's database holds of ours: `Ours` if all nine tables stand and each text in them is UTF-8. Then
-/// the connection is ready for transactions. Nothing changes. It fails where a fault has shut the connection, and if two rows of a table of ours
-/// share a rowid.
+/// the connection is ready for transactions. Nothing changes. It fails where a fault has shut the connection, and if two
+/// rows of a table of ours share a rowid.
 pub fn open<S: Alter>(alloc: Global, conn: &mut Connection<S>) -> Result<Finding, Failure>
     requires alone { conn.old.in_transaction ≡ false }
     ensures alone { conn.new.in_transaction ≡ false }

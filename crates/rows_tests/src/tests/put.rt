@@ -154,7 +154,7 @@ fn all<S: Alter>(alloc: Global, tx: &mut Transaction<'_, S>) -> Result<(), Failu
 }
 
 /// Puts a row or two into each table, in one transaction.
-pub fn fill<S: Alter>(alloc: Global, conn: &mut Connection<S>) -> Result<(), Failure> {
+pub(crate) fn fill<S: Alter>(alloc: Global, conn: &mut Connection<S>) -> Result<(), Failure> {
     let mut tx = begin(alloc, conn)?;
     all(alloc, &mut tx)?;
     transaction::commit(tx)

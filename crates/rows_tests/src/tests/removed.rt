@@ -93,14 +93,17 @@ fn all<S: Alter>(tx: &mut Transaction<'_, S>) -> Result<(), Failure>
 }
 
 /// Removes all rows but an object and a generation, in one transaction.
-pub fn clear<S: Alter>(alloc: Global, conn: &mut Connection<S>) -> Result<(), Failure> {
+pub(crate) fn clear<S: Alter>(alloc: Global, conn: &mut Connection<S>) -> Result<(), Failure> {
     let mut tx = begin(alloc, conn)?;
     all(&mut tx)?;
     transaction::commit(tx)
 }
 
 /// The same in a transaction that is rolled back.
-pub fn clear_in_vain<S: Alter>(alloc: Global, conn: &mut Connection<S>) -> Result<(), Failure> {
+pub(crate) fn clear_in_vain<S: Alter>(
+    alloc: Global,
+    conn: &mut Connection<S>,
+) -> Result<(), Failure> {
     let mut tx = begin(alloc, conn)?;
     all(&mut tx)?;
     tx.rollback();

@@ -120,7 +120,7 @@ fn show_part<S: Alter>(
 }
 
 /// The rows of all nine, table by table.
-pub fn all<S: Alter>(
+pub(crate) fn all<S: Alter>(
     alloc: Global,
     conn: &mut Connection<S>,
     text: &mut String,
@@ -133,7 +133,7 @@ pub fn all<S: Alter>(
 }
 
 /// The rows of some keys, and of some fronts of keys.
-pub fn parts<S: Alter>(
+pub(crate) fn parts<S: Alter>(
     alloc: Global,
     conn: &mut Connection<S>,
     text: &mut String,

@@ -103,13 +103,13 @@ fn take_all<S: Alter>(
 }
 
 /// The steps are taken over a database in memory.
-pub fn in_memory(alloc: Global, steps: &[&[Step<'_>]]) -> Result<(), Fail> {
+pub(crate) fn in_memory(alloc: Global, steps: &[&[Step<'_>]]) -> Result<(), Fail> {
     let mut conn = Connection::open_in_memory(alloc)?;
     take_all(alloc, &mut conn, steps)
 }
 
 /// The steps are taken over a file, which is then closed.
-pub fn on_file(rt: &HostRuntime, path: &str, steps: &[&[Step<'_>]]) -> Result<(), Fail> {
+pub(crate) fn on_file(rt: &HostRuntime, path: &str, steps: &[&[Step<'_>]]) -> Result<(), Fail> {
     let mut conn = Connection::open(rt, path)?;
     take_all(rt.alloc(), &mut conn, steps)?;
     conn.close()?;

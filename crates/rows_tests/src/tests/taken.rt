@@ -12,7 +12,7 @@ use sqlite::{Alter, Connection, Transaction};
 use std::alloc::Global;
 
 /// Begins a transaction over our tables; where the connection has none of them, or is inside a transaction, the answer is `Disk`.
-pub fn begin<S: Alter>(
+pub(crate) fn begin<S: Alter>(
     alloc: Global,
     conn: &mut Connection<S>,
 ) -> Result<Transaction<'_, S>, Failure>
@@ -25,7 +25,7 @@ pub fn begin<S: Alter>(
 }
 
 /// What the connection holds of ours; where it is inside a transaction, the answer is `Disk`.
-pub fn found<S: Alter>(alloc: Global, conn: &mut Connection<S>) -> Result<Finding, Failure> {
+pub(crate) fn found<S: Alter>(alloc: Global, conn: &mut Connection<S>) -> Result<Finding, Failure> {
     if !conn.is_autocommit() {
         return Err(Failure::Disk);
     }
@@ -33,7 +33,7 @@ pub fn found<S: Alter>(alloc: Global, conn: &mut Connection<S>) -> Result<Findin
 }
 
 /// Makes the nine tables where there is nothing of them.
-pub fn make<S: Alter>(conn: &mut Connection<S>) -> Result<(), Failure> {
+pub(crate) fn make<S: Alter>(conn: &mut Connection<S>) -> Result<(), Failure> {
     if !conn.is_autocommit() {
         return Err(Failure::Disk);
     }
