@@ -33,6 +33,16 @@ IsExcused old new Disk = HasCause old new ⊤ Io ⊎ (old.is_open ≡ false)
 abbrev pub FailsFor : State → State → Failure → Type 0
 FailsFor old new f = (IsExcused old new f × IsRolledBack old new) ⊎ (IsUnchanged old new × (f ≢ Size))
 
+-- a fault of the disk came in this call, or an earlier one had shut the connection
+abbrev pub HasDiskCause : State → State → Type 0
+HasDiskCause old new = HasCause old new ⊤ Io ⊎ (old.is_open ≡ false)
+
+-- Why a call inside a transaction failed. For want of memory the transaction is undone, or nothing changes. A row too large, where there can be one, undoes it, and so does a fault of the disk. Where there is a reason to refuse the call, the answer is the disk too, and nothing changes.
+abbrev pub FailsWith : State → State → (large refused : Type 0) → Failure → Type 0
+FailsWith old new large refused Memory = IsRolledBack old new ⊎ IsUnchanged old new
+FailsWith old new large refused Size = large × IsRolledBack old new
+FailsWith old new large refused Disk = (HasDiskCause old new × IsRolledBack old new) ⊎ (refused × IsUnchanged old new)
+
 -- the store failed at a commit, which no size does, and the transaction is undone
 abbrev pub FailsToCommit : State → State → Failure → Type 0
 FailsToCommit old new f = IsExcused old new f × IsRolledBack old new × (f ≢ Size)
