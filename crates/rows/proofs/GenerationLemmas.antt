@@ -25,7 +25,8 @@ use Rattle.sqlite_resolve.specs.Program.{program}
 use Rattle.sqlite_resolve.specs.Write.{over}
 use Rattle.sqlite_rules.specs.Edit.{next_rowid, is_taken, id_in}
 use Rattle.sqlite_tied.specs.Compute.{everything}
-use Rattle.sqlite.specs.State.{State, ExecutesInside, IsUnchanged, Shown}
+use Rattle.sqlite.specs.declared.error.Error.{Error}
+use Rattle.sqlite.specs.State.{State, ExecutesInside, IsUnchanged, Shown, FailsToQuery, IsTooLate}
 use Rattle.rows.specs.declared.failure.Failure.{Failure}
 use Rattle.rows.specs.declared.generations.Generation.{Generation}
 use Rattle.rows.specs.Forms.{generation}
@@ -35,15 +36,18 @@ use Rattle.rows.specs.Calls.{IsUnderWay, Changes, Stays}
 use Rattle.rows.specs.Entries.{generation_in, ShowsGeneration}
 use Rattle.rows.proofs.Orders.{triple_total, triple_antisymmetric}
 use Rattle.rows.proofs.Truths.{cast_null, cast_int, free_of, and_so, text_test, int_test, both_tests, all_tests}
-use Rattle.rows.proofs.Means.{Means, insert_means, delete_means, ordered_by_three, means_command, plain_state, shown_column}
+use Rattle.rows.proofs.Means.{IsMeant, insert_means, delete_means, ordered_by_three, means_command, plain_state, shown_column}
 use Rattle.rows.proofs.Conditions.{where_two, where_three, equals, select_context, filter_in}
 use Rattle.rows.proofs.Columns.{bounds_are, outputs_four, result_context, from_in, shown_in}
 use Rattle.rows.proofs.Writes.{SetsRows, inserts_in, rowids_where}
-use Rattle.rows.proofs.Scans.{shows}
+use Rattle.rows.proofs.Scans.{IsScan, shows}
 use Rattle.rows.proofs.Entries.{put_map}
 use Rattle.rows.proofs.Members.{keyed_put}
 use Rattle.rows.proofs.Places.{changed}
 use Rattle.rows.proofs.ContentsLemmas.{generation_set}
+use Rattle.rows.specs.Failures.{failure_of, FailsWith}
+use Rattle.rows.proofs.ReadFailures.{read_fails}
+use Rattle.std.specs.Prelude.{◌⊎◌, IsSome}
 use Rattle.rows.proofs.Statements.{answered_same, Compiles, Selects, reads_part, deletes_part, whole_map}
 
 -- ---- one more
@@ -54,9 +58,9 @@ insert_text = codes "INSERT INTO generation (owner, name, num, target) VALUES (?
 abbrev terms : List Term
 terms = lit Null ∷ col 0 0 ∷ col 0 1 ∷ col 0 2 ∷ col 0 3 ∷ []
 
-insert_is : (s : Schema) (at tree : ℕ) → IsNamed s (codes "generation") at (record generation { tree = tree }) → (c : Compiled) × Means s insert_text c × (c.command ≡ Insert at (Values terms 5)) × (c.returning ≡ None) × (c.formats ≡ [])
+insert_is : (s : Schema) (at tree : ℕ) → IsNamed s (codes "generation") at (record generation { tree = tree }) → IsMeant s insert_text 4 (Insert at (Values terms 5))
 unfolding everything
-insert_is s at tree found = (_, insert_means insert_text refl s at (codes "generation") generation.columns generation.primary tree _ found refl, refl, refl, refl)
+insert_is s at tree found = (_, insert_means insert_text refl s at (codes "generation") generation.columns generation.primary tree _ found refl, refl, refl, refl, refl, refl)
 
 pub inserts : (old new : State) (owner : List ℕ) (name : List ℕ) (number : ℤ) (target : List ℕ) (count : ℕ) → IsUnderWay old → finite.get (contents_of old.now).generations (owner, name, number) ≡ None → ExecutesInside 0 insert_text (Text owner ∷ Text name ∷ Int number ∷ Text target ∷ []) old new (Ok count)
     → Changes old new (λ c. record c { generations = finite.insert c.generations (owner, name, number) target })
@@ -94,11 +98,11 @@ said_three owner name number r kind = all_tests _ _ _ _ _ _ (text_test (column r
 abbrev pub delete_text : List ℕ
 delete_text = codes "DELETE FROM generation WHERE owner = ?1 AND name = ?2 AND num = ?3"
 
-delete_is : Compiles generation.name generation.columns generation.primary delete_text (λ at tree. Delete at (record { lets = []; body = rowids_where tree of_three }))
+delete_is : Compiles generation.name generation.columns generation.primary delete_text 3 (λ at tree. Delete at (record { lets = []; body = rowids_where tree of_three }))
 unfolding everything
 delete_is s at tree known =
     let there = known.named.1 in
-    (_, delete_means delete_text refl s at (codes "generation") generation.columns generation.primary tree of_three (plain_state 99989 None) _ known.named (where_three (over s at (codes "generation")) (filter_in delete_text) refl refl refl refl refl refl (codes "owner") (codes "name") (codes "num") at 0 1 2 (col 1 1) (col 1 2) (col 1 3) (equals (col 1 1) (col 0 0)) (equals (col 1 2) (col 0 1)) (equals (col 1 3) (col 0 2)) None max_budget (record { left_is = refl; right_is = refl; found = rw there; column = rw there; compare = rw there }) (record { left_is = refl; right_is = refl; found = rw there; column = rw there; compare = rw there }) (record { left_is = refl; right_is = refl; found = rw there; column = rw there; compare = rw there }) (refl, (refl, (refl, (refl, (refl, (refl, (refl, (refl, (refl, (refl, (refl, tt)))))))))))) (rw (known.low, known.by_tree)), refl, refl, refl)
+    (_, delete_means delete_text refl s at (codes "generation") generation.columns generation.primary tree of_three (plain_state 99989 None) _ known.named (where_three (over s at (codes "generation")) (filter_in delete_text) refl refl refl refl refl refl (codes "owner") (codes "name") (codes "num") at 0 1 2 (col 1 1) (col 1 2) (col 1 3) (equals (col 1 1) (col 0 0)) (equals (col 1 2) (col 0 1)) (equals (col 1 3) (col 0 2)) None max_budget (record { left_is = refl; right_is = refl; found = rw there; column = rw there; compare = rw there }) (record { left_is = refl; right_is = refl; found = rw there; column = rw there; compare = rw there }) (record { left_is = refl; right_is = refl; found = rw there; column = rw there; compare = rw there }) (refl, (refl, (refl, (refl, (refl, (refl, (refl, (refl, (refl, (refl, (refl, tt)))))))))))) (rw (known.low, known.by_tree)), refl, refl, refl, refl, refl)
 
 pub deletes : (old new : State) (owner : List ℕ) (name : List ℕ) (number : ℤ) (count : ℕ) → IsUnderWay old → ExecutesInside 0 delete_text (Text owner ∷ Text name ∷ Int number ∷ []) old new (Ok count)
     → Changes old new (λ c. record c { generations = finite.retain_keys c.generations (λ k. not (eq_by_cmp texts_cmp k.0 owner && (eq_by_cmp texts_cmp k.1 name && eq_by_cmp int_cmp k.2 number))) })
@@ -144,7 +148,7 @@ all_typed : (s : Schema) (at tree : ℕ) → IsKnown s (codes "generation") at (
 unfolding everything
 all_typed s at tree known = rw (known.low, known.by_tree)
 
-pub all_is : Compiles generation.name generation.columns generation.primary all_text (λ at tree. Select (whole [] tree) names)
+pub all_is : Compiles generation.name generation.columns generation.primary all_text 0 (λ at tree. Select (whole [] tree) names)
 unfolding everything
 all_is s at tree known =
     let there = known.named.1 in (
@@ -153,6 +157,8 @@ all_is s at tree known =
           (plain_state 100000 None) (plain_state 99996 (Some Binary)) 99996 (whole [] tree)
           known.named refl refl refl refl refl refl refl refl refl refl (bounds_are s (from_in all_text) refl (codes "generation") at refl refl refl known.named.0) (outputs_four (result_context s (codes "generation") at) (record { name = codes "generation"; table = at; slot = 1; shared = [] } ∷ []) (shown_in all_text) refl refl refl refl refl at (codes "owner") (codes "name") (codes "num") (codes "target") (record { names = refl; found = rw there; term = rw there; heading = rw there }) (record { names = refl; found = rw there; term = rw there; heading = rw there }) (record { names = refl; found = rw there; term = rw there; heading = rw there }) (record { names = refl; found = rw there; term = rw there; heading = rw there }) None max_budget (refl, (refl, (refl, (refl, tt))))) refl
           (refl, refl, refl, refl) (refl, refl, refl, refl) (refl, refl, refl, refl) refl refl refl refl refl refl (rw there) (rw there) (rw there) (rw there) (rw there) (rw there) refl refl refl (all_typed s at tree known),
+      refl,
+      refl,
       refl,
       refl,
       refl,
@@ -171,7 +177,7 @@ of_typed : (s : Schema) (at tree : ℕ) → IsKnown s (codes "generation") at (r
 unfolding everything
 of_typed s at tree known = rw (known.low, known.by_tree)
 
-of_is : Compiles generation.name generation.columns generation.primary of_text (λ at tree. Select (whole of_two tree) names)
+of_is : Compiles generation.name generation.columns generation.primary of_text 2 (λ at tree. Select (whole of_two tree) names)
 unfolding everything
 of_is s at tree known =
     let there = known.named.1 in (
@@ -180,6 +186,8 @@ of_is s at tree known =
           (plain_state 100000 None) (plain_state 99996 (Some Binary)) 99989 (whole of_two tree)
           known.named refl refl refl refl refl refl refl refl refl refl (bounds_are s (from_in of_text) refl (codes "generation") at refl refl refl known.named.0) (outputs_four (result_context s (codes "generation") at) (record { name = codes "generation"; table = at; slot = 1; shared = [] } ∷ []) (shown_in of_text) refl refl refl refl refl at (codes "owner") (codes "name") (codes "num") (codes "target") (record { names = refl; found = rw there; term = rw there; heading = rw there }) (record { names = refl; found = rw there; term = rw there; heading = rw there }) (record { names = refl; found = rw there; term = rw there; heading = rw there }) (record { names = refl; found = rw there; term = rw there; heading = rw there }) None max_budget (refl, (refl, (refl, (refl, tt))))) (where_two (select_context s (codes "generation") at outputs) (filter_in of_text) refl refl refl refl (codes "owner") (codes "name") at 0 1 (col 1 1) (col 1 2) (equals (col 1 1) (col 0 0)) (equals (col 1 2) (col 0 1)) (Some Binary) 99996 (record { left_is = refl; right_is = refl; found = rw there; column = rw there; compare = rw there }) (record { left_is = refl; right_is = refl; found = rw there; column = rw there; compare = rw there }) (refl, (refl, (refl, (refl, (refl, (refl, (refl, tt))))))))
           (refl, refl, refl, refl) (refl, refl, refl, refl) (refl, refl, refl, refl) refl refl refl refl refl refl (rw there) (rw there) (rw there) (rw there) (rw there) (rw there) refl refl refl (of_typed s at tree known),
+      refl,
+      refl,
       refl,
       refl,
       refl,
@@ -197,3 +205,16 @@ same_all old new under params rows shown = answered_same generation.name generat
 
 pub same_of : (old new : State) → IsUnderWay old → (params : Row) (rows : List Row) → Shown of_text params old new rows → IsUnchanged old new
 same_of old new under params rows shown = answered_same generation.name generation.columns generation.primary old new under (λ has. has.1.1.1.1.1.1.1.0) of_text (λ at tree. Select (whole of_two tree) names) of_is params rows shown
+
+-- ---- why a read fails
+
+scan : (filter : List Term) (tree : ℕ) → IsScan (query filter tree) tree
+scan filter tree = record { from = refl; group = refl; distinct = refl; whole = λ params rows. refl }
+
+pub fails_all : (old new : State) → IsUnderWay old → (e : Error) → FailsToQuery all_text [] old new e ⊎ IsTooLate all_text [] old new e → FailsWith old new ⊥ (IsSome old.step_limit) (failure_of e)
+unfolding everything
+fails_all old new under = read_fails generation.name generation.columns generation.primary old new under (λ has. has.1.1.1.1.1.1.1.0) all_text [] names (query []) (scan []) all_is (_, _, _, _, _, refl) (λ s at tree known. rw (known.low, known.by_tree) refl)
+
+pub fails_of : (old new : State) (owner : List ℕ) (name : List ℕ) → IsUnderWay old → (e : Error) → FailsToQuery of_text (Text owner ∷ Text name ∷ []) old new e ⊎ IsTooLate of_text (Text owner ∷ Text name ∷ []) old new e → FailsWith old new ⊥ (IsSome old.step_limit) (failure_of e)
+unfolding everything
+fails_of old new owner name under = read_fails generation.name generation.columns generation.primary old new under (λ has. has.1.1.1.1.1.1.1.0) of_text (Text owner ∷ Text name ∷ []) names (query of_two) (scan of_two) of_is (_, _, _, _, _, refl) (λ s at tree known. rw (known.low, known.by_tree) refl)

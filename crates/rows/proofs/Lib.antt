@@ -21,6 +21,7 @@ pub mod ReadableMaps
 pub mod Alike
 pub mod One
 pub mod Steps
+pub mod ReadFailures
 pub mod SettingLemmas
 pub mod ObjectLemmas
 pub mod ListingLemmas

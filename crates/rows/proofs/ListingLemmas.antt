@@ -19,7 +19,8 @@ use Rattle.sqlite_resolve.specs.declared.scope.Output.{Output as Out}
 use Rattle.sqlite_resolve.specs.Lowering.{max_budget}
 use Rattle.sqlite_resolve.specs.Program.{program}
 use Rattle.sqlite_tied.specs.Compute.{everything}
-use Rattle.sqlite.specs.State.{State, IsUnchanged, Shown}
+use Rattle.sqlite.specs.declared.error.Error.{Error}
+use Rattle.sqlite.specs.State.{State, IsUnchanged, Shown, FailsToQuery, IsTooLate}
 use Rattle.rows.specs.declared.failure.Failure.{Failure}
 use Rattle.rows.specs.declared.objects.Listed.{Listed}
 use Rattle.rows.specs.Forms.{object}
@@ -32,7 +33,10 @@ use Rattle.rows.proofs.Truths.{and_so}
 use Rattle.rows.proofs.Optional.{option_fits}
 use Rattle.rows.proofs.Means.{ordered_by_one, plain_state, shown_column}
 use Rattle.rows.proofs.Columns.{bounds_are, outputs_four_at, result_context, from_in, shown_in}
-use Rattle.rows.proofs.Scans.{shows}
+use Rattle.rows.proofs.Scans.{IsScan, shows}
+use Rattle.rows.specs.Failures.{failure_of, FailsWith}
+use Rattle.rows.proofs.ReadFailures.{read_fails}
+use Rattle.std.specs.Prelude.{◌⊎◌, IsSome}
 use Rattle.rows.proofs.Statements.{answered_same, Compiles, Selects, reads_part, whole_map}
 use Rattle.rows.proofs.Typed.{objects_typed}
 use Rattle.rows.proofs.Alike.{map_made}
@@ -71,7 +75,7 @@ all_typed : (s : Schema) (at tree : ℕ) → IsKnown s (codes "object") at (reco
 unfolding everything
 all_typed s at tree known = rw (known.low, known.by_tree)
 
-pub all_is : Compiles object.name object.columns object.primary all_text (λ at tree. Select (whole tree) names)
+pub all_is : Compiles object.name object.columns object.primary all_text 0 (λ at tree. Select (whole tree) names)
 unfolding everything
 all_is s at tree known =
     let there = known.named.1 in (
@@ -80,6 +84,8 @@ all_is s at tree known =
           (plain_state 100000 None) (plain_state 99996 (Some Binary)) 99996 (whole tree)
           known.named refl refl refl refl refl refl refl refl refl refl (bounds_are s (from_in all_text) refl (codes "object") at refl refl refl known.named.0) (outputs_four_at (result_context s (codes "object") at) (record { name = codes "object"; table = at; slot = 1; shared = [] } ∷ []) (shown_in all_text) refl refl refl refl refl at 0 2 3 4 (codes "base") (codes "hash") (codes "deriver") (codes "ca") (record { names = refl; found = rw there; term = rw there; heading = rw there }) (record { names = refl; found = rw there; term = rw there; heading = rw there }) (record { names = refl; found = rw there; term = rw there; heading = rw there }) (record { names = refl; found = rw there; term = rw there; heading = rw there }) None max_budget (refl, (refl, (refl, (refl, tt))))) refl
           (refl, refl, refl, refl) refl refl (rw there) (rw there) refl (all_typed s at tree known),
+      refl,
+      refl,
       refl,
       refl,
       refl,
@@ -124,3 +130,12 @@ reads_all old new (Ok all) under selects up =
 
 pub same_all : (old new : State) → IsUnderWay old → (params : Row) (rows : List Row) → Shown all_text params old new rows → IsUnchanged old new
 same_all old new under params rows shown = answered_same object.name object.columns object.primary old new under (λ has. has.1.0) all_text (λ at tree. Select (whole tree) names) all_is params rows shown
+
+-- ---- why a read fails
+
+scan : (tree : ℕ) → IsScan (query tree) tree
+scan tree = record { from = refl; group = refl; distinct = refl; whole = λ params rows. refl }
+
+pub fails_all : (old new : State) → IsUnderWay old → (e : Error) → FailsToQuery all_text [] old new e ⊎ IsTooLate all_text [] old new e → FailsWith old new ⊥ (IsSome old.step_limit) (failure_of e)
+unfolding everything
+fails_all old new under = read_fails object.name object.columns object.primary old new under (λ has. has.1.0) all_text [] names query scan all_is (_, _, _, _, _, refl) (λ s at tree known. rw (known.low, known.by_tree) refl)

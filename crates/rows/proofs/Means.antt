@@ -53,7 +53,7 @@ use Rattle.sqlite_ast.specs.declared.Expr.TheOpen.{Expr-F}
 use Rattle.sqlite_resolve.specs.Scope.{column, term_of, find as found_in, column_at}
 use Rattle.sqlite_resolve.specs.declared.scope.Found.TheVariants as found_as
 use Rattle.sqlite_resolve.specs.Lowering.{spend, begin, finish}
-use Rattle.std.specs.Prelude.{nat_lt, ◌-◌, unwrap_or}
+use Rattle.std.specs.Prelude.{nat_lt, nat_le, length, ◌-◌, unwrap_or}
 use Rattle.sqlite_resolve.specs.Write.{over, simple, deleted, picked}
 use Rattle.sqlite_resolve.specs.Program.{program}
 use Rattle.sqlite_resolve.specs.Compile.{delete}
@@ -298,7 +298,10 @@ ordered_by_three text {sel = sel} one by {source} from s name at table columns f
     (order_by_three (out-Select sel).order by (inside s (record { tables = record { name = name; table = at; slot = 1; shared = [] } ∷ []; shown = columns }) false) columns t u v (plain_state (budget) b) (plain_state (budget - 1) c) (plain_state (budget - 1 - 1) d) (plain_state (budget - 1 - 1 - 1) e) (unwrap_or c Binary) (unwrap_or d Binary) (unwrap_or e Binary) bare0 bare1 bare2 low0 low1 low2
     (lower_column (inside s (record { tables = record { name = name; table = at; slot = 1; shared = [] } ∷ []; shown = columns }) false) _ name0 at i t c b (budget) is0 find0 read0 enough0) (lower_column (inside s (record { tables = record { name = name; table = at; slot = 1; shared = [] } ∷ []; shown = columns }) false) _ name1 at j u d c (budget - 1) is1 find1 read1 enough1) (lower_column (inside s (record { tables = record { name = name; table = at; slot = 1; shared = [] } ∷ []; shown = columns }) false) _ name2 at k v e d (budget - 1 - 1) is2 find2 read2 enough2) (alone_is c) (alone_is d) (alone_is e)) typed
 
+-- in this schema the text is this command, alone in its text, with so many parameters
+abbrev pub IsMeant : Schema → List ℕ → ℕ → Command → Type 0
+IsMeant s text count command = (c : Compiled) × Means s text c × (c.command ≡ command) × (c.returning ≡ None) × (c.formats ≡ []) × (nat_le (length text) c.tail ≡ true) × (length c.names ≡ count)
+
 -- what a caller's proof takes
-pub means_command : (s : Schema) (text : List ℕ) (command : Command) → ((c : Compiled) × Means s text c × (c.command ≡ command) × (c.returning ≡ None) × (c.formats ≡ []))
-    → (command_of (understood s text) ≡ command) × IsPlain (understood s text) × (reads_listing s text ≡ false)
+pub means_command : (s : Schema) (text : List ℕ) {count : ℕ} (command : Command) → IsMeant s text count command → (command_of (understood s text) ≡ command) × IsPlain (understood s text) × (reads_listing s text ≡ false)
 means_command s text command m = (ap command_of m.1.0 ∙ m.2, subst IsPlain (sym m.1.0) (m.3, m.4), m.1.1)

@@ -30,7 +30,8 @@ use Rattle.sqlite_resolve.specs.Program.{program}
 use Rattle.sqlite_resolve.specs.Write.{over}
 use Rattle.sqlite_rules.specs.Edit.{next_rowid, is_taken}
 use Rattle.sqlite_tied.specs.Compute.{everything}
-use Rattle.sqlite.specs.State.{State, ExecutesInside, IsUnchanged, Shown}
+use Rattle.sqlite.specs.declared.error.Error.{Error}
+use Rattle.sqlite.specs.State.{State, ExecutesInside, IsUnchanged, Shown, FailsToQuery, IsTooLate}
 use Rattle.rows.specs.declared.failure.Failure.{Failure}
 use Rattle.rows.specs.declared.objects.Object.{Object}
 use Rattle.rows.specs.Forms.{object}
@@ -41,15 +42,18 @@ use Rattle.rows.specs.Entries.{stored_of, ShowsObject, ShowsText, IsStored, stor
 use Rattle.rows.proofs.Orders.{texts_total, texts_antisymmetric}
 use Rattle.rows.proofs.Truths.{cast_null, free_of, and_so, and_one, text_test}
 use Rattle.rows.proofs.Optional.{IsKept, given, kept_given, bound_given, read_given, option_fits}
-use Rattle.rows.proofs.Means.{Means, insert_means, delete_means, ordered_by_one, means_command, plain_state, shown_column}
+use Rattle.rows.proofs.Means.{IsMeant, insert_means, delete_means, ordered_by_one, means_command, plain_state, shown_column}
 use Rattle.rows.proofs.Conditions.{where_one, equals, select_context, filter_in}
 use Rattle.rows.proofs.Columns.{bounds_are, outputs_one, outputs_five, result_context, from_in, shown_in}
 use Rattle.rows.proofs.Writes.{SetsRows, inserts_in, rowids_where}
-use Rattle.rows.proofs.Scans.{shows}
+use Rattle.rows.proofs.Scans.{IsScan, shows}
 use Rattle.rows.proofs.Entries.{put_map}
 use Rattle.rows.proofs.Members.{keyed_put}
 use Rattle.rows.proofs.Places.{changed}
 use Rattle.rows.proofs.ContentsLemmas.{object_set}
+use Rattle.rows.specs.Failures.{failure_of, FailsWith}
+use Rattle.rows.proofs.ReadFailures.{read_fails}
+use Rattle.std.specs.Prelude.{◌⊎◌, IsSome}
 use Rattle.rows.proofs.Statements.{answered_same, Compiles, Selects, reads_part, whole_map, deletes_part}
 use Rattle.rows.proofs.Typed.{objects_typed}
 use Rattle.rows.proofs.Alike.{map_made}
@@ -65,9 +69,9 @@ insert_text = codes "INSERT INTO object (base, nar, hash, deriver, ca) VALUES (?
 abbrev terms : List Term
 terms = lit Null ∷ col 0 0 ∷ col 0 1 ∷ col 0 2 ∷ col 0 3 ∷ col 0 4 ∷ []
 
-insert_is : (s : Schema) (at tree : ℕ) → IsNamed s (codes "object") at (record object { tree = tree }) → (c : Compiled) × Means s insert_text c × (c.command ≡ Insert at (Values terms 6)) × (c.returning ≡ None) × (c.formats ≡ [])
+insert_is : (s : Schema) (at tree : ℕ) → IsNamed s (codes "object") at (record object { tree = tree }) → IsMeant s insert_text 5 (Insert at (Values terms 6))
 unfolding everything
-insert_is s at tree found = (_, insert_means insert_text refl s at (codes "object") object.columns object.primary tree _ found refl, refl, refl, refl)
+insert_is s at tree found = (_, insert_means insert_text refl s at (codes "object") object.columns object.primary tree _ found refl, refl, refl, refl, refl, refl)
 
 pub inserts : (old new : State) (base : List ℕ) (nar : List ℕ) (hash : List ℕ) (deriver : Value) (ca : Value) (count : ℕ) → IsKept deriver → IsKept ca → IsUnderWay old → finite.get (contents_of old.now).objects base ≡ None → ExecutesInside 0 insert_text (Text base ∷ Blob nar ∷ Blob hash ∷ deriver ∷ ca ∷ []) old new (Ok count)
     → Changes old new (λ c. record c { objects = finite.insert c.objects base (record { nar = nar; hash = hash; deriver = text_if_any deriver; ca = text_if_any ca }) })
@@ -103,11 +107,11 @@ said_one base r kind = and_one _ ∙ text_test (column r 1) base (and_so _ _ (an
 abbrev pub delete_text : List ℕ
 delete_text = codes "DELETE FROM object WHERE base = ?1"
 
-delete_is : Compiles object.name object.columns object.primary delete_text (λ at tree. Delete at (record { lets = []; body = rowids_where tree of_one }))
+delete_is : Compiles object.name object.columns object.primary delete_text 1 (λ at tree. Delete at (record { lets = []; body = rowids_where tree of_one }))
 unfolding everything
 delete_is s at tree known =
     let there = known.named.1 in
-    (_, delete_means delete_text refl s at (codes "object") object.columns object.primary tree of_one (plain_state 99997 None) _ known.named (where_one (over s at (codes "object")) (filter_in delete_text) refl refl (codes "base") at 0 1 (col 1 1) (equals (col 1 1) (col 0 0)) None max_budget (record { left_is = refl; right_is = refl; found = rw there; column = rw there; compare = rw there }) refl refl refl) (rw (known.low, known.by_tree)), refl, refl, refl)
+    (_, delete_means delete_text refl s at (codes "object") object.columns object.primary tree of_one (plain_state 99997 None) _ known.named (where_one (over s at (codes "object")) (filter_in delete_text) refl refl (codes "base") at 0 1 (col 1 1) (equals (col 1 1) (col 0 0)) None max_budget (record { left_is = refl; right_is = refl; found = rw there; column = rw there; compare = rw there }) refl refl refl) (rw (known.low, known.by_tree)), refl, refl, refl, refl, refl)
 
 pub deletes : (old new : State) (base : List ℕ) (count : ℕ) → IsUnderWay old → ExecutesInside 0 delete_text (Text base ∷ []) old new (Ok count)
     → Changes old new (λ c. record c { objects = finite.retain_keys c.objects (λ k. not (eq_by_cmp texts_cmp k base)) })
@@ -153,7 +157,7 @@ of_typed : (s : Schema) (at tree : ℕ) → IsKnown s (codes "object") at (recor
 unfolding everything
 of_typed s at tree known = rw (known.low, known.by_tree)
 
-of_is : Compiles object.name object.columns object.primary of_text (λ at tree. Select (whole of_one tree) names)
+of_is : Compiles object.name object.columns object.primary of_text 1 (λ at tree. Select (whole of_one tree) names)
 unfolding everything
 of_is s at tree known =
     let there = known.named.1 in (
@@ -162,6 +166,8 @@ of_is s at tree known =
           (plain_state 100000 None) (plain_state 99995 (Some Binary)) 99992 (whole of_one tree)
           known.named refl refl refl refl refl refl refl refl refl refl (bounds_are s (from_in of_text) refl (codes "object") at refl refl refl known.named.0) (outputs_five (result_context s (codes "object") at) (record { name = codes "object"; table = at; slot = 1; shared = [] } ∷ []) (shown_in of_text) refl refl refl refl refl refl at (codes "base") (codes "nar") (codes "hash") (codes "deriver") (codes "ca") (record { names = refl; found = rw there; term = rw there; heading = rw there }) (record { names = refl; found = rw there; term = rw there; heading = rw there }) (record { names = refl; found = rw there; term = rw there; heading = rw there }) (record { names = refl; found = rw there; term = rw there; heading = rw there }) (record { names = refl; found = rw there; term = rw there; heading = rw there }) None max_budget (refl, (refl, (refl, (refl, (refl, tt)))))) (where_one (select_context s (codes "object") at outputs) (filter_in of_text) refl refl (codes "base") at 0 1 (col 1 1) (equals (col 1 1) (col 0 0)) (Some Binary) 99995 (record { left_is = refl; right_is = refl; found = rw there; column = rw there; compare = rw there }) refl refl refl)
           (refl, refl, refl, refl) refl refl (rw there) (rw there) refl (of_typed s at tree known),
+      refl,
+      refl,
       refl,
       refl,
       refl,
@@ -200,7 +206,7 @@ keys_typed : (s : Schema) (at tree : ℕ) → IsKnown s (codes "object") at (rec
 unfolding everything
 keys_typed s at tree known = rw (known.low, known.by_tree)
 
-keys_is : Compiles object.name object.columns object.primary keys_text (λ at tree. Select (keys_whole tree) (codes "base" ∷ []))
+keys_is : Compiles object.name object.columns object.primary keys_text 0 (λ at tree. Select (keys_whole tree) (codes "base" ∷ []))
 unfolding everything
 keys_is s at tree known =
     let there = known.named.1 in (
@@ -209,6 +215,8 @@ keys_is s at tree known =
           (plain_state 100000 None) (plain_state 99999 (Some Binary)) 99999 (keys_whole tree)
           known.named refl refl refl refl refl refl refl refl refl refl (bounds_are s (from_in keys_text) refl (codes "object") at refl refl refl known.named.0) (outputs_one (result_context s (codes "object") at) (record { name = codes "object"; table = at; slot = 1; shared = [] } ∷ []) (shown_in keys_text) refl refl at (codes "base") (record { names = refl; found = rw there; term = rw there; heading = rw there }) None max_budget (refl, tt)) refl
           (refl, refl, refl, refl) refl refl (rw there) (rw there) refl (keys_typed s at tree known),
+      refl,
+      refl,
       refl,
       refl,
       refl,
@@ -263,3 +271,19 @@ same_of old new under params rows shown = answered_same object.name object.colum
 
 pub same_keys : (old new : State) → IsUnderWay old → (params : Row) (rows : List Row) → Shown keys_text params old new rows → IsUnchanged old new
 same_keys old new under params rows shown = answered_same object.name object.columns object.primary old new under (λ has. has.1.0) keys_text (λ at tree. Select (keys_whole tree) (codes "base" ∷ [])) keys_is params rows shown
+
+-- ---- why a read fails
+
+scan : (filter : List Term) (tree : ℕ) → IsScan (query filter tree) tree
+scan filter tree = record { from = refl; group = refl; distinct = refl; whole = λ params rows. refl }
+
+pub fails_of : (old new : State) (base : List ℕ) → IsUnderWay old → (e : Error) → FailsToQuery of_text (Text base ∷ []) old new e ⊎ IsTooLate of_text (Text base ∷ []) old new e → FailsWith old new ⊥ (IsSome old.step_limit) (failure_of e)
+unfolding everything
+fails_of old new base under = read_fails object.name object.columns object.primary old new under (λ has. has.1.0) of_text (Text base ∷ []) names (query of_one) (scan of_one) of_is (_, _, _, _, _, refl) (λ s at tree known. rw (known.low, known.by_tree) refl)
+
+keys_scan : (tree : ℕ) → IsScan (keys_query tree) tree
+keys_scan tree = record { from = refl; group = refl; distinct = refl; whole = λ params rows. refl }
+
+pub fails_keys : (old new : State) → IsUnderWay old → (e : Error) → FailsToQuery keys_text [] old new e ⊎ IsTooLate keys_text [] old new e → FailsWith old new ⊥ (IsSome old.step_limit) (failure_of e)
+unfolding everything
+fails_keys old new under = read_fails object.name object.columns object.primary old new under (λ has. has.1.0) keys_text [] (codes "base" ∷ []) keys_query keys_scan keys_is (_, _, _, _, _, refl) (λ s at tree known. rw (known.low, known.by_tree) refl)

@@ -174,7 +174,7 @@ ShowsApart text old new = (rows : List Row) × Answered text [] old new rows × 
 
 -- each row of the table has a rowid of its own, and nothing changes
 pub keyed_if : (name : List ℕ) (columns : List Column) (key : List ℕ) (text : List ℕ) (order : List (Term × Key)) (old new : State) → Stands old.now.schema (strict name columns key)
-    → Compiles name columns key text (λ at tree. Select (whole order tree) (codes "rowid" ∷ [])) → ShowsApart text old new → Rests old new × IsKeyed (rows_named old.now name)
+    → {count : ℕ} → Compiles name columns key text count (λ at tree. Select (whole order tree) (codes "rowid" ∷ [])) → ShowsApart text old new → Rests old new × IsKeyed (rows_named old.now name)
 keyed_if name columns key text order old new stands is h =
     let tree = tree_named old.now.schema name in
     let m = means_command old.now.schema text _ (is old.now.schema stands.at tree stands.known) in

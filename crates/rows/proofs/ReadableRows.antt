@@ -52,7 +52,7 @@ abbrev pub Tells : List ℕ → State → State → Bool → Type 0
 Tells text old new b = (rows : List Row) × Answered text [] old new rows × (IsTrue b ↔ AllByRecursion IsReadableRow rows)
 
 module _ (name : List ℕ) (columns : List Column) (key : List ℕ) (text : List ℕ) (names : List (List ℕ)) (query : ℕ → Query) (scan : (tree : ℕ) → IsScan (query tree) tree) (whole : (tree : ℕ) → (query tree).filter ≡ [])
-    (is : Compiles name columns key text (λ at tree. Select (record { lets = []; body = query tree }) names)) where
+    {count : ℕ} (is : Compiles name columns key text count (λ at tree. Select (record { lets = []; body = query tree }) names)) where
   -- nothing changes, and the texts of the table are UTF-8 exactly where those are that were shown
   pub told_if : (old new : State) → Stands old.now.schema (strict name columns key) → ((tree : ℕ) (r : Row) → Has (rows_named old.now name) r → IsReadableRow (shows (query tree) [] r) ↔ AreOfUtf8 (length columns) r)
       → (b : Bool) → Tells text old new b → Rests old new × (IsTrue b ↔ AreReadableRows (strict name columns key) (rows_named old.now name))

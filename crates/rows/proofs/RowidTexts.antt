@@ -38,7 +38,7 @@ meta_typed : (s : Schema) (at tree : ℕ) → IsKnown s (codes "meta") at (recor
 unfolding everything
 meta_typed s at tree known = rw (known.low, known.by_tree)
 
-pub meta_is : Compiles meta.name meta.columns meta.primary meta_text (λ at tree. Select (whole by_one tree) names)
+pub meta_is : Compiles meta.name meta.columns meta.primary meta_text 0 (λ at tree. Select (whole by_one tree) names)
 unfolding everything
 meta_is s at tree known =
     let there = known.named.1 in
@@ -49,6 +49,8 @@ meta_is s at tree known =
           known.named refl refl refl refl refl refl refl refl refl refl (bounds_are s (from_in meta_text) refl (codes "meta") at refl refl refl known.named.0)
           (outputs_rowid (result_context s (codes "meta") at) (record { name = codes "meta"; table = at; slot = 1; shared = [] } ∷ []) (shown_in meta_text) refl refl at (record { names = refl; found = rw (there, low); heading = rw there }) None max_budget refl) refl
           (refl, refl, refl, refl) refl refl (rw there) (rw there) refl (meta_typed s at tree known),
+      refl,
+      refl,
       refl,
       refl,
       refl,
@@ -63,7 +65,7 @@ object_typed : (s : Schema) (at tree : ℕ) → IsKnown s (codes "object") at (r
 unfolding everything
 object_typed s at tree known = rw (known.low, known.by_tree)
 
-pub object_is : Compiles object.name object.columns object.primary object_text (λ at tree. Select (whole by_one tree) names)
+pub object_is : Compiles object.name object.columns object.primary object_text 0 (λ at tree. Select (whole by_one tree) names)
 unfolding everything
 object_is s at tree known =
     let there = known.named.1 in
@@ -74,6 +76,8 @@ object_is s at tree known =
           known.named refl refl refl refl refl refl refl refl refl refl (bounds_are s (from_in object_text) refl (codes "object") at refl refl refl known.named.0)
           (outputs_rowid (result_context s (codes "object") at) (record { name = codes "object"; table = at; slot = 1; shared = [] } ∷ []) (shown_in object_text) refl refl at (record { names = refl; found = rw (there, low); heading = rw there }) None max_budget refl) refl
           (refl, refl, refl, refl) refl refl (rw there) (rw there) refl (object_typed s at tree known),
+      refl,
+      refl,
       refl,
       refl,
       refl,
@@ -88,7 +92,7 @@ refs_typed : (s : Schema) (at tree : ℕ) → IsKnown s (codes "refs") at (recor
 unfolding everything
 refs_typed s at tree known = rw (known.low, known.by_tree)
 
-pub refs_is : Compiles refs.name refs.columns refs.primary refs_text (λ at tree. Select (whole by_two tree) names)
+pub refs_is : Compiles refs.name refs.columns refs.primary refs_text 0 (λ at tree. Select (whole by_two tree) names)
 unfolding everything
 refs_is s at tree known =
     let there = known.named.1 in
@@ -99,6 +103,8 @@ refs_is s at tree known =
           known.named refl refl refl refl refl refl refl refl refl refl (bounds_are s (from_in refs_text) refl (codes "refs") at refl refl refl known.named.0)
           (outputs_rowid (result_context s (codes "refs") at) (record { name = codes "refs"; table = at; slot = 1; shared = [] } ∷ []) (shown_in refs_text) refl refl at (record { names = refl; found = rw (there, low); heading = rw there }) None max_budget refl) refl
           (refl, refl, refl, refl) (refl, refl, refl, refl) refl refl refl refl (rw there) (rw there) (rw there) (rw there) refl refl (refs_typed s at tree known),
+      refl,
+      refl,
       refl,
       refl,
       refl,
@@ -113,7 +119,7 @@ outs_typed : (s : Schema) (at tree : ℕ) → IsKnown s (codes "outs") at (recor
 unfolding everything
 outs_typed s at tree known = rw (known.low, known.by_tree)
 
-pub outs_is : Compiles outs.name outs.columns outs.primary outs_text (λ at tree. Select (whole by_two tree) names)
+pub outs_is : Compiles outs.name outs.columns outs.primary outs_text 0 (λ at tree. Select (whole by_two tree) names)
 unfolding everything
 outs_is s at tree known =
     let there = known.named.1 in
@@ -124,6 +130,8 @@ outs_is s at tree known =
           known.named refl refl refl refl refl refl refl refl refl refl (bounds_are s (from_in outs_text) refl (codes "outs") at refl refl refl known.named.0)
           (outputs_rowid (result_context s (codes "outs") at) (record { name = codes "outs"; table = at; slot = 1; shared = [] } ∷ []) (shown_in outs_text) refl refl at (record { names = refl; found = rw (there, low); heading = rw there }) None max_budget refl) refl
           (refl, refl, refl, refl) (refl, refl, refl, refl) refl refl refl refl (rw there) (rw there) (rw there) (rw there) refl refl (outs_typed s at tree known),
+      refl,
+      refl,
       refl,
       refl,
       refl,
@@ -138,7 +146,7 @@ permanent_typed : (s : Schema) (at tree : ℕ) → IsKnown s (codes "permanent")
 unfolding everything
 permanent_typed s at tree known = rw (known.low, known.by_tree)
 
-pub permanent_is : Compiles permanent.name permanent.columns permanent.primary permanent_text (λ at tree. Select (whole by_one tree) names)
+pub permanent_is : Compiles permanent.name permanent.columns permanent.primary permanent_text 0 (λ at tree. Select (whole by_one tree) names)
 unfolding everything
 permanent_is s at tree known =
     let there = known.named.1 in
@@ -149,6 +157,8 @@ permanent_is s at tree known =
           known.named refl refl refl refl refl refl refl refl refl refl (bounds_are s (from_in permanent_text) refl (codes "permanent") at refl refl refl known.named.0)
           (outputs_rowid (result_context s (codes "permanent") at) (record { name = codes "permanent"; table = at; slot = 1; shared = [] } ∷ []) (shown_in permanent_text) refl refl at (record { names = refl; found = rw (there, low); heading = rw there }) None max_budget refl) refl
           (refl, refl, refl, refl) refl refl (rw there) (rw there) refl (permanent_typed s at tree known),
+      refl,
+      refl,
       refl,
       refl,
       refl,
@@ -163,7 +173,7 @@ user_root_typed : (s : Schema) (at tree : ℕ) → IsKnown s (codes "user_root")
 unfolding everything
 user_root_typed s at tree known = rw (known.low, known.by_tree)
 
-pub user_root_is : Compiles user_root.name user_root.columns user_root.primary user_root_text (λ at tree. Select (whole by_two tree) names)
+pub user_root_is : Compiles user_root.name user_root.columns user_root.primary user_root_text 0 (λ at tree. Select (whole by_two tree) names)
 unfolding everything
 user_root_is s at tree known =
     let there = known.named.1 in
@@ -174,6 +184,8 @@ user_root_is s at tree known =
           known.named refl refl refl refl refl refl refl refl refl refl (bounds_are s (from_in user_root_text) refl (codes "user_root") at refl refl refl known.named.0)
           (outputs_rowid (result_context s (codes "user_root") at) (record { name = codes "user_root"; table = at; slot = 1; shared = [] } ∷ []) (shown_in user_root_text) refl refl at (record { names = refl; found = rw (there, low); heading = rw there }) None max_budget refl) refl
           (refl, refl, refl, refl) (refl, refl, refl, refl) refl refl refl refl (rw there) (rw there) (rw there) (rw there) refl refl (user_root_typed s at tree known),
+      refl,
+      refl,
       refl,
       refl,
       refl,
@@ -188,7 +200,7 @@ profile_typed : (s : Schema) (at tree : ℕ) → IsKnown s (codes "profile") at 
 unfolding everything
 profile_typed s at tree known = rw (known.low, known.by_tree)
 
-pub profile_is : Compiles profile.name profile.columns profile.primary profile_text (λ at tree. Select (whole by_two tree) names)
+pub profile_is : Compiles profile.name profile.columns profile.primary profile_text 0 (λ at tree. Select (whole by_two tree) names)
 unfolding everything
 profile_is s at tree known =
     let there = known.named.1 in
@@ -199,6 +211,8 @@ profile_is s at tree known =
           known.named refl refl refl refl refl refl refl refl refl refl (bounds_are s (from_in profile_text) refl (codes "profile") at refl refl refl known.named.0)
           (outputs_rowid (result_context s (codes "profile") at) (record { name = codes "profile"; table = at; slot = 1; shared = [] } ∷ []) (shown_in profile_text) refl refl at (record { names = refl; found = rw (there, low); heading = rw there }) None max_budget refl) refl
           (refl, refl, refl, refl) (refl, refl, refl, refl) refl refl refl refl (rw there) (rw there) (rw there) (rw there) refl refl (profile_typed s at tree known),
+      refl,
+      refl,
       refl,
       refl,
       refl,
@@ -213,7 +227,7 @@ generation_typed : (s : Schema) (at tree : ℕ) → IsKnown s (codes "generation
 unfolding everything
 generation_typed s at tree known = rw (known.low, known.by_tree)
 
-pub generation_is : Compiles generation.name generation.columns generation.primary generation_text (λ at tree. Select (whole by_three tree) names)
+pub generation_is : Compiles generation.name generation.columns generation.primary generation_text 0 (λ at tree. Select (whole by_three tree) names)
 unfolding everything
 generation_is s at tree known =
     let there = known.named.1 in
@@ -224,6 +238,8 @@ generation_is s at tree known =
           known.named refl refl refl refl refl refl refl refl refl refl (bounds_are s (from_in generation_text) refl (codes "generation") at refl refl refl known.named.0)
           (outputs_rowid (result_context s (codes "generation") at) (record { name = codes "generation"; table = at; slot = 1; shared = [] } ∷ []) (shown_in generation_text) refl refl at (record { names = refl; found = rw (there, low); heading = rw there }) None max_budget refl) refl
           (refl, refl, refl, refl) (refl, refl, refl, refl) (refl, refl, refl, refl) refl refl refl refl refl refl (rw there) (rw there) (rw there) (rw there) (rw there) (rw there) refl refl refl (generation_typed s at tree known),
+      refl,
+      refl,
       refl,
       refl,
       refl,
@@ -238,7 +254,7 @@ runtime_typed : (s : Schema) (at tree : ℕ) → IsKnown s (codes "runtime") at 
 unfolding everything
 runtime_typed s at tree known = rw (known.low, known.by_tree)
 
-pub runtime_is : Compiles runtime.name runtime.columns runtime.primary runtime_text (λ at tree. Select (whole by_two tree) names)
+pub runtime_is : Compiles runtime.name runtime.columns runtime.primary runtime_text 0 (λ at tree. Select (whole by_two tree) names)
 unfolding everything
 runtime_is s at tree known =
     let there = known.named.1 in
@@ -249,6 +265,8 @@ runtime_is s at tree known =
           known.named refl refl refl refl refl refl refl refl refl refl (bounds_are s (from_in runtime_text) refl (codes "runtime") at refl refl refl known.named.0)
           (outputs_rowid (result_context s (codes "runtime") at) (record { name = codes "runtime"; table = at; slot = 1; shared = [] } ∷ []) (shown_in runtime_text) refl refl at (record { names = refl; found = rw (there, low); heading = rw there }) None max_budget refl) refl
           (refl, refl, refl, refl) (refl, refl, refl, refl) refl refl refl refl (rw there) (rw there) (rw there) (rw there) refl refl (runtime_typed s at tree known),
+      refl,
+      refl,
       refl,
       refl,
       refl,

@@ -24,7 +24,8 @@ use Rattle.sqlite_resolve.specs.Program.{program}
 use Rattle.sqlite_resolve.specs.Write.{over}
 use Rattle.sqlite_rules.specs.Edit.{next_rowid, is_taken}
 use Rattle.sqlite_tied.specs.Compute.{everything}
-use Rattle.sqlite.specs.State.{State, ExecutesInside, IsUnchanged, Shown}
+use Rattle.sqlite.specs.declared.error.Error.{Error}
+use Rattle.sqlite.specs.State.{State, ExecutesInside, IsUnchanged, Shown, FailsToQuery, IsTooLate}
 use Rattle.rows.specs.declared.failure.Failure.{Failure}
 use Rattle.rows.specs.declared.runtime.RuntimeRoot.{RuntimeRoot}
 use Rattle.rows.specs.Forms.{runtime}
@@ -34,15 +35,18 @@ use Rattle.rows.specs.Calls.{IsUnderWay, Changes, Stays}
 use Rattle.rows.specs.Entries.{runtime_of, ShowsRuntimeRoot}
 use Rattle.rows.proofs.Orders.{pair_total, pair_antisymmetric}
 use Rattle.rows.proofs.Truths.{cast_null, free_of, and_so, and_one, text_test}
-use Rattle.rows.proofs.Means.{Means, insert_means, delete_means, ordered_by_two, means_command, plain_state, shown_column}
+use Rattle.rows.proofs.Means.{IsMeant, insert_means, delete_means, ordered_by_two, means_command, plain_state, shown_column}
 use Rattle.rows.proofs.Conditions.{where_one, equals, filter_in}
 use Rattle.rows.proofs.Columns.{bounds_are, outputs_two, result_context, from_in, shown_in}
 use Rattle.rows.proofs.Writes.{SetsRows, inserts_in, rowids_where}
-use Rattle.rows.proofs.Scans.{shows}
+use Rattle.rows.proofs.Scans.{IsScan, shows}
 use Rattle.rows.proofs.Entries.{put_set}
 use Rattle.rows.proofs.Members.{keyed_put}
 use Rattle.rows.proofs.Places.{changed}
 use Rattle.rows.proofs.ContentsLemmas.{runtime_set}
+use Rattle.rows.specs.Failures.{failure_of, FailsWith}
+use Rattle.rows.proofs.ReadFailures.{read_fails}
+use Rattle.std.specs.Prelude.{◌⊎◌, IsSome}
 use Rattle.rows.proofs.Statements.{answered_same, Compiles, Selects, reads_part, deletes_part, whole_map}
 
 -- ---- one more
@@ -53,9 +57,9 @@ insert_text = codes "INSERT INTO runtime (label, target) VALUES (?1, ?2)"
 abbrev terms : List Term
 terms = lit Null ∷ col 0 0 ∷ col 0 1 ∷ []
 
-insert_is : (s : Schema) (at tree : ℕ) → IsNamed s (codes "runtime") at (record runtime { tree = tree }) → (c : Compiled) × Means s insert_text c × (c.command ≡ Insert at (Values terms 3)) × (c.returning ≡ None) × (c.formats ≡ [])
+insert_is : (s : Schema) (at tree : ℕ) → IsNamed s (codes "runtime") at (record runtime { tree = tree }) → IsMeant s insert_text 2 (Insert at (Values terms 3))
 unfolding everything
-insert_is s at tree found = (_, insert_means insert_text refl s at (codes "runtime") runtime.columns runtime.primary tree _ found refl, refl, refl, refl)
+insert_is s at tree found = (_, insert_means insert_text refl s at (codes "runtime") runtime.columns runtime.primary tree _ found refl, refl, refl, refl, refl, refl)
 
 pub inserts : (old new : State) (label : List ℕ) (target : List ℕ) (count : ℕ) → IsUnderWay old → ExecutesInside 0 insert_text (Text label ∷ Text target ∷ []) old new (Ok count)
     → Changes old new (λ c. record c { runtime = finite.insert c.runtime (label, target) tt })
@@ -85,11 +89,11 @@ said_one label r kind = and_one _ ∙ text_test (column r 1) label (and_so _ _ k
 abbrev pub delete_of_text : List ℕ
 delete_of_text = codes "DELETE FROM runtime WHERE label = ?1"
 
-delete_of_is : Compiles runtime.name runtime.columns runtime.primary delete_of_text (λ at tree. Delete at (record { lets = []; body = rowids_where tree of_one }))
+delete_of_is : Compiles runtime.name runtime.columns runtime.primary delete_of_text 1 (λ at tree. Delete at (record { lets = []; body = rowids_where tree of_one }))
 unfolding everything
 delete_of_is s at tree known =
     let there = known.named.1 in
-    (_, delete_means delete_of_text refl s at (codes "runtime") runtime.columns runtime.primary tree of_one (plain_state 99997 None) _ known.named (where_one (over s at (codes "runtime")) (filter_in delete_of_text) refl refl (codes "label") at 0 1 (col 1 1) (equals (col 1 1) (col 0 0)) None max_budget (record { left_is = refl; right_is = refl; found = rw there; column = rw there; compare = rw there }) refl refl refl) (rw (known.low, known.by_tree)), refl, refl, refl)
+    (_, delete_means delete_of_text refl s at (codes "runtime") runtime.columns runtime.primary tree of_one (plain_state 99997 None) _ known.named (where_one (over s at (codes "runtime")) (filter_in delete_of_text) refl refl (codes "label") at 0 1 (col 1 1) (equals (col 1 1) (col 0 0)) None max_budget (record { left_is = refl; right_is = refl; found = rw there; column = rw there; compare = rw there }) refl refl refl) (rw (known.low, known.by_tree)), refl, refl, refl, refl, refl)
 
 pub delete_ofs : (old new : State) (label : List ℕ) (count : ℕ) → IsUnderWay old → ExecutesInside 0 delete_of_text (Text label ∷ []) old new (Ok count)
     → Changes old new (λ c. record c { runtime = finite.retain_keys c.runtime (λ k. not (eq_by_cmp texts_cmp k.0 label)) })
@@ -135,7 +139,7 @@ all_typed : (s : Schema) (at tree : ℕ) → IsKnown s (codes "runtime") at (rec
 unfolding everything
 all_typed s at tree known = rw (known.low, known.by_tree)
 
-pub all_is : Compiles runtime.name runtime.columns runtime.primary all_text (λ at tree. Select (whole [] tree) names)
+pub all_is : Compiles runtime.name runtime.columns runtime.primary all_text 0 (λ at tree. Select (whole [] tree) names)
 unfolding everything
 all_is s at tree known =
     let there = known.named.1 in (
@@ -144,6 +148,8 @@ all_is s at tree known =
           (plain_state 100000 None) (plain_state 99998 (Some Binary)) 99998 (whole [] tree)
           known.named refl refl refl refl refl refl refl refl refl refl (bounds_are s (from_in all_text) refl (codes "runtime") at refl refl refl known.named.0) (outputs_two (result_context s (codes "runtime") at) (record { name = codes "runtime"; table = at; slot = 1; shared = [] } ∷ []) (shown_in all_text) refl refl refl at (codes "label") (codes "target") (record { names = refl; found = rw there; term = rw there; heading = rw there }) (record { names = refl; found = rw there; term = rw there; heading = rw there }) None max_budget (refl, (refl, tt))) refl
           (refl, refl, refl, refl) (refl, refl, refl, refl) refl refl refl refl (rw there) (rw there) (rw there) (rw there) refl refl (all_typed s at tree known),
+      refl,
+      refl,
       refl,
       refl,
       refl,
@@ -159,3 +165,12 @@ reads_all old new r under selects up =
 
 pub same_all : (old new : State) → IsUnderWay old → (params : Row) (rows : List Row) → Shown all_text params old new rows → IsUnchanged old new
 same_all old new under params rows shown = answered_same runtime.name runtime.columns runtime.primary old new under (λ has. has.1.1.1.1.1.1.1.1.0) all_text (λ at tree. Select (whole [] tree) names) all_is params rows shown
+
+-- ---- why a read fails
+
+scan : (filter : List Term) (tree : ℕ) → IsScan (query filter tree) tree
+scan filter tree = record { from = refl; group = refl; distinct = refl; whole = λ params rows. refl }
+
+pub fails_all : (old new : State) → IsUnderWay old → (e : Error) → FailsToQuery all_text [] old new e ⊎ IsTooLate all_text [] old new e → FailsWith old new ⊥ (IsSome old.step_limit) (failure_of e)
+unfolding everything
+fails_all old new under = read_fails runtime.name runtime.columns runtime.primary old new under (λ has. has.1.1.1.1.1.1.1.1.0) all_text [] names (query []) (scan []) all_is (_, _, _, _, _, refl) (λ s at tree known. rw (known.low, known.by_tree) refl)

@@ -26,22 +26,22 @@ use Rattle.rows.specs.Standing.{IsKnown, Stands, HasTables, tree_named}
 use Rattle.rows.specs.Contents.{map_of, rows_named}
 use Rattle.rows.specs.Calls.{IsKeyed, IsUnderWay, Stays}
 use Rattle.rows.proofs.Orders.{rises_by}
-use Rattle.rows.proofs.Means.{Means, means_command}
+use Rattle.rows.proofs.Means.{IsMeant, means_command}
 use Rattle.rows.proofs.Writes.{SetsRows, deletes_in, rowids_where, overlay_low}
 use Rattle.rows.proofs.Scans.{IsScan, shows, shown_open, shown_same, stays_shown}
 use Rattle.rows.proofs.Entries.{part_listed, all_kept, left_map}
 use Rattle.rows.proofs.Members.{keyed_left}
 
 -- in any schema in which the table stands, the text is this command
-abbrev pub Compiles : (name : List ℕ) → List Column → List ℕ → List ℕ → (ℕ → ℕ → Command) → Type 0
-Compiles name columns key text command = (s : Schema) (at tree : ℕ) → IsKnown s name at (record (strict name columns key) { tree = tree }) → (c : Compiled) × Means s text c × (c.command ≡ command at tree) × (c.returning ≡ None) × (c.formats ≡ [])
+abbrev pub Compiles : (name : List ℕ) → List Column → List ℕ → List ℕ → ℕ → (ℕ → ℕ → Command) → Type 0
+Compiles name columns key text count command = (s : Schema) (at tree : ℕ) → IsKnown s name at (record (strict name columns key) { tree = tree }) → IsMeant s text count (command at tree)
 
 -- the entries that were read, with the rows that show them
 abbrev pub Selects : {T : Type 0} → (Row → T → Type 0) → State → State → List ℕ → Row → Result (Vec T Global) Failure → Type 0
 Selects ShowsItem old new text params r = IfOk r (λ all. (rows : List Row) × Shown text params old new rows × AllZip ShowsItem rows all.items)
 
 -- a query that was answered changed nothing
-pub answered_same : (name : List ℕ) (columns : List Column) (key : List ℕ) (old new : State) → IsUnderWay old → (HasTables old.now.schema → Stands old.now.schema (strict name columns key)) → (text : List ℕ) (command : ℕ → ℕ → Command) → Compiles name columns key text command → (params : Row) (rows : List Row)
+pub answered_same : (name : List ℕ) (columns : List Column) (key : List ℕ) (old new : State) → IsUnderWay old → (HasTables old.now.schema → Stands old.now.schema (strict name columns key)) → (text : List ℕ) {count : ℕ} (command : ℕ → ℕ → Command) → Compiles name columns key text count command → (params : Row) (rows : List Row)
     → Shown text params old new rows → IsUnchanged old new
 answered_same name columns key old new under at text command is params rows shown =
     let stands = at (under.ours (shown_open _ _ old new rows shown)).has in
@@ -62,7 +62,7 @@ module _ (name : List ℕ) (columns : List Column) (key : List ℕ) {K X : Type 
   module _ {T : Type 0} (text : List ℕ) (params : Row) (names : List (List ℕ)) (query : ℕ → Query) (scan : (tree : ℕ) → IsScan (query tree) tree) (test : K → Bool)
       (said : (tree : ℕ) (r : Row) → kind r ≡ true → list_all (holds (params ∷ r ∷ [])) (query tree).filter ≡ test (entry r).0)
       (ShowsItem : Row → T → Type 0) (item : T → K × X) (fits : (tree : ℕ) (r : Row) (t : T) → ShowsItem (shows (query tree) params r) t → (kind r ≡ true) × (entry r ≡ item t))
-      (is : Compiles name columns key text (λ at tree. Select (record { lets = []; body = query tree }) names)) where
+      {count : ℕ} (is : Compiles name columns key text count (λ at tree. Select (record { lets = []; body = query tree }) names)) where
     listed : (all : List T) (rows : List Row) → Shown text params old new rows → AllZip ShowsItem rows all → AllAdjacentBelow (λ x y. true ≡ is_lt (R (item x).0 (item y).0)) all (length all)
         → Stays old new × (map item all ≡ finite.entries (finite.retain_keys rows_are test))
     listed all rows shown texts up =
@@ -83,7 +83,7 @@ module _ (name : List ℕ) (columns : List Column) (key : List ℕ) {K X : Type 
     reads_part (Ok all) selects up = listed all.items selects.0 selects.1 selects.2 up
 
   module _ (text : List ℕ) (params : Row) (filter : List Term) (test : K → Bool) (said : (r : Row) → kind r ≡ true → list_all (holds (params ∷ r ∷ [])) filter ≡ test (entry r).0)
-      (is : Compiles name columns key text (λ at tree. Delete at (record { lets = []; body = rowids_where tree filter }))) where
+      {count : ℕ} (is : Compiles name columns key text count (λ at tree. Delete at (record { lets = []; body = rowids_where tree filter }))) where
     -- the entries of a part of the keys are gone, and the others stay
     pub deletes_part : (count : ℕ) → ExecutesInside 0 text params old new (Ok count) → IsKeyed (rows_named old.now name)
         → (rows : List Row) × SetsRows old new (tree_named old.now.schema name) rows × (IsKeyed (rows_named old.now name) → IsKeyed rows) × (map_of R kind entry rows ≡ finite.retain_keys rows_are (λ k. not (test k)))

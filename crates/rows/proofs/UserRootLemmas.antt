@@ -24,7 +24,8 @@ use Rattle.sqlite_resolve.specs.Program.{program}
 use Rattle.sqlite_resolve.specs.Write.{over}
 use Rattle.sqlite_rules.specs.Edit.{next_rowid, is_taken}
 use Rattle.sqlite_tied.specs.Compute.{everything}
-use Rattle.sqlite.specs.State.{State, ExecutesInside, IsUnchanged, Shown}
+use Rattle.sqlite.specs.declared.error.Error.{Error}
+use Rattle.sqlite.specs.State.{State, ExecutesInside, IsUnchanged, Shown, FailsToQuery, IsTooLate}
 use Rattle.rows.specs.declared.failure.Failure.{Failure}
 use Rattle.rows.specs.declared.user_roots.UserRoot.{UserRoot}
 use Rattle.rows.specs.Forms.{user_root}
@@ -34,15 +35,18 @@ use Rattle.rows.specs.Calls.{IsUnderWay, Changes, Stays}
 use Rattle.rows.specs.Entries.{user_root_of, ShowsUserRoot}
 use Rattle.rows.proofs.Orders.{pair_total, pair_antisymmetric}
 use Rattle.rows.proofs.Truths.{cast_null, free_of, and_so, and_one, text_test, both_tests}
-use Rattle.rows.proofs.Means.{Means, insert_means, delete_means, ordered_by_two, means_command, plain_state, shown_column}
+use Rattle.rows.proofs.Means.{IsMeant, insert_means, delete_means, ordered_by_two, means_command, plain_state, shown_column}
 use Rattle.rows.proofs.Conditions.{where_one, where_two, equals, select_context, filter_in}
 use Rattle.rows.proofs.Columns.{bounds_are, outputs_three, result_context, from_in, shown_in}
 use Rattle.rows.proofs.Writes.{SetsRows, inserts_in, rowids_where}
-use Rattle.rows.proofs.Scans.{shows}
+use Rattle.rows.proofs.Scans.{IsScan, shows}
 use Rattle.rows.proofs.Entries.{put_map}
 use Rattle.rows.proofs.Members.{keyed_put}
 use Rattle.rows.proofs.Places.{changed}
 use Rattle.rows.proofs.ContentsLemmas.{user_root_set}
+use Rattle.rows.specs.Failures.{failure_of, FailsWith}
+use Rattle.rows.proofs.ReadFailures.{read_fails}
+use Rattle.std.specs.Prelude.{◌⊎◌, IsSome}
 use Rattle.rows.proofs.Statements.{answered_same, Compiles, Selects, reads_part, deletes_part, whole_map}
 
 -- ---- one more
@@ -53,9 +57,9 @@ insert_text = codes "INSERT INTO user_root (owner, name, target) VALUES (?1, ?2,
 abbrev terms : List Term
 terms = lit Null ∷ col 0 0 ∷ col 0 1 ∷ col 0 2 ∷ []
 
-insert_is : (s : Schema) (at tree : ℕ) → IsNamed s (codes "user_root") at (record user_root { tree = tree }) → (c : Compiled) × Means s insert_text c × (c.command ≡ Insert at (Values terms 4)) × (c.returning ≡ None) × (c.formats ≡ [])
+insert_is : (s : Schema) (at tree : ℕ) → IsNamed s (codes "user_root") at (record user_root { tree = tree }) → IsMeant s insert_text 3 (Insert at (Values terms 4))
 unfolding everything
-insert_is s at tree found = (_, insert_means insert_text refl s at (codes "user_root") user_root.columns user_root.primary tree _ found refl, refl, refl, refl)
+insert_is s at tree found = (_, insert_means insert_text refl s at (codes "user_root") user_root.columns user_root.primary tree _ found refl, refl, refl, refl, refl, refl)
 
 pub inserts : (old new : State) (owner : List ℕ) (name : List ℕ) (target : List ℕ) (count : ℕ) → IsUnderWay old → finite.get (contents_of old.now).user_roots (owner, name) ≡ None → ExecutesInside 0 insert_text (Text owner ∷ Text name ∷ Text target ∷ []) old new (Ok count)
     → Changes old new (λ c. record c { user_roots = finite.insert c.user_roots (owner, name) target })
@@ -93,11 +97,11 @@ said_two owner name r kind = both_tests _ _ _ _ (text_test (column r 1) owner (a
 abbrev pub delete_text : List ℕ
 delete_text = codes "DELETE FROM user_root WHERE owner = ?1 AND name = ?2"
 
-delete_is : Compiles user_root.name user_root.columns user_root.primary delete_text (λ at tree. Delete at (record { lets = []; body = rowids_where tree of_two }))
+delete_is : Compiles user_root.name user_root.columns user_root.primary delete_text 2 (λ at tree. Delete at (record { lets = []; body = rowids_where tree of_two }))
 unfolding everything
 delete_is s at tree known =
     let there = known.named.1 in
-    (_, delete_means delete_text refl s at (codes "user_root") user_root.columns user_root.primary tree of_two (plain_state 99993 None) _ known.named (where_two (over s at (codes "user_root")) (filter_in delete_text) refl refl refl refl (codes "owner") (codes "name") at 0 1 (col 1 1) (col 1 2) (equals (col 1 1) (col 0 0)) (equals (col 1 2) (col 0 1)) None max_budget (record { left_is = refl; right_is = refl; found = rw there; column = rw there; compare = rw there }) (record { left_is = refl; right_is = refl; found = rw there; column = rw there; compare = rw there }) (refl, (refl, (refl, (refl, (refl, (refl, (refl, tt)))))))) (rw (known.low, known.by_tree)), refl, refl, refl)
+    (_, delete_means delete_text refl s at (codes "user_root") user_root.columns user_root.primary tree of_two (plain_state 99993 None) _ known.named (where_two (over s at (codes "user_root")) (filter_in delete_text) refl refl refl refl (codes "owner") (codes "name") at 0 1 (col 1 1) (col 1 2) (equals (col 1 1) (col 0 0)) (equals (col 1 2) (col 0 1)) None max_budget (record { left_is = refl; right_is = refl; found = rw there; column = rw there; compare = rw there }) (record { left_is = refl; right_is = refl; found = rw there; column = rw there; compare = rw there }) (refl, (refl, (refl, (refl, (refl, (refl, (refl, tt)))))))) (rw (known.low, known.by_tree)), refl, refl, refl, refl, refl)
 
 pub deletes : (old new : State) (owner : List ℕ) (name : List ℕ) (count : ℕ) → IsUnderWay old → ExecutesInside 0 delete_text (Text owner ∷ Text name ∷ []) old new (Ok count)
     → Changes old new (λ c. record c { user_roots = finite.retain_keys c.user_roots (λ k. not (eq_by_cmp texts_cmp k.0 owner && eq_by_cmp texts_cmp k.1 name)) })
@@ -143,7 +147,7 @@ all_typed : (s : Schema) (at tree : ℕ) → IsKnown s (codes "user_root") at (r
 unfolding everything
 all_typed s at tree known = rw (known.low, known.by_tree)
 
-pub all_is : Compiles user_root.name user_root.columns user_root.primary all_text (λ at tree. Select (whole [] tree) names)
+pub all_is : Compiles user_root.name user_root.columns user_root.primary all_text 0 (λ at tree. Select (whole [] tree) names)
 unfolding everything
 all_is s at tree known =
     let there = known.named.1 in (
@@ -152,6 +156,8 @@ all_is s at tree known =
           (plain_state 100000 None) (plain_state 99997 (Some Binary)) 99997 (whole [] tree)
           known.named refl refl refl refl refl refl refl refl refl refl (bounds_are s (from_in all_text) refl (codes "user_root") at refl refl refl known.named.0) (outputs_three (result_context s (codes "user_root") at) (record { name = codes "user_root"; table = at; slot = 1; shared = [] } ∷ []) (shown_in all_text) refl refl refl refl at (codes "owner") (codes "name") (codes "target") (record { names = refl; found = rw there; term = rw there; heading = rw there }) (record { names = refl; found = rw there; term = rw there; heading = rw there }) (record { names = refl; found = rw there; term = rw there; heading = rw there }) None max_budget (refl, (refl, (refl, tt)))) refl
           (refl, refl, refl, refl) (refl, refl, refl, refl) refl refl refl refl (rw there) (rw there) (rw there) (rw there) refl refl (all_typed s at tree known),
+      refl,
+      refl,
       refl,
       refl,
       refl,
@@ -170,7 +176,7 @@ of_typed : (s : Schema) (at tree : ℕ) → IsKnown s (codes "user_root") at (re
 unfolding everything
 of_typed s at tree known = rw (known.low, known.by_tree)
 
-of_is : Compiles user_root.name user_root.columns user_root.primary of_text (λ at tree. Select (whole of_one tree) names)
+of_is : Compiles user_root.name user_root.columns user_root.primary of_text 1 (λ at tree. Select (whole of_one tree) names)
 unfolding everything
 of_is s at tree known =
     let there = known.named.1 in (
@@ -179,6 +185,8 @@ of_is s at tree known =
           (plain_state 100000 None) (plain_state 99997 (Some Binary)) 99994 (whole of_one tree)
           known.named refl refl refl refl refl refl refl refl refl refl (bounds_are s (from_in of_text) refl (codes "user_root") at refl refl refl known.named.0) (outputs_three (result_context s (codes "user_root") at) (record { name = codes "user_root"; table = at; slot = 1; shared = [] } ∷ []) (shown_in of_text) refl refl refl refl at (codes "owner") (codes "name") (codes "target") (record { names = refl; found = rw there; term = rw there; heading = rw there }) (record { names = refl; found = rw there; term = rw there; heading = rw there }) (record { names = refl; found = rw there; term = rw there; heading = rw there }) None max_budget (refl, (refl, (refl, tt)))) (where_one (select_context s (codes "user_root") at outputs) (filter_in of_text) refl refl (codes "owner") at 0 1 (col 1 1) (equals (col 1 1) (col 0 0)) (Some Binary) 99997 (record { left_is = refl; right_is = refl; found = rw there; column = rw there; compare = rw there }) refl refl refl)
           (refl, refl, refl, refl) (refl, refl, refl, refl) refl refl refl refl (rw there) (rw there) (rw there) (rw there) refl refl (of_typed s at tree known),
+      refl,
+      refl,
       refl,
       refl,
       refl,
@@ -196,7 +204,7 @@ at_typed : (s : Schema) (at tree : ℕ) → IsKnown s (codes "user_root") at (re
 unfolding everything
 at_typed s at tree known = rw (known.low, known.by_tree)
 
-at_is : Compiles user_root.name user_root.columns user_root.primary at_text (λ at tree. Select (whole of_two tree) names)
+at_is : Compiles user_root.name user_root.columns user_root.primary at_text 2 (λ at tree. Select (whole of_two tree) names)
 unfolding everything
 at_is s at tree known =
     let there = known.named.1 in (
@@ -205,6 +213,8 @@ at_is s at tree known =
           (plain_state 100000 None) (plain_state 99997 (Some Binary)) 99990 (whole of_two tree)
           known.named refl refl refl refl refl refl refl refl refl refl (bounds_are s (from_in at_text) refl (codes "user_root") at refl refl refl known.named.0) (outputs_three (result_context s (codes "user_root") at) (record { name = codes "user_root"; table = at; slot = 1; shared = [] } ∷ []) (shown_in at_text) refl refl refl refl at (codes "owner") (codes "name") (codes "target") (record { names = refl; found = rw there; term = rw there; heading = rw there }) (record { names = refl; found = rw there; term = rw there; heading = rw there }) (record { names = refl; found = rw there; term = rw there; heading = rw there }) None max_budget (refl, (refl, (refl, tt)))) (where_two (select_context s (codes "user_root") at outputs) (filter_in at_text) refl refl refl refl (codes "owner") (codes "name") at 0 1 (col 1 1) (col 1 2) (equals (col 1 1) (col 0 0)) (equals (col 1 2) (col 0 1)) (Some Binary) 99997 (record { left_is = refl; right_is = refl; found = rw there; column = rw there; compare = rw there }) (record { left_is = refl; right_is = refl; found = rw there; column = rw there; compare = rw there }) (refl, (refl, (refl, (refl, (refl, (refl, (refl, tt))))))))
           (refl, refl, refl, refl) (refl, refl, refl, refl) refl refl refl refl (rw there) (rw there) (rw there) (rw there) refl refl (at_typed s at tree known),
+      refl,
+      refl,
       refl,
       refl,
       refl,
@@ -225,3 +235,20 @@ same_of old new under params rows shown = answered_same user_root.name user_root
 
 pub same_at : (old new : State) → IsUnderWay old → (params : Row) (rows : List Row) → Shown at_text params old new rows → IsUnchanged old new
 same_at old new under params rows shown = answered_same user_root.name user_root.columns user_root.primary old new under (λ has. has.1.1.1.1.1.0) at_text (λ at tree. Select (whole of_two tree) names) at_is params rows shown
+
+-- ---- why a read fails
+
+scan : (filter : List Term) (tree : ℕ) → IsScan (query filter tree) tree
+scan filter tree = record { from = refl; group = refl; distinct = refl; whole = λ params rows. refl }
+
+pub fails_all : (old new : State) → IsUnderWay old → (e : Error) → FailsToQuery all_text [] old new e ⊎ IsTooLate all_text [] old new e → FailsWith old new ⊥ (IsSome old.step_limit) (failure_of e)
+unfolding everything
+fails_all old new under = read_fails user_root.name user_root.columns user_root.primary old new under (λ has. has.1.1.1.1.1.0) all_text [] names (query []) (scan []) all_is (_, _, _, _, _, refl) (λ s at tree known. rw (known.low, known.by_tree) refl)
+
+pub fails_of : (old new : State) (owner : List ℕ) → IsUnderWay old → (e : Error) → FailsToQuery of_text (Text owner ∷ []) old new e ⊎ IsTooLate of_text (Text owner ∷ []) old new e → FailsWith old new ⊥ (IsSome old.step_limit) (failure_of e)
+unfolding everything
+fails_of old new owner under = read_fails user_root.name user_root.columns user_root.primary old new under (λ has. has.1.1.1.1.1.0) of_text (Text owner ∷ []) names (query of_one) (scan of_one) of_is (_, _, _, _, _, refl) (λ s at tree known. rw (known.low, known.by_tree) refl)
+
+pub fails_at : (old new : State) (owner : List ℕ) (name : List ℕ) → IsUnderWay old → (e : Error) → FailsToQuery at_text (Text owner ∷ Text name ∷ []) old new e ⊎ IsTooLate at_text (Text owner ∷ Text name ∷ []) old new e → FailsWith old new ⊥ (IsSome old.step_limit) (failure_of e)
+unfolding everything
+fails_at old new owner name under = read_fails user_root.name user_root.columns user_root.primary old new under (λ has. has.1.1.1.1.1.0) at_text (Text owner ∷ Text name ∷ []) names (query of_two) (scan of_two) at_is (_, _, _, _, _, refl) (λ s at tree known. rw (known.low, known.by_tree) refl)
