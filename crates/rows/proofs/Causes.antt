@@ -13,7 +13,7 @@ use Rattle.sqlite.specs.Clock.{timed}
 use Rattle.sqlite.specs.State.{State, store_error, HasCause, IsUnchanged, Fails, IsNotRun, IsNoStatement, IsMisplaced, ExecutesIn, ExecutesInside, RunsCommand, shows_rows, mode_of, text_of, FailsToQuery, FailsToShow, IsTooLate}
 use Rattle.rows.specs.declared.failure.Failure.{Failure}
 use Rattle.rows.specs.declared.failure.Failure.TheVariants.{Size}
-use Rattle.rows.specs.Failures.{failure_of, IsExcused, FailsFor}
+use Rattle.rows.specs.Failures.{failure_of, IsExcused, FailsFor, IsQueryFailure}
 use Rattle.rows.proofs.Refusals.{IsUnsized, disk, named, write_unsized, read_unsized}
 
 excused : (old new : State) (too_big : Type 0) (cause : StoreError) → HasCause old new too_big cause → IsExcused old new (failure_of (store_error cause))
@@ -75,10 +75,10 @@ query_fails sql params old new e f is (inl (inr h)) = shows_fails old new sql h.
 query_fails sql params old new e f is (inr h) = rests old new e f is h.5 (named e _ h.4 disk)
 
 -- and of what reads the rows that were answered
-pub refused_by : {T : Type 0} (r : Result T Failure) (old new : State) (Answered : Type 0) → (Answered → IsUnchanged old new) → IfErr r (λ f. FailsFor old new f ⊎ (Answered × (f ≢ Size))) → IfErr r (FailsFor old new)
-refused_by (Ok x) old new A same h = tt
-refused_by (Err f) old new A same (inl h) = h
-refused_by (Err f) old new A same (inr h) = inr (same h.0, h.1)
+pub refused_by : {T : Type 0} (r : Result T Failure) (old new : State) (text : List ℕ) (params : Row) (Answered : Type 0) → (Answered → IsUnchanged old new) → IfErr r (λ f. IsQueryFailure text params old new f ⊎ (Answered × (f ≢ Size))) → IfErr r (FailsFor old new)
+refused_by (Ok x) old new text params A same h = tt
+refused_by (Err f) old new text params A same (inl h) = query_fails text params old new h.0 f h.1 h.2
+refused_by (Err f) old new text params A same (inr h) = inr (same h.0, h.1)
 
 pub each_err : {T : Type 0} (r : Result T Failure) (P : Failure → Type 0) → ((f : Failure) → P f) → IfErr r P
 each_err (Ok x) P h = tt

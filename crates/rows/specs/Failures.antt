@@ -1,7 +1,8 @@
 -- Which failure an error of the database is, and what a failure says of its call.
-use Rattle.std.specs.Prelude.{◌≡◌, ◌≢◌, ◌⊎◌, false, Option, Some, None, ⊤}
+use Rattle.std.specs.Prelude.{ℕ, List, Err, ◌≡◌, ◌≢◌, ◌⊎◌, false, Option, Some, None, ⊤}
+use Rattle.sqlite_value.specs.Order.{Row}
 use Rattle.sqlite_trees.specs.declared.error.StoreError.TheVariants.{Io}
-use Rattle.sqlite.specs.State.{State, HasCause, IsUnchanged, IsRolledBack}
+use Rattle.sqlite.specs.State.{State, HasCause, IsUnchanged, IsRolledBack, FailsToQuery, IsTooLate, ExecutesInside}
 use Rattle.sqlite.specs.declared.error.ErrorCode.TheVariants.{OutOfMemory, TooBig, SystemIoFailure, DiskFull, Closed}
 use Rattle.sqlite.specs.declared.error.Error.{Error}
 use Rattle.sqlite.specs.declared.error.Error.TheVariants.{SqliteFailure}
@@ -22,6 +23,14 @@ opening_failure (SqliteFailure SystemIoFailure) = Some Disk
 opening_failure (SqliteFailure DiskFull) = Some Disk
 opening_failure (SqliteFailure Closed) = Some Disk
 opening_failure _ = None
+
+-- a query of this text answered an error, and this is its failure
+abbrev pub IsQueryFailure : List ℕ → Row → State → State → Failure → Type 0
+IsQueryFailure text params old new f = (e : Error) × (f ≡ failure_of e) × (FailsToQuery text params old new e ⊎ IsTooLate text params old new e)
+
+-- a write of this text answered an error, and this is its failure
+abbrev pub IsWriteFailure : List ℕ → Row → State → State → Failure → Type 0
+IsWriteFailure text params old new f = (e : Error) × (f ≡ failure_of e) × ExecutesInside 0 text params old new (Err e)
 
 -- the disk is named for a fault in this call, or for an earlier one that had shut the connection
 abbrev pub IsExcused : State → State → Failure → Type 0

@@ -17,4 +17,4 @@ returns-clause-cause g c clean =
     let old = state g.S.Store c.args.tx.now.conn.now in
     let new = state g.S.Store c.select.new.tx.conn.now in
     let early : HasCleanDisk old = omega (arith, c.select.ensures.survives.clean) in
-    refused_by c.select.result old new _ (λ it. same_of old new (c.requires early) _ it.0 it.1) (c.select.ensures.cause clean)
+    refused_by c.select.result old new _ _ _ (λ it. same_of old new (c.requires early) _ it.0 it.1) (c.select.ensures.cause clean)
