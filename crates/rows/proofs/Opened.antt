@@ -1,7 +1,10 @@
 -- That the last commit is ours, where the rowids and texts that a transaction shows were tested; and what an open that failed is told as.
-use Rattle.std.proofs.Common.{◌≡◌, ◌↔◌, Bool, Option, Some, None, Result, Ok, Err, IfOk, IfErr, IfSome, OnOk, IsTrue, sym, subst, ◌∙◌}
+use Rattle.std.proofs.Common.{◌≡◌, ◌↔◌, Bool, Option, Some, None, Result, Ok, Err, IfOk, IfErr, IfSome, OnOk, IsTrue, sym, ap, subst, ◌∙◌}
 use Rattle.std.specs.List.{AllByRecursion}
+use Rattle.sqlite_wal.specs.Recovery.{Image}
 use Rattle.sqlite.specs.State.{State}
+use Rattle.sqlite.specs.Files.{AreFoundIn}
+use Rattle.sqlite.specs.Start.{FindsIn}
 use Rattle.sqlite.specs.declared.error.Error.{Error}
 use Rattle.rows.specs.declared.finding.Finding.{Finding}
 use Rattle.rows.specs.declared.finding.Finding.TheVariants.{Ours, Nothing}
@@ -48,6 +51,17 @@ carried {A = A} G Q P step (Err e) r refused given taken = subst (λ (r : Result
 carried G Q P step (Ok c) (Err f) refused given taken = tt
 carried G Q P step (Ok c) (Ok None) refused given taken = tt
 carried G Q P step (Ok c) (Ok (Some it)) refused given taken = step c it given taken
+
+-- and so do two such things
+pub carried_both : {C A : Type 0} (Q R : C → A → Type 0) (opened : Result C Error) (r : Result (Option A) Failure) → IfOk opened (λ c. IfOk r (λ o. IfSome o (Q c))) → IfOk opened (λ c. IfOk r (λ o. IfSome o (R c))) → IfOk opened (λ c. IfOk r (λ o. IfSome o (λ it. Q c it × R c it)))
+carried_both Q R (Err e) r h k = tt
+carried_both Q R (Ok c) (Err f) h k = tt
+carried_both Q R (Ok c) (Ok None) h k = tt
+carried_both Q R (Ok c) (Ok (Some it)) h k = (h, k)
+
+-- what the file held is what the last commit still is
+pub held_still : (image : Image) (old new : State) → new.committed ≡ old.committed → FindsIn image old → FindsIn image new
+held_still image old new same h = record { holds = λ db held. ap (λ (d : Database). d.trees) same ∙ h.holds db held; reads = subst (λ (d : Database). AreFoundIn image d.trees) (sym same) h.reads }
 
 pub any_ok : {T E : Type 0} (r : Result T E) (P : Type 0) → P → OnOk r P
 any_ok (Ok x) P h = h

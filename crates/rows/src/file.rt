@@ -1,16 +1,18 @@
 //! Opening a file: a database with what it holds of ours, or something else.
 
-ghost use Rattle.std.specs.Prelude.{◌≡◌, false, Ok, None, IsTrue, IsSome, IfOk, IfErr, IfSome, OnOk, codes};
+ghost use Rattle.std.specs.Prelude.{◌≡◌, false, Ok, Err, None, IsTrue, IsSome, IfOk, IfErr, IfSome, OnOk, codes};
 ghost use Rattle.sqlite.specs.State.{HasCleanDisk, Survives};
 ghost use Rattle.sqlite.specs.Held.{state};
+ghost use Rattle.sqlite_wal.specs.Files.{image_at};
 ghost use Rattle.sqlite.specs.Files.{file_state};
+ghost use Rattle.sqlite.specs.Start.{FindsIn};
 ghost use Rattle.rows.specs.Failures.{opening_failure};
 ghost use Rattle.rows.specs.Opened.{IsFound, answer_of};
 
 use crate::failure::Failure;
 use crate::finding::Finding;
 use crate::opening;
-use sqlite::{Alter, Connection, Error, ErrorCode, File, FileStore};
+use sqlite::{Alter, Connection, Error, ErrorCode, FileFrom, FileStore, Start};
 use std::alloc::Global;
 use std::rt::HostRuntime;
 
@@ -73,15 +75,35 @@ pub fn take_up<S: Alter + Drop>(
     }
 }
 
-/// Opens the file at a path, or makes an empty database there, and takes it up. That the connection shows what the file held,
-/// where it wasn't empty, no clause says. A program that states it calls `Connection::open_from` and hands on to `take_up` the
-/// connection or the error.
-pub fn open(rt: &HostRuntime, path: &str) -> Result<Option<Opened<FileStore<File>>>, Failure>
+fn connect<S: Start>(
+    rt: &HostRuntime,
+    path: &str,
+    start: S,
+) -> Result<Connection<FileStore<FileFrom<S>>>, Error>
+    ensures memory { path.now ≡ codes ":memory:" → result ≡ Err (Error.SqliteFailure ErrorCode.CannotOpen) }
+    ensures alone { IfOk result (λ c. c.in_transaction ≡ false) }
+    ensures held { IfOk result (λ c. HasCleanDisk (file_state c) → FindsIn (image_at S.Start) (file_state c)) }
+    ensures guarded { IfOk result (λ c. HasCleanDisk (file_state c) → (file_state c).IsShielded) }
+{
+    match Connection::open_from(rt, path, false, start) {
+        Ok(conn) => Ok(conn),
+        Err((error, _left)) => Err(error),
+    }
+}
+
+/// Opens the file at a path, or makes an empty database there, and takes it up. `start` stands for what the file held, which no
+/// code reads: a program passes `Unknown`, or `Wary` where a torn write may leave any bytes.
+pub fn open<S: Start>(
+    rt: &HostRuntime,
+    path: &str,
+    start: S,
+) -> Result<Option<Opened<FileStore<FileFrom<S>>>>, Failure>
     ensures memory { path.now ≡ codes ":memory:" → result ≡ Ok None }
     ensures alone { IfOk result (λ o. IfSome o (λ it. it.conn.in_transaction ≡ false)) }
     ensures found { IfOk result (λ o. IfSome o (λ it. HasCleanDisk (file_state it.conn) → IsTrue (file_state it.conn).is_open → IsFound it.found (file_state it.conn))) }
+    ensures held { IfOk result (λ o. IfSome o (λ it. HasCleanDisk (file_state it.conn) → IsTrue (file_state it.conn).is_open → FindsIn (image_at S.Start) (file_state it.conn))) }
     ensures guarded { IfOk result (λ o. IfSome o (λ it. HasCleanDisk (file_state it.conn) → (file_state it.conn).IsShielded)) }
 {
-    let opened = Connection::open(rt, path);
+    let opened = connect(rt, path, start);
     take_up(rt.alloc(), opened)
 }

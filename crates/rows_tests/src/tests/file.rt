@@ -4,14 +4,14 @@ use crate::tests::steps::{Step, on_file};
 use rows::failure::Failure;
 use rows::file::{self, Opened};
 use rows::finding::Finding;
-use sqlite::Connection;
+use sqlite::{Connection, Unknown};
 use std::fs;
 use std::rt::HostRuntime;
 use std::test::Fail;
 
 /// What the file at the path holds of ours.
 fn told(rt: &HostRuntime, path: &str) -> Result<Option<Finding>, Failure> {
-    match file::open(rt, path)? {
+    match file::open(rt, path, Unknown)? {
         Some(Opened { conn: _, found }) => Ok(Some(found)),
         None => Ok(None),
     }
