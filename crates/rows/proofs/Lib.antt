@@ -6,6 +6,7 @@ pub mod Finds
 pub mod Lists
 pub mod Frozen
 pub mod Writes
+pub mod Apart
 pub mod Members
 pub mod Means
 pub mod Conditions

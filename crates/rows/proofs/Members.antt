@@ -14,13 +14,14 @@ use Rattle.sqlite_sql.specs.Term.{Term, holds}
 use Rattle.sqlite_sql.specs.Query.{IsAnswer}
 use Rattle.sqlite_value.specs.declared.value.Value.{Value}
 use Rattle.sqlite_value.specs.declared.value.Value.TheVariants.{Null, Int, Real, Text, Blob}
-use Rattle.sqlite_rules.proofs.ListLemmas.{has_filtered, has_kept, some_from}
+use Rattle.sqlite_rules.proofs.ListLemmas.{has_filtered, has_kept}
 use Rattle.sqlite_rules.proofs.ProbeLemmas.{has_mapped, mapped_has}
 use Rattle.sqlite_trees.specs.View.{is_int}
 use Rattle.sqlite_value.proofs.OrderLemmas.{value_cmp_total}
-use Rattle.std.specs.Cmp.{tied_back, tied_itself, Equal-is}
+use Rattle.std.specs.Cmp.{tied_itself}
 use Rattle.rows.specs.Calls.{IsKeyed}
 use Rattle.rows.proofs.Orders.{found_has, tied_some}
+use Rattle.rows.proofs.Apart.{once, apart_put, apart_left}
 use Rattle.rows.proofs.Scans.{IsScan, scan_sound, scan_complete}
 use Rattle.rows.proofs.Writes.{rowids_where}
 
@@ -94,22 +95,10 @@ module _ {K X : Type 0} {R : K → K → Ordering} (o : IsTotalOrder R) (same : 
           subst (Has (map entry (filter kind (put_row new rows)))) (sym r.2) (mapped_has entry _ r.0 (has_kept kind _ r.0 (kept_put new rows r.0 free k.0) k.1))
 
 pub keyed_put : (new : Row) (rows : List Row) → is_taken rows new ≡ false → IsTrue (is_int (rowid new)) → IsKeyed rows → IsKeyed (put_row new rows)
-keyed_put new rows free int keyed = record { ints = ints; once = once }
+keyed_put new rows free int keyed = record { ints = ints; apart = apart_put new rows free keyed.apart }
   where
-    other : (b : Row) → Has rows b → is_eq (value_cmp (rowid b) (rowid new)) ≡ true → ⊥
-    other b h tie = let e = sym (some_from (λ r. is_eq (value_cmp (rowid r) (rowid new))) rows b h tie) ∙ free in cc
-
     ints : (a : Row) → Has (put_row new rows) a → IsTrue (is_int (rowid a))
     ints a h = elim (from_put new rows a h) [ inl is ↦ subst (λ r. IsTrue (is_int (rowid r))) (sym is) int | inr there ↦ keyed.ints a there ]
-
-    turned : (a b : Row) → is_eq (value_cmp (rowid a) (rowid b)) ≡ true → is_eq (value_cmp (rowid b) (rowid a)) ≡ true
-    turned a b tie = let e = tied_back value_cmp_total (rowid a) (rowid b) ((Equal-is _).0 tie) in ap is_eq e
-
-    once : (a b : Row) → Has (put_row new rows) a → Has (put_row new rows) b → is_eq (value_cmp (rowid a) (rowid b)) ≡ true → a ≡ b
-    once a b h g tie = elim (from_put new rows a h) [
-      | inl is ↦ elim (from_put new rows b g) [ inl same ↦ is ∙ sym same | inr there ↦ absurd (other b there (turned new b (subst (λ r. is_eq (value_cmp (rowid r) (rowid b)) ≡ true) is tie))) ]
-      | inr was ↦ elim (from_put new rows b g) [ inl same ↦ absurd (other a was (subst (λ r. is_eq (value_cmp (rowid a) (rowid r)) ≡ true) same tie)) | inr there ↦ keyed.once a b was there tie ]
-    ]
 
 -- ---- rows that go
 
@@ -134,7 +123,7 @@ left_has (i ∷ ids) rows x h spares =
     left_has ids (without_rowid i rows) x (has_kept (λ r. not (has_rowid i r)) rows x h (ap not (spares i (inl refl)))) (λ id there. spares id (inr there))
 
 pub keyed_left : (ids : List ℤ) (rows : List Row) → IsKeyed rows → IsKeyed (without_all rows ids)
-keyed_left ids rows keyed = record { ints = λ a h. keyed.ints a (left_from ids rows a h).0; once = λ a b h g. keyed.once a b (left_from ids rows a h).0 (left_from ids rows b g).0 }
+keyed_left ids rows keyed = record { ints = λ a h. keyed.ints a (left_from ids rows a h).0; apart = apart_left ids rows keyed.apart }
 
 -- the rowid of a row that has an integer there
 int_is : (v : Value) → IsTrue (is_int v) → v ≡ Int (id_in v)
@@ -181,7 +170,7 @@ module _ (tree : ℕ) (terms : List Term) (db : Trees) (params : Row) (rows : Li
           go r here so is false e = e
           go r here so is true e =
               let own : rowid r ≡ Int id = int_is (rowid r) (keyed.ints r here) ∙ ap Int (sym is) in
-              let same : x ≡ r = keyed.once x r h here (rw own e) in
+              let same : x ≡ r = once (db tree) keyed.apart x r h here (rw own e) in
               absurd (let f = sym so ∙ ap passes (sym same) ∙ fails in cc)
 
 -- ---- a map without the keys that fail a test

@@ -1,5 +1,5 @@
 -- That the rowids of a table, as a query shows them, are integers that differ, so each row has its own.
-use Rattle.std.proofs.Common.{◌≡◌, inl, inr, ℕ, suc, ℤ, pos, negsuc, List, [], ◌∷◌, map, flat_map, codes, Bool, true, false, None, Option, Ok, IsTrue, refl, sym, ap, subst, subst₂, ◌∙◌, IsPermutation, length, Less, slice_get}
+use Rattle.std.proofs.Common.{◌≡◌, inl, inr, ℕ, suc, ℤ, pos, negsuc, List, [], ◌∷◌, map, flat_map, codes, true, false, None, Option, Ok, IsTrue, refl, sym, ap, subst, subst₂, ◌∙◌, IsPermutation, length, Less, slice_get}
 use Rattle.std.specs.Prelude.{nat_lt, nat_le, ◌-◌, ◌^◌, option_and_then}
 use Rattle.std.specs.List.{AllByRecursion, IsDistinct, AllAdjacentBelow}
 use Rattle.std.specs.List.Sorted.{IsStrictlySortedBy}
@@ -13,8 +13,8 @@ use Rattle.sqlite_value.specs.declared.value.Value.{Value}
 use Rattle.sqlite_value.specs.declared.value.Value.TheVariants.{Null, Int}
 use Rattle.sqlite_value.specs.declared.keys.Collation.{Collation}
 use Rattle.sqlite_value.specs.declared.keys.Key.{Key}
-use Rattle.sqlite_value.specs.Order.{Row, column, value_cmp}
-use Rattle.sqlite_value.proofs.OrderLemmas.{value_cmp_total, value_cmp-Int}
+use Rattle.sqlite_value.specs.Order.{Row, column}
+use Rattle.sqlite_value.proofs.OrderLemmas.{value_cmp-Int}
 use Rattle.sqlite_trees.specs.Tree.{Trees, rowid}
 use Rattle.sqlite_trees.specs.View.{is_int}
 use Rattle.sqlite_ast.specs.declared.Expr.{Expr, out-Expr}
@@ -46,6 +46,7 @@ use Rattle.rows.specs.Contents.{rows_named}
 use Rattle.rows.specs.Calls.{IsKeyed, IsInside, Rests}
 use Rattle.rows.proofs.Means.{means_command, plain_state}
 use Rattle.rows.proofs.Scans.{IsScan, scan_complete, kept, listed, shown_same}
+use Rattle.rows.proofs.Apart.{tie, turned}
 use Rattle.rows.proofs.Statements.{Compiles}
 use Rattle.rows.proofs.Writes.{overlay_low}
 
@@ -109,14 +110,8 @@ scan order tree = record { from = refl; group = refl; distinct = refl; whole = �
 one : Unit {0}
 one = tt
 
-abbrev tie : Value → Value → Bool
-tie = eq_by_cmp value_cmp
-
 abbrev pub first : Row → Value
 first row = column row 0
-
-turned : (v w : Value) → tie v w ≡ tie w v
-turned v w = (eq_by_cmp_equiv value_cmp_total).symm v w
 
 module _ (order : List (Term × Key)) (tree : ℕ) (db : Trees) (rows : List Row) (answer : IsAnswer (query order tree) db [] rows) where
   -- the rowids that the query shows are those of the table, in another order
@@ -139,20 +134,6 @@ unfolding IsDistinct
 distinct_ints [] h = one
 distinct_ints (n ∷ ns) h = (apart_ints n ns h.0, distinct_ints ns h.1)
 
-apart_has : (v : Value) (rows : List Row) (b : Row) → AllByRecursion (λ w. tie v w ≡ false) (map rowid rows) → Has rows b → tie v (rowid b) ≡ false
-apart_has v [] b h g = absurd g
-apart_has v (r ∷ rows) b h (inl is) = ap (λ (x : Row). tie v (rowid x)) is ∙ h.0
-apart_has v (r ∷ rows) b h (inr there) = apart_has v rows b h.1 there
-
-once_from : (rows : List Row) → IsDistinct tie (map rowid rows) → (a b : Row) → Has rows a → Has rows b → tie (rowid a) (rowid b) ≡ true → a ≡ b
-unfolding IsDistinct
-once_from [] d a b h g e = absurd h
-once_from (r ∷ rows) d a b (inl is) (inl same) e = is ∙ sym same
-once_from (r ∷ rows) d a b (inl is) (inr there) e = absurd (let no = sym (apart_has (rowid r) rows b d.0 there) ∙ ap (λ (x : Row). tie (rowid x) (rowid b)) (sym is) ∙ e in cc)
-once_from (r ∷ rows) d a b (inr there) (inl same) e =
-    absurd (let no = sym (apart_has (rowid r) rows a d.0 there) ∙ turned (rowid r) (rowid a) ∙ ap (λ (x : Row). tie (rowid a) (rowid x)) (sym same) ∙ e in cc)
-once_from (r ∷ rows) d a b (inr here) (inr there) e = once_from rows d.1 a b here there e
-
 ints_from : (rows : List Row) (ns : List ℤ) → map first rows ≡ map Int ns → (x : Row) → Has rows x → IsTrue (is_int (first x))
 ints_from [] ns e x h = absurd h
 ints_from (r ∷ rows) [] e x h = absurd cc
@@ -165,7 +146,7 @@ keyed_from order tree db rows ns answer ints apart =
     let own : IsDistinct tie (map rowid (db tree)) = IsDistinct-IsPermutation tie turned _ _ (IsPermutation-sym _ _ (same_rowids order tree db rows answer)) shown in
     record {
       ints = λ a h. ints_from rows ns ints (rowid a ∷ []) (scan_complete (query order tree) tree (scan order tree) db [] rows answer a h refl);
-      once = once_from (db tree) own;
+      apart = own;
     }
 
 -- the rows that were shown, whose first values are integers that differ

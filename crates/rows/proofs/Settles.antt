@@ -2,7 +2,7 @@
 use Rattle.std.proofs.Common.{◌≡◌, ◌≢◌, ◌<◌, ◌≤◌, ◌+◌, ℕ, suc, List, [], ◌∷◌, ◌++◌, codes, Bool, true, false, cond, not, ◌&&◌, Some, None, Option, Ok, length, refl, sym, ap, subst, ◌∙◌, arith, IsTrue, zero, ℤ, inl, inr}
 use Rattle.std.specs.Prelude.{IsUtf8, slice_get, option_and_then, option_map, unwrap_or}
 use Rattle.std.specs.FinMap as finite
-use Rattle.std.specs.List.{AllByRecursion, position_from}
+use Rattle.std.specs.List.{AllByRecursion, IsDistinct, position_from}
 use Rattle.sqlite_value.specs.Order.{Row, column}
 use Rattle.sqlite_value.specs.declared.value.Value.TheVariants.{Int, Text}
 use Rattle.sqlite_trees.specs.Tree.{Trees, put_row}
@@ -128,7 +128,8 @@ unfolding map_of
 none_in_none = refl
 
 pub keyed_none : IsKeyed []
-keyed_none = record { ints = λ a h. absurd h; once = λ a b h k e. absurd h }
+unfolding IsDistinct
+keyed_none = record { ints = λ a h. absurd h; apart = tt }
 
 words_utf8 : IsUtf8 (codes "schema") × IsUtf8 (codes "1") × IsUtf8 (codes "store-dir")
 unfolding lib.Utf8.encode

@@ -30,6 +30,7 @@ use Rattle.rows.specs.Standing.{Stands, tree_named}
 use Rattle.rows.specs.Contents.{texts_cmp, is_text, rows_named}
 use Rattle.rows.specs.Calls.{IsKeyed}
 use Rattle.rows.proofs.Orders.{texts_total}
+use Rattle.rows.proofs.Apart.{once}
 use Rattle.rows.proofs.Truths.{text_test, int_test, told}
 
 -- ---- values that are the same are equal to SQL too, and integers that don't differ are tied
@@ -102,7 +103,7 @@ module _ (db : Database) (sound : IsDatabase db) (name : List ℕ) (columns : Li
       let guarded : guards index own ≡ true = grind (arith, nat_tests) in
       let alone : clashes plain key (db.trees own.tree) b ≡ false = apart _ _ guarded free in
       let tied : differ (rowid a) (rowid b) ≡ false = none a here same alone in
-      keyed.once a b here there (ints_tied (rowid a) (rowid b) (keyed.ints a here) (keyed.ints b there) tied)
+      once (rows_named db name) keyed.apart a b here there (ints_tied (rowid a) (rowid b) (keyed.ints a here) (keyed.ints b there) tied)
     where
       apart : (g c : Bool) → g ≡ true → not (g && c) ≡ true → c ≡ false
       apart g true h k = absurd (let no = rw h at k in cc)

@@ -1,7 +1,7 @@
 -- What a call makes of the tables that a connection shows.
-use Rattle.std.specs.Prelude.{◌≡◌, true, false, List, [], IsTrue}
-use Rattle.std.specs.List.{AllByRecursion}
-use Rattle.std.specs.Ordering.{is_eq}
+use Rattle.std.specs.Prelude.{◌≡◌, true, false, List, [], map, IsTrue}
+use Rattle.std.specs.List.{AllByRecursion, IsDistinct}
+use Rattle.std.specs.Ordering.{eq_by_cmp}
 use Rattle.sqlite_value.specs.Order.{Row, value_cmp}
 use Rattle.sqlite_rules.specs.Lists.{Has}
 use Rattle.sqlite_trees.specs.View.{is_int}
@@ -13,10 +13,10 @@ use Rattle.rows.specs.Standing.{HasTables}
 use Rattle.rows.specs.Contents.{Contents, contents_of, rows_named}
 use Rattle.rows.specs.Frozen.{KeepsUnshown, KeepsFrozen}
 
--- each row has a rowid of its own, an integer
+-- each row has a rowid of its own, an integer: the list of rowids has no value twice, so no row stands there twice
 pub record IsKeyed (rows : List Row) : Type 0 where
   pub ints : (a : Row) → Has rows a → IsTrue (is_int (rowid a))
-  pub once : (a b : Row) → Has rows a → Has rows b → is_eq (value_cmp (rowid a) (rowid b)) ≡ true → a ≡ b
+  pub apart : IsDistinct (eq_by_cmp value_cmp) (map rowid rows)
 
 -- all nine tables stand in the schema, each row obeys it, and rowids are apart
 pub record IsOurs (db : Database) : Type 0 where
