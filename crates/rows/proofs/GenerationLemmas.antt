@@ -1,5 +1,6 @@
 -- What the statements on the generations mean and do.
 use Rattle.std.proofs.Common.{◌≡◌, ℕ, ℤ, pos, negsuc, List, [], ◌∷◌, codes, true, false, not, ◌&&◌, Some, None, Ok, Result, IfOk, Vec, Global, map, length, refl}
+use Rattle.std.specs.Prelude.{IsUtf8}
 use Rattle.std.specs.Ordering.{eq_by_cmp, is_lt, int_cmp}
 use Rattle.std.specs.List.{list_all, AllAdjacentBelow}
 use Rattle.std.specs.FinMap as finite
@@ -43,6 +44,7 @@ use Rattle.rows.proofs.Writes.{SetsRows, inserts_in, rowids_where}
 use Rattle.rows.proofs.Scans.{IsScan, shows}
 use Rattle.rows.proofs.Entries.{put_map}
 use Rattle.rows.proofs.Members.{keyed_put}
+use Rattle.rows.proofs.ReadableWrites.{put_readable}
 use Rattle.rows.proofs.Places.{changed}
 use Rattle.rows.proofs.ContentsLemmas.{generation_set}
 use Rattle.rows.specs.Failures.{failure_of, FailsWith}
@@ -62,9 +64,9 @@ insert_is : (s : Schema) (at tree : ℕ) → IsNamed s (codes "generation") at (
 unfolding everything
 insert_is s at tree found = (_, insert_means insert_text refl s at (codes "generation") generation.columns generation.primary tree _ found refl, refl, refl, refl, refl, refl)
 
-pub inserts : (old new : State) (owner : List ℕ) (name : List ℕ) (number : ℤ) (target : List ℕ) (count : ℕ) → IsUnderWay old → finite.get (contents_of old.now).generations (owner, name, number) ≡ None → ExecutesInside 0 insert_text (Text owner ∷ Text name ∷ Int number ∷ Text target ∷ []) old new (Ok count)
+pub inserts : (old new : State) (owner : List ℕ) (name : List ℕ) (number : ℤ) (target : List ℕ) (count : ℕ) → IsUtf8 owner → IsUtf8 name → IsUtf8 target → IsUnderWay old → finite.get (contents_of old.now).generations (owner, name, number) ≡ None → ExecutesInside 0 insert_text (Text owner ∷ Text name ∷ Int number ∷ Text target ∷ []) old new (Ok count)
     → Changes old new (λ c. record c { generations = finite.insert c.generations (owner, name, number) target })
-inserts old new owner name number target count under none h =
+inserts old new owner name number target count owner_utf8 name_utf8 target_utf8 under none h =
     let ours = under.ours h.1.was_open in
     let stands = ours.has.1.1.1.1.1.1.1.0 in
     let tree = tree_named old.now.schema (codes "generation") in
@@ -75,7 +77,7 @@ inserts old new owner name number target count under none h =
     let fresh : (not (is_taken rows row) && true) ≡ true = rw cast_null at it.0.fresh in
     let free = free_of _ _ fresh in
     let sets : SetsRows old new tree (put_row row rows) = rw (cast_null, cast_int number) at it.1 in
-    changed generation old new (put_row row rows) stands sets _ ours (keyed_put row rows free refl) refl (generation_set old new ours.has (put_row row rows) sets _ (put_map triple_total triple_antisymmetric is_generation generation_of row rows free refl none))
+    changed generation old new (put_row row rows) stands sets _ ours (keyed_put row rows free refl) (put_readable generation row rows (tt, (owner_utf8, (name_utf8, (tt, (target_utf8, tt)))))) refl (generation_set old new ours.has (put_row row rows) sets _ (put_map triple_total triple_antisymmetric is_generation generation_of row rows free refl none))
 
 -- ---- of the first two of the key
 
@@ -109,7 +111,7 @@ pub deletes : (old new : State) (owner : List ℕ) (name : List ℕ) (number : �
 deletes old new owner name number count under h =
     let ours = under.ours h.1.was_open in
     let it = deletes_part generation.name generation.columns generation.primary triple_total triple_antisymmetric is_generation generation_of old new under (λ has. has.1.1.1.1.1.1.1.0) delete_text (Text owner ∷ Text name ∷ Int number ∷ []) of_three (λ k. eq_by_cmp texts_cmp k.0 owner && (eq_by_cmp texts_cmp k.1 name && eq_by_cmp int_cmp k.2 number)) (said_three owner name number) delete_is count h ours.keyed.1.1.1.1.1.1.1.0 in
-    changed generation old new it.0 ours.has.1.1.1.1.1.1.1.0 it.1 _ ours it.2 refl (generation_set old new ours.has it.0 it.1 _ it.3)
+    changed generation old new it.0 ours.has.1.1.1.1.1.1.1.0 it.1 _ ours it.2 it.3 refl (generation_set old new ours.has it.0 it.1 _ it.4)
 
 -- ---- reading them
 

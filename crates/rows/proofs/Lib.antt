@@ -8,6 +8,7 @@ pub mod Frozen
 pub mod Writes
 pub mod Apart
 pub mod Members
+pub mod ReadableWrites
 pub mod Means
 pub mod Conditions
 pub mod Columns
@@ -18,6 +19,7 @@ pub mod Statements
 pub mod Typed
 pub mod UniqueKeys
 pub mod MappedRows
+pub mod ReadableValues
 pub mod ReadableMaps
 pub mod Alike
 pub mod One

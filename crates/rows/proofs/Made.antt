@@ -18,10 +18,10 @@ use Rattle.rows.specs.Forms.{meta, object, refs, outs, permanent, user_root, pro
 use Rattle.rows.specs.Finding.{HasNone}
 use Rattle.rows.specs.Contents.{Bytes, contents_of, texts_cmp, pair_cmp, triple_cmp, is_pair, pair_of, is_object, object_of, member_of, is_triple, target_of, is_profile, profile_of, is_generation, generation_of, map_of, rows_named}
 use Rattle.rows.specs.Texts.{AreReadableRows, HasReadableRows}
-use Rattle.rows.specs.Calls.{IsKeyed}
+use Rattle.rows.specs.Calls.{IsKeyed, IsOurs}
 use Rattle.rows.specs.Making.{IsMade, IsMadeIn, IsMadeOf, LeavesMade, AreSettings, first_contents, placed, ours_created, others_placed}
 use Rattle.rows.proofs.Frozen.{frozen_before}
-use Rattle.rows.proofs.ReadableMaps.{readable_by_maps}
+use Rattle.rows.proofs.ReadableMaps.{ours_readable}
 use Rattle.rows.proofs.Creates.{tables_after}
 use Rattle.rows.proofs.Settles.{keyed_none}
 use Rattle.rows.proofs.Stood.{Parts, StandsAs, tree_is, all_stand, each_stands, by_names, are_low}
@@ -92,7 +92,12 @@ pub made_is : (dir : Bytes) (old new : State) → IsDatabase old.now → HasNone
 made_is dir old new sound none utf8 h =
     let stand = subst (λ (s : Schema). AllByRecursion (StandsAs s) (placed old.now.schema our_tables)) (sym h.schema) (standing old.now sound none) in
     let has = each_stands new.now h.sound old.now.schema (meta_parts ∷ others) stand in
-    let keyed = keyed_made dir old.now.schema new.now stand h.made.settings h.made.empty in
+    let ours : IsOurs new.now = record {
+      sound = h.sound;
+      has = has;
+      keyed = keyed_made dir old.now.schema new.now stand h.made.settings h.made.empty;
+      readable = readable_made dir old.now.schema new.now stand h.made.settings h.made.empty utf8;
+    } in
     record {
       was_open = h.was_open;
       is_open = h.is_open;
@@ -100,11 +105,8 @@ made_is dir old new sound none utf8 h =
       contents = contents_made dir old.now.schema new.now stand h.made.settings h.made.empty;
       theirs = theirs_of old.now new.now.trees old.now.schema.tables h.made.kept;
       frozen = h.made.frozen sound;
-      readable = (readable_by_maps new.now h.sound has keyed).0 (readable_made dir old.now.schema new.now stand h.made.settings h.made.empty utf8);
-      ready = record {
-        ours = record { sound = h.sound; has = has; keyed = keyed };
-        settled = h.settled;
-      };
+      readable = ours_readable new.now ours;
+      ready = record { ours = ours; settled = h.settled };
     }
 
 pub leaves_made : (dir : Bytes) (old : Database) (trees : Trees) → IsDatabase old → HasNone old.schema → IsUtf8 dir → IsMadeOf dir old trees → LeavesMade dir old trees
@@ -113,10 +115,10 @@ leaves_made dir old trees sound none utf8 h =
     let d : Database = record { schema = ours_created old.schema; trees = trees } in
     let stand = standing old sound none in
     let has = each_stands d h.sound old.schema (meta_parts ∷ others) stand in
-    let keyed = keyed_made dir old.schema d stand h.settings h.empty in
+    let ours : IsOurs d = record { sound = h.sound; has = has; keyed = keyed_made dir old.schema d stand h.settings h.empty; readable = readable_made dir old.schema d stand h.settings h.empty utf8 } in
     record {
-      ours = record { sound = h.sound; has = has; keyed = keyed };
-      readable = (readable_by_maps d h.sound has keyed).0 (readable_made dir old.schema d stand h.settings h.empty utf8);
+      ours = ours;
+      readable = ours_readable d ours;
       left = record {
         ours = contents_made dir old.schema d stand h.settings h.empty;
         theirs = subst (AllByRecursion (λ (t : Table). is_our_name t.name ≡ false → trees t.tree ≡ old.trees t.tree)) (sym (tables_after old.schema our_tables))

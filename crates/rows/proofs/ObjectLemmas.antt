@@ -1,6 +1,6 @@
 -- What the statements on the objects mean and do.
 use Rattle.std.proofs.Common.{◌≡◌, ℕ, pos, negsuc, List, [], ◌∷◌, ◌++◌, inl, arith, vec_len, codes, Bool, true, false, not, ◌&&◌, Some, None, Option, Ok, Result, Err, IfOk, Vec, Global, String, map, length, refl, sym, ap, subst, ◌∙◌}
-use Rattle.std.specs.Prelude.{string_bytes, ◌<◌, ◌↔◌, IsSome}
+use Rattle.std.specs.Prelude.{string_bytes, ◌<◌, ◌↔◌, IsSome, IsUtf8}
 use Rattle.std.specs.Option.{option_to_list}
 use Rattle.sqlite_rules.proofs.ListLemmas.{has_right}
 use Rattle.sqlite_rules.proofs.ProbeLemmas.{mapped_has}
@@ -49,6 +49,7 @@ use Rattle.rows.proofs.Writes.{SetsRows, inserts_in, rowids_where}
 use Rattle.rows.proofs.Scans.{IsScan, shows}
 use Rattle.rows.proofs.Entries.{put_map}
 use Rattle.rows.proofs.Members.{keyed_put}
+use Rattle.rows.proofs.ReadableWrites.{put_readable}
 use Rattle.rows.proofs.Places.{changed}
 use Rattle.rows.proofs.ContentsLemmas.{object_set}
 use Rattle.rows.specs.Failures.{failure_of, FailsWith}
@@ -73,9 +74,9 @@ insert_is : (s : Schema) (at tree : ℕ) → IsNamed s (codes "object") at (reco
 unfolding everything
 insert_is s at tree found = (_, insert_means insert_text refl s at (codes "object") object.columns object.primary tree _ found refl, refl, refl, refl, refl, refl)
 
-pub inserts : (old new : State) (base : List ℕ) (nar : List ℕ) (hash : List ℕ) (deriver : Value) (ca : Value) (count : ℕ) → IsKept deriver → IsKept ca → IsUnderWay old → finite.get (contents_of old.now).objects base ≡ None → ExecutesInside 0 insert_text (Text base ∷ Blob nar ∷ Blob hash ∷ deriver ∷ ca ∷ []) old new (Ok count)
+pub inserts : (old new : State) (base : List ℕ) (nar : List ℕ) (hash : List ℕ) (deriver : Value) (ca : Value) (count : ℕ) → IsUtf8 base → IsKept deriver → IsKept ca → IsUnderWay old → finite.get (contents_of old.now).objects base ≡ None → ExecutesInside 0 insert_text (Text base ∷ Blob nar ∷ Blob hash ∷ deriver ∷ ca ∷ []) old new (Ok count)
     → Changes old new (λ c. record c { objects = finite.insert c.objects base (record { nar = nar; hash = hash; deriver = text_if_any deriver; ca = text_if_any ca }) })
-inserts old new base nar hash deriver ca count d c under none h =
+inserts old new base nar hash deriver ca count base_utf8 d c under none h =
     let ours = under.ours h.1.was_open in
     let stands = ours.has.1.0 in
     let tree = tree_named old.now.schema (codes "object") in
@@ -86,13 +87,13 @@ inserts old new base nar hash deriver ca count d c under none h =
     let fresh : (not (is_taken rows row) && true) ≡ true = rw cast_null at it.0.fresh in
     let free = free_of _ _ fresh in
     let sets : SetsRows old new tree (put_row row rows) = rw (cast_null, d.cast_is, c.cast_is) at it.1 in
-    changed object old new (put_row row rows) stands sets _ ours (keyed_put row rows free refl) refl (object_set old new ours.has (put_row row rows) sets _ (put_map texts_total texts_antisymmetric is_object object_of row rows free (rw (d.kind, c.kind) refl) none))
+    changed object old new (put_row row rows) stands sets _ ours (keyed_put row rows free refl) (put_readable object row rows (tt, (base_utf8, (tt, (tt, (d.readable, (c.readable, tt))))))) refl (object_set old new ours.has (put_row row rows) sets _ (put_map texts_total texts_antisymmetric is_object object_of row rows free (rw (d.kind, c.kind) refl) none))
 
-pub inserts_object : (old new : State) (base nar hash : List ℕ) (deriver ca : Option (String Global)) (count : ℕ) → IsUnderWay old → finite.get (contents_of old.now).objects base ≡ None
+pub inserts_object : (old new : State) (base nar hash : List ℕ) (deriver ca : Option (String Global)) (count : ℕ) → IsUtf8 base → IsUnderWay old → finite.get (contents_of old.now).objects base ≡ None
     → ExecutesInside 0 insert_text (Text base ∷ Blob nar ∷ Blob hash ∷ bound_value (given deriver) ∷ bound_value (given ca) ∷ []) old new (Ok count)
     → Changes old new (λ c. record c { objects = finite.insert c.objects base (stored nar hash deriver ca) })
-inserts_object old new base nar hash deriver ca count under none h =
-    rw (← read_given deriver, ← read_given ca) (inserts old new base nar hash (given deriver) (given ca) count (kept_given deriver) (kept_given ca) under none (rw (bound_given deriver, bound_given ca) at h))
+inserts_object old new base nar hash deriver ca count base_utf8 under none h =
+    rw (← read_given deriver, ← read_given ca) (inserts old new base nar hash (given deriver) (given ca) count base_utf8 (kept_given deriver) (kept_given ca) under none (rw (bound_given deriver, bound_given ca) at h))
 
 -- ---- of a whole key
 
@@ -118,7 +119,7 @@ pub deletes : (old new : State) (base : List ℕ) (count : ℕ) → IsUnderWay o
 deletes old new base count under h =
     let ours = under.ours h.1.was_open in
     let it = deletes_part object.name object.columns object.primary texts_total texts_antisymmetric is_object object_of old new under (λ has. has.1.0) delete_text (Text base ∷ []) of_one (λ k. eq_by_cmp texts_cmp k base) (said_one base) delete_is count h ours.keyed.1.0 in
-    changed object old new it.0 ours.has.1.0 it.1 _ ours it.2 refl (object_set old new ours.has it.0 it.1 _ it.3)
+    changed object old new it.0 ours.has.1.0 it.1 _ ours it.2 it.3 refl (object_set old new ours.has it.0 it.1 _ it.4)
 
 -- ---- reading them
 

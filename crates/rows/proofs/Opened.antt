@@ -23,13 +23,16 @@ use Rattle.rows.proofs.ReadableMaps.{readable_by_maps}
 then : {A B C : Type 0} → A ↔ B → B ↔ C → A ↔ C
 then h k = (λ a. k.0 (h.0 a), λ c. h.1 (k.1 c))
 
--- the last commit is ours, and whether the texts are UTF-8 was told of what the transaction saw at first
+-- whether the texts are UTF-8 was told of what the transaction saw at first, and where they are the last commit is ours
 pub tested : (a m n : State) (r : Result Bool Failure) → IsInside a → (IsTrue a.is_open → IsDatabase a.now) → (IsTrue a.is_open → a.now ≡ a.committed) → Rests a m × AllByRecursion (λ t. IsKeyed (rows_named a.now t.name)) our_tables → IfOk r (λ b. Rests m n × (IsTrue b ↔ HasReadableRows m.now))
-    → OnOk r (IsOurs n.committed) × IfOk r (λ b. IsTrue b ↔ AreReadable (contents_of a.now))
+    → IfOk r (λ b. IsTrue b → IsOurs n.committed) × IfOk r (λ b. IsTrue b ↔ AreReadable (contents_of a.now))
 tested a m n (Err e) inside sound settled keyed told = (tt, tt)
 tested a m n (Ok b) inside sound settled keyed told =
-    let ours : IsOurs a.now = record { sound = sound keyed.0.was_open; has = inside.has keyed.0.was_open; keyed = keyed.1 } in
-    (subst IsOurs (settled keyed.0.was_open ∙ sym keyed.0.committed ∙ sym told.0.committed) ours, then (subst (λ (d : Database). IsTrue b ↔ HasReadableRows d) keyed.0.now told.1) (readable_by_maps a.now ours.sound ours.has ours.keyed))
+    let is_sound = sound keyed.0.was_open in
+    let has = inside.has keyed.0.was_open in
+    let by_rows : IsTrue b ↔ HasReadableRows a.now = subst (λ (d : Database). IsTrue b ↔ HasReadableRows d) keyed.0.now told.1 in
+    let ours : IsTrue b → IsOurs a.now = λ yes. record { sound = is_sound; has = has; keyed = keyed.1; readable = by_rows.0 yes } in
+    (λ yes. subst IsOurs (settled keyed.0.was_open ∙ sym keyed.0.committed ∙ sym told.0.committed) (ours yes), then by_rows (readable_by_maps a.now is_sound has keyed.1))
 
 -- what was found before the test is found after it, since nothing changed
 pub found_by : (f : Finding) (old new : State) → (f ≡ Ours ↔ HasTables old.now.schema × AreReadable (contents_of old.now)) → (f ≡ Nothing ↔ HasNone old.now.schema) → (f ≡ Ours → IsReady new) → new.now ≡ old.now → new.now ≡ new.committed → IsFound f new

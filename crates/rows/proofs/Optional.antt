@@ -1,22 +1,26 @@
 -- A text that may be missing, as it is given, kept and read.
 use Rattle.std.proofs.Common.{◌≡◌, true, Some, None, Option, option_map, refl, ap, String, Global, string_bytes}
+use Rattle.std.proofs.lemmas.Str.{IsUtf8-string_bytes}
 use Rattle.sqlite_value.specs.declared.value.Value.{Value}
 use Rattle.sqlite_value.specs.declared.value.Value.TheVariants.{Text}
 use Rattle.sqlite_rules.specs.Cast.{as_text}
 use Rattle.sqlite.specs.Values.{or_null, bound_value}
 use Rattle.rows.specs.Contents.{is_text_or_null, text_if_any}
+use Rattle.rows.specs.Texts.{IsReadable}
 use Rattle.rows.specs.Entries.{ShowsOptional}
 
 abbrev pub given : Option (String Global) → Value
 given = or_null (λ s. Text (string_bytes s))
 
+-- it is kept as it was given
 pub record IsKept (v : Value) : Type 0 where
   pub cast_is : as_text v ≡ v
   pub kind : is_text_or_null v ≡ true
+  pub readable : IsReadable v
 
 pub kept_given : (o : Option (String Global)) → IsKept (given o)
-kept_given None = record { cast_is = refl; kind = refl }
-kept_given (Some t) = record { cast_is = refl; kind = refl }
+kept_given None = record { cast_is = refl; kind = refl; readable = tt }
+kept_given (Some t) = record { cast_is = refl; kind = refl; readable = IsUtf8-string_bytes t }
 
 pub bound_given : (o : Option (String Global)) → bound_value (given o) ≡ given o
 bound_given None = refl

@@ -1,5 +1,6 @@
 -- What the statements on the permanent roots mean and do.
 use Rattle.std.proofs.Common.{◌≡◌, ℕ, pos, negsuc, List, [], ◌∷◌, codes, true, false, not, ◌&&◌, Some, None, Ok, Result, IfOk, Vec, Global, map, length, refl, ◌∙◌}
+use Rattle.std.specs.Prelude.{IsUtf8}
 use Rattle.std.specs.Ordering.{eq_by_cmp, is_lt}
 use Rattle.std.specs.List.{list_all, AllAdjacentBelow}
 use Rattle.std.specs.FinMap as finite
@@ -42,6 +43,7 @@ use Rattle.rows.proofs.Writes.{SetsRows, inserts_in, rowids_where}
 use Rattle.rows.proofs.Scans.{IsScan, shows}
 use Rattle.rows.proofs.Entries.{put_map}
 use Rattle.rows.proofs.Members.{keyed_put}
+use Rattle.rows.proofs.ReadableWrites.{put_readable}
 use Rattle.rows.proofs.Places.{changed}
 use Rattle.rows.proofs.ContentsLemmas.{permanent_set}
 use Rattle.rows.specs.Failures.{failure_of, FailsWith}
@@ -61,9 +63,9 @@ insert_is : (s : Schema) (at tree : ℕ) → IsNamed s (codes "permanent") at (r
 unfolding everything
 insert_is s at tree found = (_, insert_means insert_text refl s at (codes "permanent") permanent.columns permanent.primary tree _ found refl, refl, refl, refl, refl, refl)
 
-pub inserts : (old new : State) (name : List ℕ) (target : List ℕ) (count : ℕ) → IsUnderWay old → finite.get (contents_of old.now).permanent name ≡ None → ExecutesInside 0 insert_text (Text name ∷ Text target ∷ []) old new (Ok count)
+pub inserts : (old new : State) (name : List ℕ) (target : List ℕ) (count : ℕ) → IsUtf8 name → IsUtf8 target → IsUnderWay old → finite.get (contents_of old.now).permanent name ≡ None → ExecutesInside 0 insert_text (Text name ∷ Text target ∷ []) old new (Ok count)
     → Changes old new (λ c. record c { permanent = finite.insert c.permanent name target })
-inserts old new name target count under none h =
+inserts old new name target count name_utf8 target_utf8 under none h =
     let ours = under.ours h.1.was_open in
     let stands = ours.has.1.1.1.1.0 in
     let tree = tree_named old.now.schema (codes "permanent") in
@@ -74,7 +76,7 @@ inserts old new name target count under none h =
     let fresh : (not (is_taken rows row) && true) ≡ true = rw cast_null at it.0.fresh in
     let free = free_of _ _ fresh in
     let sets : SetsRows old new tree (put_row row rows) = rw cast_null at it.1 in
-    changed permanent old new (put_row row rows) stands sets _ ours (keyed_put row rows free refl) refl (permanent_set old new ours.has (put_row row rows) sets _ (put_map texts_total texts_antisymmetric is_pair pair_of row rows free refl none))
+    changed permanent old new (put_row row rows) stands sets _ ours (keyed_put row rows free refl) (put_readable permanent row rows (tt, (name_utf8, (target_utf8, tt)))) refl (permanent_set old new ours.has (put_row row rows) sets _ (put_map texts_total texts_antisymmetric is_pair pair_of row rows free refl none))
 
 -- ---- of a whole key
 
@@ -100,7 +102,7 @@ pub deletes : (old new : State) (name : List ℕ) (count : ℕ) → IsUnderWay o
 deletes old new name count under h =
     let ours = under.ours h.1.was_open in
     let it = deletes_part permanent.name permanent.columns permanent.primary texts_total texts_antisymmetric is_pair pair_of old new under (λ has. has.1.1.1.1.0) delete_text (Text name ∷ []) of_one (λ k. eq_by_cmp texts_cmp k name) (said_one name) delete_is count h ours.keyed.1.1.1.1.0 in
-    changed permanent old new it.0 ours.has.1.1.1.1.0 it.1 _ ours it.2 refl (permanent_set old new ours.has it.0 it.1 _ it.3)
+    changed permanent old new it.0 ours.has.1.1.1.1.0 it.1 _ ours it.2 it.3 refl (permanent_set old new ours.has it.0 it.1 _ it.4)
 
 -- ---- reading them
 

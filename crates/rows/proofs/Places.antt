@@ -1,16 +1,21 @@
 -- That a write to one of our tables leaves each other table as it was, ours and theirs.
-use Rattle.std.proofs.Common.{◌≡◌, ◌≢◌, ℕ, List, [], ◌∷◌, Bool, true, false, not, ◌||◌, ◌==◌, Some, refl, sym, ap, subst, ◌∙◌, slice_get, bytes_eq}
+use Rattle.std.proofs.Common.{◌≡◌, ◌≢◌, ℕ, List, [], ◌∷◌, Bool, true, false, not, ◌||◌, ◌==◌, Some, refl, sym, ap, subst, subst₂, ◌∙◌, ◌+◌, ◌<◌, length, slice_get, bytes_eq}
+use Rattle.std.specs.Prelude.{option_and_then, option_map, unwrap_or}
 use Rattle.std.specs.List.{AllByRecursion, list_all}
 use Rattle.std.proofs.lemmas.Slice.Eq.{bytes_eq-Decides}
 use Rattle.std.proofs.lemmas.Bool.{eq-eqb}
-use Rattle.sqlite_value.specs.Order.{Row}
+use Rattle.sqlite_value.specs.Order.{Row, column}
 use Rattle.sqlite_trees.proofs.ListLemmas.{all-slice_get}
 use Rattle.sqlite_schema.specs.declared.schema.Schema.{Schema}
 use Rattle.sqlite_schema.specs.declared.schema.Table.{Table}
+use Rattle.sqlite_schema.specs.declared.schema.Column.{Column}
+use Rattle.sqlite_schema.specs.Names.{table_named}
+use Rattle.sqlite_rules.specs.Lists.{Has}
 use Rattle.sqlite.specs.State.{State}
 use Rattle.rows.specs.Forms.{our_tables, is_our_name}
 use Rattle.rows.specs.Standing.{Stands, HasTables, tree_named}
 use Rattle.rows.specs.Contents.{Contents, contents_of, rows_named}
+use Rattle.rows.specs.Texts.{IsReadable, AreReadableRows, HasReadableRows}
 use Rattle.rows.specs.Calls.{IsKeyed, IsOurs, KeepsTheirs, Changes}
 use Rattle.rows.proofs.Writes.{SetsRows}
 use Rattle.rows.proofs.Truths.{and_so}
@@ -25,6 +30,19 @@ list_all_at p ts at t there h = all-slice_get (λ x. p x ≡ true) ts at t there
 
 bytes_same : (a b : List ℕ) → bytes_eq a b ≡ true → a ≡ b
 bytes_same a b h = (bytes_eq-Decides a b).0 h
+
+-- the columns of the first table of a name
+abbrev columns_named : Schema → List ℕ → List Column
+columns_named s name = unwrap_or (option_map (λ (t : Table). t.columns) (option_and_then (slice_get s.tables) (table_named s name))) []
+
+-- two tables that stand under one name have the same columns
+own_columns : (s : Schema) (t : Table) → Stands s t → columns_named s t.name ≡ t.columns
+own_columns s t stands =
+    ap (λ o. unwrap_or (option_map (λ (x : Table). x.columns) (option_and_then (slice_get s.tables) o)) []) stands.known.named.0
+    ∙ ap (λ o. unwrap_or (option_map (λ (x : Table). x.columns) o) []) stands.known.named.1
+
+one_form : (s : Schema) (t a : Table) → Stands s t → Stands s a → t.name ≡ a.name → t.columns ≡ a.columns
+one_form s t a this that is = sym (own_columns s t this) ∙ ap (columns_named s) is ∙ own_columns s a that
 
 module _ (s : Schema) (a : Table) (stands : Stands s a) where
   abbrev tree : ℕ
@@ -64,29 +82,37 @@ module _ (a : Table) (old new : State) (rows : List Row) (stands : Stands old.no
   pub theirs_kept : is_our_name a.name ≡ true → KeepsTheirs old.now new.now
   theirs_kept = kept old.now.schema a stands (λ t. new.now.trees t.tree ≡ old.now.trees t.tree) old.now.schema.tables stands.alone sets.others
 
-  keyed_after : (IsKeyed (rows_named old.now a.name) → IsKeyed rows) → (ts : List Table) → AllByRecursion (Stands old.now.schema) ts → AllByRecursion (λ t. IsKeyed (rows_named old.now t.name)) ts → AllByRecursion (λ t. IsKeyed (rows_named new.now t.name)) ts
-  keyed_after keeps [] has keyed = tt
-  keyed_after keeps (t ∷ ts) has keyed = (go (bytes_eq t.name a.name) refl, keyed_after keeps ts has.1 keyed.1)
+  -- what holds of the columns and the rows of each table of ours holds after the write, where the write keeps it of its own
+  after : (P : List Column → List Row → Type 0) → (P a.columns (rows_named old.now a.name) → P a.columns rows) → (ts : List Table) → AllByRecursion (Stands old.now.schema) ts → AllByRecursion (λ t. P t.columns (rows_named old.now t.name)) ts → AllByRecursion (λ t. P t.columns (rows_named new.now t.name)) ts
+  after P keeps [] has held = tt
+  after P keeps (t ∷ ts) has held = (go (bytes_eq t.name a.name) refl, after P keeps ts has.1 held.1)
     where
-      go : (b : Bool) → bytes_eq t.name a.name ≡ b → IsKeyed (rows_named new.now t.name)
+      go : (b : Bool) → bytes_eq t.name a.name ≡ b → P t.columns (rows_named new.now t.name)
       go true e =
           let is : t.name ≡ a.name = bytes_same _ _ e in
-          subst (λ n. IsKeyed (rows_named new.now n)) (sym is) (subst IsKeyed (sym own_rows) (keeps (subst (λ n. IsKeyed (rows_named old.now n)) is keyed.0)))
-      go false e = subst IsKeyed (sym (others_kept t has.0 e)) keyed.0
+          let same : t.columns ≡ a.columns = one_form old.now.schema t a has.0 stands is in
+          subst₂ P (sym same) (sym (ap (rows_named new.now) is ∙ own_rows)) (keeps (subst₂ P same (ap (rows_named old.now) is) held.0))
+      go false e = subst (P t.columns) (sym (others_kept t has.0 e)) held.0
 
-  pub ours_kept : IsOurs old.now → (IsKeyed (rows_named old.now a.name) → IsKeyed rows) → IsOurs new.now
-  ours_kept ours keeps = record { sound = sets.sound; has = subst HasTables (sym sets.schema) ours.has; keyed = keyed_after keeps our_tables ours.has ours.keyed }
+  pub ours_kept : IsOurs old.now → (IsKeyed (rows_named old.now a.name) → IsKeyed rows) → (AreReadableRows a (rows_named old.now a.name) → AreReadableRows a rows) → IsOurs new.now
+  unfolding HasReadableRows
+  ours_kept ours keyed readable = record {
+    sound = sets.sound;
+    has = subst HasTables (sym sets.schema) ours.has;
+    keyed = after (λ columns rs. IsKeyed rs) keyed our_tables ours.has ours.keyed;
+    readable = after (λ columns rs. (row : Row) (at : ℕ) → Has rs row → at < length columns → IsReadable (column row (at + 1))) readable our_tables ours.has ours.readable;
+  }
 
   -- what the write makes of what our tables hold
-  pub changed : (change : Contents → Contents) → IsOurs old.now → (IsKeyed (rows_named old.now a.name) → IsKeyed rows) → is_our_name a.name ≡ true → contents_of new.now ≡ change (contents_of old.now) → Changes old new change
-  changed change ours keeps named contents = record {
+  pub changed : (change : Contents → Contents) → IsOurs old.now → (IsKeyed (rows_named old.now a.name) → IsKeyed rows) → (AreReadableRows a (rows_named old.now a.name) → AreReadableRows a rows) → is_our_name a.name ≡ true → contents_of new.now ≡ change (contents_of old.now) → Changes old new change
+  changed change ours keyed readable named contents = record {
     was_open = sets.was_open;
     is_open = sets.is_open;
     schema = sets.schema;
     contents = contents;
     theirs = theirs_kept named;
     unshown = sets.unshown;
-    ours = ours_kept ours keeps;
+    ours = ours_kept ours keyed readable;
     committed = sets.committed;
     mode = sets.mode;
     marks = sets.marks;

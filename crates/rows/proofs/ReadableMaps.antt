@@ -3,8 +3,6 @@ use Rattle.std.proofs.Common.{◌≡◌, ◌↔◌, ℕ, ℤ, zero, suc, ◌+◌
 use Rattle.std.specs.Prelude.{IsUtf8, IfSome}
 use Rattle.std.specs.FinMap as finite
 use Rattle.std.specs.List.{AllByRecursion}
-use Rattle.sqlite_value.specs.declared.value.Value.{Value}
-use Rattle.sqlite_value.specs.declared.value.Value.TheVariants.{Null, Int, Real, Text, Blob}
 use Rattle.sqlite_value.specs.Order.{Row, column, bytes}
 use Rattle.sqlite_trees.specs.View.{is_int}
 use Rattle.sqlite_rules.specs.Lists.{Has}
@@ -13,37 +11,15 @@ use Rattle.sqlite_schema.specs.Rules.{agree}
 use Rattle.sqlite.specs.Effect.{Database, IsDatabase}
 use Rattle.rows.specs.Forms.{meta, object, refs, outs, permanent, user_root, profile, generation, runtime, our_tables}
 use Rattle.rows.specs.Standing.{HasTables}
-use Rattle.rows.specs.Contents.{Bytes, Stored, contents_of, texts_cmp, pair_cmp, triple_cmp, is_text, is_blob, is_text_or_null, text_if_any, is_pair, pair_of, member_of, is_triple, target_of, is_profile, profile_of, is_generation, generation_of, is_object, object_of, map_of, rows_named}
+use Rattle.rows.specs.Contents.{Bytes, Stored, contents_of, texts_cmp, pair_cmp, triple_cmp, is_text, text_if_any, is_pair, pair_of, member_of, is_triple, target_of, is_profile, profile_of, is_generation, generation_of, is_object, object_of, map_of, rows_named}
 use Rattle.rows.specs.Texts.{IsReadable, AreReadable, HasReadableRows}
-use Rattle.rows.specs.Calls.{IsKeyed}
+use Rattle.rows.specs.Calls.{IsKeyed, IsOurs}
 use Rattle.rows.proofs.Orders.{texts_total, texts_antisymmetric, pair_total, pair_antisymmetric, triple_total, triple_antisymmetric}
 use Rattle.rows.proofs.Truths.{and_so}
 use Rattle.rows.proofs.Typed.{objects_typed, pairs_typed, triples_typed, profiles_typed, generations_typed}
 use Rattle.rows.proofs.UniqueKeys.{texts_equal, ints_equal, agree_one, agree_two, agree_three, one_key}
 use Rattle.rows.proofs.MappedRows.{row_of, HasOneRowEach, entry_of}
-
--- ---- a value
-
-utf8_of : (v : Value) → is_text v ≡ true → IsReadable v → IsUtf8 (bytes v)
-utf8_of Null h k = absurd cc
-utf8_of (Int n) h k = absurd cc
-utf8_of (Real x) h k = absurd cc
-utf8_of (Text t) h k = k
-utf8_of (Blob b) h k = absurd cc
-
-readable_of : (v : Value) → is_text v ≡ true → IsUtf8 (bytes v) → IsReadable v
-readable_of Null h k = tt
-readable_of (Int n) h k = tt
-readable_of (Real x) h k = tt
-readable_of (Text t) h k = k
-readable_of (Blob b) h k = tt
-
-readable_int : (v : Value) → is_int v ≡ true → IsReadable v
-readable_int Null h = tt
-readable_int (Int n) h = tt
-readable_int (Real x) h = tt
-readable_int (Text t) h = absurd cc
-readable_int (Blob b) h = tt
+use Rattle.rows.proofs.ReadableValues.{utf8_of, readable_of, readable_int, blob_readable, utf8_if, readable_if}
 
 -- each text in the first so many columns of each row
 abbrev Rows : ℕ → List Row → Type 0
@@ -135,27 +111,6 @@ module _ (rows : List Row) (typed : (row : Row) → Has rows row → is_generati
       columns row there one two four (suc (suc zero)) low = readable_int (column row 3) (and_so _ _ (and_so _ _ (typed row there)).0).1
       columns row there one two four (suc (suc (suc zero))) low = readable_of (column row 4) (and_so _ _ (typed row there)).1 four
       columns row there one two four (suc (suc (suc (suc at)))) low = absurd (omega (arith, low))
-
-pub blob_readable : (v : Value) → is_blob v ≡ true → IsReadable v
-blob_readable Null h = tt
-blob_readable (Int n) h = tt
-blob_readable (Real x) h = tt
-blob_readable (Text t) h = absurd cc
-blob_readable (Blob b) h = tt
-
-utf8_if : (v : Value) → is_text_or_null v ≡ true → IsReadable v → IfSome (text_if_any v) IsUtf8
-utf8_if Null h k = tt
-utf8_if (Int n) h k = tt
-utf8_if (Real x) h k = tt
-utf8_if (Text t) h k = k
-utf8_if (Blob b) h k = tt
-
-readable_if : (v : Value) → IfSome (text_if_any v) IsUtf8 → IsReadable v
-readable_if Null h = tt
-readable_if (Int n) h = tt
-readable_if (Real x) h = tt
-readable_if (Text t) h = h
-readable_if (Blob b) h = tt
 
 module _ (rows : List Row) (typed : (row : Row) → Has rows row → is_object row ≡ true) where
   pub objects_readable : HasOneRowEach texts_total texts_antisymmetric is_object object_of rows
@@ -295,3 +250,7 @@ module _ (db : Database) (sound : IsDatabase db) (has : HasTables db.schema) (ke
 
       runtime_once : HasOneRowEach pair_total pair_antisymmetric is_pair member_of (rows_named db runtime.name)
       runtime_once = pair_once runtime.name is_pair member_of (λ r k. k) (λ r. refl) (one_key db sound runtime.name runtime.columns runtime.primary has.1.1.1.1.1.1.1.1.0 keyed.1.1.1.1.1.1.1.1.0)
+
+-- the texts of the maps can be read
+pub ours_readable : (db : Database) → IsOurs db → AreReadable (contents_of db)
+ours_readable db ours = (readable_by_maps db ours.sound ours.has ours.keyed).0 ours.readable

@@ -1,5 +1,5 @@
 -- That the texts of each table of ours are UTF-8 exactly where those are that the read of all its rows shows.
-use Rattle.std.proofs.Common.{◌≡◌, ◌↔◌, zero, suc, [], ◌∷◌, Bool, true, IsTrue, arith, refl}
+use Rattle.std.proofs.Common.{◌↔◌, zero, suc, [], ◌∷◌, Bool, IsTrue, arith, refl}
 use Rattle.sqlite_value.specs.Order.{Row, column}
 use Rattle.sqlite_schema.specs.declared.schema.Table.{Table}
 use Rattle.sqlite.specs.Effect.{IsDatabase}
@@ -20,7 +20,7 @@ use Rattle.rows.proofs.GenerationLemmas as generations
 use Rattle.rows.proofs.RuntimeRootLemmas as runtime_roots
 use Rattle.rows.proofs.Truths.{and_so}
 use Rattle.rows.proofs.Typed.{objects_typed}
-use Rattle.rows.proofs.ReadableMaps.{blob_readable}
+use Rattle.rows.proofs.ReadableValues.{blob_readable}
 use Rattle.rows.proofs.ReadableRows.{Tells, AreOfUtf8, told_if, all_cells}
 
 -- whether the texts of a table are UTF-8, and nothing changes

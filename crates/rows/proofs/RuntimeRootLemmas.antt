@@ -1,5 +1,6 @@
 -- What the statements on the runtime roots mean and do.
 use Rattle.std.proofs.Common.{◌≡◌, ℕ, pos, negsuc, List, [], ◌∷◌, codes, true, false, not, ◌&&◌, Some, None, Ok, Result, IfOk, Vec, Global, map, length, refl, ◌∙◌}
+use Rattle.std.specs.Prelude.{IsUtf8}
 use Rattle.std.specs.Ordering.{eq_by_cmp, is_lt}
 use Rattle.std.specs.List.{list_all, AllAdjacentBelow}
 use Rattle.std.specs.FinMap as finite
@@ -42,6 +43,7 @@ use Rattle.rows.proofs.Writes.{SetsRows, inserts_in, rowids_where}
 use Rattle.rows.proofs.Scans.{IsScan, shows}
 use Rattle.rows.proofs.Entries.{put_set}
 use Rattle.rows.proofs.Members.{keyed_put}
+use Rattle.rows.proofs.ReadableWrites.{put_readable}
 use Rattle.rows.proofs.Places.{changed}
 use Rattle.rows.proofs.ContentsLemmas.{runtime_set}
 use Rattle.rows.specs.Failures.{failure_of, FailsWith}
@@ -61,9 +63,9 @@ insert_is : (s : Schema) (at tree : ℕ) → IsNamed s (codes "runtime") at (rec
 unfolding everything
 insert_is s at tree found = (_, insert_means insert_text refl s at (codes "runtime") runtime.columns runtime.primary tree _ found refl, refl, refl, refl, refl, refl)
 
-pub inserts : (old new : State) (label : List ℕ) (target : List ℕ) (count : ℕ) → IsUnderWay old → ExecutesInside 0 insert_text (Text label ∷ Text target ∷ []) old new (Ok count)
+pub inserts : (old new : State) (label : List ℕ) (target : List ℕ) (count : ℕ) → IsUtf8 label → IsUtf8 target → IsUnderWay old → ExecutesInside 0 insert_text (Text label ∷ Text target ∷ []) old new (Ok count)
     → Changes old new (λ c. record c { runtime = finite.insert c.runtime (label, target) tt })
-inserts old new label target count under h =
+inserts old new label target count label_utf8 target_utf8 under h =
     let ours = under.ours h.1.was_open in
     let stands = ours.has.1.1.1.1.1.1.1.1.0 in
     let tree = tree_named old.now.schema (codes "runtime") in
@@ -74,7 +76,7 @@ inserts old new label target count under h =
     let fresh : (not (is_taken rows row) && true) ≡ true = rw cast_null at it.0.fresh in
     let free = free_of _ _ fresh in
     let sets : SetsRows old new tree (put_row row rows) = rw cast_null at it.1 in
-    changed runtime old new (put_row row rows) stands sets _ ours (keyed_put row rows free refl) refl (runtime_set old new ours.has (put_row row rows) sets _ (put_set pair_total pair_antisymmetric is_pair member_of row rows free refl))
+    changed runtime old new (put_row row rows) stands sets _ ours (keyed_put row rows free refl) (put_readable runtime row rows (tt, (label_utf8, (target_utf8, tt)))) refl (runtime_set old new ours.has (put_row row rows) sets _ (put_set pair_total pair_antisymmetric is_pair member_of row rows free refl))
 
 -- ---- of the first one of the key
 
@@ -100,7 +102,7 @@ pub delete_ofs : (old new : State) (label : List ℕ) (count : ℕ) → IsUnderW
 delete_ofs old new label count under h =
     let ours = under.ours h.1.was_open in
     let it = deletes_part runtime.name runtime.columns runtime.primary pair_total pair_antisymmetric is_pair member_of old new under (λ has. has.1.1.1.1.1.1.1.1.0) delete_of_text (Text label ∷ []) of_one (λ k. eq_by_cmp texts_cmp k.0 label) (said_one label) delete_of_is count h ours.keyed.1.1.1.1.1.1.1.1.0 in
-    changed runtime old new it.0 ours.has.1.1.1.1.1.1.1.1.0 it.1 _ ours it.2 refl (runtime_set old new ours.has it.0 it.1 _ it.3)
+    changed runtime old new it.0 ours.has.1.1.1.1.1.1.1.1.0 it.1 _ ours it.2 it.3 refl (runtime_set old new ours.has it.0 it.1 _ it.4)
 
 -- ---- reading them
 

@@ -1,5 +1,6 @@
 -- What the statements on the settings mean and do.
 use Rattle.std.proofs.Common.{◌≡◌, ℕ, pos, negsuc, List, [], ◌∷◌, codes, true, false, not, ◌&&◌, Some, None, Ok, Result, IfOk, Vec, Global, map, length, refl, ◌∙◌}
+use Rattle.std.specs.Prelude.{IsUtf8}
 use Rattle.std.specs.Ordering.{eq_by_cmp, is_lt}
 use Rattle.std.specs.List.{list_all, AllAdjacentBelow}
 use Rattle.std.specs.FinMap as finite
@@ -42,6 +43,7 @@ use Rattle.rows.proofs.Writes.{SetsRows, inserts_in, rowids_where}
 use Rattle.rows.proofs.Scans.{IsScan, shows}
 use Rattle.rows.proofs.Entries.{put_map}
 use Rattle.rows.proofs.Members.{keyed_put}
+use Rattle.rows.proofs.ReadableWrites.{put_readable}
 use Rattle.rows.proofs.Places.{changed}
 use Rattle.rows.proofs.ContentsLemmas.{meta_set}
 use Rattle.rows.specs.Failures.{failure_of, FailsWith}
@@ -61,9 +63,9 @@ pub insert_is : (s : Schema) (at tree : ℕ) → IsNamed s (codes "meta") at (re
 unfolding everything
 insert_is s at tree found = (_, insert_means insert_text refl s at (codes "meta") meta.columns meta.primary tree _ found refl, refl, refl, refl, refl, refl)
 
-pub inserts : (old new : State) (word : List ℕ) (value : List ℕ) (count : ℕ) → IsUnderWay old → finite.get (contents_of old.now).meta word ≡ None → ExecutesInside 0 insert_text (Text word ∷ Text value ∷ []) old new (Ok count)
+pub inserts : (old new : State) (word : List ℕ) (value : List ℕ) (count : ℕ) → IsUtf8 word → IsUtf8 value → IsUnderWay old → finite.get (contents_of old.now).meta word ≡ None → ExecutesInside 0 insert_text (Text word ∷ Text value ∷ []) old new (Ok count)
     → Changes old new (λ c. record c { meta = finite.insert c.meta word value })
-inserts old new word value count under none h =
+inserts old new word value count word_utf8 value_utf8 under none h =
     let ours = under.ours h.1.was_open in
     let stands = ours.has.0 in
     let tree = tree_named old.now.schema (codes "meta") in
@@ -74,7 +76,7 @@ inserts old new word value count under none h =
     let fresh : (not (is_taken rows row) && true) ≡ true = rw cast_null at it.0.fresh in
     let free = free_of _ _ fresh in
     let sets : SetsRows old new tree (put_row row rows) = rw cast_null at it.1 in
-    changed meta old new (put_row row rows) stands sets _ ours (keyed_put row rows free refl) refl (meta_set old new ours.has (put_row row rows) sets _ (put_map texts_total texts_antisymmetric is_pair pair_of row rows free refl none))
+    changed meta old new (put_row row rows) stands sets _ ours (keyed_put row rows free refl) (put_readable meta row rows (tt, (word_utf8, (value_utf8, tt)))) refl (meta_set old new ours.has (put_row row rows) sets _ (put_map texts_total texts_antisymmetric is_pair pair_of row rows free refl none))
 
 -- ---- of a whole key
 
@@ -100,7 +102,7 @@ pub deletes : (old new : State) (word : List ℕ) (count : ℕ) → IsUnderWay o
 deletes old new word count under h =
     let ours = under.ours h.1.was_open in
     let it = deletes_part meta.name meta.columns meta.primary texts_total texts_antisymmetric is_pair pair_of old new under (λ has. has.0) delete_text (Text word ∷ []) of_one (λ k. eq_by_cmp texts_cmp k word) (said_one word) delete_is count h ours.keyed.0 in
-    changed meta old new it.0 ours.has.0 it.1 _ ours it.2 refl (meta_set old new ours.has it.0 it.1 _ it.3)
+    changed meta old new it.0 ours.has.0 it.1 _ ours it.2 it.3 refl (meta_set old new ours.has it.0 it.1 _ it.4)
 
 -- ---- reading them
 

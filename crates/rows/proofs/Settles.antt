@@ -1,9 +1,9 @@
 -- That `meta` is made with its two settings.
-use Rattle.std.proofs.Common.{◌≡◌, ◌≢◌, ◌<◌, ◌≤◌, ◌+◌, ℕ, suc, List, [], ◌∷◌, ◌++◌, codes, Bool, true, false, cond, not, ◌&&◌, Some, None, Option, Ok, length, refl, sym, ap, subst, ◌∙◌, arith, IsTrue, zero, ℤ, inl, inr}
+use Rattle.std.proofs.Common.{◌≡◌, ◌≢◌, ◌<◌, ◌≤◌, ◌+◌, ℕ, suc, List, [], ◌∷◌, ◌++◌, codes, Bool, true, false, cond, not, ◌&&◌, Some, None, Option, Ok, length, refl, sym, ap, subst, ◌∙◌, arith, IsTrue}
 use Rattle.std.specs.Prelude.{IsUtf8, slice_get, option_and_then, option_map, unwrap_or}
 use Rattle.std.specs.FinMap as finite
 use Rattle.std.specs.List.{AllByRecursion, IsDistinct, position_from}
-use Rattle.sqlite_value.specs.Order.{Row, column}
+use Rattle.sqlite_value.specs.Order.{Row}
 use Rattle.sqlite_value.specs.declared.value.Value.TheVariants.{Int, Text}
 use Rattle.sqlite_trees.specs.Tree.{Trees, put_row}
 use Rattle.sqlite_schema.specs.declared.schema.Schema.{Schema}
@@ -17,7 +17,7 @@ use Rattle.sqlite.specs.State.{State, Shows, ExecutesInside}
 use Rattle.rows.specs.Forms.{meta, object, refs, outs, permanent, user_root, profile, generation, runtime}
 use Rattle.rows.specs.Standing.{IsNamed, tree_named}
 use Rattle.rows.specs.Contents.{Bytes, texts_cmp, is_pair, pair_of, map_of, rows_named}
-use Rattle.rows.specs.Texts.{IsReadable, AreReadableRows}
+use Rattle.rows.specs.Texts.{AreReadableRows}
 use Rattle.rows.specs.Calls.{IsKeyed}
 use Rattle.rows.specs.Making.{IsUnused, Makes, MakesMeta, MakesAll, IsMadeOf, AreSettings, first_settings, IsPut, HasMeta, Puts, IsMadeIn, all_created, placed, ours_created, others_placed, other_tables}
 use Rattle.rows.specs.Finding.{IsFree}
@@ -26,7 +26,8 @@ use Rattle.rows.proofs.Truths.{cast_null, free_of}
 use Rattle.rows.proofs.Means.{means_command}
 use Rattle.rows.proofs.Writes.{SetsRows, inserts_in}
 use Rattle.rows.proofs.Entries.{put_map}
-use Rattle.rows.proofs.Members.{from_put, keyed_put}
+use Rattle.rows.proofs.Members.{keyed_put}
+use Rattle.rows.proofs.ReadableWrites.{put_readable}
 use Rattle.rows.proofs.SettingLemmas.{insert_text, insert_is, terms}
 use Rattle.rows.proofs.Lists.{one_list, rises, all_below}
 use Rattle.rows.proofs.Frozen.{frozen_of, frozen_then}
@@ -82,17 +83,6 @@ kept_off a b tree (t ∷ ts) h k = (k.0 h.0, kept_off a b tree ts h.1 k.1)
 
 -- ---- one setting
 
-two_readable : (n : ℤ) (a b : Bytes) → IsUtf8 a → IsUtf8 b → (at : ℕ) → at < 2 → IsReadable (column (Int n ∷ Text a ∷ Text b ∷ []) (at + 1))
-two_readable n a b first second zero low = first
-two_readable n a b first second (suc zero) low = second
-two_readable n a b first second (suc (suc at)) low = absurd (omega (arith, low))
-
-put_readable : (n : ℤ) (a b : Bytes) (rows : List Row) → IsUtf8 a → IsUtf8 b → AreReadableRows meta rows → AreReadableRows meta (put_row (Int n ∷ Text a ∷ Text b ∷ []) rows)
-put_readable n a b rows first second old row at there low = elim (from_put (Int n ∷ Text a ∷ Text b ∷ []) rows row there) [
-  | inl is ↦ subst (λ (r : Row). IsReadable (column r (at + 1))) (sym is) (two_readable n a b first second at low)
-  | inr was ↦ old row at was low
-]
-
 pub puts : (old new : State) (word value : Bytes) (count : ℕ) → HasMeta old → ExecutesInside 0 insert_text (Text word ∷ Text value ∷ []) old new (Ok count) → Puts word value old new
 puts old new word value count has h =
     let found = has.named h.1.was_open in
@@ -104,7 +94,7 @@ puts old new word value count has h =
     let fresh : (not (is_taken rows row) && true) ≡ true = rw cast_null at it.0.fresh in
     let free = free_of _ _ fresh in
     let sets : SetsRows old new tree (put_row row rows) = rw cast_null at it.1 in
-    let made : IsPut word value rows (put_row row rows) = record { keyed = keyed_put row rows free refl; readable = put_readable (next_rowid rows) word value rows; put = λ none. put_map texts_total texts_antisymmetric is_pair pair_of row rows free refl none } in
+    let made : IsPut word value rows (put_row row rows) = record { keyed = keyed_put row rows free refl; readable = λ word_utf8 value_utf8. put_readable meta row rows (tt, (word_utf8, (value_utf8, tt))); put = λ none. put_map texts_total texts_antisymmetric is_pair pair_of row rows free refl none } in
     let own : rows_named new.now (codes "meta") ≡ put_row row rows = ap (λ s. new.now.trees (tree_named s (codes "meta"))) sets.schema ∙ sets.rows_are in
     record {
       was_open = sets.was_open;

@@ -24,6 +24,7 @@ use Rattle.rows.specs.declared.failure.Failure.{Failure}
 use Rattle.rows.specs.Forms.{strict}
 use Rattle.rows.specs.Standing.{IsKnown, Stands, HasTables, tree_named}
 use Rattle.rows.specs.Contents.{map_of, rows_named}
+use Rattle.rows.specs.Texts.{AreReadableRows}
 use Rattle.rows.specs.Calls.{IsKeyed, IsUnderWay, Stays}
 use Rattle.rows.proofs.Orders.{rises_by}
 use Rattle.rows.proofs.Means.{IsMeant, means_command}
@@ -31,6 +32,7 @@ use Rattle.rows.proofs.Writes.{SetsRows, deletes_in, rowids_where, overlay_low}
 use Rattle.rows.proofs.Scans.{IsScan, shows, shown_open, shown_same, stays_shown}
 use Rattle.rows.proofs.Entries.{part_listed, all_kept, left_map}
 use Rattle.rows.proofs.Members.{keyed_left}
+use Rattle.rows.proofs.ReadableWrites.{left_readable}
 
 -- in any schema in which the table stands, the text is this command
 abbrev pub Compiles : (name : List ℕ) → List Column → List ℕ → List ℕ → ℕ → (ℕ → ℕ → Command) → Type 0
@@ -86,7 +88,7 @@ module _ (name : List ℕ) (columns : List Column) (key : List ℕ) {K X : Type 
       {count : ℕ} (is : Compiles name columns key text count (λ at tree. Delete at (record { lets = []; body = rowids_where tree filter }))) where
     -- the entries of a part of the keys are gone, and the others stay
     pub deletes_part : (count : ℕ) → ExecutesInside 0 text params old new (Ok count) → IsKeyed (rows_named old.now name)
-        → (rows : List Row) × SetsRows old new (tree_named old.now.schema name) rows × (IsKeyed (rows_named old.now name) → IsKeyed rows) × (map_of R kind entry rows ≡ finite.retain_keys rows_are (λ k. not (test k)))
+        → (rows : List Row) × SetsRows old new (tree_named old.now.schema name) rows × (IsKeyed (rows_named old.now name) → IsKeyed rows) × (AreReadableRows (strict name columns key) (rows_named old.now name) → AreReadableRows (strict name columns key) rows) × (map_of R kind entry rows ≡ finite.retain_keys rows_are (λ k. not (test k)))
     deletes_part count h keyed =
         let stands = at (under.ours h.1.was_open).has in
         let tree = tree_named old.now.schema name in
@@ -95,4 +97,4 @@ module _ (name : List ℕ) (columns : List Column) (key : List ℕ) {K X : Type 
         let m = means_command old.now.schema text _ (is old.now.schema stands.at tree stands.known) in
         let it = deletes_in name columns key tree stands.at filter text params old new count stands.unreferred under.mode stands.known.named.1 m.0 m.1 h.0 in
         let left = left_map o same kind entry tree filter db params it.0 it.1 (subst IsKeyed (sym same_rows) keyed) test said in
-        (without_all (old.now.trees tree) (ids_of it.0), it.2, keyed_left (ids_of it.0) _, subst (λ rs. map_of R kind entry (without_all rs (ids_of it.0)) ≡ finite.retain_keys (map_of R kind entry rs) (λ k. not (test k))) same_rows left)
+        (without_all (old.now.trees tree) (ids_of it.0), it.2, keyed_left (ids_of it.0) _, left_readable (strict name columns key) (ids_of it.0) _, subst (λ rs. map_of R kind entry (without_all rs (ids_of it.0)) ≡ finite.retain_keys (map_of R kind entry rs) (λ k. not (test k))) same_rows left)

@@ -12,17 +12,19 @@ use Rattle.rows.specs.Forms.{our_tables, is_our_name}
 use Rattle.rows.specs.Standing.{HasTables}
 use Rattle.rows.specs.Contents.{Contents, contents_of, rows_named}
 use Rattle.rows.specs.Frozen.{KeepsUnshown, KeepsFrozen}
+use Rattle.rows.specs.Texts.{HasReadableRows}
 
 -- each row has a rowid of its own, an integer: the list of rowids has no value twice, so no row stands there twice
 pub record IsKeyed (rows : List Row) : Type 0 where
   pub ints : (a : Row) → Has rows a → IsTrue (is_int (rowid a))
   pub apart : IsDistinct (eq_by_cmp value_cmp) (map rowid rows)
 
--- all nine tables stand in the schema, each row obeys it, and rowids are apart
+-- all nine tables stand in the schema, each row obeys it, rowids are apart, and each text is UTF-8
 pub record IsOurs (db : Database) : Type 0 where
   pub sound : IsDatabase db
   pub has : HasTables db.schema
   pub keyed : AllByRecursion (λ t. IsKeyed (rows_named db t.name)) our_tables
+  pub readable : HasReadableRows db
 
 -- between transactions: what the connection shows is ours, and so did the last commit leave it
 pub record IsReady (s : State) : Type 0 where

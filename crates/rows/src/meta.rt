@@ -64,6 +64,9 @@ pub fn insert<S: Alter>(tx: &mut Transaction<'_, S>, word: &str, value: &str) ->
     ensures failed { HasCleanDisk (state S.Store tx.new.conn.now) → OnErr result (KeepsCommit (state S.Store tx.old.conn.now) (state S.Store tx.new.conn.now)) }
     ensures survives { Survives (state S.Store tx.old.conn.now) (state S.Store tx.new.conn.now) (λ _. ⊥) }
 {
+    // A text is UTF-8.
+    let _word = word.as_bytes();
+    let _value = value.as_bytes();
     statement::run(
         tx,
         "INSERT INTO meta (word, val) VALUES (?1, ?2)",

@@ -1,4 +1,5 @@
-//! Taking up a connection: what its database holds of ours, and that the rows of our tables can be told apart.
+//! Taking up a connection: what its database holds of ours, and that the rows of our tables can be told apart
+//! and their texts read.
 
 ghost use Rattle.std.specs.Prelude.{◌≡◌, ◌↔◌, true, false, IsTrue, IfOk, OnOk};
 ghost use Rattle.sqlite.specs.Effect.{IsDatabase};
@@ -23,7 +24,7 @@ fn test<S: Alter>(alloc: Global, tx: &mut Transaction<'_, S>) -> Result<bool, Fa
     requires sound { HasCleanDisk (state S.Store tx.old.conn.now) → IsTrue (state S.Store tx.old.conn.now).is_open → IsDatabase (state S.Store tx.old.conn.now).now }
     requires settled { HasCleanDisk (state S.Store tx.old.conn.now) → IsTrue (state S.Store tx.old.conn.now).is_open → (state S.Store tx.old.conn.now).now ≡ (state S.Store tx.old.conn.now).committed }
     ensures same_reference { tx.new.conn.ghost_name ≡ tx.old.conn.ghost_name }
-    ensures ours { HasCleanDisk (state S.Store tx.new.conn.now) → OnOk result (IsOurs (state S.Store tx.new.conn.now).committed) }
+    ensures ours { HasCleanDisk (state S.Store tx.new.conn.now) → IfOk result (λ all. IsTrue all → IsOurs (state S.Store tx.new.conn.now).committed) }
     ensures told { HasCleanDisk (state S.Store tx.new.conn.now) → IfOk result (λ all. IsTrue all ↔ AreReadable (contents_of (state S.Store tx.old.conn.now).now)) }
     ensures open { HasCleanDisk (state S.Store tx.new.conn.now) → OnOk result (IsTrue (state S.Store tx.old.conn.now).is_open) }
     ensures kept { HasCleanDisk (state S.Store tx.new.conn.now) → KeepsCommit (state S.Store tx.old.conn.now) (state S.Store tx.new.conn.now) }
@@ -40,7 +41,7 @@ fn check<S: Alter>(alloc: Global, conn: &mut Connection<S>) -> Result<bool, Fail
     requires sound { HasCleanDisk (state S.Store conn.old) → IsTrue (state S.Store conn.old).is_open → IsDatabase (state S.Store conn.old).now }
     requires settled { HasCleanDisk (state S.Store conn.old) → IsTrue (state S.Store conn.old).is_open → (state S.Store conn.old).now ≡ (state S.Store conn.old).committed }
     ensures alone { conn.new.in_transaction ≡ false }
-    ensures ready { HasCleanDisk (state S.Store conn.new) → IsTrue (state S.Store conn.new).is_open → OnOk result (IsReady (state S.Store conn.new)) }
+    ensures ready { HasCleanDisk (state S.Store conn.new) → IsTrue (state S.Store conn.new).is_open → IfOk result (λ all. IsTrue all → IsReady (state S.Store conn.new)) }
     ensures open { HasCleanDisk (state S.Store conn.new) → OnOk result (IsTrue (state S.Store conn.old).is_open) }
     ensures told { HasCleanDisk (state S.Store conn.new) → IsTrue (state S.Store conn.new).is_open → IfOk result (λ all. IsTrue all ↔ AreReadable (contents_of (state S.Store conn.old).now)) }
     ensures was_open { HasCleanDisk (state S.Store conn.new) → IsTrue (state S.Store conn.new).is_open → IsTrue (state S.Store conn.old).is_open }

@@ -103,6 +103,10 @@ pub fn insert<S: Alter>(
     ensures failed { HasCleanDisk (state S.Store tx.new.conn.now) → OnErr result (KeepsCommit (state S.Store tx.old.conn.now) (state S.Store tx.new.conn.now)) }
     ensures survives { Survives (state S.Store tx.old.conn.now) (state S.Store tx.new.conn.now) (λ _. ⊥) }
 {
+    // A text is UTF-8.
+    let _base = base.as_bytes();
+    let _name = name.as_bytes();
+    let _target = target.as_bytes();
     statement::run(
         tx,
         "INSERT INTO outs (base, name, target) VALUES (?1, ?2, ?3)",

@@ -98,6 +98,9 @@ pub fn insert<S: Alter>(
     ensures failed { HasCleanDisk (state S.Store tx.new.conn.now) → OnErr result (KeepsCommit (state S.Store tx.old.conn.now) (state S.Store tx.new.conn.now)) }
     ensures survives { Survives (state S.Store tx.old.conn.now) (state S.Store tx.new.conn.now) (λ _. ⊥) }
 {
+    // A text is UTF-8.
+    let _name = name.as_bytes();
+    let _target = target.as_bytes();
     statement::run(
         tx,
         "INSERT INTO permanent (name, target) VALUES (?1, ?2)",

@@ -126,6 +126,9 @@ pub fn insert<S: Alter>(
     ensures failed { HasCleanDisk (state S.Store tx.new.conn.now) → OnErr result (KeepsCommit (state S.Store tx.old.conn.now) (state S.Store tx.new.conn.now)) }
     ensures survives { Survives (state S.Store tx.old.conn.now) (state S.Store tx.new.conn.now) (λ _. ⊥) }
 {
+    // A text is UTF-8.
+    let _owner = owner.as_bytes();
+    let _name = name.as_bytes();
     statement::run(
         tx,
         "INSERT INTO profile (owner, name, cur) VALUES (?1, ?2, ?3)",

@@ -80,6 +80,9 @@ pub fn insert<S: Alter>(
     ensures failed { HasCleanDisk (state S.Store tx.new.conn.now) → OnErr result (KeepsCommit (state S.Store tx.old.conn.now) (state S.Store tx.new.conn.now)) }
     ensures survives { Survives (state S.Store tx.old.conn.now) (state S.Store tx.new.conn.now) (λ _. ⊥) }
 {
+    // A text is UTF-8.
+    let _label = label.as_bytes();
+    let _target = target.as_bytes();
     statement::run(
         tx,
         "INSERT INTO runtime (label, target) VALUES (?1, ?2)",

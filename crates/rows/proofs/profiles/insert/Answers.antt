@@ -1,4 +1,5 @@
-use Rattle.std.proofs.Common.{arith, pos}
+use Rattle.std.proofs.Common.{arith, pos, subst}
+use Rattle.std.specs.Prelude.{IsUtf8}
 use Rattle.sqlite.specs.State.{HasCleanDisk}
 use Rattle.sqlite.specs.Held.{state}
 use Rattle.rows.proofs.Scans.{on_ok}
@@ -10,4 +11,4 @@ returns-clause-done g c clean =
     let old = state g.S.Store c.args.tx.now.conn.now in
     let new = state g.S.Store c.run.new.tx.conn.now in
     let early : HasCleanDisk old = omega (arith, c.run.ensures.survives.clean) in
-    on_ok c.run.result _ _ (λ ran. inserts old new c.args.owner.now c.args.name.now (pos c.args.current) ran.0 (c.requires.under_way early) (c.requires.new early ran.1.1.was_open) (rw (c.params-to_sql.ensures, c.params-to_sql-2.ensures, c.params-to_sql-3.ensures) at ran.1)) (c.run.ensures.ran clean)
+    on_ok c.run.result _ _ (λ ran. inserts old new c.args.owner.now c.args.name.now (pos c.args.current) ran.0 (subst IsUtf8 c.as_bytes-owner.ensures.value c.as_bytes-owner.ensures.utf8) (subst IsUtf8 c.as_bytes-name.ensures.value c.as_bytes-name.ensures.utf8) (c.requires.under_way early) (c.requires.new early ran.1.1.was_open) (rw (c.params-to_sql.ensures, c.params-to_sql-2.ensures, c.params-to_sql-3.ensures) at ran.1)) (c.run.ensures.ran clean)

@@ -1,4 +1,5 @@
-use Rattle.std.proofs.Common.{arith}
+use Rattle.std.proofs.Common.{arith, subst}
+use Rattle.std.specs.Prelude.{IsUtf8}
 use Rattle.sqlite.specs.State.{HasCleanDisk}
 use Rattle.sqlite.specs.Held.{state}
 use Rattle.rows.proofs.Scans.{on_ok}
@@ -10,4 +11,4 @@ returns-clause-done g c clean =
     let old = state g.S.Store c.args.tx.now.conn.now in
     let new = state g.S.Store c.run.new.tx.conn.now in
     let early : HasCleanDisk old = omega (arith, c.run.ensures.survives.clean) in
-    on_ok c.run.result _ _ (λ ran. inserts old new c.args.base.now c.args.target.now ran.0 (c.requires early) (rw (c.params-to_sql.ensures, c.params-to_sql-2.ensures) at ran.1)) (c.run.ensures.ran clean)
+    on_ok c.run.result _ _ (λ ran. inserts old new c.args.base.now c.args.target.now ran.0 (subst IsUtf8 c.as_bytes-base.ensures.value c.as_bytes-base.ensures.utf8) (subst IsUtf8 c.as_bytes-target.ensures.value c.as_bytes-target.ensures.utf8) (c.requires early) (rw (c.params-to_sql.ensures, c.params-to_sql-2.ensures) at ran.1)) (c.run.ensures.ran clean)
