@@ -33,7 +33,7 @@ use Rattle.rows.specs.declared.generations.Generation.{Generation}
 use Rattle.rows.specs.Forms.{generation}
 use Rattle.rows.specs.Standing.{IsNamed, IsKnown, tree_named}
 use Rattle.rows.specs.Contents.{contents_of, texts_cmp, triple_cmp, is_text, is_generation, generation_of}
-use Rattle.rows.specs.Calls.{IsUnderWay, Changes, Stays}
+use Rattle.rows.specs.Calls.{IsInside, IsUnderWay, Changes, Stays}
 use Rattle.rows.specs.Entries.{generation_in, ShowsGeneration}
 use Rattle.rows.proofs.Orders.{triple_total, triple_antisymmetric}
 use Rattle.rows.proofs.Truths.{cast_null, cast_int, free_of, and_so, text_test, int_test, both_tests, all_tests}
@@ -213,10 +213,10 @@ same_of old new under params rows shown = answered_same generation.name generati
 scan : (filter : List Term) (tree : ℕ) → IsScan (query filter tree) tree
 scan filter tree = record { from = refl; group = refl; distinct = refl; whole = λ params rows. refl }
 
-pub fails_all : (old new : State) → IsUnderWay old → (e : Error) → FailsToQuery all_text [] old new e ⊎ IsTooLate all_text [] old new e → FailsWith old new ⊥ (IsSome old.step_limit) (failure_of e)
+pub fails_all : (old new : State) → IsInside old → (e : Error) → FailsToQuery all_text [] old new e ⊎ IsTooLate all_text [] old new e → FailsWith old new ⊥ (IsSome old.step_limit) (failure_of e)
 unfolding everything
-fails_all old new under = read_fails generation.name generation.columns generation.primary old new under (λ has. has.1.1.1.1.1.1.1.0) all_text [] names (query []) (scan []) all_is (_, _, _, _, _, refl) (λ s at tree known. rw (known.low, known.by_tree) refl)
+fails_all old new inside = read_fails generation.name generation.columns generation.primary old new inside (λ has. has.1.1.1.1.1.1.1.0) all_text [] names (query []) (scan []) all_is (_, _, _, _, _, refl) (λ s at tree known. rw (known.low, known.by_tree) refl)
 
-pub fails_of : (old new : State) (owner : List ℕ) (name : List ℕ) → IsUnderWay old → (e : Error) → FailsToQuery of_text (Text owner ∷ Text name ∷ []) old new e ⊎ IsTooLate of_text (Text owner ∷ Text name ∷ []) old new e → FailsWith old new ⊥ (IsSome old.step_limit) (failure_of e)
+pub fails_of : (old new : State) (owner : List ℕ) (name : List ℕ) → IsInside old → (e : Error) → FailsToQuery of_text (Text owner ∷ Text name ∷ []) old new e ⊎ IsTooLate of_text (Text owner ∷ Text name ∷ []) old new e → FailsWith old new ⊥ (IsSome old.step_limit) (failure_of e)
 unfolding everything
-fails_of old new owner name under = read_fails generation.name generation.columns generation.primary old new under (λ has. has.1.1.1.1.1.1.1.0) of_text (Text owner ∷ Text name ∷ []) names (query of_two) (scan of_two) of_is (_, _, _, _, _, refl) (λ s at tree known. rw (known.low, known.by_tree) refl)
+fails_of old new owner name inside = read_fails generation.name generation.columns generation.primary old new inside (λ has. has.1.1.1.1.1.1.1.0) of_text (Text owner ∷ Text name ∷ []) names (query of_two) (scan of_two) of_is (_, _, _, _, _, refl) (λ s at tree known. rw (known.low, known.by_tree) refl)

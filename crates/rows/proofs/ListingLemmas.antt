@@ -26,7 +26,7 @@ use Rattle.rows.specs.declared.objects.Listed.{Listed}
 use Rattle.rows.specs.Forms.{object}
 use Rattle.rows.specs.Standing.{IsKnown}
 use Rattle.rows.specs.Contents.{Bytes, Stored, Described, without_archive, map_of, rows_named, contents_of, texts_cmp, is_text, is_blob, is_text_or_null, text_if_any, is_object, object_of}
-use Rattle.rows.specs.Calls.{IsOurs, IsUnderWay, Stays}
+use Rattle.rows.specs.Calls.{IsInside, IsOurs, IsUnderWay, Stays}
 use Rattle.rows.specs.Entries.{listed_of, ShowsListed}
 use Rattle.rows.proofs.Orders.{texts_total, texts_antisymmetric}
 use Rattle.rows.proofs.Truths.{and_so}
@@ -136,6 +136,6 @@ same_all old new under params rows shown = answered_same object.name object.colu
 scan : (tree : ℕ) → IsScan (query tree) tree
 scan tree = record { from = refl; group = refl; distinct = refl; whole = λ params rows. refl }
 
-pub fails_all : (old new : State) → IsUnderWay old → (e : Error) → FailsToQuery all_text [] old new e ⊎ IsTooLate all_text [] old new e → FailsWith old new ⊥ (IsSome old.step_limit) (failure_of e)
+pub fails_all : (old new : State) → IsInside old → (e : Error) → FailsToQuery all_text [] old new e ⊎ IsTooLate all_text [] old new e → FailsWith old new ⊥ (IsSome old.step_limit) (failure_of e)
 unfolding everything
-fails_all old new under = read_fails object.name object.columns object.primary old new under (λ has. has.1.0) all_text [] names query scan all_is (_, _, _, _, _, refl) (λ s at tree known. rw (known.low, known.by_tree) refl)
+fails_all old new inside = read_fails object.name object.columns object.primary old new inside (λ has. has.1.0) all_text [] names query scan all_is (_, _, _, _, _, refl) (λ s at tree known. rw (known.low, known.by_tree) refl)

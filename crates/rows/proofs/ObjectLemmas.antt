@@ -37,7 +37,7 @@ use Rattle.rows.specs.declared.objects.Object.{Object}
 use Rattle.rows.specs.Forms.{object}
 use Rattle.rows.specs.Standing.{IsNamed, IsKnown, tree_named}
 use Rattle.rows.specs.Contents.{Bytes, Stored, map_of, rows_named, contents_of, texts_cmp, is_text, is_blob, is_object, object_of, text_if_any}
-use Rattle.rows.specs.Calls.{IsOurs, IsUnderWay, Changes, Stays}
+use Rattle.rows.specs.Calls.{IsInside, IsOurs, IsUnderWay, Changes, Stays}
 use Rattle.rows.specs.Entries.{stored_of, ShowsObject, ShowsText, IsStored, stored}
 use Rattle.rows.proofs.Orders.{texts_total, texts_antisymmetric}
 use Rattle.rows.proofs.Truths.{cast_null, free_of, and_so, and_one, text_test}
@@ -278,13 +278,13 @@ same_keys old new under params rows shown = answered_same object.name object.col
 scan : (filter : List Term) (tree : ℕ) → IsScan (query filter tree) tree
 scan filter tree = record { from = refl; group = refl; distinct = refl; whole = λ params rows. refl }
 
-pub fails_of : (old new : State) (base : List ℕ) → IsUnderWay old → (e : Error) → FailsToQuery of_text (Text base ∷ []) old new e ⊎ IsTooLate of_text (Text base ∷ []) old new e → FailsWith old new ⊥ (IsSome old.step_limit) (failure_of e)
+pub fails_of : (old new : State) (base : List ℕ) → IsInside old → (e : Error) → FailsToQuery of_text (Text base ∷ []) old new e ⊎ IsTooLate of_text (Text base ∷ []) old new e → FailsWith old new ⊥ (IsSome old.step_limit) (failure_of e)
 unfolding everything
-fails_of old new base under = read_fails object.name object.columns object.primary old new under (λ has. has.1.0) of_text (Text base ∷ []) names (query of_one) (scan of_one) of_is (_, _, _, _, _, refl) (λ s at tree known. rw (known.low, known.by_tree) refl)
+fails_of old new base inside = read_fails object.name object.columns object.primary old new inside (λ has. has.1.0) of_text (Text base ∷ []) names (query of_one) (scan of_one) of_is (_, _, _, _, _, refl) (λ s at tree known. rw (known.low, known.by_tree) refl)
 
 keys_scan : (tree : ℕ) → IsScan (keys_query tree) tree
 keys_scan tree = record { from = refl; group = refl; distinct = refl; whole = λ params rows. refl }
 
-pub fails_keys : (old new : State) → IsUnderWay old → (e : Error) → FailsToQuery keys_text [] old new e ⊎ IsTooLate keys_text [] old new e → FailsWith old new ⊥ (IsSome old.step_limit) (failure_of e)
+pub fails_keys : (old new : State) → IsInside old → (e : Error) → FailsToQuery keys_text [] old new e ⊎ IsTooLate keys_text [] old new e → FailsWith old new ⊥ (IsSome old.step_limit) (failure_of e)
 unfolding everything
-fails_keys old new under = read_fails object.name object.columns object.primary old new under (λ has. has.1.0) keys_text [] (codes "base" ∷ []) keys_query keys_scan keys_is (_, _, _, _, _, refl) (λ s at tree known. rw (known.low, known.by_tree) refl)
+fails_keys old new inside = read_fails object.name object.columns object.primary old new inside (λ has. has.1.0) keys_text [] (codes "base" ∷ []) keys_query keys_scan keys_is (_, _, _, _, _, refl) (λ s at tree known. rw (known.low, known.by_tree) refl)

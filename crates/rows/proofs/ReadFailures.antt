@@ -29,7 +29,7 @@ use Rattle.sqlite.specs.Listing.{understood, reads_listing, listing_schema, is_s
 use Rattle.sqlite.specs.State.{State, Fails, IsUnchanged, IsStatement, IsNoStatement, IsNotRun, FailsToQuery, FailsToShow, IsTooLate}
 use Rattle.rows.specs.Forms.{strict}
 use Rattle.rows.specs.Standing.{IsKnown, Stands, HasTables, tree_named}
-use Rattle.rows.specs.Calls.{IsUnderWay}
+use Rattle.rows.specs.Calls.{IsInside}
 use Rattle.rows.specs.Failures.{failure_of, FailsWith}
 use Rattle.rows.proofs.Means.{IsMeant}
 use Rattle.rows.proofs.Scans.{IsScan}
@@ -98,7 +98,7 @@ sums_nothing : (q : Query) (tree : ℕ) → IsScan q tree → (db : Trees) (para
 sums_nothing q tree scan db params (inl h) = subst (λ g. Overflows g (matches db q.filter q.from (params ∷ []))) scan.group h
 sums_nothing q tree scan db params (inr h) = (subst (λ j. FoldOverflows db j (params ∷ [])) scan.from h).4
 
-module _ (name : List ℕ) (columns : List Column) (key : List ℕ) (old new : State) (under : IsUnderWay old) (at : HasTables old.now.schema → Stands old.now.schema (strict name columns key))
+module _ (name : List ℕ) (columns : List Column) (key : List ℕ) (old new : State) (inside : IsInside old) (at : HasTables old.now.schema → Stands old.now.schema (strict name columns key))
     (text : List ℕ) (params : Row) (names : List (List ℕ)) (query : ℕ → Query) (scan : (tree : ℕ) → IsScan (query tree) tree)
     (is : Compiles name columns key text (length params) (λ at tree. Select (record { lets = []; body = query tree }) names)) (reads : IsRead text)
     (typed : (s : Schema) (at tree : ℕ) → IsKnown s name at (record (strict name columns key) { tree = tree }) → accepts_program s [] (query tree) params ≡ true) where
@@ -106,7 +106,7 @@ module _ (name : List ℕ) (columns : List Column) (key : List ℕ) (old new : S
   tree = tree_named old.now.schema name
 
   stands : IsUnchanged old new → Stands old.now.schema (strict name columns key)
-  stands same = at (under.ours same.0.was_open).has
+  stands same = at (inside.has same.0.was_open)
 
   meant : IsUnchanged old new → IsMeant old.now.schema text (length params) (Select (record { lets = []; body = query tree }) names)
   meant same = is old.now.schema (stands same).at tree (stands same).known
@@ -134,4 +134,4 @@ module _ (name : List ℕ) (columns : List Column) (key : List ℕ) (old new : S
   read_fails e (inl (inl (inl h))) = absurd (is_statement old text params _ (meant h.1) e h.0)
   read_fails e (inl (inl (inr h))) = store_failed old new ⊥ (IsSome old.step_limit) ⊥ (λ no. no) e h
   read_fails e (inl (inr h)) = shown e h.0 h.1 h.1.is (subst (FailsToShow old new text h.0 (timed params h.0.formats h.1.now) e) (understood_read reads.0 reads.1 reads.2 reads.3 reads.4 text reads.5 old.now.schema h.0 h.1.is) h.2)
-  read_fails e (inr h) = absurd (let no = sym under.mode ∙ h.3 in cc)
+  read_fails e (inr h) = absurd (let no = sym inside.mode ∙ h.3 in cc)

@@ -32,7 +32,7 @@ use Rattle.rows.specs.declared.runtime.RuntimeRoot.{RuntimeRoot}
 use Rattle.rows.specs.Forms.{runtime}
 use Rattle.rows.specs.Standing.{IsNamed, IsKnown, tree_named}
 use Rattle.rows.specs.Contents.{contents_of, texts_cmp, pair_cmp, is_text, is_pair, member_of}
-use Rattle.rows.specs.Calls.{IsUnderWay, Changes, Stays}
+use Rattle.rows.specs.Calls.{IsInside, IsUnderWay, Changes, Stays}
 use Rattle.rows.specs.Entries.{runtime_of, ShowsRuntimeRoot}
 use Rattle.rows.proofs.Orders.{pair_total, pair_antisymmetric}
 use Rattle.rows.proofs.Truths.{cast_null, free_of, and_so, and_one, text_test}
@@ -173,6 +173,6 @@ same_all old new under params rows shown = answered_same runtime.name runtime.co
 scan : (filter : List Term) (tree : ℕ) → IsScan (query filter tree) tree
 scan filter tree = record { from = refl; group = refl; distinct = refl; whole = λ params rows. refl }
 
-pub fails_all : (old new : State) → IsUnderWay old → (e : Error) → FailsToQuery all_text [] old new e ⊎ IsTooLate all_text [] old new e → FailsWith old new ⊥ (IsSome old.step_limit) (failure_of e)
+pub fails_all : (old new : State) → IsInside old → (e : Error) → FailsToQuery all_text [] old new e ⊎ IsTooLate all_text [] old new e → FailsWith old new ⊥ (IsSome old.step_limit) (failure_of e)
 unfolding everything
-fails_all old new under = read_fails runtime.name runtime.columns runtime.primary old new under (λ has. has.1.1.1.1.1.1.1.1.0) all_text [] names (query []) (scan []) all_is (_, _, _, _, _, refl) (λ s at tree known. rw (known.low, known.by_tree) refl)
+fails_all old new inside = read_fails runtime.name runtime.columns runtime.primary old new inside (λ has. has.1.1.1.1.1.1.1.1.0) all_text [] names (query []) (scan []) all_is (_, _, _, _, _, refl) (λ s at tree known. rw (known.low, known.by_tree) refl)
