@@ -52,6 +52,8 @@ FailsWith old new large refused Memory = IsRolledBack old new ⊎ IsUnchanged ol
 FailsWith old new large refused Size = large × IsRolledBack old new
 FailsWith old new large refused Disk = (HasDiskCause old new × IsRolledBack old new) ⊎ (refused × IsUnchanged old new)
 
--- the store failed at a commit, which no size does, and the transaction is undone
+-- The store failed at a commit, which no size does, and the transaction is undone.
 abbrev pub FailsToCommit : State → State → Failure → Type 0
-FailsToCommit old new f = IsExcused old new f × IsRolledBack old new × (f ≢ Size)
+FailsToCommit old new Memory = IsRolledBack old new
+FailsToCommit old new Size = ⊥
+FailsToCommit old new Disk = HasDiskCause old new × IsRolledBack old new
