@@ -57,10 +57,10 @@ use Rattle.rows.proofs.Statements.{answered_same, Compiles, Selects, reads_part,
 abbrev pub insert_text : List ℕ
 insert_text = codes "INSERT INTO generation (owner, name, num, target) VALUES (?1, ?2, ?3, ?4)"
 
-abbrev terms : List Term
+abbrev pub terms : List Term
 terms = lit Null ∷ col 0 0 ∷ col 0 1 ∷ col 0 2 ∷ col 0 3 ∷ []
 
-insert_is : (s : Schema) (at tree : ℕ) → IsNamed s (codes "generation") at (record generation { tree = tree }) → IsMeant s insert_text 4 (Insert at (Values terms 5))
+pub insert_is : (s : Schema) (at tree : ℕ) → IsNamed s (codes "generation") at (record generation { tree = tree }) → IsMeant s insert_text 4 (Insert at (Values terms 5))
 unfolding everything
 insert_is s at tree found = (_, insert_means insert_text refl s at (codes "generation") generation.columns generation.primary tree _ found refl, refl, refl, refl, refl, refl)
 
@@ -81,7 +81,7 @@ inserts old new owner name number target count owner_utf8 name_utf8 target_utf8 
 
 -- ---- of the first two of the key
 
-abbrev of_two : List Term
+abbrev pub of_two : List Term
 of_two = equals (col 1 1) (col 0 0) ∷ equals (col 1 2) (col 0 1) ∷ []
 
 said_two : (owner : List ℕ) (name : List ℕ) (r : Row) → is_generation r ≡ true → list_all (holds ((Text owner ∷ Text name ∷ []) ∷ r ∷ [])) of_two ≡ (let k = (generation_of r).0 in eq_by_cmp texts_cmp k.0 owner && eq_by_cmp texts_cmp k.1 name)
@@ -89,7 +89,7 @@ said_two owner name r kind = both_tests _ _ _ _ (text_test (column r 1) owner (a
 
 -- ---- of a whole key
 
-abbrev of_three : List Term
+abbrev pub of_three : List Term
 of_three = equals (col 1 1) (col 0 0) ∷ equals (col 1 2) (col 0 1) ∷ equals (col 1 3) (col 0 2) ∷ []
 
 said_three : (owner : List ℕ) (name : List ℕ) (number : ℤ) (r : Row) → is_generation r ≡ true → list_all (holds ((Text owner ∷ Text name ∷ Int number ∷ []) ∷ r ∷ [])) of_three ≡ (let k = (generation_of r).0 in eq_by_cmp texts_cmp k.0 owner && (eq_by_cmp texts_cmp k.1 name && eq_by_cmp int_cmp k.2 number))
@@ -100,7 +100,7 @@ said_three owner name number r kind = all_tests _ _ _ _ _ _ (text_test (column r
 abbrev pub delete_text : List ℕ
 delete_text = codes "DELETE FROM generation WHERE owner = ?1 AND name = ?2 AND num = ?3"
 
-delete_is : Compiles generation.name generation.columns generation.primary delete_text 3 (λ at tree. Delete at (record { lets = []; body = rowids_where tree of_three }))
+pub delete_is : Compiles generation.name generation.columns generation.primary delete_text 3 (λ at tree. Delete at (record { lets = []; body = rowids_where tree of_three }))
 unfolding everything
 delete_is s at tree known =
     let there = known.named.1 in

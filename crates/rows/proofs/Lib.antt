@@ -43,6 +43,11 @@ pub mod Opened
 pub mod Gone
 pub mod Refusals
 pub mod Causes
+pub mod WriteFailures
+pub mod KeptRules
+pub mod Stops
+pub mod Removals
+pub mod DeleteFailures
 pub mod Under
 pub mod Creates
 pub mod MakingTexts

@@ -67,10 +67,10 @@ use Rattle.sqlite.specs.Values.{bound_value}
 abbrev pub insert_text : List ℕ
 insert_text = codes "INSERT INTO object (base, nar, hash, deriver, ca) VALUES (?1, ?2, ?3, ?4, ?5)"
 
-abbrev terms : List Term
+abbrev pub terms : List Term
 terms = lit Null ∷ col 0 0 ∷ col 0 1 ∷ col 0 2 ∷ col 0 3 ∷ col 0 4 ∷ []
 
-insert_is : (s : Schema) (at tree : ℕ) → IsNamed s (codes "object") at (record object { tree = tree }) → IsMeant s insert_text 5 (Insert at (Values terms 6))
+pub insert_is : (s : Schema) (at tree : ℕ) → IsNamed s (codes "object") at (record object { tree = tree }) → IsMeant s insert_text 5 (Insert at (Values terms 6))
 unfolding everything
 insert_is s at tree found = (_, insert_means insert_text refl s at (codes "object") object.columns object.primary tree _ found refl, refl, refl, refl, refl, refl)
 
@@ -97,7 +97,7 @@ inserts_object old new base nar hash deriver ca count base_utf8 under none h =
 
 -- ---- of a whole key
 
-abbrev of_one : List Term
+abbrev pub of_one : List Term
 of_one = equals (col 1 1) (col 0 0) ∷ []
 
 said_one : (base : List ℕ) (r : Row) → is_object r ≡ true → list_all (holds ((Text base ∷ []) ∷ r ∷ [])) of_one ≡ (let k = (object_of r).0 in eq_by_cmp texts_cmp k base)
@@ -108,7 +108,7 @@ said_one base r kind = and_one _ ∙ text_test (column r 1) base (and_so _ _ (an
 abbrev pub delete_text : List ℕ
 delete_text = codes "DELETE FROM object WHERE base = ?1"
 
-delete_is : Compiles object.name object.columns object.primary delete_text 1 (λ at tree. Delete at (record { lets = []; body = rowids_where tree of_one }))
+pub delete_is : Compiles object.name object.columns object.primary delete_text 1 (λ at tree. Delete at (record { lets = []; body = rowids_where tree of_one }))
 unfolding everything
 delete_is s at tree known =
     let there = known.named.1 in

@@ -56,10 +56,10 @@ use Rattle.rows.proofs.Statements.{answered_same, Compiles, Selects, reads_part,
 abbrev pub insert_text : List ℕ
 insert_text = codes "INSERT INTO outs (base, name, target) VALUES (?1, ?2, ?3)"
 
-abbrev terms : List Term
+abbrev pub terms : List Term
 terms = lit Null ∷ col 0 0 ∷ col 0 1 ∷ col 0 2 ∷ []
 
-insert_is : (s : Schema) (at tree : ℕ) → IsNamed s (codes "outs") at (record outs { tree = tree }) → IsMeant s insert_text 3 (Insert at (Values terms 4))
+pub insert_is : (s : Schema) (at tree : ℕ) → IsNamed s (codes "outs") at (record outs { tree = tree }) → IsMeant s insert_text 3 (Insert at (Values terms 4))
 unfolding everything
 insert_is s at tree found = (_, insert_means insert_text refl s at (codes "outs") outs.columns outs.primary tree _ found refl, refl, refl, refl, refl, refl)
 
@@ -80,7 +80,7 @@ inserts old new base name target count base_utf8 name_utf8 target_utf8 under non
 
 -- ---- of the first one of the key
 
-abbrev of_one : List Term
+abbrev pub of_one : List Term
 of_one = equals (col 1 1) (col 0 0) ∷ []
 
 said_one : (base : List ℕ) (r : Row) → is_triple r ≡ true → list_all (holds ((Text base ∷ []) ∷ r ∷ [])) of_one ≡ (let k = (target_of r).0 in eq_by_cmp texts_cmp k.0 base)
@@ -91,7 +91,7 @@ said_one base r kind = and_one _ ∙ text_test (column r 1) base (and_so _ _ (an
 abbrev pub delete_of_text : List ℕ
 delete_of_text = codes "DELETE FROM outs WHERE base = ?1"
 
-delete_of_is : Compiles outs.name outs.columns outs.primary delete_of_text 1 (λ at tree. Delete at (record { lets = []; body = rowids_where tree of_one }))
+pub delete_of_is : Compiles outs.name outs.columns outs.primary delete_of_text 1 (λ at tree. Delete at (record { lets = []; body = rowids_where tree of_one }))
 unfolding everything
 delete_of_is s at tree known =
     let there = known.named.1 in

@@ -56,10 +56,10 @@ use Rattle.rows.proofs.Statements.{answered_same, Compiles, Selects, reads_part,
 abbrev pub insert_text : List ℕ
 insert_text = codes "INSERT INTO permanent (name, target) VALUES (?1, ?2)"
 
-abbrev terms : List Term
+abbrev pub terms : List Term
 terms = lit Null ∷ col 0 0 ∷ col 0 1 ∷ []
 
-insert_is : (s : Schema) (at tree : ℕ) → IsNamed s (codes "permanent") at (record permanent { tree = tree }) → IsMeant s insert_text 2 (Insert at (Values terms 3))
+pub insert_is : (s : Schema) (at tree : ℕ) → IsNamed s (codes "permanent") at (record permanent { tree = tree }) → IsMeant s insert_text 2 (Insert at (Values terms 3))
 unfolding everything
 insert_is s at tree found = (_, insert_means insert_text refl s at (codes "permanent") permanent.columns permanent.primary tree _ found refl, refl, refl, refl, refl, refl)
 
@@ -80,7 +80,7 @@ inserts old new name target count name_utf8 target_utf8 under none h =
 
 -- ---- of a whole key
 
-abbrev of_one : List Term
+abbrev pub of_one : List Term
 of_one = equals (col 1 1) (col 0 0) ∷ []
 
 said_one : (name : List ℕ) (r : Row) → is_pair r ≡ true → list_all (holds ((Text name ∷ []) ∷ r ∷ [])) of_one ≡ (let k = (pair_of r).0 in eq_by_cmp texts_cmp k name)
@@ -91,7 +91,7 @@ said_one name r kind = and_one _ ∙ text_test (column r 1) name (and_so _ _ kin
 abbrev pub delete_text : List ℕ
 delete_text = codes "DELETE FROM permanent WHERE name = ?1"
 
-delete_is : Compiles permanent.name permanent.columns permanent.primary delete_text 1 (λ at tree. Delete at (record { lets = []; body = rowids_where tree of_one }))
+pub delete_is : Compiles permanent.name permanent.columns permanent.primary delete_text 1 (λ at tree. Delete at (record { lets = []; body = rowids_where tree of_one }))
 unfolding everything
 delete_is s at tree known =
     let there = known.named.1 in

@@ -57,10 +57,10 @@ use Rattle.rows.proofs.Statements.{answered_same, Compiles, Selects, reads_part,
 abbrev pub insert_text : List ℕ
 insert_text = codes "INSERT INTO profile (owner, name, cur) VALUES (?1, ?2, ?3)"
 
-abbrev terms : List Term
+abbrev pub terms : List Term
 terms = lit Null ∷ col 0 0 ∷ col 0 1 ∷ col 0 2 ∷ []
 
-insert_is : (s : Schema) (at tree : ℕ) → IsNamed s (codes "profile") at (record profile { tree = tree }) → IsMeant s insert_text 3 (Insert at (Values terms 4))
+pub insert_is : (s : Schema) (at tree : ℕ) → IsNamed s (codes "profile") at (record profile { tree = tree }) → IsMeant s insert_text 3 (Insert at (Values terms 4))
 unfolding everything
 insert_is s at tree found = (_, insert_means insert_text refl s at (codes "profile") profile.columns profile.primary tree _ found refl, refl, refl, refl, refl, refl)
 
@@ -81,7 +81,7 @@ inserts old new owner name current count owner_utf8 name_utf8 under none h =
 
 -- ---- of the first one of the key
 
-abbrev of_one : List Term
+abbrev pub of_one : List Term
 of_one = equals (col 1 1) (col 0 0) ∷ []
 
 said_one : (owner : List ℕ) (r : Row) → is_profile r ≡ true → list_all (holds ((Text owner ∷ []) ∷ r ∷ [])) of_one ≡ (let k = (profile_of r).0 in eq_by_cmp texts_cmp k.0 owner)
@@ -89,7 +89,7 @@ said_one owner r kind = and_one _ ∙ text_test (column r 1) owner (and_so _ _ (
 
 -- ---- of a whole key
 
-abbrev of_two : List Term
+abbrev pub of_two : List Term
 of_two = equals (col 1 1) (col 0 0) ∷ equals (col 1 2) (col 0 1) ∷ []
 
 said_two : (owner : List ℕ) (name : List ℕ) (r : Row) → is_profile r ≡ true → list_all (holds ((Text owner ∷ Text name ∷ []) ∷ r ∷ [])) of_two ≡ (let k = (profile_of r).0 in eq_by_cmp texts_cmp k.0 owner && eq_by_cmp texts_cmp k.1 name)
@@ -100,7 +100,7 @@ said_two owner name r kind = both_tests _ _ _ _ (text_test (column r 1) owner (a
 abbrev pub delete_text : List ℕ
 delete_text = codes "DELETE FROM profile WHERE owner = ?1 AND name = ?2"
 
-delete_is : Compiles profile.name profile.columns profile.primary delete_text 2 (λ at tree. Delete at (record { lets = []; body = rowids_where tree of_two }))
+pub delete_is : Compiles profile.name profile.columns profile.primary delete_text 2 (λ at tree. Delete at (record { lets = []; body = rowids_where tree of_two }))
 unfolding everything
 delete_is s at tree known =
     let there = known.named.1 in

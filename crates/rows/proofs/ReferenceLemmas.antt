@@ -56,10 +56,10 @@ use Rattle.rows.proofs.Statements.{answered_same, Compiles, Selects, reads_part,
 abbrev pub insert_text : List ℕ
 insert_text = codes "INSERT INTO refs (base, target) VALUES (?1, ?2)"
 
-abbrev terms : List Term
+abbrev pub terms : List Term
 terms = lit Null ∷ col 0 0 ∷ col 0 1 ∷ []
 
-insert_is : (s : Schema) (at tree : ℕ) → IsNamed s (codes "refs") at (record refs { tree = tree }) → IsMeant s insert_text 2 (Insert at (Values terms 3))
+pub insert_is : (s : Schema) (at tree : ℕ) → IsNamed s (codes "refs") at (record refs { tree = tree }) → IsMeant s insert_text 2 (Insert at (Values terms 3))
 unfolding everything
 insert_is s at tree found = (_, insert_means insert_text refl s at (codes "refs") refs.columns refs.primary tree _ found refl, refl, refl, refl, refl, refl)
 
@@ -80,7 +80,7 @@ inserts old new base target count base_utf8 target_utf8 under h =
 
 -- ---- of the first one of the key
 
-abbrev of_one : List Term
+abbrev pub of_one : List Term
 of_one = equals (col 1 1) (col 0 0) ∷ []
 
 said_one : (base : List ℕ) (r : Row) → is_pair r ≡ true → list_all (holds ((Text base ∷ []) ∷ r ∷ [])) of_one ≡ (let k = (member_of r).0 in eq_by_cmp texts_cmp k.0 base)
@@ -91,7 +91,7 @@ said_one base r kind = and_one _ ∙ text_test (column r 1) base (and_so _ _ kin
 abbrev pub delete_of_text : List ℕ
 delete_of_text = codes "DELETE FROM refs WHERE base = ?1"
 
-delete_of_is : Compiles refs.name refs.columns refs.primary delete_of_text 1 (λ at tree. Delete at (record { lets = []; body = rowids_where tree of_one }))
+pub delete_of_is : Compiles refs.name refs.columns refs.primary delete_of_text 1 (λ at tree. Delete at (record { lets = []; body = rowids_where tree of_one }))
 unfolding everything
 delete_of_is s at tree known =
     let there = known.named.1 in

@@ -80,7 +80,7 @@ inserts old new word value count word_utf8 value_utf8 under none h =
 
 -- ---- of a whole key
 
-abbrev of_one : List Term
+abbrev pub of_one : List Term
 of_one = equals (col 1 1) (col 0 0) ∷ []
 
 said_one : (word : List ℕ) (r : Row) → is_pair r ≡ true → list_all (holds ((Text word ∷ []) ∷ r ∷ [])) of_one ≡ (let k = (pair_of r).0 in eq_by_cmp texts_cmp k word)
@@ -91,7 +91,7 @@ said_one word r kind = and_one _ ∙ text_test (column r 1) word (and_so _ _ kin
 abbrev pub delete_text : List ℕ
 delete_text = codes "DELETE FROM meta WHERE word = ?1"
 
-delete_is : Compiles meta.name meta.columns meta.primary delete_text 1 (λ at tree. Delete at (record { lets = []; body = rowids_where tree of_one }))
+pub delete_is : Compiles meta.name meta.columns meta.primary delete_text 1 (λ at tree. Delete at (record { lets = []; body = rowids_where tree of_one }))
 unfolding everything
 delete_is s at tree known =
     let there = known.named.1 in

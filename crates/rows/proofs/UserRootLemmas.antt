@@ -56,10 +56,10 @@ use Rattle.rows.proofs.Statements.{answered_same, Compiles, Selects, reads_part,
 abbrev pub insert_text : List ℕ
 insert_text = codes "INSERT INTO user_root (owner, name, target) VALUES (?1, ?2, ?3)"
 
-abbrev terms : List Term
+abbrev pub terms : List Term
 terms = lit Null ∷ col 0 0 ∷ col 0 1 ∷ col 0 2 ∷ []
 
-insert_is : (s : Schema) (at tree : ℕ) → IsNamed s (codes "user_root") at (record user_root { tree = tree }) → IsMeant s insert_text 3 (Insert at (Values terms 4))
+pub insert_is : (s : Schema) (at tree : ℕ) → IsNamed s (codes "user_root") at (record user_root { tree = tree }) → IsMeant s insert_text 3 (Insert at (Values terms 4))
 unfolding everything
 insert_is s at tree found = (_, insert_means insert_text refl s at (codes "user_root") user_root.columns user_root.primary tree _ found refl, refl, refl, refl, refl, refl)
 
@@ -80,7 +80,7 @@ inserts old new owner name target count owner_utf8 name_utf8 target_utf8 under n
 
 -- ---- of the first one of the key
 
-abbrev of_one : List Term
+abbrev pub of_one : List Term
 of_one = equals (col 1 1) (col 0 0) ∷ []
 
 said_one : (owner : List ℕ) (r : Row) → is_triple r ≡ true → list_all (holds ((Text owner ∷ []) ∷ r ∷ [])) of_one ≡ (let k = (target_of r).0 in eq_by_cmp texts_cmp k.0 owner)
@@ -88,7 +88,7 @@ said_one owner r kind = and_one _ ∙ text_test (column r 1) owner (and_so _ _ (
 
 -- ---- of a whole key
 
-abbrev of_two : List Term
+abbrev pub of_two : List Term
 of_two = equals (col 1 1) (col 0 0) ∷ equals (col 1 2) (col 0 1) ∷ []
 
 said_two : (owner : List ℕ) (name : List ℕ) (r : Row) → is_triple r ≡ true → list_all (holds ((Text owner ∷ Text name ∷ []) ∷ r ∷ [])) of_two ≡ (let k = (target_of r).0 in eq_by_cmp texts_cmp k.0 owner && eq_by_cmp texts_cmp k.1 name)
@@ -99,7 +99,7 @@ said_two owner name r kind = both_tests _ _ _ _ (text_test (column r 1) owner (a
 abbrev pub delete_text : List ℕ
 delete_text = codes "DELETE FROM user_root WHERE owner = ?1 AND name = ?2"
 
-delete_is : Compiles user_root.name user_root.columns user_root.primary delete_text 2 (λ at tree. Delete at (record { lets = []; body = rowids_where tree of_two }))
+pub delete_is : Compiles user_root.name user_root.columns user_root.primary delete_text 2 (λ at tree. Delete at (record { lets = []; body = rowids_where tree of_two }))
 unfolding everything
 delete_is s at tree known =
     let there = known.named.1 in
