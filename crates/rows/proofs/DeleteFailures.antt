@@ -8,7 +8,6 @@ use Rattle.sqlite.specs.State.{State, ExecutesInside}
 use Rattle.rows.specs.Forms.{meta, object, refs, outs, permanent, user_root, profile, generation, runtime}
 use Rattle.rows.specs.Calls.{IsUnderWay}
 use Rattle.rows.specs.Failures.{failure_of, FailsWith}
-use Rattle.rows.proofs.WriteFailures.{IsParsed, one_write}
 use Rattle.rows.proofs.Removals.{delete_fails}
 use Rattle.rows.proofs.SettingLemmas as settings
 use Rattle.rows.proofs.ObjectLemmas as objects
@@ -22,108 +21,72 @@ use Rattle.rows.proofs.RuntimeRootLemmas as runtime_roots
 
 -- ---- settings
 
-settings_parsed : IsParsed settings.delete_text 1
-unfolding everything
-settings_parsed = (_, refl, omega arith, refl)
-
 pub settings_delete : (old new : State) (word : List ℕ) (e : Error) → IsUnderWay old → ExecutesInside 0 settings.delete_text (Text word ∷ []) old new (Err e)
     → FailsWith old new (old.is_open ≡ false) (IsSome old.step_limit) (failure_of e)
 settings_delete old new word e under h =
     delete_fails meta.name meta.columns meta.primary old new under (λ has. has.0) settings.delete_text 1 (Text word ∷ []) settings.of_one refl
-    (one_write meta.name meta.columns meta.primary settings.delete_text 1 _ settings_parsed settings.delete_is) (λ s at tree known. rw (known.low, known.by_tree) refl) e h
+    settings.delete_is (λ s at tree known. rw (known.low, known.by_tree) refl) e h
 
 -- ---- objects
-
-objects_parsed : IsParsed objects.delete_text 1
-unfolding everything
-objects_parsed = (_, refl, omega arith, refl)
 
 pub objects_delete : (old new : State) (base : List ℕ) (e : Error) → IsUnderWay old → ExecutesInside 0 objects.delete_text (Text base ∷ []) old new (Err e)
     → FailsWith old new (old.is_open ≡ false) (IsSome old.step_limit) (failure_of e)
 objects_delete old new base e under h =
     delete_fails object.name object.columns object.primary old new under (λ has. has.1.0) objects.delete_text 1 (Text base ∷ []) objects.of_one refl
-    (one_write object.name object.columns object.primary objects.delete_text 1 _ objects_parsed objects.delete_is) (λ s at tree known. rw (known.low, known.by_tree) refl) e h
+    objects.delete_is (λ s at tree known. rw (known.low, known.by_tree) refl) e h
 
 -- ---- references
-
-references_parsed : IsParsed references.delete_of_text 1
-unfolding everything
-references_parsed = (_, refl, omega arith, refl)
 
 pub references_delete_of : (old new : State) (base : List ℕ) (e : Error) → IsUnderWay old → ExecutesInside 0 references.delete_of_text (Text base ∷ []) old new (Err e)
     → FailsWith old new (old.is_open ≡ false) (IsSome old.step_limit) (failure_of e)
 references_delete_of old new base e under h =
     delete_fails refs.name refs.columns refs.primary old new under (λ has. has.1.1.0) references.delete_of_text 1 (Text base ∷ []) references.of_one refl
-    (one_write refs.name refs.columns refs.primary references.delete_of_text 1 _ references_parsed references.delete_of_is) (λ s at tree known. rw (known.low, known.by_tree) refl) e h
+    references.delete_of_is (λ s at tree known. rw (known.low, known.by_tree) refl) e h
 
 -- ---- outputs
-
-outputs_parsed : IsParsed outputs.delete_of_text 1
-unfolding everything
-outputs_parsed = (_, refl, omega arith, refl)
 
 pub outputs_delete_of : (old new : State) (base : List ℕ) (e : Error) → IsUnderWay old → ExecutesInside 0 outputs.delete_of_text (Text base ∷ []) old new (Err e)
     → FailsWith old new (old.is_open ≡ false) (IsSome old.step_limit) (failure_of e)
 outputs_delete_of old new base e under h =
     delete_fails outs.name outs.columns outs.primary old new under (λ has. has.1.1.1.0) outputs.delete_of_text 1 (Text base ∷ []) outputs.of_one refl
-    (one_write outs.name outs.columns outs.primary outputs.delete_of_text 1 _ outputs_parsed outputs.delete_of_is) (λ s at tree known. rw (known.low, known.by_tree) refl) e h
+    outputs.delete_of_is (λ s at tree known. rw (known.low, known.by_tree) refl) e h
 
 -- ---- permanent roots
-
-permanent_roots_parsed : IsParsed permanent_roots.delete_text 1
-unfolding everything
-permanent_roots_parsed = (_, refl, omega arith, refl)
 
 pub permanent_roots_delete : (old new : State) (name : List ℕ) (e : Error) → IsUnderWay old → ExecutesInside 0 permanent_roots.delete_text (Text name ∷ []) old new (Err e)
     → FailsWith old new (old.is_open ≡ false) (IsSome old.step_limit) (failure_of e)
 permanent_roots_delete old new name e under h =
     delete_fails permanent.name permanent.columns permanent.primary old new under (λ has. has.1.1.1.1.0) permanent_roots.delete_text 1 (Text name ∷ []) permanent_roots.of_one refl
-    (one_write permanent.name permanent.columns permanent.primary permanent_roots.delete_text 1 _ permanent_roots_parsed permanent_roots.delete_is) (λ s at tree known. rw (known.low, known.by_tree) refl) e h
+    permanent_roots.delete_is (λ s at tree known. rw (known.low, known.by_tree) refl) e h
 
 -- ---- user roots
-
-user_roots_parsed : IsParsed user_roots.delete_text 2
-unfolding everything
-user_roots_parsed = (_, refl, omega arith, refl)
 
 pub user_roots_delete : (old new : State) (owner : List ℕ) (name : List ℕ) (e : Error) → IsUnderWay old → ExecutesInside 0 user_roots.delete_text (Text owner ∷ Text name ∷ []) old new (Err e)
     → FailsWith old new (old.is_open ≡ false) (IsSome old.step_limit) (failure_of e)
 user_roots_delete old new owner name e under h =
     delete_fails user_root.name user_root.columns user_root.primary old new under (λ has. has.1.1.1.1.1.0) user_roots.delete_text 2 (Text owner ∷ Text name ∷ []) user_roots.of_two refl
-    (one_write user_root.name user_root.columns user_root.primary user_roots.delete_text 2 _ user_roots_parsed user_roots.delete_is) (λ s at tree known. rw (known.low, known.by_tree) refl) e h
+    user_roots.delete_is (λ s at tree known. rw (known.low, known.by_tree) refl) e h
 
 -- ---- profiles
-
-profiles_parsed : IsParsed profiles.delete_text 2
-unfolding everything
-profiles_parsed = (_, refl, omega arith, refl)
 
 pub profiles_delete : (old new : State) (owner : List ℕ) (name : List ℕ) (e : Error) → IsUnderWay old → ExecutesInside 0 profiles.delete_text (Text owner ∷ Text name ∷ []) old new (Err e)
     → FailsWith old new (old.is_open ≡ false) (IsSome old.step_limit) (failure_of e)
 profiles_delete old new owner name e under h =
     delete_fails profile.name profile.columns profile.primary old new under (λ has. has.1.1.1.1.1.1.0) profiles.delete_text 2 (Text owner ∷ Text name ∷ []) profiles.of_two refl
-    (one_write profile.name profile.columns profile.primary profiles.delete_text 2 _ profiles_parsed profiles.delete_is) (λ s at tree known. rw (known.low, known.by_tree) refl) e h
+    profiles.delete_is (λ s at tree known. rw (known.low, known.by_tree) refl) e h
 
 -- ---- generations
-
-generations_parsed : IsParsed generations.delete_text 3
-unfolding everything
-generations_parsed = (_, refl, omega arith, refl)
 
 pub generations_delete : (old new : State) (owner : List ℕ) (name : List ℕ) (number : ℤ) (e : Error) → IsUnderWay old → ExecutesInside 0 generations.delete_text (Text owner ∷ Text name ∷ Int number ∷ []) old new (Err e)
     → FailsWith old new (old.is_open ≡ false) (IsSome old.step_limit) (failure_of e)
 generations_delete old new owner name number e under h =
     delete_fails generation.name generation.columns generation.primary old new under (λ has. has.1.1.1.1.1.1.1.0) generations.delete_text 3 (Text owner ∷ Text name ∷ Int number ∷ []) generations.of_three refl
-    (one_write generation.name generation.columns generation.primary generations.delete_text 3 _ generations_parsed generations.delete_is) (λ s at tree known. rw (known.low, known.by_tree) refl) e h
+    generations.delete_is (λ s at tree known. rw (known.low, known.by_tree) refl) e h
 
 -- ---- runtime roots
-
-runtime_roots_parsed : IsParsed runtime_roots.delete_of_text 1
-unfolding everything
-runtime_roots_parsed = (_, refl, omega arith, refl)
 
 pub runtime_roots_delete_of : (old new : State) (label : List ℕ) (e : Error) → IsUnderWay old → ExecutesInside 0 runtime_roots.delete_of_text (Text label ∷ []) old new (Err e)
     → FailsWith old new (old.is_open ≡ false) (IsSome old.step_limit) (failure_of e)
 runtime_roots_delete_of old new label e under h =
     delete_fails runtime.name runtime.columns runtime.primary old new under (λ has. has.1.1.1.1.1.1.1.1.0) runtime_roots.delete_of_text 1 (Text label ∷ []) runtime_roots.of_one refl
-    (one_write runtime.name runtime.columns runtime.primary runtime_roots.delete_of_text 1 _ runtime_roots_parsed runtime_roots.delete_of_is) (λ s at tree known. rw (known.low, known.by_tree) refl) e h
+    runtime_roots.delete_of_is (λ s at tree known. rw (known.low, known.by_tree) refl) e h

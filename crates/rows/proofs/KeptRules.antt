@@ -1,12 +1,12 @@
 -- Which rules of a database a write to one of our tables keeps.
-use Rattle.std.proofs.Common.{◌≡◌, ◌≢◌, ◌⊎◌, inl, inr, ℕ, List, [], true, false, not, ◌||◌, ◌==◌, map, Some, None, Option, refl, sym, ap, subst, ◌∙◌, eq-eqb}
+use Rattle.std.proofs.Common.{◌≡◌, ◌≢◌, ◌⊎◌, inl, inr, ℕ, List, [], true, false, not, ◌||◌, ◌==◌, map, Some, None, Option, refl, sym, ap, subst, ◌∙◌, eq-eqb, bytes_eq}
 use Rattle.std.specs.Prelude.{find, option_and_then, option_map, unwrap_or}
 use Rattle.std.specs.List.{list_all, position_from}
 use Rattle.std.specs.Char.{to_ascii_lowercase}
 use Rattle.std.specs.Ordering.{is_eq, nat_cmp}
-use Rattle.std.specs.Cmp.{Equal-is}
 use Rattle.std.specs.Cmp.Lexicographic.{slice_cmp}
 use Rattle.std.proofs.lemmas.Bool.{and_parts, and_from, or_left, not-true, not_from_false, both_ways, cases_eq, false_from_ne_true, ne_eqb}
+use Rattle.std.proofs.lemmas.Slice.Eq.{bytes_eq-Decides}
 use Rattle.sqlite_value.specs.declared.keys.Order.{Order}
 use Rattle.sqlite_value.specs.Order.{Row}
 use Rattle.sqlite_trees.specs.Tree.{Trees, with_tree}
@@ -18,10 +18,12 @@ use Rattle.sqlite_schema.specs.declared.schema.Among.TheVariants.{All}
 use Rattle.sqlite_schema.specs.Names.{same_name, table_named}
 use Rattle.sqlite_schema.specs.Rules.{Keeps, Refers, clashes, ParentKey, key_in, key_places, parent_key, has_null, is_held, has_parent, is_key_if_to}
 use Rattle.sqlite_rules.specs.Lists.{Has}
-use Rattle.sqlite_rules.proofs.ListLemmas.{test_has, test_from, some_has, some_from, has_found}
+use Rattle.sqlite_rules.proofs.ListLemmas.{test_has, test_from, some_has, some_from, has_found, has_got}
 use Rattle.sqlite_rules.proofs.RuleLemmas.{keeps_at, keeps_from, refers_at, refers_from, key_tree}
-use Rattle.rows.specs.Standing.{IsNamed, points_at, is_unreferred}
-use Rattle.rows.proofs.Orders.{texts_antisymmetric}
+use Rattle.sqlite_catalog.proofs.SoundLemmas.{lowered}
+use Rattle.sqlite_catalog.proofs.StepLemmas.{named_once}
+use Rattle.sqlite.specs.Effect.{Database, IsDatabase}
+use Rattle.rows.specs.Standing.{IsNamed, Stands, points_at, is_unreferred, tree_named}
 use Rattle.rows.proofs.Finds.{found_by_place}
 
 -- ---- the tables, with the rows of one changed
@@ -78,10 +80,6 @@ module _ (s : Schema) (tree : ℕ) (unreferred : is_unreferred s tree ≡ true) 
       still : (t : Table) (ref : Reference) (row : Row) → Has s.tables t → Has t.references ref → Has (old t.tree) row → has_parent s.tables new row ref ≡ true
       still t ref row listed known was = ap (λ b. has_null ref.columns row || b) (held ref row _ (misses t ref listed known) refl) ∙ refers_at All s old t row ref refers listed was known refl
 
-lowered : (a b : List ℕ) → same_name a b ≡ true → map to_ascii_lowercase a ≡ map to_ascii_lowercase b
-unfolding same_name
-lowered a b h = texts_antisymmetric _ _ ((Equal-is _).0 h)
-
 found_alike : (s : Schema) (a b : List ℕ) → map to_ascii_lowercase a ≡ map to_ascii_lowercase b → table_named s a ≡ table_named s b
 unfolding same_name
 found_alike s a b e = ap (λ (l : List ℕ). position_from (λ (t : Table). is_eq (slice_cmp nat_cmp (map to_ascii_lowercase t.name) l)) 0 s.tables) e
@@ -89,6 +87,14 @@ found_alike s a b e = ap (λ (l : List ℕ). position_from (λ (t : Table). is_e
 -- no reference names the table, so none has to fit it
 pub none_to_fit : (s : Schema) (own : Table) (at : ℕ) → IsNamed s own.name at own → is_unreferred s own.tree ≡ true → list_all (λ t. list_all (is_key_if_to s own) t.references) s.tables ≡ true
 none_to_fit s own at named unreferred = test_from _ s.tables (λ t listed. test_from _ t.references (λ ref known. or_left _ _ (not_from_false _ (false_from_ne_true _ (λ same.
-    let found : table_named s ref.parent ≡ Some at = sym (found_alike s own.name ref.parent (lowered own.name ref.parent same)) ∙ named.0 in
+    let found : table_named s ref.parent ≡ Some at = sym (found_alike s own.name ref.parent ((lowered own.name ref.parent).0 same)) ∙ named.0 in
     let here : points_at s own.tree ref ≡ true = rw (found, named.1, eq-eqb own.tree own.tree refl) refl in
     both_ways _ (not-true _ (misses s own.tree unreferred t ref listed known)) here)))))
+
+-- ---- a table of ours is found by its tree
+
+pub only_ours : (db : Database) (table : Table) → IsDatabase db → (stands : Stands db.schema table) → (t : Table) → Has db.schema.tables t → t.tree ≡ tree_named db.schema table.name → t ≡ record table { tree = tree_named db.schema table.name }
+only_ours db table sound stands t listed same =
+    let own : Table = record table { tree = tree_named db.schema table.name } in
+    let named : bytes_eq t.name table.name ≡ true = rw (eq-eqb _ _ same) at (test_has _ db.schema.tables t stands.alone listed) in
+    named_once db.schema.tables t own sound.lists.listed.named listed (has_got db.schema.tables stands.at own stands.known.named.1) ((lowered t.name table.name).1 (ap (map to_ascii_lowercase) ((bytes_eq-Decides _ _).0 named)))

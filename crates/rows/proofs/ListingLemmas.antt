@@ -133,7 +133,7 @@ same_all old new under params rows shown = answered_same object.name object.colu
 
 -- ---- why a read fails
 
-scan : (tree : ℕ) → IsScan (query tree) tree
+pub scan : (tree : ℕ) → IsScan (query tree) tree
 scan tree = record { from = refl; group = refl; distinct = refl; whole = λ params rows. refl }
 
 pub fails_all : (old new : State) → IsInside old → (e : Error) → FailsToQuery all_text [] old new e ⊎ IsTooLate all_text [] old new e → FailsWith old new ⊥ (IsSome old.step_limit) (failure_of e)

@@ -123,7 +123,7 @@ deletes old new base count under h =
 
 -- ---- reading them
 
-abbrev query : List Term → ℕ → Query
+abbrev pub query : List Term → ℕ → Query
 query filter tree = record {
   from = inner tree end;
   filter = filter;
@@ -145,7 +145,7 @@ draft filter tree = record { from = chain (Inner tree ∷ []); filter = filter; 
 abbrev outputs : List Out
 outputs = shown_column (codes "base") 1 ∷ shown_column (codes "nar") 2 ∷ shown_column (codes "hash") 3 ∷ shown_column (codes "deriver") 4 ∷ shown_column (codes "ca") 5 ∷ []
 
-abbrev names : List (List ℕ)
+abbrev pub names : List (List ℕ)
 names = codes "base" ∷ codes "nar" ∷ codes "hash" ∷ codes "deriver" ∷ codes "ca" ∷ []
 
 fits : (params : Row) (filter : List Term) (tree : ℕ) (r : Row) (t : Object) → ShowsObject (shows (query filter tree) params r) t → (is_object r ≡ true) × (object_of r ≡ stored_of t)
@@ -158,7 +158,7 @@ of_typed : (s : Schema) (at tree : ℕ) → IsKnown s (codes "object") at (recor
 unfolding everything
 of_typed s at tree known = rw (known.low, known.by_tree)
 
-of_is : Compiles object.name object.columns object.primary of_text 1 (λ at tree. Select (whole of_one tree) names)
+pub of_is : Compiles object.name object.columns object.primary of_text 1 (λ at tree. Select (whole of_one tree) names)
 unfolding everything
 of_is s at tree known =
     let there = known.named.1 in (
@@ -181,7 +181,7 @@ reads_of old new base r under selects up =
 
 -- ---- reading their keys alone
 
-abbrev keys_query : ℕ → Query
+abbrev pub keys_query : ℕ → Query
 keys_query tree = record {
   from = inner tree end;
   filter = [];
@@ -207,7 +207,7 @@ keys_typed : (s : Schema) (at tree : ℕ) → IsKnown s (codes "object") at (rec
 unfolding everything
 keys_typed s at tree known = rw (known.low, known.by_tree)
 
-keys_is : Compiles object.name object.columns object.primary keys_text 0 (λ at tree. Select (keys_whole tree) (codes "base" ∷ []))
+pub keys_is : Compiles object.name object.columns object.primary keys_text 0 (λ at tree. Select (keys_whole tree) (codes "base" ∷ []))
 unfolding everything
 keys_is s at tree known =
     let there = known.named.1 in (
@@ -275,14 +275,14 @@ same_keys old new under params rows shown = answered_same object.name object.col
 
 -- ---- why a read fails
 
-scan : (filter : List Term) (tree : ℕ) → IsScan (query filter tree) tree
+pub scan : (filter : List Term) (tree : ℕ) → IsScan (query filter tree) tree
 scan filter tree = record { from = refl; group = refl; distinct = refl; whole = λ params rows. refl }
 
 pub fails_of : (old new : State) (base : List ℕ) → IsInside old → (e : Error) → FailsToQuery of_text (Text base ∷ []) old new e ⊎ IsTooLate of_text (Text base ∷ []) old new e → FailsWith old new ⊥ (IsSome old.step_limit) (failure_of e)
 unfolding everything
 fails_of old new base inside = read_fails object.name object.columns object.primary old new inside (λ has. has.1.0) of_text (Text base ∷ []) names (query of_one) (scan of_one) of_is (_, _, _, _, _, refl) (λ s at tree known. rw (known.low, known.by_tree) refl)
 
-keys_scan : (tree : ℕ) → IsScan (keys_query tree) tree
+pub keys_scan : (tree : ℕ) → IsScan (keys_query tree) tree
 keys_scan tree = record { from = refl; group = refl; distinct = refl; whole = λ params rows. refl }
 
 pub fails_keys : (old new : State) → IsInside old → (e : Error) → FailsToQuery keys_text [] old new e ⊎ IsTooLate keys_text [] old new e → FailsWith old new ⊥ (IsSome old.step_limit) (failure_of e)

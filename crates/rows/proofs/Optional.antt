@@ -2,15 +2,14 @@
 use Rattle.std.proofs.Common.{◌≡◌, true, Some, None, Option, option_map, refl, ap, String, Global, string_bytes}
 use Rattle.std.proofs.lemmas.Str.{IsUtf8-string_bytes}
 use Rattle.sqlite_value.specs.declared.value.Value.{Value}
-use Rattle.sqlite_value.specs.declared.value.Value.TheVariants.{Text}
 use Rattle.sqlite_rules.specs.Cast.{as_text}
-use Rattle.sqlite.specs.Values.{or_null, bound_value}
+use Rattle.sqlite.specs.Values.{bound_value}
 use Rattle.rows.specs.Contents.{is_text_or_null, text_if_any}
 use Rattle.rows.specs.Texts.{IsReadable}
-use Rattle.rows.specs.Entries.{ShowsOptional}
+use Rattle.rows.specs.Entries.{ShowsOptional, text_or_null}
 
 abbrev pub given : Option (String Global) → Value
-given = or_null (λ s. Text (string_bytes s))
+given = text_or_null
 
 -- it is kept as it was given
 pub record IsKept (v : Value) : Type 0 where

@@ -139,37 +139,37 @@ module _ (rows : List Row) (typed : (row : Row) → Has rows row → is_object r
 -- ---- all nine
 
 module _ (db : Database) (sound : IsDatabase db) (has : HasTables db.schema) (keyed : AllByRecursion (λ t. IsKeyed (rows_named db t.name)) our_tables) where
-  meta_typed : (row : Row) → Has (rows_named db meta.name) row → is_pair row ≡ true
+  pub meta_typed : (row : Row) → Has (rows_named db meta.name) row → is_pair row ≡ true
   meta_typed = pairs_typed db sound meta.name (codes "word") (codes "val") meta.primary has.0
 
-  object_typed : (row : Row) → Has (rows_named db object.name) row → is_object row ≡ true
+  pub object_typed : (row : Row) → Has (rows_named db object.name) row → is_object row ≡ true
   object_typed = objects_typed db sound has.1.0
 
-  refs_typed : (row : Row) → Has (rows_named db refs.name) row → is_pair row ≡ true
+  pub refs_typed : (row : Row) → Has (rows_named db refs.name) row → is_pair row ≡ true
   refs_typed = pairs_typed db sound refs.name (codes "base") (codes "target") refs.primary has.1.1.0
 
-  outs_typed : (row : Row) → Has (rows_named db outs.name) row → is_triple row ≡ true
+  pub outs_typed : (row : Row) → Has (rows_named db outs.name) row → is_triple row ≡ true
   outs_typed = triples_typed db sound outs.name (codes "base") (codes "name") (codes "target") outs.primary has.1.1.1.0
 
-  permanent_typed : (row : Row) → Has (rows_named db permanent.name) row → is_pair row ≡ true
+  pub permanent_typed : (row : Row) → Has (rows_named db permanent.name) row → is_pair row ≡ true
   permanent_typed = pairs_typed db sound permanent.name (codes "name") (codes "target") permanent.primary has.1.1.1.1.0
 
-  user_root_typed : (row : Row) → Has (rows_named db user_root.name) row → is_triple row ≡ true
+  pub user_root_typed : (row : Row) → Has (rows_named db user_root.name) row → is_triple row ≡ true
   user_root_typed = triples_typed db sound user_root.name (codes "owner") (codes "name") (codes "target") user_root.primary has.1.1.1.1.1.0
 
-  profile_typed : (row : Row) → Has (rows_named db profile.name) row → is_profile row ≡ true
+  pub profile_typed : (row : Row) → Has (rows_named db profile.name) row → is_profile row ≡ true
   profile_typed = profiles_typed db sound profile.name (codes "owner") (codes "name") (codes "cur") profile.primary has.1.1.1.1.1.1.0
 
-  generation_typed : (row : Row) → Has (rows_named db generation.name) row → is_generation row ≡ true
+  pub generation_typed : (row : Row) → Has (rows_named db generation.name) row → is_generation row ≡ true
   generation_typed = generations_typed db sound generation.name (codes "owner") (codes "name") (codes "num") (codes "target") generation.primary has.1.1.1.1.1.1.1.0
 
-  runtime_typed : (row : Row) → Has (rows_named db runtime.name) row → is_pair row ≡ true
+  pub runtime_typed : (row : Row) → Has (rows_named db runtime.name) row → is_pair row ≡ true
   runtime_typed = pairs_typed db sound runtime.name (codes "label") (codes "target") runtime.primary has.1.1.1.1.1.1.1.1.0
 
-  meta_once : HasOneRowEach texts_total texts_antisymmetric is_pair pair_of (rows_named db meta.name)
+  pub meta_once : HasOneRowEach texts_total texts_antisymmetric is_pair pair_of (rows_named db meta.name)
   meta_once a b here there ka kb same = one_key db sound meta.name meta.columns meta.primary has.0 keyed.0 a b here there (agree_one a b 1 (texts_equal (column a 1) (column b 1) (and_so _ _ ka).0 (and_so _ _ kb).0 same))
 
-  object_once : HasOneRowEach texts_total texts_antisymmetric is_object object_of (rows_named db object.name)
+  pub object_once : HasOneRowEach texts_total texts_antisymmetric is_object object_of (rows_named db object.name)
   object_once a b here there ka kb same =
       one_key db sound object.name object.columns object.primary has.1.0 keyed.1.0 a b here there (agree_one a b 1 (texts_equal (column a 1) (column b 1) (base a ka) (base b kb) same))
     where
@@ -182,7 +182,7 @@ module _ (db : Database) (sound : IsDatabase db) (has : HasTables db.schema) (ke
       let e = sym (key a) ∙ same ∙ key b in
       one a b here there (agree_two a b 1 2 (texts_equal (column a 1) (column b 1) (and_so _ _ (is_one a ka)).0 (and_so _ _ (is_one b kb)).0 (ap (λ p. p.0) e)) (texts_equal (column a 2) (column b 2) (and_so _ _ (is_one a ka)).1 (and_so _ _ (is_one b kb)).1 (ap (λ p. p.1) e)))
 
-  generation_once : HasOneRowEach triple_total triple_antisymmetric is_generation generation_of (rows_named db generation.name)
+  pub generation_once : HasOneRowEach triple_total triple_antisymmetric is_generation generation_of (rows_named db generation.name)
   generation_once a b here there ka kb same =
       one_key db sound generation.name generation.columns generation.primary has.1.1.1.1.1.1.1.0 keyed.1.1.1.1.1.1.1.0 a b here there
       (agree_three a b 1 2 3 (texts_equal (column a 1) (column b 1) (pair a ka).0 (pair b kb).0 (ap (λ t. t.0) same)) (texts_equal (column a 2) (column b 2) (pair a ka).1 (pair b kb).1 (ap (λ t. t.1) same)) (ints_equal (column a 3) (column b 3) (number a ka) (number b kb) (ap (λ t. t.2) same)))
@@ -192,6 +192,25 @@ module _ (db : Database) (sound : IsDatabase db) (has : HasTables db.schema) (ke
 
       number : (r : Row) → is_generation r ≡ true → is_int (column r 3) ≡ true
       number r k = (and_so (is_pair r) (is_int (column r 3)) (and_so (is_pair r && is_int (column r 3)) (is_text (column r 4)) k).0).1
+
+  pub permanent_once : HasOneRowEach texts_total texts_antisymmetric is_pair pair_of (rows_named db permanent.name)
+  permanent_once a b here there ka kb same =
+      one_key db sound permanent.name permanent.columns permanent.primary has.1.1.1.1.0 keyed.1.1.1.1.0 a b here there (agree_one a b 1 (texts_equal (column a 1) (column b 1) (and_so _ _ ka).0 (and_so _ _ kb).0 same))
+
+  pub refs_once : HasOneRowEach pair_total pair_antisymmetric is_pair member_of (rows_named db refs.name)
+  refs_once = pair_once refs.name is_pair member_of (λ r k. k) (λ r. refl) (one_key db sound refs.name refs.columns refs.primary has.1.1.0 keyed.1.1.0)
+
+  pub outs_once : HasOneRowEach pair_total pair_antisymmetric is_triple target_of (rows_named db outs.name)
+  outs_once = pair_once outs.name is_triple target_of (λ r k. (and_so _ _ k).0) (λ r. refl) (one_key db sound outs.name outs.columns outs.primary has.1.1.1.0 keyed.1.1.1.0)
+
+  pub user_root_once : HasOneRowEach pair_total pair_antisymmetric is_triple target_of (rows_named db user_root.name)
+  user_root_once = pair_once user_root.name is_triple target_of (λ r k. (and_so _ _ k).0) (λ r. refl) (one_key db sound user_root.name user_root.columns user_root.primary has.1.1.1.1.1.0 keyed.1.1.1.1.1.0)
+
+  pub profile_once : HasOneRowEach pair_total pair_antisymmetric is_profile profile_of (rows_named db profile.name)
+  profile_once = pair_once profile.name is_profile profile_of (λ r k. (and_so _ _ k).0) (λ r. refl) (one_key db sound profile.name profile.columns profile.primary has.1.1.1.1.1.1.0 keyed.1.1.1.1.1.1.0)
+
+  pub runtime_once : HasOneRowEach pair_total pair_antisymmetric is_pair member_of (rows_named db runtime.name)
+  runtime_once = pair_once runtime.name is_pair member_of (λ r k. k) (λ r. refl) (one_key db sound runtime.name runtime.columns runtime.primary has.1.1.1.1.1.1.1.1.0 keyed.1.1.1.1.1.1.1.1.0)
 
   -- the texts of the rows, and those of the maps
   pub readable_by_maps : HasReadableRows db ↔ AreReadable (contents_of db)
@@ -231,25 +250,6 @@ module _ (db : Database) (sound : IsDatabase db) (has : HasTables db.schema) (ke
       ),
     ),
   )
-    where
-      permanent_once : HasOneRowEach texts_total texts_antisymmetric is_pair pair_of (rows_named db permanent.name)
-      permanent_once a b here there ka kb same =
-          one_key db sound permanent.name permanent.columns permanent.primary has.1.1.1.1.0 keyed.1.1.1.1.0 a b here there (agree_one a b 1 (texts_equal (column a 1) (column b 1) (and_so _ _ ka).0 (and_so _ _ kb).0 same))
-
-      refs_once : HasOneRowEach pair_total pair_antisymmetric is_pair member_of (rows_named db refs.name)
-      refs_once = pair_once refs.name is_pair member_of (λ r k. k) (λ r. refl) (one_key db sound refs.name refs.columns refs.primary has.1.1.0 keyed.1.1.0)
-
-      outs_once : HasOneRowEach pair_total pair_antisymmetric is_triple target_of (rows_named db outs.name)
-      outs_once = pair_once outs.name is_triple target_of (λ r k. (and_so _ _ k).0) (λ r. refl) (one_key db sound outs.name outs.columns outs.primary has.1.1.1.0 keyed.1.1.1.0)
-
-      user_root_once : HasOneRowEach pair_total pair_antisymmetric is_triple target_of (rows_named db user_root.name)
-      user_root_once = pair_once user_root.name is_triple target_of (λ r k. (and_so _ _ k).0) (λ r. refl) (one_key db sound user_root.name user_root.columns user_root.primary has.1.1.1.1.1.0 keyed.1.1.1.1.1.0)
-
-      profile_once : HasOneRowEach pair_total pair_antisymmetric is_profile profile_of (rows_named db profile.name)
-      profile_once = pair_once profile.name is_profile profile_of (λ r k. (and_so _ _ k).0) (λ r. refl) (one_key db sound profile.name profile.columns profile.primary has.1.1.1.1.1.1.0 keyed.1.1.1.1.1.1.0)
-
-      runtime_once : HasOneRowEach pair_total pair_antisymmetric is_pair member_of (rows_named db runtime.name)
-      runtime_once = pair_once runtime.name is_pair member_of (λ r k. k) (λ r. refl) (one_key db sound runtime.name runtime.columns runtime.primary has.1.1.1.1.1.1.1.1.0 keyed.1.1.1.1.1.1.1.1.0)
 
 -- the texts of the maps can be read
 pub ours_readable : (db : Database) → IsOurs db → AreReadable (contents_of db)

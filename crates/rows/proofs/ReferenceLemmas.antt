@@ -170,7 +170,7 @@ of_typed : (s : Schema) (at tree : ℕ) → IsKnown s (codes "refs") at (record 
 unfolding everything
 of_typed s at tree known = rw (known.low, known.by_tree)
 
-of_is : Compiles refs.name refs.columns refs.primary of_text 1 (λ at tree. Select (whole of_one tree) names)
+pub of_is : Compiles refs.name refs.columns refs.primary of_text 1 (λ at tree. Select (whole of_one tree) names)
 unfolding everything
 of_is s at tree known =
     let there = known.named.1 in (
@@ -201,7 +201,7 @@ same_of old new under params rows shown = answered_same refs.name refs.columns r
 
 -- ---- why a read fails
 
-scan : (filter : List Term) (tree : ℕ) → IsScan (query filter tree) tree
+pub scan : (filter : List Term) (tree : ℕ) → IsScan (query filter tree) tree
 scan filter tree = record { from = refl; group = refl; distinct = refl; whole = λ params rows. refl }
 
 pub fails_all : (old new : State) → IsInside old → (e : Error) → FailsToQuery all_text [] old new e ⊎ IsTooLate all_text [] old new e → FailsWith old new ⊥ (IsSome old.step_limit) (failure_of e)

@@ -36,7 +36,8 @@ use Rattle.rows.specs.Failures.{failure_of, FailsWith}
 use Rattle.rows.proofs.Writes.{rowids_where, works_unreferred, went, same_value, at_place}
 use Rattle.rows.proofs.KeptRules.{set_here, set_other, unique_fewer, refers_still, none_to_fit}
 use Rattle.rows.proofs.Stops.{stops_at, gives_no_stop, no_end, plain_mode, concluded}
-use Rattle.rows.proofs.WriteFailures.{IsOneWrite, MayStop, OrShut, our_write_fails, fails_wider}
+use Rattle.rows.proofs.Statements.{Compiles}
+use Rattle.rows.proofs.WriteFailures.{MayStop, OrShut, our_write_fails, fails_wider}
 
 -- a query of rowids is refused for the limit on steps alone
 pub query_refused : (limit : Option ℕ) (db : Database) (tree : ℕ) (filter : List Term) (params : Row) → accepts_program db.schema [] (rowids_where tree filter) params ≡ true
@@ -112,7 +113,7 @@ module _ (name : List ℕ) (columns : List Column) (key : List ℕ) (tree at : �
 module _ (name : List ℕ) (columns : List Column) (key : List ℕ) (old new : State) (under : IsUnderWay old) (standing : HasTables old.now.schema → Stands old.now.schema (strict name columns key)) where
   -- a DELETE fails for the store or the limit on steps, and a size is no cause of it
   pub delete_fails : (text : List ℕ) (count : ℕ) (params : Row) (filter : List Term) → length params ≡ count
-      → IsOneWrite name columns key text count (λ at tree. Delete at (record { lets = []; body = rowids_where tree filter }))
+      → Compiles name columns key text count (λ at tree. Delete at (record { lets = []; body = rowids_where tree filter }))
       → ((s : Schema) (at tree : ℕ) → IsKnown s name at (record (strict name columns key) { tree = tree }) → accepts_program s [] (rowids_where tree filter) params ≡ true)
       → (e : Error) → ExecutesInside 0 text params old new (Err e) → FailsWith old new (old.is_open ≡ false) (IsSome old.step_limit) (failure_of e)
   delete_fails text count params filter given is accepts e h =

@@ -31,7 +31,7 @@ pub record IsScan (q : Query) (tree : ℕ) : Type 0 where
   pub distinct : q.distinct ≡ false
   pub whole : (params : Row) (rows : List Row) → page q params rows ≡ rows
 
-has_matched : {X Y : Type 0} (p : X → Bool) (f : X → Y) (xs : List X) (y : Y) → Has (flat_map (λ x. cond (p x) (f x ∷ []) []) xs) y → (x : X) × Has xs x × (p x ≡ true) × (y ≡ f x)
+pub has_matched : {X Y : Type 0} (p : X → Bool) (f : X → Y) (xs : List X) (y : Y) → Has (flat_map (λ x. cond (p x) (f x ∷ []) []) xs) y → (x : X) × Has xs x × (p x ≡ true) × (y ≡ f x)
 has_matched p f [] y h = absurd h
 has_matched {X} {Y} p f (x ∷ xs) y h = go (p x) refl h (has_matched p f xs y)
   where

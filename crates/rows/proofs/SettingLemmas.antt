@@ -170,7 +170,7 @@ same_all old new under params rows shown = answered_same meta.name meta.columns 
 
 -- ---- why a read fails
 
-scan : (filter : List Term) (tree : ℕ) → IsScan (query filter tree) tree
+pub scan : (filter : List Term) (tree : ℕ) → IsScan (query filter tree) tree
 scan filter tree = record { from = refl; group = refl; distinct = refl; whole = λ params rows. refl }
 
 pub fails_all : (old new : State) → IsInside old → (e : Error) → FailsToQuery all_text [] old new e ⊎ IsTooLate all_text [] old new e → FailsWith old new ⊥ (IsSome old.step_limit) (failure_of e)

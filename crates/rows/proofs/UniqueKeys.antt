@@ -68,7 +68,7 @@ ints_tied (Blob b) w h k e = absurd (let no = h in cc)
 
 -- ---- a key of one, two or three columns, which compares bytes
 
-binary_first : (first_key plain).collation ≡ Binary
+pub binary_first : (first_key plain).collation ≡ Binary
 unfolding first_key
 binary_first = refl
 

@@ -178,7 +178,7 @@ of_typed : (s : Schema) (at tree : ℕ) → IsKnown s (codes "user_root") at (re
 unfolding everything
 of_typed s at tree known = rw (known.low, known.by_tree)
 
-of_is : Compiles user_root.name user_root.columns user_root.primary of_text 1 (λ at tree. Select (whole of_one tree) names)
+pub of_is : Compiles user_root.name user_root.columns user_root.primary of_text 1 (λ at tree. Select (whole of_one tree) names)
 unfolding everything
 of_is s at tree known =
     let there = known.named.1 in (
@@ -206,7 +206,7 @@ at_typed : (s : Schema) (at tree : ℕ) → IsKnown s (codes "user_root") at (re
 unfolding everything
 at_typed s at tree known = rw (known.low, known.by_tree)
 
-at_is : Compiles user_root.name user_root.columns user_root.primary at_text 2 (λ at tree. Select (whole of_two tree) names)
+pub at_is : Compiles user_root.name user_root.columns user_root.primary at_text 2 (λ at tree. Select (whole of_two tree) names)
 unfolding everything
 at_is s at tree known =
     let there = known.named.1 in (
@@ -240,7 +240,7 @@ same_at old new under params rows shown = answered_same user_root.name user_root
 
 -- ---- why a read fails
 
-scan : (filter : List Term) (tree : ℕ) → IsScan (query filter tree) tree
+pub scan : (filter : List Term) (tree : ℕ) → IsScan (query filter tree) tree
 scan filter tree = record { from = refl; group = refl; distinct = refl; whole = λ params rows. refl }
 
 pub fails_all : (old new : State) → IsInside old → (e : Error) → FailsToQuery all_text [] old new e ⊎ IsTooLate all_text [] old new e → FailsWith old new ⊥ (IsSome old.step_limit) (failure_of e)

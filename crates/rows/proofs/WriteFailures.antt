@@ -1,7 +1,7 @@
 -- Why a write of our own fails inside a transaction: only the store, and what may refuse this one command.
 use Rattle.std.proofs.Common.{◌≡◌, ◌≢◌, ◌⊎◌, inl, inr, ℕ, List, [], Bool, true, false, Result, Ok, Err, Some, None, Option, length, append-nil, ◌||◌, sym, ap, subst, ◌∙◌, refl, IsTrue}
-use Rattle.std.specs.Prelude.{MatchBool, ◌≤◌}
-use Rattle.std.proofs.lemmas.Bool.{both_ways}
+use Rattle.std.specs.Prelude.{MatchBool, ◌≤◌, IfErr, IsSome}
+use Rattle.std.proofs.lemmas.Bool.{both_ways, leb-true}
 use Rattle.sqlite_value.specs.Order.{Row}
 use Rattle.sqlite_trees.specs.declared.error.StoreError.{StoreError}
 use Rattle.sqlite_trees.specs.declared.error.StoreError.TheVariants.{OutOfMemory, Io, Corrupt, Full, Broken, Unstorable}
@@ -26,8 +26,8 @@ use Rattle.rows.specs.declared.failure.Failure.TheVariants.{Memory, Size, Disk}
 use Rattle.rows.specs.Forms.{strict}
 use Rattle.rows.specs.Standing.{IsKnown, Stands, HasTables, tree_named}
 use Rattle.rows.specs.Calls.{IsUnderWay}
-use Rattle.rows.specs.Failures.{failure_of, FailsWith}
-use Rattle.rows.proofs.Means.{Means}
+use Rattle.rows.specs.Failures.{failure_of, FailsWith, IsWriteFailure, unsized}
+use Rattle.rows.proofs.ReadFailures.{store_failed}
 use Rattle.rows.proofs.Statements.{Compiles}
 
 -- what is known of a text that is one write: it shows no row and reads no clock
@@ -39,30 +39,6 @@ pub record IsWrite (old : State) (text : List ℕ) (params : Row) (command : Com
   pub bare : compiled.formats ≡ []
   pub whole : length text ≤ compiled.tail
   pub given : length params ≡ length compiled.names
-
--- in any schema in which the table stands, the text is this command and no more, with so many parameters
-abbrev pub IsOneWrite : (name : List ℕ) → List Column → List ℕ → List ℕ → ℕ → (ℕ → ℕ → Command) → Type 0
-IsOneWrite name columns key text count command = (s : Schema) (at tree : ℕ) → IsKnown s name at (record (strict name columns key) { tree = tree })
-    → (c : Compiled) × Means s text c × (c.command ≡ command at tree) × (c.returning ≡ None) × (c.formats ≡ []) × (length text ≤ c.tail) × (length c.names ≡ count)
-
--- the parser finds one statement in the text, with so many parameters
-abbrev pub IsParsed : List ℕ → ℕ → Type 0
-IsParsed text count = (p : Parsed) × (first text ≡ Ok p) × (length text ≤ p.tail) × (length p.names ≡ count)
-
--- what is compiled ends where the parser ended, and has the parameters that it found
-as_parsed : (s : Schema) (text : List ℕ) (c : Compiled) (p : Parsed) → Means s text c → first text ≡ Ok p → (c.tail ≡ p.tail) × (c.names ≡ p.names)
-unfolding understood compiled
-as_parsed s text c p m is = go (planned s p) (let e = m.0 in rw (m.1, is) at e)
-  where
-    go : (plan : _) → and_then plan (λ it. Ok (with_command p it)) ≡ Ok c → (c.tail ≡ p.tail) × (c.names ≡ p.names)
-    go (Ok plan) h = let same : with_command p plan ≡ c = cc in (ap (λ (k : Compiled). k.tail) (sym same), ap (λ (k : Compiled). k.names) (sym same))
-    go (Err why) h = absurd (let e = h in cc)
-
-pub one_write : (name : List ℕ) (columns : List Column) (key text : List ℕ) (count : ℕ) (command : ℕ → ℕ → Command) → IsParsed text count → Compiles name columns key text count command → IsOneWrite name columns key text count command
-one_write name columns key text count command parsed is s at tree known =
-    let c = is s at tree known in
-    let same = as_parsed s text c.0 parsed.0 c.1 parsed.1 in
-    (c.0, c.1, c.2, c.3, c.4, subst (λ n. length text ≤ n) (sym same.0) parsed.2, ap length same.1 ∙ parsed.3)
 
 -- the command changes the rows of one table
 abbrev pub changes_rows : Command → Bool
@@ -103,19 +79,6 @@ shows_none c writes silent = rw silent (quiet c.command writes)
     quiet (Delete at q) h = refl
     quiet _ h = absurd (let e = h in cc)
 
--- ---- the store failed
-
-store_fails : (old new : State) (large refused too_big : Type 0) → (too_big → large) → (e : Error) → Fails old new too_big e → FailsWith old new large refused (failure_of e)
-store_fails old new large refused too_big so e h = subst (λ d. FailsWith old new large refused (failure_of d)) (sym h.1) (go h.0 h.2 h.3)
-  where
-    go : (cause : StoreError) → HasCause old new too_big cause → IsRolledBack old new → FailsWith old new large refused (failure_of (store_error cause))
-    go OutOfMemory why undone = inl undone
-    go Io why undone = inl (inl why, undone)
-    go Corrupt why undone = inl (inl why, undone)
-    go Full why undone = inl (inl why, undone)
-    go Broken why undone = inl (inr why, undone)
-    go Unstorable why undone = (so why, undone)
-
 -- ---- the call was refused
 
 refuses : (old new : State) (large refused : Type 0) (e : Error) → IsUnchanged old new → (failure_of e ≡ Disk) × refused → FailsWith old new large refused (failure_of e)
@@ -146,7 +109,7 @@ module _ (old new : State) (text : List ℕ) (params : Row) (command : Command) 
       let live = same.0.was_open in
       absurd (no_misplaced old command e writes (subst (λ k. IsMisplaced old k e) (subst (λ (k : Compiled). k.command ≡ command) (same_compiled live c it.is) (known live).command_is) h))
   runs e c it (inl (inr h, same)) = refuses old new (OrShut old large) refused e same (does_as same.0.was_open c it (Some e) h.1)
-  runs e c it (inr h) = store_fails old new (OrShut old large) refused _ (λ big. go old.is_open refl big) e h
+  runs e c it (inr h) = store_failed old new (OrShut old large) refused _ (λ big. go old.is_open refl big) e h
     where
       go : (b : Bool) → old.is_open ≡ b → Does old.step_limit (mode_of old) (timed params c.formats it.now) old.now (text_of text c) c.returning c.command (Err None) → OrShut old large
       go true live big = inl (does_as live c it None big)
@@ -164,7 +127,7 @@ module _ (old new : State) (text : List ℕ) (params : Row) (command : Command) 
   pub write_fails : (e : Error) → ExecutesInside 0 text params old new (Err e) → FailsWith old new (OrShut old large) refused (failure_of e)
   unfolding ExecutesIn IsNotRun EndsScope
   write_fails e (inl (inl (inl h), k)) = absurd (a_statement e h.1.0.was_open h.0)
-  write_fails e (inl (inl (inr h), k)) = store_fails old new (OrShut old large) refused ⊥ (λ no. absurd no) e h
+  write_fails e (inl (inl (inr h), k)) = store_failed old new (OrShut old large) refused ⊥ (λ no. absurd no) e h
   write_fails e (inl (inr h, k)) = alone e h.0 h.1 (shows_rows false h.0) refl h.2
   write_fails e (inr h) =
       let live = h.2.0.was_open in
@@ -173,7 +136,7 @@ module _ (old new : State) (text : List ℕ) (params : Row) (command : Command) 
 
 -- a write to a table of ours, wherever it stands
 pub our_write_fails : (name : List ℕ) (columns : List Column) (key : List ℕ) (old new : State) → IsUnderWay old → (HasTables old.now.schema → Stands old.now.schema (strict name columns key))
-    → (text : List ℕ) (count : ℕ) (params : Row) (command : ℕ → ℕ → Command) → ((at tree : ℕ) → changes_rows (command at tree) ≡ true) → length params ≡ count → IsOneWrite name columns key text count command
+    → (text : List ℕ) (count : ℕ) (params : Row) (command : ℕ → ℕ → Command) → ((at tree : ℕ) → changes_rows (command at tree) ≡ true) → length params ≡ count → Compiles name columns key text count command
     → (large refused : Type 0)
     → (IsTrue old.is_open → (stands : Stands old.now.schema (strict name columns key)) (st : List ℕ) (stop : Option Error) → Does old.step_limit (mode_of old) params old.now st None (command stands.at (tree_named old.now.schema name)) (Err stop) → MayStop large refused stop)
     → (e : Error) → ExecutesInside 0 text params old new (Err e) → FailsWith old new (OrShut old large) refused (failure_of e)
@@ -186,7 +149,7 @@ our_write_fails name columns key old new under standing text count params comman
         let tree = tree_named old.now.schema name in
         let c = is old.now.schema stands.at tree stands.known in
         write_fails old new text params (command stands.at tree) (writes stands.at tree) large refused
-        (λ _. record { compiled = c.0; is = c.1.0; command_is = c.2; silent = c.3; bare = c.4; whole = c.5; given = given ∙ sym c.6 })
+        (λ _. record { compiled = c.0; is = c.1.0; command_is = c.2; silent = c.3; bare = c.4; whole = leb-true _ _ c.5; given = given ∙ sym c.6 })
         (λ _. stops up stands) e h
 
 -- where more may be said of a failure, what was said still holds
@@ -196,14 +159,28 @@ fails_wider old new large wider refused more one two Size h = (one h.0, h.1)
 fails_wider old new large wider refused more one two Disk (inl h) = inl h
 fails_wider old new large wider refused more one two Disk (inr h) = inr (two h.0, h.1)
 
--- the disk, where a size would say nothing
-abbrev pub unsized : Failure → Failure
-unsized Memory = Memory
-unsized Size = Disk
-unsized Disk = Disk
+-- where an entry can't be there already
+pub refused_more : {A B : Type 0} → A ⊎ B → A ⊎ (B ⊎ ⊥)
+refused_more (inl h) = inl h
+refused_more (inr h) = inr (inl h)
 
 -- a size that only a shut connection can tell may be told as the disk
 pub fails_unsized : (old new : State) (refused : Type 0) (f : Failure) → FailsWith old new (old.is_open ≡ false) refused f → FailsWith old new ⊥ refused (unsized f)
 fails_unsized old new refused Memory h = h
 fails_unsized old new refused Size h = inl (inr h.0, h.1)
 fails_unsized old new refused Disk h = h
+
+-- ---- what the calls answer
+
+-- a delete that failed
+pub removal_failed : {T : Type 0} (r : Result T Failure) (old new : State) (text : List ℕ) (params : Row) → IfErr r (λ f. (g : Failure) × (f ≡ unsized g) × IsWriteFailure text params old new g)
+    → ((e : Error) → ExecutesInside 0 text params old new (Err e) → FailsWith old new (old.is_open ≡ false) (IsSome old.step_limit) (failure_of e)) → IfErr r (FailsWith old new ⊥ (IsSome old.step_limit))
+removal_failed (Ok x) old new text params h fails = tt
+removal_failed (Err f) old new text params h fails =
+    subst (FailsWith old new ⊥ (IsSome old.step_limit)) (sym h.1) (fails_unsized old new (IsSome old.step_limit) h.0 (subst (FailsWith old new (old.is_open ≡ false) (IsSome old.step_limit)) (sym h.2.1) (fails h.2.0 h.2.2)))
+
+-- an insert that failed
+pub addition_failed : {T : Type 0} (r : Result T Failure) (old new : State) (text : List ℕ) (params : Row) (large refused : Type 0) → IfErr r (IsWriteFailure text params old new)
+    → ((e : Error) → ExecutesInside 0 text params old new (Err e) → FailsWith old new large refused (failure_of e)) → IfErr r (FailsWith old new large refused)
+addition_failed (Ok x) old new text params large refused h fails = tt
+addition_failed (Err f) old new text params large refused h fails = subst (FailsWith old new large refused) (sym h.1) (fails h.0 h.2)

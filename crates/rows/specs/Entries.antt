@@ -1,10 +1,12 @@
 -- What an entry that a call hands out stands for, and the columns of a row that shows it.
-use Rattle.std.specs.Prelude.{◌≡◌, ◌≢◌, ℕ, ℤ, List, Option, Some, None, String, MatchOption, option_map, string_bytes}
+use Rattle.std.specs.Prelude.{◌≡◌, ◌≢◌, ◌⊎◌, ℕ, ℤ, true, Bool, List, length, Option, Some, None, String, MatchOption, option_map, string_bytes, IsUtf8}
+use Rattle.std.specs.List.{AllByRecursion, AllZip, AllAdjacentBelow}
 use Rattle.std.specs.declared.alloc.Global.{Global}
 use Rattle.sqlite_value.specs.declared.value.Value.{Value}
 use Rattle.sqlite_value.specs.declared.value.Value.TheVariants.{Null, Int, Text, Blob}
 use Rattle.sqlite_value.specs.Order.{Row, column}
 use Rattle.std.specs.FinMap as finite
+use Rattle.sqlite.specs.Values.{IsInt, or_null}
 use Rattle.rows.specs.Contents.{Bytes, Pair, Triple, Stored, Described, texts_cmp}
 use Rattle.rows.specs.declared.meta.Setting.{Setting}
 use Rattle.rows.specs.declared.objects.Object.{Object}
@@ -20,6 +22,10 @@ use Rattle.rows.specs.declared.runtime.RuntimeRoot.{RuntimeRoot}
 -- what is stored of an object that is handed in
 abbrev pub stored : List ℕ → List ℕ → Option (String Global) → Option (String Global) → Stored
 stored nar hash deriver ca = record { nar = nar; hash = hash; deriver = option_map string_bytes deriver; ca = option_map string_bytes ca }
+
+-- a text that may be missing, as a row holds it
+abbrev pub text_or_null : Option (String Global) → Value
+text_or_null = or_null (λ s. Text (string_bytes s))
 
 -- a text, or NULL
 abbrev pub ShowsOptional : Value → Option (String Global) → Type 0
@@ -92,3 +98,45 @@ runtime_of e = ((string_bytes e.label, string_bytes e.target), tt)
 
 abbrev pub ShowsRuntimeRoot : Row → RuntimeRoot → Type 0
 ShowsRuntimeRoot row e = (column row 0 ≡ Text (string_bytes e.label)) × (column row 1 ≡ Text (string_bytes e.target))
+
+-- ---- which rows can be read as an entry
+
+-- a text that is UTF-8
+abbrev pub IsLegible : Value → Type 0
+IsLegible v = (t : Bytes) × (v ≡ Text t) × IsUtf8 t
+
+-- such a text, or NULL
+abbrev pub IsLegibleIfAny : Value → Type 0
+IsLegibleIfAny v = (v ≡ Null) ⊎ IsLegible v
+
+abbrev pub IsBlob : Value → Type 0
+IsBlob v = (b : Bytes) × (v ≡ Blob b)
+
+-- a text alone
+abbrev pub IsTextRow : Row → Type 0
+IsTextRow row = (length row ≡ 1) × IsLegible (column row 0)
+
+-- two texts: a setting, a reference, a permanent root or a runtime root
+abbrev pub IsPairRow : Row → Type 0
+IsPairRow row = (length row ≡ 2) × IsLegible (column row 0) × IsLegible (column row 1)
+
+-- three texts: an output, or a user's root
+abbrev pub IsTripleRow : Row → Type 0
+IsTripleRow row = (length row ≡ 3) × IsLegible (column row 0) × IsLegible (column row 1) × IsLegible (column row 2)
+
+abbrev pub IsProfileRow : Row → Type 0
+IsProfileRow row = (length row ≡ 3) × IsLegible (column row 0) × IsLegible (column row 1) × IsInt (column row 2)
+
+abbrev pub IsGenerationRow : Row → Type 0
+IsGenerationRow row = (length row ≡ 4) × IsLegible (column row 0) × IsLegible (column row 1) × IsInt (column row 2) × IsLegible (column row 3)
+
+abbrev pub IsObjectRow : Row → Type 0
+IsObjectRow row = (length row ≡ 5) × IsLegible (column row 0) × IsBlob (column row 1) × IsBlob (column row 2) × IsLegibleIfAny (column row 3) × IsLegibleIfAny (column row 4)
+
+-- an object without its archive
+abbrev pub IsListedRow : Row → Type 0
+IsListedRow row = (length row ≡ 4) × IsLegible (column row 0) × IsBlob (column row 1) × IsLegibleIfAny (column row 2) × IsLegibleIfAny (column row 3)
+
+-- some row can't be read as an entry, or the entries that the rows show don't rise
+abbrev pub IsAmiss : {T : Type 0} → (Row → Type 0) → (Row → T → Type 0) → (T → T → Bool) → List Row → Type 0
+IsAmiss {T} is_legible is_shown is_below rows = (¬ AllByRecursion is_legible rows) ⊎ ((all : List T) × AllZip is_shown rows all × (¬ AllAdjacentBelow (λ x y. true ≡ is_below x y) all (length all)))

@@ -1,11 +1,20 @@
 -- Which failure an error of the database is, and what a failure says of its call.
-use Rattle.std.specs.Prelude.{ℕ, List, Err, ◌≡◌, ◌≢◌, ◌⊎◌, false, Option, Some, None, ⊤}
+use Rattle.std.specs.Prelude.{ℕ, ◌≡◌, ◌⊎◌, true, false, List, ◌∷◌, Option, Some, None, IsSome, Err, ⊤}
+use Rattle.std.specs.List.{list_any}
+use Rattle.sqlite_value.specs.declared.value.Value.TheVariants.{Int}
 use Rattle.sqlite_value.specs.Order.{Row}
+use Rattle.sqlite_trees.specs.Tree.{has_rowid}
 use Rattle.sqlite_trees.specs.declared.error.StoreError.TheVariants.{Io}
+use Rattle.sqlite_sql.specs.Ops.{fits_i64}
+use Rattle.sqlite_schema.specs.declared.schema.Table.{Table}
+use Rattle.sqlite_rules.specs.Edit.{next_rowid, IsOversized}
+use Rattle.sqlite.specs.Effect.{Database}
 use Rattle.sqlite.specs.State.{State, HasCause, IsUnchanged, IsRolledBack, FailsToQuery, IsTooLate, ExecutesInside}
 use Rattle.sqlite.specs.declared.error.ErrorCode.TheVariants.{OutOfMemory, TooBig, SystemIoFailure, DiskFull, Closed}
 use Rattle.sqlite.specs.declared.error.Error.{Error}
 use Rattle.sqlite.specs.declared.error.Error.TheVariants.{SqliteFailure}
+use Rattle.rows.specs.Standing.{tree_named}
+use Rattle.rows.specs.Contents.{rows_named}
 use Rattle.rows.specs.declared.failure.Failure.{Failure}
 use Rattle.rows.specs.declared.failure.Failure.TheVariants.{Memory, Size, Disk}
 
@@ -32,15 +41,11 @@ IsQueryFailure text params old new f = (e : Error) × (f ≡ failure_of e) × (F
 abbrev pub IsWriteFailure : List ℕ → Row → State → State → Failure → Type 0
 IsWriteFailure text params old new f = (e : Error) × (f ≡ failure_of e) × ExecutesInside 0 text params old new (Err e)
 
--- the disk is named for a fault in this call, or for an earlier one that had shut the connection
-abbrev pub IsExcused : State → State → Failure → Type 0
-IsExcused old new Memory = ⊤
-IsExcused old new Size = ⊤
-IsExcused old new Disk = HasCause old new ⊤ Io ⊎ (old.is_open ≡ false)
-
--- the store failed and the transaction is undone, or the call was refused, for no size, and nothing changes
-abbrev pub FailsFor : State → State → Failure → Type 0
-FailsFor old new f = (IsExcused old new f × IsRolledBack old new) ⊎ (IsUnchanged old new × (f ≢ Size))
+-- what a delete tells of a failure: it writes no row that may be too large, so a size comes of a shut connection alone, if at all
+abbrev pub unsized : Failure → Failure
+unsized Memory = Memory
+unsized Size = Disk
+unsized Disk = Disk
 
 -- a fault of the disk came in this call, or an earlier one had shut the connection
 abbrev pub HasDiskCause : State → State → Type 0
@@ -51,6 +56,23 @@ abbrev pub FailsWith : State → State → (large refused : Type 0) → Failure 
 FailsWith old new large refused Memory = IsRolledBack old new ⊎ IsUnchanged old new
 FailsWith old new large refused Size = large × IsRolledBack old new
 FailsWith old new large refused Disk = (HasDiskCause old new × IsRolledBack old new) ⊎ (refused × IsUnchanged old new)
+
+-- a call that writes no row, so none is too large, and that nothing refuses but a limit on steps, where one is set
+abbrev pub FailsFor : State → State → Failure → Type 0
+FailsFor old new = FailsWith old new ⊥ (IsSome old.step_limit)
+
+-- The row that these values make in the table, whose rowid is the one after the last, is larger than the store takes, or its entry in an index is.
+unfoldable pub IsTooLarge : Database → Table → Row → Type 0
+IsTooLarge db table values = IsOversized db.schema (record table { tree = tree_named db.schema table.name }) (Int (next_rowid (rows_named db table.name)) ∷ values)
+
+-- the rowid after the last is beyond 64 bits, or a row has it
+unfoldable pub HasNoRowidLeft : Database → Table → Type 0
+HasNoRowidLeft db table =
+    let rows = rows_named db table.name in (fits_i64 (next_rowid rows) ≡ false) ⊎ (list_any (has_rowid (next_rowid rows)) rows ≡ true)
+
+-- An insert of these values into a table: the row may be too large, and the call refused for a limit on steps, for want of a rowid, or since the entry is there, where that may be. Of a shut connection it isn't known what was too large.
+abbrev pub FailsToInsert : Table → Row → (is_there : Type 0) → State → State → Failure → Type 0
+FailsToInsert table values is_there old new = FailsWith old new (IsTooLarge old.now table values ⊎ (old.is_open ≡ false)) (IsSome old.step_limit ⊎ (HasNoRowidLeft old.now table ⊎ is_there))
 
 -- The store failed at a commit, which no size does, and the transaction is undone.
 abbrev pub FailsToCommit : State → State → Failure → Type 0

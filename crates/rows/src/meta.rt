@@ -1,14 +1,16 @@
 //! The settings of the database: each a word and its value.
 
-ghost use Rattle.std.specs.Prelude.{◌≡◌, ◌&&◌, IfOk, IfErr, OnOk, OnErr, IsTrue, None, map, not, pos};
+ghost use Rattle.std.specs.Prelude.{◌∷◌, [], ◌≡◌, ◌&&◌, IfOk, IfErr, OnOk, OnErr, IsTrue, None, map, not, pos};
+ghost use Rattle.sqlite_value.specs.declared.value.Value.TheVariants.{Text};
+ghost use Rattle.rows.specs.Forms.{meta};
 ghost use Rattle.std.specs.Ordering.{eq_by_cmp, is_lt, int_cmp};
 ghost use Rattle.std.specs.FinMap as finite;
 ghost use Rattle.sqlite.specs.State.{HasCleanDisk, KeepsCommit, Survives};
 ghost use Rattle.sqlite.specs.Held.{state};
-ghost use Rattle.rows.specs.Failures.{FailsFor};
+ghost use Rattle.rows.specs.Failures.{FailsFor, FailsToInsert};
 ghost use Rattle.rows.specs.Calls.{IsUnderWay, Changes, Stays};
 ghost use Rattle.rows.specs.Contents.{texts_cmp, contents_of};
-ghost use Rattle.rows.specs.Entries.{setting_of, ShowsSetting};
+ghost use Rattle.rows.specs.Entries.{setting_of, ShowsSetting, IsPairRow};
 
 use crate::entry::Entry;
 use crate::failure::Failure;
@@ -25,6 +27,8 @@ pub struct Setting {
 
 impl Entry for Setting {
     ghost is_shown = { ShowsSetting };
+
+    ghost is_legible = { IsPairRow };
 
     ghost is_below = { λ a b. is_lt (texts_cmp (setting_of a).0 (setting_of b).0) };
 
@@ -60,7 +64,7 @@ pub fn insert<S: Alter>(tx: &mut Transaction<'_, S>, word: &str, value: &str) ->
     ensures same_reference { tx.new.conn.ghost_name ≡ tx.old.conn.ghost_name }
     ensures done { HasCleanDisk (state S.Store tx.new.conn.now) → OnOk result (Changes (state S.Store tx.old.conn.now) (state S.Store tx.new.conn.now)
         (λ c. record c { meta = finite.insert c.meta word.now value.now })) }
-    ensures cause { HasCleanDisk (state S.Store tx.new.conn.now) → IfErr result (FailsFor (state S.Store tx.old.conn.now) (state S.Store tx.new.conn.now)) }
+    ensures cause { HasCleanDisk (state S.Store tx.new.conn.now) → IfErr result (FailsToInsert meta (Text word.now ∷ Text value.now ∷ []) ⊥ (state S.Store tx.old.conn.now) (state S.Store tx.new.conn.now)) }
     ensures failed { HasCleanDisk (state S.Store tx.new.conn.now) → OnErr result (KeepsCommit (state S.Store tx.old.conn.now) (state S.Store tx.new.conn.now)) }
     ensures survives { Survives (state S.Store tx.old.conn.now) (state S.Store tx.new.conn.now) (λ _. ⊥) }
 {
@@ -84,5 +88,5 @@ pub fn delete<S: Alter>(tx: &mut Transaction<'_, S>, word: &str) -> Result<(), F
     ensures failed { HasCleanDisk (state S.Store tx.new.conn.now) → OnErr result (KeepsCommit (state S.Store tx.old.conn.now) (state S.Store tx.new.conn.now)) }
     ensures survives { Survives (state S.Store tx.old.conn.now) (state S.Store tx.new.conn.now) (λ _. ⊥) }
 {
-    statement::run(tx, "DELETE FROM meta WHERE word = ?1", params![word])
+    statement::remove(tx, "DELETE FROM meta WHERE word = ?1", params![word])
 }

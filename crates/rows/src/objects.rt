@@ -1,14 +1,16 @@
 //! The objects, with their archives.
 
-ghost use Rattle.std.specs.Prelude.{◌≡◌, ◌&&◌, IfOk, IfErr, OnOk, OnErr, IsTrue, None, map, not, pos, string_bytes};
+ghost use Rattle.std.specs.Prelude.{◌∷◌, [], ◌≡◌, ◌&&◌, IfOk, IfErr, OnOk, OnErr, IsTrue, None, map, not, pos, string_bytes};
+ghost use Rattle.sqlite_value.specs.declared.value.Value.TheVariants.{Text, Blob};
+ghost use Rattle.rows.specs.Forms.{object};
 ghost use Rattle.std.specs.Ordering.{eq_by_cmp, is_lt, int_cmp};
 ghost use Rattle.std.specs.FinMap as finite;
 ghost use Rattle.sqlite.specs.State.{HasCleanDisk, KeepsCommit, Survives};
 ghost use Rattle.sqlite.specs.Held.{state};
-ghost use Rattle.rows.specs.Failures.{FailsFor};
+ghost use Rattle.rows.specs.Failures.{FailsFor, FailsToInsert};
 ghost use Rattle.rows.specs.Calls.{IsUnderWay, Changes, Stays};
 ghost use Rattle.rows.specs.Contents.{texts_cmp, contents_of, without_archive};
-ghost use Rattle.rows.specs.Entries.{stored_of, ShowsObject, listed_of, ShowsListed, IsStored, stored};
+ghost use Rattle.rows.specs.Entries.{text_or_null, stored_of, ShowsObject, listed_of, ShowsListed, IsStored, stored, IsObjectRow, IsListedRow};
 
 use crate::entry::Entry;
 use crate::failure::Failure;
@@ -28,6 +30,8 @@ pub struct Object {
 
 impl Entry for Object {
     ghost is_shown = { ShowsObject };
+
+    ghost is_legible = { IsObjectRow };
 
     ghost is_below = { λ a b. is_lt (texts_cmp (stored_of a).0 (stored_of b).0) };
 
@@ -57,6 +61,8 @@ pub struct Listed {
 
 impl Entry for Listed {
     ghost is_shown = { ShowsListed };
+
+    ghost is_legible = { IsListedRow };
 
     ghost is_below = { λ a b. is_lt (texts_cmp (listed_of a).0 (listed_of b).0) };
 
@@ -159,7 +165,7 @@ pub fn insert<S: Alter>(
     ensures same_reference { tx.new.conn.ghost_name ≡ tx.old.conn.ghost_name }
     ensures done { HasCleanDisk (state S.Store tx.new.conn.now) → OnOk result (Changes (state S.Store tx.old.conn.now) (state S.Store tx.new.conn.now)
         (λ c. record c { objects = finite.insert c.objects base.now (stored nar.now hash.now deriver.now ca.now) })) }
-    ensures cause { HasCleanDisk (state S.Store tx.new.conn.now) → IfErr result (FailsFor (state S.Store tx.old.conn.now) (state S.Store tx.new.conn.now)) }
+    ensures cause { HasCleanDisk (state S.Store tx.new.conn.now) → IfErr result (FailsToInsert object (Text base.now ∷ Blob nar.now ∷ Blob hash.now ∷ text_or_null deriver.now ∷ text_or_null ca.now ∷ []) ⊥ (state S.Store tx.old.conn.now) (state S.Store tx.new.conn.now)) }
     ensures failed { HasCleanDisk (state S.Store tx.new.conn.now) → OnErr result (KeepsCommit (state S.Store tx.old.conn.now) (state S.Store tx.new.conn.now)) }
     ensures survives { Survives (state S.Store tx.old.conn.now) (state S.Store tx.new.conn.now) (λ _. ⊥) }
 {
@@ -182,5 +188,5 @@ pub fn delete<S: Alter>(tx: &mut Transaction<'_, S>, base: &str) -> Result<(), F
     ensures failed { HasCleanDisk (state S.Store tx.new.conn.now) → OnErr result (KeepsCommit (state S.Store tx.old.conn.now) (state S.Store tx.new.conn.now)) }
     ensures survives { Survives (state S.Store tx.old.conn.now) (state S.Store tx.new.conn.now) (λ _. ⊥) }
 {
-    statement::run(tx, "DELETE FROM object WHERE base = ?1", params![base])
+    statement::remove(tx, "DELETE FROM object WHERE base = ?1", params![base])
 }

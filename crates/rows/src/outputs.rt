@@ -1,14 +1,16 @@
 //! The outputs of derivations.
 
-ghost use Rattle.std.specs.Prelude.{◌≡◌, ◌&&◌, IfOk, IfErr, OnOk, OnErr, IsTrue, None, map, not, pos};
+ghost use Rattle.std.specs.Prelude.{◌∷◌, [], ◌≡◌, ◌&&◌, IfOk, IfErr, OnOk, OnErr, IsTrue, None, map, not, pos};
+ghost use Rattle.sqlite_value.specs.declared.value.Value.TheVariants.{Text};
+ghost use Rattle.rows.specs.Forms.{outs};
 ghost use Rattle.std.specs.Ordering.{eq_by_cmp, is_lt, int_cmp};
 ghost use Rattle.std.specs.FinMap as finite;
 ghost use Rattle.sqlite.specs.State.{HasCleanDisk, KeepsCommit, Survives};
 ghost use Rattle.sqlite.specs.Held.{state};
-ghost use Rattle.rows.specs.Failures.{FailsFor};
+ghost use Rattle.rows.specs.Failures.{FailsFor, FailsToInsert};
 ghost use Rattle.rows.specs.Calls.{IsUnderWay, Changes, Stays};
 ghost use Rattle.rows.specs.Contents.{texts_cmp, pair_cmp, contents_of};
-ghost use Rattle.rows.specs.Entries.{output_of, ShowsOutput};
+ghost use Rattle.rows.specs.Entries.{output_of, ShowsOutput, IsTripleRow};
 
 use crate::entry::Entry;
 use crate::failure::Failure;
@@ -27,6 +29,8 @@ pub struct Output {
 
 impl Entry for Output {
     ghost is_shown = { ShowsOutput };
+
+    ghost is_legible = { IsTripleRow };
 
     ghost is_below = { λ a b. is_lt (pair_cmp (output_of a).0 (output_of b).0) };
 
@@ -99,7 +103,7 @@ pub fn insert<S: Alter>(
     ensures same_reference { tx.new.conn.ghost_name ≡ tx.old.conn.ghost_name }
     ensures done { HasCleanDisk (state S.Store tx.new.conn.now) → OnOk result (Changes (state S.Store tx.old.conn.now) (state S.Store tx.new.conn.now)
         (λ c. record c { outs = finite.insert c.outs (base.now, name.now) target.now })) }
-    ensures cause { HasCleanDisk (state S.Store tx.new.conn.now) → IfErr result (FailsFor (state S.Store tx.old.conn.now) (state S.Store tx.new.conn.now)) }
+    ensures cause { HasCleanDisk (state S.Store tx.new.conn.now) → IfErr result (FailsToInsert outs (Text base.now ∷ Text name.now ∷ Text target.now ∷ []) ⊥ (state S.Store tx.old.conn.now) (state S.Store tx.new.conn.now)) }
     ensures failed { HasCleanDisk (state S.Store tx.new.conn.now) → OnErr result (KeepsCommit (state S.Store tx.old.conn.now) (state S.Store tx.new.conn.now)) }
     ensures survives { Survives (state S.Store tx.old.conn.now) (state S.Store tx.new.conn.now) (λ _. ⊥) }
 {
@@ -124,5 +128,5 @@ pub fn delete_of<S: Alter>(tx: &mut Transaction<'_, S>, base: &str) -> Result<()
     ensures failed { HasCleanDisk (state S.Store tx.new.conn.now) → OnErr result (KeepsCommit (state S.Store tx.old.conn.now) (state S.Store tx.new.conn.now)) }
     ensures survives { Survives (state S.Store tx.old.conn.now) (state S.Store tx.new.conn.now) (λ _. ⊥) }
 {
-    statement::run(tx, "DELETE FROM outs WHERE base = ?1", params![base])
+    statement::remove(tx, "DELETE FROM outs WHERE base = ?1", params![base])
 }

@@ -1,14 +1,16 @@
 //! The permanent roots.
 
-ghost use Rattle.std.specs.Prelude.{◌≡◌, ◌&&◌, IfOk, IfErr, OnOk, OnErr, IsTrue, None, map, not, pos};
+ghost use Rattle.std.specs.Prelude.{◌∷◌, [], ◌≡◌, ◌&&◌, IfOk, IfErr, OnOk, OnErr, IsTrue, None, map, not, pos};
+ghost use Rattle.sqlite_value.specs.declared.value.Value.TheVariants.{Text};
+ghost use Rattle.rows.specs.Forms.{permanent};
 ghost use Rattle.std.specs.Ordering.{eq_by_cmp, is_lt, int_cmp};
 ghost use Rattle.std.specs.FinMap as finite;
 ghost use Rattle.sqlite.specs.State.{HasCleanDisk, KeepsCommit, Survives};
 ghost use Rattle.sqlite.specs.Held.{state};
-ghost use Rattle.rows.specs.Failures.{FailsFor};
+ghost use Rattle.rows.specs.Failures.{FailsFor, FailsToInsert};
 ghost use Rattle.rows.specs.Calls.{IsUnderWay, Changes, Stays};
 ghost use Rattle.rows.specs.Contents.{texts_cmp, contents_of};
-ghost use Rattle.rows.specs.Entries.{permanent_of, ShowsPermanentRoot};
+ghost use Rattle.rows.specs.Entries.{permanent_of, ShowsPermanentRoot, IsPairRow};
 
 use crate::entry::Entry;
 use crate::failure::Failure;
@@ -25,6 +27,8 @@ pub struct PermanentRoot {
 
 impl Entry for PermanentRoot {
     ghost is_shown = { ShowsPermanentRoot };
+
+    ghost is_legible = { IsPairRow };
 
     ghost is_below = { λ a b. is_lt (texts_cmp (permanent_of a).0 (permanent_of b).0) };
 
@@ -94,7 +98,7 @@ pub fn insert<S: Alter>(
     ensures same_reference { tx.new.conn.ghost_name ≡ tx.old.conn.ghost_name }
     ensures done { HasCleanDisk (state S.Store tx.new.conn.now) → OnOk result (Changes (state S.Store tx.old.conn.now) (state S.Store tx.new.conn.now)
         (λ c. record c { permanent = finite.insert c.permanent name.now target.now })) }
-    ensures cause { HasCleanDisk (state S.Store tx.new.conn.now) → IfErr result (FailsFor (state S.Store tx.old.conn.now) (state S.Store tx.new.conn.now)) }
+    ensures cause { HasCleanDisk (state S.Store tx.new.conn.now) → IfErr result (FailsToInsert permanent (Text name.now ∷ Text target.now ∷ []) ⊥ (state S.Store tx.old.conn.now) (state S.Store tx.new.conn.now)) }
     ensures failed { HasCleanDisk (state S.Store tx.new.conn.now) → OnErr result (KeepsCommit (state S.Store tx.old.conn.now) (state S.Store tx.new.conn.now)) }
     ensures survives { Survives (state S.Store tx.old.conn.now) (state S.Store tx.new.conn.now) (λ _. ⊥) }
 {
@@ -118,5 +122,5 @@ pub fn delete<S: Alter>(tx: &mut Transaction<'_, S>, name: &str) -> Result<(), F
     ensures failed { HasCleanDisk (state S.Store tx.new.conn.now) → OnErr result (KeepsCommit (state S.Store tx.old.conn.now) (state S.Store tx.new.conn.now)) }
     ensures survives { Survives (state S.Store tx.old.conn.now) (state S.Store tx.new.conn.now) (λ _. ⊥) }
 {
-    statement::run(tx, "DELETE FROM permanent WHERE name = ?1", params![name])
+    statement::remove(tx, "DELETE FROM permanent WHERE name = ?1", params![name])
 }

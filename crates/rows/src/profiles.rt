@@ -1,14 +1,16 @@
 //! The profiles, each with the number of its current generation.
 
-ghost use Rattle.std.specs.Prelude.{◌≡◌, ◌&&◌, IfOk, IfErr, OnOk, OnErr, IsTrue, None, map, not, pos};
+ghost use Rattle.std.specs.Prelude.{◌∷◌, [], ◌≡◌, ◌&&◌, IfOk, IfErr, OnOk, OnErr, IsTrue, None, map, not, pos};
+ghost use Rattle.sqlite_value.specs.declared.value.Value.TheVariants.{Int, Text};
+ghost use Rattle.rows.specs.Forms.{profile};
 ghost use Rattle.std.specs.Ordering.{eq_by_cmp, is_lt, int_cmp};
 ghost use Rattle.std.specs.FinMap as finite;
 ghost use Rattle.sqlite.specs.State.{HasCleanDisk, KeepsCommit, Survives};
 ghost use Rattle.sqlite.specs.Held.{state};
-ghost use Rattle.rows.specs.Failures.{FailsFor};
+ghost use Rattle.rows.specs.Failures.{FailsFor, FailsToInsert};
 ghost use Rattle.rows.specs.Calls.{IsUnderWay, Changes, Stays};
 ghost use Rattle.rows.specs.Contents.{texts_cmp, pair_cmp, contents_of};
-ghost use Rattle.rows.specs.Entries.{current_of, ShowsProfile};
+ghost use Rattle.rows.specs.Entries.{current_of, ShowsProfile, IsProfileRow};
 
 use crate::entry::Entry;
 use crate::failure::Failure;
@@ -27,6 +29,8 @@ pub struct Profile {
 
 impl Entry for Profile {
     ghost is_shown = { ShowsProfile };
+
+    ghost is_legible = { IsProfileRow };
 
     ghost is_below = { λ a b. is_lt (pair_cmp (current_of a).0 (current_of b).0) };
 
@@ -122,7 +126,7 @@ pub fn insert<S: Alter>(
     ensures same_reference { tx.new.conn.ghost_name ≡ tx.old.conn.ghost_name }
     ensures done { HasCleanDisk (state S.Store tx.new.conn.now) → OnOk result (Changes (state S.Store tx.old.conn.now) (state S.Store tx.new.conn.now)
         (λ c. record c { profiles = finite.insert c.profiles (owner.now, name.now) (pos current) })) }
-    ensures cause { HasCleanDisk (state S.Store tx.new.conn.now) → IfErr result (FailsFor (state S.Store tx.old.conn.now) (state S.Store tx.new.conn.now)) }
+    ensures cause { HasCleanDisk (state S.Store tx.new.conn.now) → IfErr result (FailsToInsert profile (Text owner.now ∷ Text name.now ∷ Int (pos current) ∷ []) ⊥ (state S.Store tx.old.conn.now) (state S.Store tx.new.conn.now)) }
     ensures failed { HasCleanDisk (state S.Store tx.new.conn.now) → OnErr result (KeepsCommit (state S.Store tx.old.conn.now) (state S.Store tx.new.conn.now)) }
     ensures survives { Survives (state S.Store tx.old.conn.now) (state S.Store tx.new.conn.now) (λ _. ⊥) }
 {
@@ -146,7 +150,7 @@ pub fn delete<S: Alter>(tx: &mut Transaction<'_, S>, owner: &str, name: &str) ->
     ensures failed { HasCleanDisk (state S.Store tx.new.conn.now) → OnErr result (KeepsCommit (state S.Store tx.old.conn.now) (state S.Store tx.new.conn.now)) }
     ensures survives { Survives (state S.Store tx.old.conn.now) (state S.Store tx.new.conn.now) (λ _. ⊥) }
 {
-    statement::run(
+    statement::remove(
         tx,
         "DELETE FROM profile WHERE owner = ?1 AND name = ?2",
         params![owner, name],

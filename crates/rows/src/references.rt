@@ -1,14 +1,16 @@
 //! The references: which path an object refers to.
 
-ghost use Rattle.std.specs.Prelude.{◌≡◌, ◌&&◌, IfOk, IfErr, OnOk, OnErr, IsTrue, None, map, not, pos};
+ghost use Rattle.std.specs.Prelude.{Some, ◌∷◌, [], ◌≡◌, ◌&&◌, IfOk, IfErr, OnOk, OnErr, IsTrue, None, map, not, pos};
+ghost use Rattle.sqlite_value.specs.declared.value.Value.TheVariants.{Text};
+ghost use Rattle.rows.specs.Forms.{refs};
 ghost use Rattle.std.specs.Ordering.{eq_by_cmp, is_lt, int_cmp};
 ghost use Rattle.std.specs.FinMap as finite;
 ghost use Rattle.sqlite.specs.State.{HasCleanDisk, KeepsCommit, Survives};
 ghost use Rattle.sqlite.specs.Held.{state};
-ghost use Rattle.rows.specs.Failures.{FailsFor};
+ghost use Rattle.rows.specs.Failures.{FailsFor, FailsToInsert};
 ghost use Rattle.rows.specs.Calls.{IsUnderWay, Changes, Stays};
 ghost use Rattle.rows.specs.Contents.{texts_cmp, pair_cmp, contents_of};
-ghost use Rattle.rows.specs.Entries.{reference_of, ShowsReference};
+ghost use Rattle.rows.specs.Entries.{reference_of, ShowsReference, IsPairRow};
 
 use crate::entry::Entry;
 use crate::failure::Failure;
@@ -26,6 +28,8 @@ pub struct Reference {
 
 impl Entry for Reference {
     ghost is_shown = { ShowsReference };
+
+    ghost is_legible = { IsPairRow };
 
     ghost is_below = { λ a b. is_lt (pair_cmp (reference_of a).0 (reference_of b).0) };
 
@@ -95,7 +99,7 @@ pub fn insert<S: Alter>(
     ensures same_reference { tx.new.conn.ghost_name ≡ tx.old.conn.ghost_name }
     ensures done { HasCleanDisk (state S.Store tx.new.conn.now) → OnOk result (Changes (state S.Store tx.old.conn.now) (state S.Store tx.new.conn.now)
         (λ c. record c { refs = finite.insert c.refs (base.now, target.now) tt })) }
-    ensures cause { HasCleanDisk (state S.Store tx.new.conn.now) → IfErr result (FailsFor (state S.Store tx.old.conn.now) (state S.Store tx.new.conn.now)) }
+    ensures cause { HasCleanDisk (state S.Store tx.new.conn.now) → IfErr result (FailsToInsert refs (Text base.now ∷ Text target.now ∷ []) (finite.get (contents_of (state S.Store tx.old.conn.now).now).refs (base.now, target.now) ≡ Some tt) (state S.Store tx.old.conn.now) (state S.Store tx.new.conn.now)) }
     ensures failed { HasCleanDisk (state S.Store tx.new.conn.now) → OnErr result (KeepsCommit (state S.Store tx.old.conn.now) (state S.Store tx.new.conn.now)) }
     ensures survives { Survives (state S.Store tx.old.conn.now) (state S.Store tx.new.conn.now) (λ _. ⊥) }
 {
@@ -119,5 +123,5 @@ pub fn delete_of<S: Alter>(tx: &mut Transaction<'_, S>, base: &str) -> Result<()
     ensures failed { HasCleanDisk (state S.Store tx.new.conn.now) → OnErr result (KeepsCommit (state S.Store tx.old.conn.now) (state S.Store tx.new.conn.now)) }
     ensures survives { Survives (state S.Store tx.old.conn.now) (state S.Store tx.new.conn.now) (λ _. ⊥) }
 {
-    statement::run(tx, "DELETE FROM refs WHERE base = ?1", params![base])
+    statement::remove(tx, "DELETE FROM refs WHERE base = ?1", params![base])
 }

@@ -1,14 +1,16 @@
 //! The runtime roots.
 
-ghost use Rattle.std.specs.Prelude.{◌≡◌, ◌&&◌, IfOk, IfErr, OnOk, OnErr, IsTrue, None, map, not, pos};
+ghost use Rattle.std.specs.Prelude.{Some, ◌∷◌, [], ◌≡◌, ◌&&◌, IfOk, IfErr, OnOk, OnErr, IsTrue, None, map, not, pos};
+ghost use Rattle.sqlite_value.specs.declared.value.Value.TheVariants.{Text};
+ghost use Rattle.rows.specs.Forms.{runtime};
 ghost use Rattle.std.specs.Ordering.{eq_by_cmp, is_lt, int_cmp};
 ghost use Rattle.std.specs.FinMap as finite;
 ghost use Rattle.sqlite.specs.State.{HasCleanDisk, KeepsCommit, Survives};
 ghost use Rattle.sqlite.specs.Held.{state};
-ghost use Rattle.rows.specs.Failures.{FailsFor};
+ghost use Rattle.rows.specs.Failures.{FailsFor, FailsToInsert};
 ghost use Rattle.rows.specs.Calls.{IsUnderWay, Changes, Stays};
 ghost use Rattle.rows.specs.Contents.{texts_cmp, pair_cmp, contents_of};
-ghost use Rattle.rows.specs.Entries.{runtime_of, ShowsRuntimeRoot};
+ghost use Rattle.rows.specs.Entries.{runtime_of, ShowsRuntimeRoot, IsPairRow};
 
 use crate::entry::Entry;
 use crate::failure::Failure;
@@ -26,6 +28,8 @@ pub struct RuntimeRoot {
 
 impl Entry for RuntimeRoot {
     ghost is_shown = { ShowsRuntimeRoot };
+
+    ghost is_legible = { IsPairRow };
 
     ghost is_below = { λ a b. is_lt (pair_cmp (runtime_of a).0 (runtime_of b).0) };
 
@@ -76,7 +80,7 @@ pub fn insert<S: Alter>(
     ensures same_reference { tx.new.conn.ghost_name ≡ tx.old.conn.ghost_name }
     ensures done { HasCleanDisk (state S.Store tx.new.conn.now) → OnOk result (Changes (state S.Store tx.old.conn.now) (state S.Store tx.new.conn.now)
         (λ c. record c { runtime = finite.insert c.runtime (label.now, target.now) tt })) }
-    ensures cause { HasCleanDisk (state S.Store tx.new.conn.now) → IfErr result (FailsFor (state S.Store tx.old.conn.now) (state S.Store tx.new.conn.now)) }
+    ensures cause { HasCleanDisk (state S.Store tx.new.conn.now) → IfErr result (FailsToInsert runtime (Text label.now ∷ Text target.now ∷ []) (finite.get (contents_of (state S.Store tx.old.conn.now).now).runtime (label.now, target.now) ≡ Some tt) (state S.Store tx.old.conn.now) (state S.Store tx.new.conn.now)) }
     ensures failed { HasCleanDisk (state S.Store tx.new.conn.now) → OnErr result (KeepsCommit (state S.Store tx.old.conn.now) (state S.Store tx.new.conn.now)) }
     ensures survives { Survives (state S.Store tx.old.conn.now) (state S.Store tx.new.conn.now) (λ _. ⊥) }
 {
@@ -100,5 +104,5 @@ pub fn delete_of<S: Alter>(tx: &mut Transaction<'_, S>, label: &str) -> Result<(
     ensures failed { HasCleanDisk (state S.Store tx.new.conn.now) → OnErr result (KeepsCommit (state S.Store tx.old.conn.now) (state S.Store tx.new.conn.now)) }
     ensures survives { Survives (state S.Store tx.old.conn.now) (state S.Store tx.new.conn.now) (λ _. ⊥) }
 {
-    statement::run(tx, "DELETE FROM runtime WHERE label = ?1", params![label])
+    statement::remove(tx, "DELETE FROM runtime WHERE label = ?1", params![label])
 }

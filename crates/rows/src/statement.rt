@@ -1,13 +1,14 @@
 //! The two ways to run a statement inside a transaction.
 
-ghost use Rattle.std.specs.Prelude.{◌≡◌, ◌≢◌, ◌⊎◌, IfOk, IfErr, OnOk, OnErr, Ok, List, ℕ, true, length};
+ghost use Rattle.std.specs.Prelude.{◌≡◌, ◌⊎◌, IfOk, IfErr, OnOk, OnErr, Ok, List, ℕ, true, length};
 ghost use Rattle.std.specs.List.{AllZip, AllAdjacentBelow};
 ghost use Rattle.sqlite_value.specs.Order.{Row as Values};
 ghost use Rattle.sqlite.specs.State.{HasCleanDisk, KeepsCommit, Survives, Shown, ExecutesInside};
 ghost use Rattle.sqlite.specs.Held.{state};
 ghost use Rattle.sqlite.specs.Values.{bound};
-ghost use Rattle.rows.specs.declared.failure.Failure.TheVariants.{Size};
-ghost use Rattle.rows.specs.Failures.{FailsFor, IsQueryFailure};
+ghost use Rattle.rows.specs.declared.failure.Failure.TheVariants.{Memory, Disk};
+ghost use Rattle.rows.specs.Failures.{IsQueryFailure, IsWriteFailure, unsized};
+ghost use Rattle.rows.specs.Entries.{IsAmiss};
 ghost use Rattle.rows.specs.Calls.{IsUnderWay};
 
 use crate::entry::{self, Entry};
@@ -44,7 +45,7 @@ pub(crate) fn select<S: Alter, T: Entry>(
     ensures same_reference { tx.new.conn.ghost_name ≡ tx.old.conn.ghost_name }
     ensures shown { HasCleanDisk (state S.Store tx.new.conn.now) → IfOk result (λ all. (rows : List Values) × Shown text.now (bound params.now) (state S.Store tx.old.conn.now) (state S.Store tx.new.conn.now) rows × AllZip T.is_shown rows all.items) }
     ensures rises { IfOk result (λ all. AllAdjacentBelow (λ x y. true ≡ T.is_below x y) all.items (length all.items)) }
-    ensures cause { HasCleanDisk (state S.Store tx.new.conn.now) → IfErr result (λ f. IsQueryFailure text.now (bound params.now) (state S.Store tx.old.conn.now) (state S.Store tx.new.conn.now) f ⊎ (((rows : List Values) × Shown text.now (bound params.now) (state S.Store tx.old.conn.now) (state S.Store tx.new.conn.now) rows) × (f ≢ Size))) }
+    ensures cause { HasCleanDisk (state S.Store tx.new.conn.now) → IfErr result (λ f. IsQueryFailure text.now (bound params.now) (state S.Store tx.old.conn.now) (state S.Store tx.new.conn.now) f ⊎ ((rows : List Values) × Shown text.now (bound params.now) (state S.Store tx.old.conn.now) (state S.Store tx.new.conn.now) rows × ((f ≡ Memory) ⊎ ((f ≡ Disk) × IsAmiss T.is_legible T.is_shown T.is_below rows)))) }
     ensures failed { HasCleanDisk (state S.Store tx.new.conn.now) → OnErr result (KeepsCommit (state S.Store tx.old.conn.now) (state S.Store tx.new.conn.now)) }
     ensures survives { Survives (state S.Store tx.old.conn.now) (state S.Store tx.new.conn.now) (λ _. ⊥) }
 {
@@ -53,7 +54,6 @@ pub(crate) fn select<S: Alter, T: Entry>(
 }
 
 /// Runs a write.
-#[tactic(auto, using(crate::proofs::Causes::run_fails))]
 pub(crate) fn run<S: Alter>(
     tx: &mut Transaction<'_, S>,
     text: &str,
@@ -62,10 +62,38 @@ pub(crate) fn run<S: Alter>(
     requires { HasCleanDisk (state S.Store tx.old.conn.now) → IsUnderWay (state S.Store tx.old.conn.now) }
     ensures same_reference { tx.new.conn.ghost_name ≡ tx.old.conn.ghost_name }
     ensures ran { HasCleanDisk (state S.Store tx.new.conn.now) → OnOk result ((count : ℕ) × ExecutesInside 0 text.now (bound params.now) (state S.Store tx.old.conn.now) (state S.Store tx.new.conn.now) (Ok count)) }
-    ensures cause { HasCleanDisk (state S.Store tx.new.conn.now) → IfErr result (FailsFor (state S.Store tx.old.conn.now) (state S.Store tx.new.conn.now)) }
+    ensures cause { HasCleanDisk (state S.Store tx.new.conn.now) → IfErr result (IsWriteFailure text.now (bound params.now) (state S.Store tx.old.conn.now) (state S.Store tx.new.conn.now)) }
     ensures failed { HasCleanDisk (state S.Store tx.new.conn.now) → OnErr result (KeepsCommit (state S.Store tx.old.conn.now) (state S.Store tx.new.conn.now)) }
     ensures survives { Survives (state S.Store tx.old.conn.now) (state S.Store tx.new.conn.now) (λ _. ⊥) }
 {
     tx.execute(text, params)?;
     Ok(())
+}
+
+fn without_size(failure: Failure) -> Failure
+    ensures { result ≡ unsized failure }
+{
+    match failure {
+        Failure::Memory => Failure::Memory,
+        Failure::Size | Failure::Disk => Failure::Disk,
+    }
+}
+
+/// Runs a delete, which fails for no size: it writes no row.
+pub(crate) fn remove<S: Alter>(
+    tx: &mut Transaction<'_, S>,
+    text: &str,
+    params: &[ValueRef<'_>],
+) -> Result<(), Failure>
+    requires { HasCleanDisk (state S.Store tx.old.conn.now) → IsUnderWay (state S.Store tx.old.conn.now) }
+    ensures same_reference { tx.new.conn.ghost_name ≡ tx.old.conn.ghost_name }
+    ensures ran { HasCleanDisk (state S.Store tx.new.conn.now) → OnOk result ((count : ℕ) × ExecutesInside 0 text.now (bound params.now) (state S.Store tx.old.conn.now) (state S.Store tx.new.conn.now) (Ok count)) }
+    ensures cause { HasCleanDisk (state S.Store tx.new.conn.now) → IfErr result (λ f. (g : Failure) × (f ≡ unsized g) × IsWriteFailure text.now (bound params.now) (state S.Store tx.old.conn.now) (state S.Store tx.new.conn.now) g) }
+    ensures failed { HasCleanDisk (state S.Store tx.new.conn.now) → OnErr result (KeepsCommit (state S.Store tx.old.conn.now) (state S.Store tx.new.conn.now)) }
+    ensures survives { Survives (state S.Store tx.old.conn.now) (state S.Store tx.new.conn.now) (λ _. ⊥) }
+{
+    match run(tx, text, params) {
+        Ok(()) => Ok(()),
+        Err(failure) => Err(without_size(failure)),
+    }
 }

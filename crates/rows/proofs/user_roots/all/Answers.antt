@@ -1,8 +1,11 @@
 use Rattle.std.proofs.Common.{arith}
 use Rattle.sqlite.specs.State.{HasCleanDisk}
 use Rattle.sqlite.specs.Held.{state}
-use Rattle.rows.proofs.Causes.{refused_by}
-use Rattle.rows.proofs.UserRootLemmas.{reads_all, same_all}
+use Rattle.std.specs.Prelude.{IsSome}
+use Rattle.rows.proofs.Under.{under_inside}
+use Rattle.rows.proofs.Rising.{select_fails}
+use Rattle.rows.proofs.InOrder.{user_roots_all}
+use Rattle.rows.proofs.UserRootLemmas.{reads_all, same_all, fails_all}
 use Rattle.rows.proofs.user_roots.all.Goals as goal
 
 pub returns-clause-reads : goal.returns-clause-reads
@@ -17,4 +20,5 @@ returns-clause-cause g c clean =
     let old = state g.S.Store c.args.tx.now.conn.now in
     let new = state g.S.Store c.select.new.tx.conn.now in
     let early : HasCleanDisk old = omega (arith, c.select.ensures.survives.clean) in
-    refused_by c.select.result old new _ _ _ (λ it. same_all old new (c.requires early) _ it.0 it.1) (c.select.ensures.cause clean)
+    let under = c.requires early in
+    select_fails c.select.result old new _ _ _ _ ⊥ (IsSome old.step_limit) (fails_all old new (under_inside old under)) (same_all old new under _) (user_roots_all old new under _) (c.select.ensures.cause clean)
