@@ -11,8 +11,8 @@ pub enum Failure {
     Memory,
     /// A row would be larger than a database can hold.
     Size,
-    /// The disk failed, an earlier failure of it had shut the connection, a row was not as its table has them, or `sqlite`
-    /// refused a statement.
+    /// The disk failed, or an earlier failure of it had shut the connection. So it is where `sqlite` refuses a call: by a limit on
+    /// steps, for want of a rowid, or because an entry of a set is there already; and where two rows share a rowid at opening.
     Disk,
 }
 
