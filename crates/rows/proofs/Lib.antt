@@ -39,8 +39,11 @@ pub mod RuntimeRootLemmas
 pub mod KeyOrders
 pub mod Legible
 pub mod InOrder
+pub mod OpeningFailures
 pub mod OwnRowids
 pub mod RowidTexts
+pub mod RowidFailures
+pub mod Probing
 pub mod ReadableRows
 pub mod ReadableTexts
 pub mod Opened

@@ -126,7 +126,7 @@ pub keyed_left : (ids : List ℤ) (rows : List Row) → IsKeyed rows → IsKeyed
 keyed_left ids rows keyed = record { ints = λ a h. keyed.ints a (left_from ids rows a h).0; apart = apart_left ids rows keyed.apart }
 
 -- the rowid of a row that has an integer there
-int_is : (v : Value) → IsTrue (is_int v) → v ≡ Int (id_in v)
+pub int_is : (v : Value) → IsTrue (is_int v) → v ≡ Int (id_in v)
 int_is Null h = cc
 int_is (Int n) h = refl
 int_is (Real x) h = cc

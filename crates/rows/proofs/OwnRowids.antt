@@ -1,12 +1,12 @@
 -- That the rowids of a table, as a query shows them, are integers that differ, so each row has its own.
-use Rattle.std.proofs.Common.{◌≡◌, inl, inr, ℕ, suc, ℤ, pos, negsuc, List, [], ◌∷◌, map, flat_map, codes, true, false, None, Option, Ok, IsTrue, refl, sym, ap, subst, subst₂, ◌∙◌, IsPermutation, length, Less, slice_get}
+use Rattle.std.proofs.Common.{◌≡◌, ◌↔◌, ◌+◌, ◌<◌, zero, get_or, ap₂, arith, Ordering, Equal, Greater, IsSorted, inl, inr, ℕ, suc, ℤ, pos, negsuc, List, [], ◌∷◌, map, flat_map, codes, true, false, None, Option, Ok, IsTrue, refl, sym, ap, subst, subst₂, ◌∙◌, IsPermutation, length, Less, slice_get}
 use Rattle.std.specs.Prelude.{nat_lt, nat_le, ◌-◌, ◌^◌, option_and_then}
 use Rattle.std.specs.List.{AllByRecursion, IsDistinct, AllAdjacentBelow}
 use Rattle.std.specs.List.Sorted.{IsStrictlySortedBy}
-use Rattle.std.specs.Ordering.{is_eq, eq_by_cmp, int_cmp}
+use Rattle.std.specs.Ordering.{is_eq, is_lt, eq_by_cmp, int_cmp, ordering_reverse}
 use Rattle.std.specs.Cmp.{eq_by_cmp_equiv, int_cmp_total}
 use Rattle.std.proofs.lemmas.Bool.{leb-false, lt-ltb}
-use Rattle.std.proofs.lemmas.Map.Keys.{sorted_from_all_adjacent, IsDistinct-from_sorted, IsDistinct-IsPermutation}
+use Rattle.std.proofs.lemmas.Map.Keys.{sorted_from_all_adjacent, apart_from_distinct, IsDistinct-from_sorted, IsDistinct-IsPermutation}
 use Rattle.std.proofs.lemmas.List.Sorted.{IsPermutation-map, IsPermutation-sym}
 use Rattle.std.proofs.lemmas.Simd.{map-map}
 use Rattle.sqlite_value.specs.declared.value.Value.{Value}
@@ -39,11 +39,13 @@ use Rattle.sqlite_resolve.specs.Scope.{Name, Context, find as found_in, column a
 use Rattle.sqlite_rules.specs.Lists.{Has}
 use Rattle.sqlite.specs.Effect.{Database}
 use Rattle.sqlite.specs.State.{State, Shown as Answered}
+use Rattle.sqlite.specs.Values.{IsInt}
 use Rattle.sqlite.proofs.Callers.{reads_as}
 use Rattle.rows.specs.Forms.{strict}
 use Rattle.rows.specs.Standing.{Stands, HasTables, tree_named}
 use Rattle.rows.specs.Contents.{rows_named}
 use Rattle.rows.specs.Calls.{IsKeyed, IsInside, Rests}
+use Rattle.rows.specs.Opened.{ShowIds}
 use Rattle.rows.proofs.Means.{means_command, plain_state}
 use Rattle.rows.proofs.Scans.{IsScan, scan_complete, kept, listed, shown_same}
 use Rattle.rows.proofs.Apart.{tie, turned}
@@ -104,7 +106,7 @@ whole order tree = record { lets = []; body = query order tree }
 abbrev pub draft : List (Term × Key) → ℕ → Draft
 draft order tree = record { from = chain (Inner tree ∷ []); filter = []; group = None; project = col 1 0 ∷ []; distinct = false; collations = []; order = order; limit = lit (Int (negsuc 0)); offset = lit (Int (pos 0)) }
 
-scan : (order : List (Term × Key)) (tree : ℕ) → IsScan (query order tree) tree
+pub scan : (order : List (Term × Key)) (tree : ℕ) → IsScan (query order tree) tree
 scan order tree = record { from = refl; group = refl; distinct = refl; whole = λ params rows. refl }
 
 one : Unit {0}
@@ -115,7 +117,7 @@ first row = column row 0
 
 module _ (order : List (Term × Key)) (tree : ℕ) (db : Trees) (rows : List Row) (answer : IsAnswer (query order tree) db [] rows) where
   -- the rowids that the query shows are those of the table, in another order
-  same_rowids : IsPermutation (map rowid (db tree)) (map first rows)
+  pub same_rowids : IsPermutation (map rowid (db tree)) (map first rows)
   same_rowids =
       let shown : map first rows ≡ map (λ (o : Output). first o.1) answer.ordered = ap (map first) (listed (query order tree) tree (scan order tree) db [] rows answer) ∙ map-map first (λ (o : Output). o.1) answer.ordered in
       let was : map (λ (o : Output). first o.1) answer.kept ≡ map rowid (db tree) = ap (map (λ (o : Output). first o.1)) (kept (query order tree) tree (scan order tree) db [] rows answer) ∙ each (db tree) in
@@ -140,18 +142,18 @@ ints_from (r ∷ rows) [] e x h = absurd cc
 ints_from (r ∷ rows) (n ∷ ns) e x (inl is) = let at : first r ≡ Int n = cc in ap is_int (ap first is ∙ at)
 ints_from (r ∷ rows) (n ∷ ns) e x (inr there) = let rest : map first rows ≡ map Int ns = cc in ints_from rows ns rest x there
 
-keyed_from : (order : List (Term × Key)) (tree : ℕ) (db : Trees) (rows : List Row) (ns : List ℤ) → IsAnswer (query order tree) db [] rows → map first rows ≡ map Int ns → IsDistinct (eq_by_cmp int_cmp) ns → IsKeyed (db tree)
-keyed_from order tree db rows ns answer ints apart =
-    let shown : IsDistinct tie (map first rows) = subst (IsDistinct tie) (sym ints) (distinct_ints ns apart) in
+keyed_from : (order : List (Term × Key)) (tree : ℕ) (db : Trees) (rows : List Row) → IsAnswer (query order tree) db [] rows → ShowIds rows → IsKeyed (db tree)
+keyed_from order tree db rows answer ids =
+    let shown : IsDistinct tie (map first rows) = subst (IsDistinct tie) (sym ids.1) (distinct_ints ids.0 ids.2) in
     let own : IsDistinct tie (map rowid (db tree)) = IsDistinct-IsPermutation tie turned _ _ (IsPermutation-sym _ _ (same_rowids order tree db rows answer)) shown in
     record {
-      ints = λ a h. ints_from rows ns ints (rowid a ∷ []) (scan_complete (query order tree) tree (scan order tree) db [] rows answer a h refl);
+      ints = λ a h. ints_from rows ids.0 ids.1 (rowid a ∷ []) (scan_complete (query order tree) tree (scan order tree) db [] rows answer a h refl);
       apart = own;
     }
 
 -- the rows that were shown, whose first values are integers that differ
 abbrev pub ShowsApart : List ℕ → State → State → Type 0
-ShowsApart text old new = (rows : List Row) × Answered text [] old new rows × (ns : List ℤ) × (map first rows ≡ map Int ns) × IsDistinct (eq_by_cmp int_cmp) ns
+ShowsApart text old new = (rows : List Row) × Answered text [] old new rows × ShowIds rows
 
 -- each row of the table has a rowid of its own, and nothing changes
 pub keyed_if : (name : List ℕ) (columns : List Column) (key : List ℕ) (text : List ℕ) (order : List (Term × Key)) (old new : State) → Stands old.now.schema (strict name columns key)
@@ -162,7 +164,7 @@ keyed_if name columns key text order old new stands is h =
     let got = reads_as text [] old new old.now.schema refl _ m.0 m.1 m.2 h.0 h.1 in
     let answer : IsAnswer (query order tree) (overlay old.now.trees []) [] h.0 = got.answer Null in
     let same = shown_same text [] old new h.0 m.1 h.1 in
-    (record { was_open = same.0.was_open; is_open = same.0.is_open; now = same.0.now_is; committed = same.0.committed_is; mode = same.0.mode; marks = same.2 }, subst IsKeyed (overlay_low old.now.trees tree stands.known.low) (keyed_from order tree (overlay old.now.trees []) h.0 h.2 answer h.3 h.4))
+    (record { was_open = same.0.was_open; is_open = same.0.is_open; now = same.0.now_is; committed = same.0.committed_is; mode = same.0.mode; marks = same.2 }, subst IsKeyed (overlay_low old.now.trees tree stands.known.low) (keyed_from order tree (overlay old.now.trees []) h.0 answer h.2))
 
 -- ---- what a sort and a test of neighbours say of integers
 
@@ -174,11 +176,40 @@ ints_rise (n ∷ ns) h = sorted_from_all_adjacent int_cmp_total (n ∷ ns) n (λ
 swapped : (a b : ℤ) → eq_by_cmp int_cmp a b ≡ eq_by_cmp int_cmp b a
 swapped a b = (eq_by_cmp_equiv int_cmp_total).symm a b
 
-pub rising_distinct : (ns : List ℤ) → AllAdjacentBelow (λ x y. int_cmp x y ≡ Less) ns (length ns) → IsDistinct (eq_by_cmp int_cmp) ns
-rising_distinct ns up = IsDistinct-from_sorted int_cmp ns (ints_rise ns up)
+up_if_apart : (a b : ℤ) → is_lt (int_cmp b a) ≡ false → eq_by_cmp int_cmp a b ≡ false → int_cmp a b ≡ Less
+up_if_apart a b up apart = go (int_cmp a b) refl
+  where
+    go : (c : Ordering) → int_cmp a b ≡ c → int_cmp a b ≡ Less
+    go Less is = is
+    go Equal is = absurd (let no = sym (ap is_eq is) ∙ apart in cc)
+    go Greater is = absurd (let no = sym (ap is_lt (int_cmp_total.antisymm b a ∙ ap ordering_reverse is)) ∙ up in cc)
 
-pub distinct_if : (ns sorted : List ℤ) → IsPermutation ns sorted → IsDistinct (eq_by_cmp int_cmp) sorted → IsDistinct (eq_by_cmp int_cmp) ns
-distinct_if ns sorted same apart = IsDistinct-IsPermutation (eq_by_cmp int_cmp) swapped sorted ns (IsPermutation-sym ns sorted same) apart
+-- integers differ exactly where they rise once they are sorted
+pub rise_sorted : (ns sorted : List ℤ) → IsPermutation ns sorted → IsSorted int_cmp sorted → AllAdjacentBelow (λ x y. int_cmp x y ≡ Less) sorted (length sorted) ↔ IsDistinct (eq_by_cmp int_cmp) ns
+rise_sorted ns sorted same up = (
+  λ rise. IsDistinct-IsPermutation (eq_by_cmp int_cmp) swapped sorted ns (IsPermutation-sym ns sorted same) (IsDistinct-from_sorted int_cmp sorted (ints_rise sorted rise)),
+  λ apart k d low. up_if_apart (get_or sorted k d) (get_or sorted (k + 1) d) (up k d (omega arith) low) (apart_from_distinct (eq_by_cmp int_cmp) sorted k (k + 1) d (IsDistinct-IsPermutation (eq_by_cmp int_cmp) swapped ns sorted same apart) (omega arith) low),
+)
+
+-- ---- what rows show that aren't integers, or not different ones
+
+all_ints : (rows : List Row) (ns : List ℤ) → map first rows ≡ map Int ns → (k : ℕ) (x : Row) → k < length rows → x ≡ get_or rows k x → IsInt (first x)
+all_ints [] ns e k x low at = absurd (omega (arith, low))
+all_ints (r ∷ rows) [] e k x low at = absurd cc
+all_ints (r ∷ rows) (n ∷ ns) e zero x low at = let is : first r ≡ Int n = cc in (n, ap first at ∙ is)
+all_ints (r ∷ rows) (n ∷ ns) e (suc k) x low at = let rest : map first rows ≡ map Int ns = cc in all_ints rows ns rest k x (omega (arith, low)) at
+
+pub no_ids : (rows : List Row) (k : ℕ) (x : Row) → k < length rows → x ≡ get_or rows k x → ¬ IsInt (first x) → ¬ ShowIds rows
+no_ids rows k x low at none ids = none (all_ints rows ids.0 ids.1 k x low at)
+
+same_ints : (ns ms : List ℤ) → ◌≡◌ {A = List Value} (map Int ns) (map Int ms) → ns ≡ ms
+same_ints [] [] e = refl
+same_ints [] (m ∷ ms) e = absurd cc
+same_ints (n ∷ ns) [] e = absurd cc
+same_ints (n ∷ ns) (m ∷ ms) e = let head : n ≡ m = cc in let rest : ◌≡◌ {A = List Value} (map Int ns) (map Int ms) = cc in ap₂ (λ x xs. x ∷ xs) head (same_ints ns ms rest)
+
+pub differ_not : (rows : List Row) (ns : List ℤ) → map first rows ≡ map Int ns → ¬ IsDistinct (eq_by_cmp int_cmp) ns → ¬ ShowIds rows
+differ_not rows ns shown same ids = same (subst (IsDistinct (eq_by_cmp int_cmp)) (same_ints ids.0 ns (sym ids.1 ∙ shown)) ids.2)
 
 -- ---- one table after another
 

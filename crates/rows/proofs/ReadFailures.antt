@@ -1,5 +1,5 @@
 -- Why a query of our tables fails: `sqlite` understands each text of ours, and types and sums have nothing to refuse.
-use Rattle.std.proofs.Common.{◌≡◌, ◌≢◌, ◌⊎◌, inl, inr, ℕ, ◌≤◌, List, [], ◌∷◌, length, append-nil, Bool, true, false, Some, None, Option, Result, Ok, Err, refl, sym, ap, subst, subst₂, ◌∙◌}
+use Rattle.std.proofs.Common.{◌≡◌, ◌⊎◌, inl, inr, ℕ, ◌≤◌, List, [], ◌∷◌, length, append-nil, Bool, true, false, None, Result, Ok, Err, refl, sym, ap, subst, subst₂, ◌∙◌}
 use Rattle.std.specs.Prelude.{IsSome, if◌then◌else◌}
 use Rattle.std.proofs.lemmas.Bool.{leb-true}
 use Rattle.sqlite_value.specs.Order.{Row}
@@ -93,28 +93,12 @@ IsRead text = (names : List Name) × (start : ℕ) × (end : ℕ) × (tail : ℕ
 
 -- ---- a query
 
--- a query over one table sums nothing
-sums_nothing : (q : Query) (tree : ℕ) → IsScan q tree → (db : Trees) (params : Row) → QueryOverflows q db params → ⊥
-sums_nothing q tree scan db params (inl h) = subst (λ g. Overflows g (matches db q.filter q.from (params ∷ []))) scan.group h
-sums_nothing q tree scan db params (inr h) = (subst (λ j. FoldOverflows db j (params ∷ [])) scan.from h).4
-
-module _ (name : List ℕ) (columns : List Column) (key : List ℕ) (old new : State) (inside : IsInside old) (at : HasTables old.now.schema → Stands old.now.schema (strict name columns key))
-    (text : List ℕ) (params : Row) (names : List (List ℕ)) (query : ℕ → Query) (scan : (tree : ℕ) → IsScan (query tree) tree)
-    (is : Compiles name columns key text (length params) (λ at tree. Select (record { lets = []; body = query tree }) names)) (reads : IsRead text)
-    (typed : (s : Schema) (at tree : ℕ) → IsKnown s name at (record (strict name columns key) { tree = tree }) → accepts_program s [] (query tree) params ≡ true) where
-  abbrev tree : ℕ
-  tree = tree_named old.now.schema name
-
-  stands : IsUnchanged old new → Stands old.now.schema (strict name columns key)
-  stands same = at (inside.has same.0.was_open)
-
-  meant : IsUnchanged old new → IsMeant old.now.schema text (length params) (Select (record { lets = []; body = query tree }) names)
-  meant same = is old.now.schema (stands same).at tree (stands same).known
-
+module _ (old new : State) (mode : old.in_transaction ≡ true) (text : List ℕ) (params : Row) (names : List (List ℕ)) (query : Query) (meant : IsUnchanged old new → IsMeant old.now.schema text (length params) (Select (record { lets = []; body = query }) names)) (reads : IsRead text)
+    (typed : IsUnchanged old new → accepts_program old.now.schema [] query params ≡ true) (sums_nothing : (db : Trees) → QueryOverflows query db params → ⊥) where
   -- only a limit on steps refuses it
-  refused : (e : Error) → IsUnchanged old new → RefusesQuery old.step_limit old.now (record { lets = []; body = query tree }) params e → FailsWith old new ⊥ (IsSome old.step_limit) (failure_of e)
-  refused e same (inl h) = absurd (let no = sym (typed old.now.schema (stands same).at tree (stands same).known) ∙ h.1 in cc)
-  refused e same (inr (inl h)) = absurd (sums_nothing (query tree) tree (scan tree) (overlay old.now.trees []) params h.1)
+  refused : (e : Error) → IsUnchanged old new → RefusesQuery old.step_limit old.now (record { lets = []; body = query }) params e → FailsWith old new ⊥ (IsSome old.step_limit) (failure_of e)
+  refused e same (inl h) = absurd (let no = sym (typed same) ∙ h.1 in cc)
+  refused e same (inr (inl h)) = absurd (sums_nothing (overlay old.now.trees []) h.1)
   refused e same (inr (inr h)) = subst (λ x. FailsWith old new ⊥ (IsSome old.step_limit) (failure_of x)) (sym h.0) (inr (h.1, same))
 
   shown : (e : Error) (c : Compiled) (it : IsStatement old text params c) → understood old.now.schema text ≡ Ok c → FailsToShow old new text c (timed params c.formats it.now) e None → FailsWith old new ⊥ (IsSome old.step_limit) (failure_of e)
@@ -122,16 +106,35 @@ module _ (name : List ℕ) (columns : List Column) (key : List ℕ) (old new : S
       let m = meant h.3 in
       let same : m.0 ≡ c = one m.1.0 known in
       let db : h.0 ≡ old.now = subst (λ b. IsSourceOf b old.now h.0) m.1.1 h.1 in
-      let command : c.command ≡ Select (record { lets = []; body = query tree }) names = ap (λ (x : Compiled). x.command) (sym same) ∙ m.2 in
+      let command : c.command ≡ Select (record { lets = []; body = query }) names = ap (λ (x : Compiled). x.command) (sym same) ∙ m.2 in
       let plain : c.formats ≡ [] = ap (λ (x : Compiled). x.formats) (sym same) ∙ m.4 in
       let full : timed params c.formats it.now ≡ params = ap (λ f. timed params f it.now) plain ∙ append-nil params in
-      refused e h.3 (subst (λ ps. RefusesToRead old.step_limit (Select (record { lets = []; body = query tree }) names) old.now ps e) full
+      refused e h.3 (subst (λ ps. RefusesToRead old.step_limit (Select (record { lets = []; body = query }) names) old.now ps e) full
       (subst₂ (λ k d. RefusesToRead old.step_limit k d (timed params c.formats it.now) e) command db h.2))
 
   -- an error of the query
-  pub read_fails : (e : Error) → FailsToQuery text params old new e ⊎ IsTooLate text params old new e → FailsWith old new ⊥ (IsSome old.step_limit) (failure_of e)
+  pub query_fails : (e : Error) → FailsToQuery text params old new e ⊎ IsTooLate text params old new e → FailsWith old new ⊥ (IsSome old.step_limit) (failure_of e)
   unfolding FailsToQuery IsNotRun
-  read_fails e (inl (inl (inl h))) = absurd (is_statement old text params _ (meant h.1) e h.0)
-  read_fails e (inl (inl (inr h))) = store_failed old new ⊥ (IsSome old.step_limit) ⊥ (λ no. no) e h
-  read_fails e (inl (inr h)) = shown e h.0 h.1 h.1.is (subst (FailsToShow old new text h.0 (timed params h.0.formats h.1.now) e) (understood_read reads.0 reads.1 reads.2 reads.3 reads.4 text reads.5 old.now.schema h.0 h.1.is) h.2)
-  read_fails e (inr h) = absurd (let no = sym inside.mode ∙ h.3 in cc)
+  query_fails e (inl (inl (inl h))) = absurd (is_statement old text params _ (meant h.1) e h.0)
+  query_fails e (inl (inl (inr h))) = store_failed old new ⊥ (IsSome old.step_limit) ⊥ (λ no. no) e h
+  query_fails e (inl (inr h)) = shown e h.0 h.1 h.1.is (subst (FailsToShow old new text h.0 (timed params h.0.formats h.1.now) e) (understood_read reads.0 reads.1 reads.2 reads.3 reads.4 text reads.5 old.now.schema h.0 h.1.is) h.2)
+  query_fails e (inr h) = absurd (let no = sym mode ∙ h.3 in cc)
+
+-- a query over one table sums nothing
+sums_nothing : (q : Query) (tree : ℕ) → IsScan q tree → (params : Row) (db : Trees) → QueryOverflows q db params → ⊥
+sums_nothing q tree scan params db (inl h) = subst (λ g. Overflows g (matches db q.filter q.from (params ∷ []))) scan.group h
+sums_nothing q tree scan params db (inr h) = (subst (λ j. FoldOverflows db j (params ∷ [])) scan.from h).4
+
+-- an error of a query over one table of ours
+pub read_fails : (name : List ℕ) (columns : List Column) (key : List ℕ) (old new : State) → IsInside old → (HasTables old.now.schema → Stands old.now.schema (strict name columns key)) → (text : List ℕ) (params : Row) (names : List (List ℕ)) (query : ℕ → Query) → ((tree : ℕ) → IsScan (query tree) tree)
+    → Compiles name columns key text (length params) (λ at tree. Select (record { lets = []; body = query tree }) names) → IsRead text
+    → ((s : Schema) (at tree : ℕ) → IsKnown s name at (record (strict name columns key) { tree = tree }) → accepts_program s [] (query tree) params ≡ true)
+    → (e : Error) → FailsToQuery text params old new e ⊎ IsTooLate text params old new e → FailsWith old new ⊥ (IsSome old.step_limit) (failure_of e)
+read_fails name columns key old new inside at text params names query scan is reads typed =
+    query_fails old new inside.mode text params names (query tree) (λ same. is old.now.schema (stands same).at tree (stands same).known) reads (λ same. typed old.now.schema (stands same).at tree (stands same).known) (sums_nothing (query tree) tree (scan tree) params)
+  where
+    tree : ℕ
+    tree = tree_named old.now.schema name
+
+    stands : IsUnchanged old new → Stands old.now.schema (strict name columns key)
+    stands same = at (inside.has same.0.was_open)

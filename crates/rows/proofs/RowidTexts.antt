@@ -17,7 +17,7 @@ use Rattle.rows.proofs.Columns.{bounds_are, result_context, from_in, shown_in}
 use Rattle.rows.proofs.OwnRowids.{draft, whole, rowid_column, outputs_rowid, below}
 use Rattle.rows.proofs.Statements.{Compiles}
 
-abbrev names : List (List ℕ)
+abbrev pub names : List (List ℕ)
 names = codes "rowid" ∷ []
 
 abbrev pub by_one : List (Term × Key)

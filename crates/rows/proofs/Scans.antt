@@ -1,5 +1,6 @@
 -- What a query over one table shows, and how it leaves the tables.
 use Rattle.std.proofs.Common.{◌≡◌, ◌⊎◌, inl, inr, ℕ, List, [], ◌∷◌, ◌++◌, map, flat_map, Bool, true, false, cond, Some, None, Option, IsTrue, refl, sym, ap, subst, ◌∙◌, IsPermutation, Result, Ok, Err, OnErr, OnOk}
+use Rattle.std.specs.Prelude.{IfErr}
 use Rattle.std.specs.List.{list_all}
 use Rattle.std.proofs.lemmas.List.Sorted.{IsPermutation-sym}
 use Rattle.sqlite_value.specs.Order.{Row}
@@ -139,3 +140,7 @@ any_err (Err e) P h = h
 pub on_ok : {T E : Type 0} (r : Result T E) (P Q : Type 0) → (P → Q) → OnOk r P → OnOk r Q
 on_ok (Ok x) P Q f h = f h
 on_ok (Err e) P Q f h = tt
+
+pub err_with : {T E : Type 0} (r : Result T E) (P Q : E → Type 0) → ((e : E) → P e → Q e) → IfErr r P → IfErr r Q
+err_with (Ok x) P Q f h = tt
+err_with (Err e) P Q f h = f e h

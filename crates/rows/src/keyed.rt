@@ -1,12 +1,13 @@
 //! That each row of each of our tables has a rowid of its own, an integer.
 
-ghost use Rattle.std.specs.Prelude.{◌≡◌, OnOk, codes};
+ghost use Rattle.std.specs.Prelude.{◌≡◌, IfErr, OnOk, codes};
 ghost use Rattle.std.specs.List.{AllByRecursion};
 ghost use Rattle.sqlite.specs.State.{HasCleanDisk, KeepsCommit, Survives};
 ghost use Rattle.sqlite.specs.Held.{state};
 ghost use Rattle.rows.specs.Forms.{our_tables};
 ghost use Rattle.rows.specs.Contents.{rows_named};
 ghost use Rattle.rows.specs.Calls.{IsInside, IsKeyed, Rests};
+ghost use Rattle.rows.specs.Opened.{FailsToTest};
 
 use crate::failure::Failure;
 use crate::rowids::check;
@@ -19,6 +20,8 @@ fn meta<S: Alter>(alloc: Global, tx: &mut Transaction<'_, S>) -> Result<(), Fail
     ensures inside { HasCleanDisk (state S.Store tx.new.conn.now) → OnOk result (IsInside (state S.Store tx.new.conn.now)) }
     ensures keyed { HasCleanDisk (state S.Store tx.new.conn.now) → OnOk result (Rests (state S.Store tx.old.conn.now) (state S.Store tx.new.conn.now)
         × IsKeyed (rows_named (state S.Store tx.old.conn.now).now (codes "meta"))) }
+    ensures cause { HasCleanDisk (state S.Store tx.new.conn.now) → IfErr result (FailsToTest (state S.Store tx.old.conn.now) (state S.Store tx.new.conn.now)
+        (¬ IsKeyed (rows_named (state S.Store tx.old.conn.now).now (codes "meta")))) }
     ensures kept { HasCleanDisk (state S.Store tx.new.conn.now) → KeepsCommit (state S.Store tx.old.conn.now) (state S.Store tx.new.conn.now) }
     ensures survives { Survives (state S.Store tx.old.conn.now) (state S.Store tx.new.conn.now) (λ _. ⊥) }
 {
@@ -31,6 +34,8 @@ fn object<S: Alter>(alloc: Global, tx: &mut Transaction<'_, S>) -> Result<(), Fa
     ensures inside { HasCleanDisk (state S.Store tx.new.conn.now) → OnOk result (IsInside (state S.Store tx.new.conn.now)) }
     ensures keyed { HasCleanDisk (state S.Store tx.new.conn.now) → OnOk result (Rests (state S.Store tx.old.conn.now) (state S.Store tx.new.conn.now)
         × IsKeyed (rows_named (state S.Store tx.old.conn.now).now (codes "object"))) }
+    ensures cause { HasCleanDisk (state S.Store tx.new.conn.now) → IfErr result (FailsToTest (state S.Store tx.old.conn.now) (state S.Store tx.new.conn.now)
+        (¬ IsKeyed (rows_named (state S.Store tx.old.conn.now).now (codes "object")))) }
     ensures kept { HasCleanDisk (state S.Store tx.new.conn.now) → KeepsCommit (state S.Store tx.old.conn.now) (state S.Store tx.new.conn.now) }
     ensures survives { Survives (state S.Store tx.old.conn.now) (state S.Store tx.new.conn.now) (λ _. ⊥) }
 {
@@ -43,6 +48,8 @@ fn refs<S: Alter>(alloc: Global, tx: &mut Transaction<'_, S>) -> Result<(), Fail
     ensures inside { HasCleanDisk (state S.Store tx.new.conn.now) → OnOk result (IsInside (state S.Store tx.new.conn.now)) }
     ensures keyed { HasCleanDisk (state S.Store tx.new.conn.now) → OnOk result (Rests (state S.Store tx.old.conn.now) (state S.Store tx.new.conn.now)
         × IsKeyed (rows_named (state S.Store tx.old.conn.now).now (codes "refs"))) }
+    ensures cause { HasCleanDisk (state S.Store tx.new.conn.now) → IfErr result (FailsToTest (state S.Store tx.old.conn.now) (state S.Store tx.new.conn.now)
+        (¬ IsKeyed (rows_named (state S.Store tx.old.conn.now).now (codes "refs")))) }
     ensures kept { HasCleanDisk (state S.Store tx.new.conn.now) → KeepsCommit (state S.Store tx.old.conn.now) (state S.Store tx.new.conn.now) }
     ensures survives { Survives (state S.Store tx.old.conn.now) (state S.Store tx.new.conn.now) (λ _. ⊥) }
 {
@@ -55,6 +62,8 @@ fn outs<S: Alter>(alloc: Global, tx: &mut Transaction<'_, S>) -> Result<(), Fail
     ensures inside { HasCleanDisk (state S.Store tx.new.conn.now) → OnOk result (IsInside (state S.Store tx.new.conn.now)) }
     ensures keyed { HasCleanDisk (state S.Store tx.new.conn.now) → OnOk result (Rests (state S.Store tx.old.conn.now) (state S.Store tx.new.conn.now)
         × IsKeyed (rows_named (state S.Store tx.old.conn.now).now (codes "outs"))) }
+    ensures cause { HasCleanDisk (state S.Store tx.new.conn.now) → IfErr result (FailsToTest (state S.Store tx.old.conn.now) (state S.Store tx.new.conn.now)
+        (¬ IsKeyed (rows_named (state S.Store tx.old.conn.now).now (codes "outs")))) }
     ensures kept { HasCleanDisk (state S.Store tx.new.conn.now) → KeepsCommit (state S.Store tx.old.conn.now) (state S.Store tx.new.conn.now) }
     ensures survives { Survives (state S.Store tx.old.conn.now) (state S.Store tx.new.conn.now) (λ _. ⊥) }
 {
@@ -67,6 +76,8 @@ fn permanent<S: Alter>(alloc: Global, tx: &mut Transaction<'_, S>) -> Result<(),
     ensures inside { HasCleanDisk (state S.Store tx.new.conn.now) → OnOk result (IsInside (state S.Store tx.new.conn.now)) }
     ensures keyed { HasCleanDisk (state S.Store tx.new.conn.now) → OnOk result (Rests (state S.Store tx.old.conn.now) (state S.Store tx.new.conn.now)
         × IsKeyed (rows_named (state S.Store tx.old.conn.now).now (codes "permanent"))) }
+    ensures cause { HasCleanDisk (state S.Store tx.new.conn.now) → IfErr result (FailsToTest (state S.Store tx.old.conn.now) (state S.Store tx.new.conn.now)
+        (¬ IsKeyed (rows_named (state S.Store tx.old.conn.now).now (codes "permanent")))) }
     ensures kept { HasCleanDisk (state S.Store tx.new.conn.now) → KeepsCommit (state S.Store tx.old.conn.now) (state S.Store tx.new.conn.now) }
     ensures survives { Survives (state S.Store tx.old.conn.now) (state S.Store tx.new.conn.now) (λ _. ⊥) }
 {
@@ -79,6 +90,8 @@ fn user_root<S: Alter>(alloc: Global, tx: &mut Transaction<'_, S>) -> Result<(),
     ensures inside { HasCleanDisk (state S.Store tx.new.conn.now) → OnOk result (IsInside (state S.Store tx.new.conn.now)) }
     ensures keyed { HasCleanDisk (state S.Store tx.new.conn.now) → OnOk result (Rests (state S.Store tx.old.conn.now) (state S.Store tx.new.conn.now)
         × IsKeyed (rows_named (state S.Store tx.old.conn.now).now (codes "user_root"))) }
+    ensures cause { HasCleanDisk (state S.Store tx.new.conn.now) → IfErr result (FailsToTest (state S.Store tx.old.conn.now) (state S.Store tx.new.conn.now)
+        (¬ IsKeyed (rows_named (state S.Store tx.old.conn.now).now (codes "user_root")))) }
     ensures kept { HasCleanDisk (state S.Store tx.new.conn.now) → KeepsCommit (state S.Store tx.old.conn.now) (state S.Store tx.new.conn.now) }
     ensures survives { Survives (state S.Store tx.old.conn.now) (state S.Store tx.new.conn.now) (λ _. ⊥) }
 {
@@ -95,6 +108,8 @@ fn profile<S: Alter>(alloc: Global, tx: &mut Transaction<'_, S>) -> Result<(), F
     ensures inside { HasCleanDisk (state S.Store tx.new.conn.now) → OnOk result (IsInside (state S.Store tx.new.conn.now)) }
     ensures keyed { HasCleanDisk (state S.Store tx.new.conn.now) → OnOk result (Rests (state S.Store tx.old.conn.now) (state S.Store tx.new.conn.now)
         × IsKeyed (rows_named (state S.Store tx.old.conn.now).now (codes "profile"))) }
+    ensures cause { HasCleanDisk (state S.Store tx.new.conn.now) → IfErr result (FailsToTest (state S.Store tx.old.conn.now) (state S.Store tx.new.conn.now)
+        (¬ IsKeyed (rows_named (state S.Store tx.old.conn.now).now (codes "profile")))) }
     ensures kept { HasCleanDisk (state S.Store tx.new.conn.now) → KeepsCommit (state S.Store tx.old.conn.now) (state S.Store tx.new.conn.now) }
     ensures survives { Survives (state S.Store tx.old.conn.now) (state S.Store tx.new.conn.now) (λ _. ⊥) }
 {
@@ -107,6 +122,8 @@ fn generation<S: Alter>(alloc: Global, tx: &mut Transaction<'_, S>) -> Result<()
     ensures inside { HasCleanDisk (state S.Store tx.new.conn.now) → OnOk result (IsInside (state S.Store tx.new.conn.now)) }
     ensures keyed { HasCleanDisk (state S.Store tx.new.conn.now) → OnOk result (Rests (state S.Store tx.old.conn.now) (state S.Store tx.new.conn.now)
         × IsKeyed (rows_named (state S.Store tx.old.conn.now).now (codes "generation"))) }
+    ensures cause { HasCleanDisk (state S.Store tx.new.conn.now) → IfErr result (FailsToTest (state S.Store tx.old.conn.now) (state S.Store tx.new.conn.now)
+        (¬ IsKeyed (rows_named (state S.Store tx.old.conn.now).now (codes "generation")))) }
     ensures kept { HasCleanDisk (state S.Store tx.new.conn.now) → KeepsCommit (state S.Store tx.old.conn.now) (state S.Store tx.new.conn.now) }
     ensures survives { Survives (state S.Store tx.old.conn.now) (state S.Store tx.new.conn.now) (λ _. ⊥) }
 {
@@ -123,6 +140,8 @@ fn runtime<S: Alter>(alloc: Global, tx: &mut Transaction<'_, S>) -> Result<(), F
     ensures inside { HasCleanDisk (state S.Store tx.new.conn.now) → OnOk result (IsInside (state S.Store tx.new.conn.now)) }
     ensures keyed { HasCleanDisk (state S.Store tx.new.conn.now) → OnOk result (Rests (state S.Store tx.old.conn.now) (state S.Store tx.new.conn.now)
         × IsKeyed (rows_named (state S.Store tx.old.conn.now).now (codes "runtime"))) }
+    ensures cause { HasCleanDisk (state S.Store tx.new.conn.now) → IfErr result (FailsToTest (state S.Store tx.old.conn.now) (state S.Store tx.new.conn.now)
+        (¬ IsKeyed (rows_named (state S.Store tx.old.conn.now).now (codes "runtime")))) }
     ensures kept { HasCleanDisk (state S.Store tx.new.conn.now) → KeepsCommit (state S.Store tx.old.conn.now) (state S.Store tx.new.conn.now) }
     ensures survives { Survives (state S.Store tx.old.conn.now) (state S.Store tx.new.conn.now) (λ _. ⊥) }
 {
@@ -139,6 +158,8 @@ fn first<S: Alter>(alloc: Global, tx: &mut Transaction<'_, S>) -> Result<(), Fai
     ensures inside { HasCleanDisk (state S.Store tx.new.conn.now) → OnOk result (IsInside (state S.Store tx.new.conn.now)) }
     ensures keyed { HasCleanDisk (state S.Store tx.new.conn.now) → OnOk result (Rests (state S.Store tx.old.conn.now) (state S.Store tx.new.conn.now)
         × IsKeyed (rows_named (state S.Store tx.old.conn.now).now (codes "meta")) × IsKeyed (rows_named (state S.Store tx.old.conn.now).now (codes "object")) × IsKeyed (rows_named (state S.Store tx.old.conn.now).now (codes "refs"))) }
+    ensures cause { HasCleanDisk (state S.Store tx.new.conn.now) → IfErr result (FailsToTest (state S.Store tx.old.conn.now) (state S.Store tx.new.conn.now)
+        (¬ (IsKeyed (rows_named (state S.Store tx.old.conn.now).now (codes "meta")) × IsKeyed (rows_named (state S.Store tx.old.conn.now).now (codes "object")) × IsKeyed (rows_named (state S.Store tx.old.conn.now).now (codes "refs"))))) }
     ensures kept { HasCleanDisk (state S.Store tx.new.conn.now) → KeepsCommit (state S.Store tx.old.conn.now) (state S.Store tx.new.conn.now) }
     ensures survives { Survives (state S.Store tx.old.conn.now) (state S.Store tx.new.conn.now) (λ _. ⊥) }
 {
@@ -153,6 +174,8 @@ fn next<S: Alter>(alloc: Global, tx: &mut Transaction<'_, S>) -> Result<(), Fail
     ensures inside { HasCleanDisk (state S.Store tx.new.conn.now) → OnOk result (IsInside (state S.Store tx.new.conn.now)) }
     ensures keyed { HasCleanDisk (state S.Store tx.new.conn.now) → OnOk result (Rests (state S.Store tx.old.conn.now) (state S.Store tx.new.conn.now)
         × IsKeyed (rows_named (state S.Store tx.old.conn.now).now (codes "outs")) × IsKeyed (rows_named (state S.Store tx.old.conn.now).now (codes "permanent")) × IsKeyed (rows_named (state S.Store tx.old.conn.now).now (codes "user_root"))) }
+    ensures cause { HasCleanDisk (state S.Store tx.new.conn.now) → IfErr result (FailsToTest (state S.Store tx.old.conn.now) (state S.Store tx.new.conn.now)
+        (¬ (IsKeyed (rows_named (state S.Store tx.old.conn.now).now (codes "outs")) × IsKeyed (rows_named (state S.Store tx.old.conn.now).now (codes "permanent")) × IsKeyed (rows_named (state S.Store tx.old.conn.now).now (codes "user_root"))))) }
     ensures kept { HasCleanDisk (state S.Store tx.new.conn.now) → KeepsCommit (state S.Store tx.old.conn.now) (state S.Store tx.new.conn.now) }
     ensures survives { Survives (state S.Store tx.old.conn.now) (state S.Store tx.new.conn.now) (λ _. ⊥) }
 {
@@ -167,6 +190,8 @@ fn last<S: Alter>(alloc: Global, tx: &mut Transaction<'_, S>) -> Result<(), Fail
     ensures inside { HasCleanDisk (state S.Store tx.new.conn.now) → OnOk result (IsInside (state S.Store tx.new.conn.now)) }
     ensures keyed { HasCleanDisk (state S.Store tx.new.conn.now) → OnOk result (Rests (state S.Store tx.old.conn.now) (state S.Store tx.new.conn.now)
         × IsKeyed (rows_named (state S.Store tx.old.conn.now).now (codes "profile")) × IsKeyed (rows_named (state S.Store tx.old.conn.now).now (codes "generation")) × IsKeyed (rows_named (state S.Store tx.old.conn.now).now (codes "runtime"))) }
+    ensures cause { HasCleanDisk (state S.Store tx.new.conn.now) → IfErr result (FailsToTest (state S.Store tx.old.conn.now) (state S.Store tx.new.conn.now)
+        (¬ (IsKeyed (rows_named (state S.Store tx.old.conn.now).now (codes "profile")) × IsKeyed (rows_named (state S.Store tx.old.conn.now).now (codes "generation")) × IsKeyed (rows_named (state S.Store tx.old.conn.now).now (codes "runtime"))))) }
     ensures kept { HasCleanDisk (state S.Store tx.new.conn.now) → KeepsCommit (state S.Store tx.old.conn.now) (state S.Store tx.new.conn.now) }
     ensures survives { Survives (state S.Store tx.old.conn.now) (state S.Store tx.new.conn.now) (λ _. ⊥) }
 {
@@ -182,6 +207,8 @@ pub(crate) fn all<S: Alter>(alloc: Global, tx: &mut Transaction<'_, S>) -> Resul
     ensures inside { HasCleanDisk (state S.Store tx.new.conn.now) → OnOk result (IsInside (state S.Store tx.new.conn.now)) }
     ensures keyed { HasCleanDisk (state S.Store tx.new.conn.now) → OnOk result (Rests (state S.Store tx.old.conn.now) (state S.Store tx.new.conn.now)
         × AllByRecursion (λ t. IsKeyed (rows_named (state S.Store tx.old.conn.now).now t.name)) our_tables) }
+    ensures cause { HasCleanDisk (state S.Store tx.new.conn.now) → IfErr result (FailsToTest (state S.Store tx.old.conn.now) (state S.Store tx.new.conn.now)
+        (¬ AllByRecursion (λ t. IsKeyed (rows_named (state S.Store tx.old.conn.now).now t.name)) our_tables)) }
     ensures kept { HasCleanDisk (state S.Store tx.new.conn.now) → KeepsCommit (state S.Store tx.old.conn.now) (state S.Store tx.new.conn.now) }
     ensures survives { Survives (state S.Store tx.old.conn.now) (state S.Store tx.new.conn.now) (λ _. ⊥) }
 {

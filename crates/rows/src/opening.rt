@@ -1,15 +1,18 @@
 //! Taking up a connection: what its database holds of ours, and that the rows of our tables can be told apart
 //! and their texts read.
 
-ghost use Rattle.std.specs.Prelude.{◌≡◌, ◌↔◌, true, false, IsTrue, IfOk, OnOk};
+ghost use Rattle.std.specs.Prelude.{◌≡◌, ◌↔◌, true, false, IsTrue, IfOk, IfErr, OnOk};
+ghost use Rattle.std.specs.List.{AllByRecursion};
 ghost use Rattle.sqlite.specs.Effect.{IsDatabase};
 ghost use Rattle.sqlite.specs.State.{HasCleanDisk, IsLive, KeepsCommit, Survives};
 ghost use Rattle.sqlite.specs.Held.{state};
 ghost use Rattle.rows.specs.Standing.{HasTables};
 ghost use Rattle.rows.specs.Finding.{HasNone};
-ghost use Rattle.rows.specs.Contents.{contents_of};
+ghost use Rattle.rows.specs.Forms.{our_tables};
+ghost use Rattle.rows.specs.Contents.{contents_of, rows_named};
 ghost use Rattle.rows.specs.Texts.{AreReadable};
-ghost use Rattle.rows.specs.Calls.{IsInside, IsOurs, IsReady};
+ghost use Rattle.rows.specs.Calls.{IsInside, IsKeyed, IsOurs, IsReady};
+ghost use Rattle.rows.specs.Opened.{FailsToTest, FailsToOpen};
 ghost use Rattle.rows.specs.declared.finding.Finding.TheVariants.{Ours, Nothing};
 
 use crate::failure::Failure;
@@ -27,6 +30,8 @@ fn test<S: Alter>(alloc: Global, tx: &mut Transaction<'_, S>) -> Result<bool, Fa
     ensures ours { HasCleanDisk (state S.Store tx.new.conn.now) → IfOk result (λ all. IsTrue all → IsOurs (state S.Store tx.new.conn.now).committed) }
     ensures told { HasCleanDisk (state S.Store tx.new.conn.now) → IfOk result (λ all. IsTrue all ↔ AreReadable (contents_of (state S.Store tx.old.conn.now).now)) }
     ensures open { HasCleanDisk (state S.Store tx.new.conn.now) → OnOk result (IsTrue (state S.Store tx.old.conn.now).is_open) }
+    ensures cause { HasCleanDisk (state S.Store tx.new.conn.now) → IfErr result (FailsToTest (state S.Store tx.old.conn.now) (state S.Store tx.new.conn.now)
+        (¬ AllByRecursion (λ t. IsKeyed (rows_named (state S.Store tx.old.conn.now).now t.name)) our_tables)) }
     ensures kept { HasCleanDisk (state S.Store tx.new.conn.now) → KeepsCommit (state S.Store tx.old.conn.now) (state S.Store tx.new.conn.now) }
     ensures survives { Survives (state S.Store tx.old.conn.now) (state S.Store tx.new.conn.now) (λ _. ⊥) }
 {
@@ -44,6 +49,8 @@ fn check<S: Alter>(alloc: Global, conn: &mut Connection<S>) -> Result<bool, Fail
     ensures ready { HasCleanDisk (state S.Store conn.new) → IsTrue (state S.Store conn.new).is_open → IfOk result (λ all. IsTrue all → IsReady (state S.Store conn.new)) }
     ensures open { HasCleanDisk (state S.Store conn.new) → OnOk result (IsTrue (state S.Store conn.old).is_open) }
     ensures told { HasCleanDisk (state S.Store conn.new) → IsTrue (state S.Store conn.new).is_open → IfOk result (λ all. IsTrue all ↔ AreReadable (contents_of (state S.Store conn.old).now)) }
+    ensures cause { HasCleanDisk (state S.Store conn.new) → IfErr result (FailsToTest (state S.Store conn.old) (state S.Store conn.new)
+        (¬ AllByRecursion (λ t. IsKeyed (rows_named (state S.Store conn.old).now t.name)) our_tables)) }
     ensures was_open { HasCleanDisk (state S.Store conn.new) → IsTrue (state S.Store conn.new).is_open → IsTrue (state S.Store conn.old).is_open }
     ensures same { HasCleanDisk (state S.Store conn.new) → IsTrue (state S.Store conn.new).is_open → ((state S.Store conn.new).now ≡ (state S.Store conn.old).now) × ((state S.Store conn.new).committed ≡ (state S.Store conn.old).committed) }
     ensures survives { Survives (state S.Store conn.old) (state S.Store conn.new) (λ _. ⊥) }
@@ -60,6 +67,7 @@ fn ask<S: Alter>(tx: &mut Transaction<'_, S>) -> Result<(), Failure>
     requires { HasCleanDisk (state S.Store tx.old.conn.now) → (state S.Store tx.old.conn.now).in_transaction ≡ true }
     ensures same_reference { tx.new.conn.ghost_name ≡ tx.old.conn.ghost_name }
     ensures open { HasCleanDisk (state S.Store tx.new.conn.now) → OnOk result (IsTrue (state S.Store tx.old.conn.now).is_open) }
+    ensures cause { HasCleanDisk (state S.Store tx.new.conn.now) → IfErr result (FailsToTest (state S.Store tx.old.conn.now) (state S.Store tx.new.conn.now) ⊥) }
     ensures kept { HasCleanDisk (state S.Store tx.new.conn.now) → KeepsCommit (state S.Store tx.old.conn.now) (state S.Store tx.new.conn.now) }
     ensures survives { Survives (state S.Store tx.old.conn.now) (state S.Store tx.new.conn.now) (λ _. ⊥) }
 {
@@ -73,6 +81,7 @@ fn probe<S: Alter>(conn: &mut Connection<S>) -> Result<(), Failure>
     requires settled { HasCleanDisk (state S.Store conn.old) → IsTrue (state S.Store conn.old).is_open → (state S.Store conn.old).now ≡ (state S.Store conn.old).committed }
     ensures alone { conn.new.in_transaction ≡ false }
     ensures open { HasCleanDisk (state S.Store conn.new) → OnOk result (IsTrue (state S.Store conn.old).is_open) }
+    ensures cause { HasCleanDisk (state S.Store conn.new) → IfErr result (FailsToTest (state S.Store conn.old) (state S.Store conn.new) ⊥) }
     ensures was_open { HasCleanDisk (state S.Store conn.new) → IsTrue (state S.Store conn.new).is_open → IsTrue (state S.Store conn.old).is_open }
     ensures same { HasCleanDisk (state S.Store conn.new) → IsTrue (state S.Store conn.new).is_open → ((state S.Store conn.new).now ≡ (state S.Store conn.old).now) × ((state S.Store conn.new).committed ≡ (state S.Store conn.old).committed) }
     ensures survives { Survives (state S.Store conn.old) (state S.Store conn.new) (λ _. ⊥) }
@@ -93,8 +102,8 @@ pub fn find<S: Alter>(conn: &Connection<S>) -> Finding
 }
 
 /// What the connection's database holds of ours: `Ours` if all nine tables stand and each text in them is UTF-8. Then
-/// the connection is ready for transactions. Nothing changes. It fails where a fault has shut the connection, and if two
-/// rows of a table of ours share a rowid.
+/// the connection is ready for transactions. Nothing changes. It fails for want of memory, for a fault of the disk, where an
+/// earlier one has shut the connection, where a limit on steps stops it, and if two rows of a table of ours share a rowid.
 pub fn open<S: Alter>(alloc: Global, conn: &mut Connection<S>) -> Result<Finding, Failure>
     requires alone { conn.old.in_transaction ≡ false }
     ensures alone { conn.new.in_transaction ≡ false }
@@ -102,6 +111,7 @@ pub fn open<S: Alter>(alloc: Global, conn: &mut Connection<S>) -> Result<Finding
     ensures ours { HasCleanDisk (state S.Store conn.new) → IsTrue (state S.Store conn.new).is_open → IfOk result (λ f. f ≡ Ours ↔ HasTables (state S.Store conn.old).now.schema × AreReadable (contents_of (state S.Store conn.old).now)) }
     ensures nothing { IfOk result (λ f. f ≡ Nothing ↔ HasNone (state S.Store conn.old).now.schema) }
     ensures ready { HasCleanDisk (state S.Store conn.new) → IsTrue (state S.Store conn.new).is_open → IfOk result (λ f. f ≡ Ours → IsReady (state S.Store conn.new)) }
+    ensures cause { HasCleanDisk (state S.Store conn.new) → IfErr result (FailsToOpen (state S.Store conn.old) (state S.Store conn.new)) }
     ensures was_open { HasCleanDisk (state S.Store conn.new) → IsTrue (state S.Store conn.new).is_open → IsTrue (state S.Store conn.old).is_open }
     ensures same { HasCleanDisk (state S.Store conn.new) → IsTrue (state S.Store conn.new).is_open → ((state S.Store conn.new).now ≡ (state S.Store conn.old).now) × ((state S.Store conn.new).committed ≡ (state S.Store conn.old).committed) }
     ensures survives { Survives (state S.Store conn.old) (state S.Store conn.new) (λ _. ⊥) }

@@ -1,6 +1,6 @@
 //! Whether each text of our tables is UTF-8.
 
-ghost use Rattle.std.specs.Prelude.{◌≡◌, ◌↔◌, IfOk, OnOk, IsTrue, codes};
+ghost use Rattle.std.specs.Prelude.{◌≡◌, ◌↔◌, IfOk, IfErr, OnOk, IsTrue, codes};
 ghost use Rattle.sqlite.specs.Effect.{IsDatabase};
 ghost use Rattle.sqlite.specs.State.{HasCleanDisk, KeepsCommit, Survives};
 ghost use Rattle.sqlite.specs.Held.{state};
@@ -8,6 +8,7 @@ ghost use Rattle.rows.specs.Contents.{rows_named};
 ghost use Rattle.rows.specs.Forms.{meta, object, refs, outs, permanent, user_root, profile, generation, runtime};
 ghost use Rattle.rows.specs.Texts.{AreReadableRows, HasReadableRows};
 ghost use Rattle.rows.specs.Calls.{IsInside, Rests};
+ghost use Rattle.rows.specs.Opened.{FailsToTest};
 
 use crate::failure::Failure;
 use crate::texts::check;
@@ -19,6 +20,7 @@ fn meta<S: Alter>(tx: &mut Transaction<'_, S>) -> Result<bool, Failure>
     ensures inside { HasCleanDisk (state S.Store tx.new.conn.now) → OnOk result (IsInside (state S.Store tx.new.conn.now)) }
     ensures told { HasCleanDisk (state S.Store tx.new.conn.now) → IfOk result (λ all. Rests (state S.Store tx.old.conn.now) (state S.Store tx.new.conn.now)
         × (IsTrue all ↔ AreReadableRows meta (rows_named (state S.Store tx.old.conn.now).now (codes "meta")))) }
+    ensures cause { HasCleanDisk (state S.Store tx.new.conn.now) → IfErr result (FailsToTest (state S.Store tx.old.conn.now) (state S.Store tx.new.conn.now) ⊥) }
     ensures kept { HasCleanDisk (state S.Store tx.new.conn.now) → KeepsCommit (state S.Store tx.old.conn.now) (state S.Store tx.new.conn.now) }
     ensures survives { Survives (state S.Store tx.old.conn.now) (state S.Store tx.new.conn.now) (λ _. ⊥) }
 {
@@ -32,6 +34,7 @@ fn object<S: Alter>(tx: &mut Transaction<'_, S>) -> Result<bool, Failure>
     ensures inside { HasCleanDisk (state S.Store tx.new.conn.now) → OnOk result (IsInside (state S.Store tx.new.conn.now)) }
     ensures told { HasCleanDisk (state S.Store tx.new.conn.now) → IfOk result (λ all. Rests (state S.Store tx.old.conn.now) (state S.Store tx.new.conn.now)
         × (IsTrue all ↔ AreReadableRows object (rows_named (state S.Store tx.old.conn.now).now (codes "object")))) }
+    ensures cause { HasCleanDisk (state S.Store tx.new.conn.now) → IfErr result (FailsToTest (state S.Store tx.old.conn.now) (state S.Store tx.new.conn.now) ⊥) }
     ensures kept { HasCleanDisk (state S.Store tx.new.conn.now) → KeepsCommit (state S.Store tx.old.conn.now) (state S.Store tx.new.conn.now) }
     ensures survives { Survives (state S.Store tx.old.conn.now) (state S.Store tx.new.conn.now) (λ _. ⊥) }
 {
@@ -47,6 +50,7 @@ fn refs<S: Alter>(tx: &mut Transaction<'_, S>) -> Result<bool, Failure>
     ensures inside { HasCleanDisk (state S.Store tx.new.conn.now) → OnOk result (IsInside (state S.Store tx.new.conn.now)) }
     ensures told { HasCleanDisk (state S.Store tx.new.conn.now) → IfOk result (λ all. Rests (state S.Store tx.old.conn.now) (state S.Store tx.new.conn.now)
         × (IsTrue all ↔ AreReadableRows refs (rows_named (state S.Store tx.old.conn.now).now (codes "refs")))) }
+    ensures cause { HasCleanDisk (state S.Store tx.new.conn.now) → IfErr result (FailsToTest (state S.Store tx.old.conn.now) (state S.Store tx.new.conn.now) ⊥) }
     ensures kept { HasCleanDisk (state S.Store tx.new.conn.now) → KeepsCommit (state S.Store tx.old.conn.now) (state S.Store tx.new.conn.now) }
     ensures survives { Survives (state S.Store tx.old.conn.now) (state S.Store tx.new.conn.now) (λ _. ⊥) }
 {
@@ -59,6 +63,7 @@ fn outs<S: Alter>(tx: &mut Transaction<'_, S>) -> Result<bool, Failure>
     ensures inside { HasCleanDisk (state S.Store tx.new.conn.now) → OnOk result (IsInside (state S.Store tx.new.conn.now)) }
     ensures told { HasCleanDisk (state S.Store tx.new.conn.now) → IfOk result (λ all. Rests (state S.Store tx.old.conn.now) (state S.Store tx.new.conn.now)
         × (IsTrue all ↔ AreReadableRows outs (rows_named (state S.Store tx.old.conn.now).now (codes "outs")))) }
+    ensures cause { HasCleanDisk (state S.Store tx.new.conn.now) → IfErr result (FailsToTest (state S.Store tx.old.conn.now) (state S.Store tx.new.conn.now) ⊥) }
     ensures kept { HasCleanDisk (state S.Store tx.new.conn.now) → KeepsCommit (state S.Store tx.old.conn.now) (state S.Store tx.new.conn.now) }
     ensures survives { Survives (state S.Store tx.old.conn.now) (state S.Store tx.new.conn.now) (λ _. ⊥) }
 {
@@ -74,6 +79,7 @@ fn permanent<S: Alter>(tx: &mut Transaction<'_, S>) -> Result<bool, Failure>
     ensures inside { HasCleanDisk (state S.Store tx.new.conn.now) → OnOk result (IsInside (state S.Store tx.new.conn.now)) }
     ensures told { HasCleanDisk (state S.Store tx.new.conn.now) → IfOk result (λ all. Rests (state S.Store tx.old.conn.now) (state S.Store tx.new.conn.now)
         × (IsTrue all ↔ AreReadableRows permanent (rows_named (state S.Store tx.old.conn.now).now (codes "permanent")))) }
+    ensures cause { HasCleanDisk (state S.Store tx.new.conn.now) → IfErr result (FailsToTest (state S.Store tx.old.conn.now) (state S.Store tx.new.conn.now) ⊥) }
     ensures kept { HasCleanDisk (state S.Store tx.new.conn.now) → KeepsCommit (state S.Store tx.old.conn.now) (state S.Store tx.new.conn.now) }
     ensures survives { Survives (state S.Store tx.old.conn.now) (state S.Store tx.new.conn.now) (λ _. ⊥) }
 {
@@ -86,6 +92,7 @@ fn user_root<S: Alter>(tx: &mut Transaction<'_, S>) -> Result<bool, Failure>
     ensures inside { HasCleanDisk (state S.Store tx.new.conn.now) → OnOk result (IsInside (state S.Store tx.new.conn.now)) }
     ensures told { HasCleanDisk (state S.Store tx.new.conn.now) → IfOk result (λ all. Rests (state S.Store tx.old.conn.now) (state S.Store tx.new.conn.now)
         × (IsTrue all ↔ AreReadableRows user_root (rows_named (state S.Store tx.old.conn.now).now (codes "user_root")))) }
+    ensures cause { HasCleanDisk (state S.Store tx.new.conn.now) → IfErr result (FailsToTest (state S.Store tx.old.conn.now) (state S.Store tx.new.conn.now) ⊥) }
     ensures kept { HasCleanDisk (state S.Store tx.new.conn.now) → KeepsCommit (state S.Store tx.old.conn.now) (state S.Store tx.new.conn.now) }
     ensures survives { Survives (state S.Store tx.old.conn.now) (state S.Store tx.new.conn.now) (λ _. ⊥) }
 {
@@ -101,6 +108,7 @@ fn profile<S: Alter>(tx: &mut Transaction<'_, S>) -> Result<bool, Failure>
     ensures inside { HasCleanDisk (state S.Store tx.new.conn.now) → OnOk result (IsInside (state S.Store tx.new.conn.now)) }
     ensures told { HasCleanDisk (state S.Store tx.new.conn.now) → IfOk result (λ all. Rests (state S.Store tx.old.conn.now) (state S.Store tx.new.conn.now)
         × (IsTrue all ↔ AreReadableRows profile (rows_named (state S.Store tx.old.conn.now).now (codes "profile")))) }
+    ensures cause { HasCleanDisk (state S.Store tx.new.conn.now) → IfErr result (FailsToTest (state S.Store tx.old.conn.now) (state S.Store tx.new.conn.now) ⊥) }
     ensures kept { HasCleanDisk (state S.Store tx.new.conn.now) → KeepsCommit (state S.Store tx.old.conn.now) (state S.Store tx.new.conn.now) }
     ensures survives { Survives (state S.Store tx.old.conn.now) (state S.Store tx.new.conn.now) (λ _. ⊥) }
 {
@@ -116,6 +124,7 @@ fn generation<S: Alter>(tx: &mut Transaction<'_, S>) -> Result<bool, Failure>
     ensures inside { HasCleanDisk (state S.Store tx.new.conn.now) → OnOk result (IsInside (state S.Store tx.new.conn.now)) }
     ensures told { HasCleanDisk (state S.Store tx.new.conn.now) → IfOk result (λ all. Rests (state S.Store tx.old.conn.now) (state S.Store tx.new.conn.now)
         × (IsTrue all ↔ AreReadableRows generation (rows_named (state S.Store tx.old.conn.now).now (codes "generation")))) }
+    ensures cause { HasCleanDisk (state S.Store tx.new.conn.now) → IfErr result (FailsToTest (state S.Store tx.old.conn.now) (state S.Store tx.new.conn.now) ⊥) }
     ensures kept { HasCleanDisk (state S.Store tx.new.conn.now) → KeepsCommit (state S.Store tx.old.conn.now) (state S.Store tx.new.conn.now) }
     ensures survives { Survives (state S.Store tx.old.conn.now) (state S.Store tx.new.conn.now) (λ _. ⊥) }
 {
@@ -131,6 +140,7 @@ fn runtime<S: Alter>(tx: &mut Transaction<'_, S>) -> Result<bool, Failure>
     ensures inside { HasCleanDisk (state S.Store tx.new.conn.now) → OnOk result (IsInside (state S.Store tx.new.conn.now)) }
     ensures told { HasCleanDisk (state S.Store tx.new.conn.now) → IfOk result (λ all. Rests (state S.Store tx.old.conn.now) (state S.Store tx.new.conn.now)
         × (IsTrue all ↔ AreReadableRows runtime (rows_named (state S.Store tx.old.conn.now).now (codes "runtime")))) }
+    ensures cause { HasCleanDisk (state S.Store tx.new.conn.now) → IfErr result (FailsToTest (state S.Store tx.old.conn.now) (state S.Store tx.new.conn.now) ⊥) }
     ensures kept { HasCleanDisk (state S.Store tx.new.conn.now) → KeepsCommit (state S.Store tx.old.conn.now) (state S.Store tx.new.conn.now) }
     ensures survives { Survives (state S.Store tx.old.conn.now) (state S.Store tx.new.conn.now) (λ _. ⊥) }
 {
@@ -147,6 +157,7 @@ fn first<S: Alter>(tx: &mut Transaction<'_, S>) -> Result<bool, Failure>
     ensures inside { HasCleanDisk (state S.Store tx.new.conn.now) → OnOk result (IsInside (state S.Store tx.new.conn.now)) }
     ensures told { HasCleanDisk (state S.Store tx.new.conn.now) → IfOk result (λ all. Rests (state S.Store tx.old.conn.now) (state S.Store tx.new.conn.now)
         × (IsTrue all ↔ AreReadableRows meta (rows_named (state S.Store tx.old.conn.now).now (codes "meta")) × AreReadableRows object (rows_named (state S.Store tx.old.conn.now).now (codes "object")) × AreReadableRows refs (rows_named (state S.Store tx.old.conn.now).now (codes "refs")))) }
+    ensures cause { HasCleanDisk (state S.Store tx.new.conn.now) → IfErr result (FailsToTest (state S.Store tx.old.conn.now) (state S.Store tx.new.conn.now) ⊥) }
     ensures kept { HasCleanDisk (state S.Store tx.new.conn.now) → KeepsCommit (state S.Store tx.old.conn.now) (state S.Store tx.new.conn.now) }
     ensures survives { Survives (state S.Store tx.old.conn.now) (state S.Store tx.new.conn.now) (λ _. ⊥) }
 {
@@ -162,6 +173,7 @@ fn next<S: Alter>(tx: &mut Transaction<'_, S>) -> Result<bool, Failure>
     ensures inside { HasCleanDisk (state S.Store tx.new.conn.now) → OnOk result (IsInside (state S.Store tx.new.conn.now)) }
     ensures told { HasCleanDisk (state S.Store tx.new.conn.now) → IfOk result (λ all. Rests (state S.Store tx.old.conn.now) (state S.Store tx.new.conn.now)
         × (IsTrue all ↔ AreReadableRows outs (rows_named (state S.Store tx.old.conn.now).now (codes "outs")) × AreReadableRows permanent (rows_named (state S.Store tx.old.conn.now).now (codes "permanent")) × AreReadableRows user_root (rows_named (state S.Store tx.old.conn.now).now (codes "user_root")))) }
+    ensures cause { HasCleanDisk (state S.Store tx.new.conn.now) → IfErr result (FailsToTest (state S.Store tx.old.conn.now) (state S.Store tx.new.conn.now) ⊥) }
     ensures kept { HasCleanDisk (state S.Store tx.new.conn.now) → KeepsCommit (state S.Store tx.old.conn.now) (state S.Store tx.new.conn.now) }
     ensures survives { Survives (state S.Store tx.old.conn.now) (state S.Store tx.new.conn.now) (λ _. ⊥) }
 {
@@ -177,6 +189,7 @@ fn last<S: Alter>(tx: &mut Transaction<'_, S>) -> Result<bool, Failure>
     ensures inside { HasCleanDisk (state S.Store tx.new.conn.now) → OnOk result (IsInside (state S.Store tx.new.conn.now)) }
     ensures told { HasCleanDisk (state S.Store tx.new.conn.now) → IfOk result (λ all. Rests (state S.Store tx.old.conn.now) (state S.Store tx.new.conn.now)
         × (IsTrue all ↔ AreReadableRows profile (rows_named (state S.Store tx.old.conn.now).now (codes "profile")) × AreReadableRows generation (rows_named (state S.Store tx.old.conn.now).now (codes "generation")) × AreReadableRows runtime (rows_named (state S.Store tx.old.conn.now).now (codes "runtime")))) }
+    ensures cause { HasCleanDisk (state S.Store tx.new.conn.now) → IfErr result (FailsToTest (state S.Store tx.old.conn.now) (state S.Store tx.new.conn.now) ⊥) }
     ensures kept { HasCleanDisk (state S.Store tx.new.conn.now) → KeepsCommit (state S.Store tx.old.conn.now) (state S.Store tx.new.conn.now) }
     ensures survives { Survives (state S.Store tx.old.conn.now) (state S.Store tx.new.conn.now) (λ _. ⊥) }
 {
@@ -194,6 +207,7 @@ pub(crate) fn all<S: Alter>(tx: &mut Transaction<'_, S>) -> Result<bool, Failure
     ensures inside { HasCleanDisk (state S.Store tx.new.conn.now) → OnOk result (IsInside (state S.Store tx.new.conn.now)) }
     ensures told { HasCleanDisk (state S.Store tx.new.conn.now) → IfOk result (λ all. Rests (state S.Store tx.old.conn.now) (state S.Store tx.new.conn.now)
         × (IsTrue all ↔ HasReadableRows (state S.Store tx.old.conn.now).now)) }
+    ensures cause { HasCleanDisk (state S.Store tx.new.conn.now) → IfErr result (FailsToTest (state S.Store tx.old.conn.now) (state S.Store tx.new.conn.now) ⊥) }
     ensures kept { HasCleanDisk (state S.Store tx.new.conn.now) → KeepsCommit (state S.Store tx.old.conn.now) (state S.Store tx.new.conn.now) }
     ensures survives { Survives (state S.Store tx.old.conn.now) (state S.Store tx.new.conn.now) (λ _. ⊥) }
 {

@@ -1,6 +1,6 @@
 //! That the texts of our tables are UTF-8.
 
-ghost use Rattle.std.specs.Prelude.{◌≡◌, ◌↔◌, [], List, IfOk, IsTrue, true};
+ghost use Rattle.std.specs.Prelude.{◌≡◌, ◌↔◌, [], List, IfOk, IfErr, IsTrue, true};
 ghost use Rattle.std.specs.List.{AllByRecursion};
 ghost use Rattle.sqlite_value.specs.declared.value.Value.{Value};
 ghost use Rattle.sqlite_value.specs.Value.{owned};
@@ -8,6 +8,7 @@ ghost use Rattle.sqlite_value.specs.Order.{Row as Values};
 ghost use Rattle.sqlite.specs.State.{HasCleanDisk, KeepsCommit, Survives, Shown};
 ghost use Rattle.sqlite.specs.Held.{state};
 ghost use Rattle.rows.specs.Texts.{IsReadable, IsReadableRow};
+ghost use Rattle.rows.specs.Failures.{IsQueryFailure};
 
 use crate::failure::Failure;
 use crate::statement;
@@ -48,6 +49,7 @@ pub(crate) fn check<S: Alter>(tx: &mut Transaction<'_, S>, text: &str) -> Result
     ensures same_reference { tx.new.conn.ghost_name ≡ tx.old.conn.ghost_name }
     ensures shown { HasCleanDisk (state S.Store tx.new.conn.now) → IfOk result (λ all. (rows : List Values) × Shown text.now [] (state S.Store tx.old.conn.now) (state S.Store tx.new.conn.now) rows
         × (IsTrue all ↔ AllByRecursion IsReadableRow rows)) }
+    ensures cause { HasCleanDisk (state S.Store tx.new.conn.now) → IfErr result (IsQueryFailure text.now [] (state S.Store tx.old.conn.now) (state S.Store tx.new.conn.now)) }
     ensures kept { HasCleanDisk (state S.Store tx.new.conn.now) → KeepsCommit (state S.Store tx.old.conn.now) (state S.Store tx.new.conn.now) }
     ensures survives { Survives (state S.Store tx.old.conn.now) (state S.Store tx.new.conn.now) (λ _. ⊥) }
 {

@@ -4,6 +4,7 @@ use Rattle.sqlite.specs.Held.{state}
 use Rattle.sqlite.proofs.StateLemmas.{survives_then}
 use Rattle.sqlite.proofs.InsideLemmas.{keeps_then}
 use Rattle.rows.proofs.ReadableRows.{all_nine}
+use Rattle.rows.proofs.OpeningFailures.{passed_on, passes_then, fails_after}
 use Rattle.rows.proofs.readable.all.Goals as goal
 
 pub returns-in_err-next-clause-kept : goal.returns-in_err-next-clause-kept
@@ -51,3 +52,20 @@ returns-clause-told g c clean =
     let clean3 : HasCleanDisk three = omega (arith, c.last.ensures.survives.clean) in
     let clean2 : HasCleanDisk two = omega (arith, c.next.ensures.survives.clean) in
     all_nine one two three four _ _ _ (c.in_ok-first.ensures.told clean2) (c.in_ok-next.ensures.told clean3) (c.in_ok-last.ensures.told clean)
+
+pub returns-in_err-next-clause-cause : goal.returns-in_err-next-clause-cause
+returns-in_err-next-clause-cause g c clean =
+    let one = state g.S.Store c.args.tx.now.conn.now in
+    let two = state g.S.Store c.first.new.tx.conn.now in
+    let three = state g.S.Store c.next.new.tx.conn.now in
+    passed_on c.from_residual-in_err-next.result c.in_err-next.field-0.0 _ c.from_residual-in_err-next.ensures.1
+    (fails_after one two three ⊥ ⊥ (λ clean. (c.in_ok-first.ensures.told clean).0, c.first.ensures.survives) c.next.ensures.survives clean (λ same no. no) c.in_err-next.field-0.0 (c.in_err-next.ensures.cause clean))
+
+pub returns-in_err-last-clause-cause : goal.returns-in_err-last-clause-cause
+returns-in_err-last-clause-cause g c clean =
+    let one = state g.S.Store c.args.tx.now.conn.now in
+    let two = state g.S.Store c.first.new.tx.conn.now in
+    let three = state g.S.Store c.next.new.tx.conn.now in
+    let four = state g.S.Store c.last.new.tx.conn.now in
+    let before = passes_then one two three (λ clean. (c.in_ok-first.ensures.told clean).0, c.first.ensures.survives) (λ clean. (c.in_ok-next.ensures.told clean).0, c.next.ensures.survives) in
+    passed_on c.from_residual-in_err-last.result c.in_err-last.field-0.0 _ c.from_residual-in_err-last.ensures.1 (fails_after one three four ⊥ ⊥ before c.last.ensures.survives clean (λ same no. no) c.in_err-last.field-0.0 (c.in_err-last.ensures.cause clean))

@@ -8,6 +8,7 @@ use Rattle.rows.specs.Contents.{rows_named}
 use Rattle.rows.specs.Forms.{profile, generation, runtime}
 use Rattle.rows.specs.Texts.{AreReadableRows}
 use Rattle.rows.proofs.ReadableRows.{all_three}
+use Rattle.rows.proofs.OpeningFailures.{passed_on, passes_then, fails_after}
 use Rattle.rows.proofs.readable.last.Goals as goal
 
 pub returns-in_err-generation-clause-kept : goal.returns-in_err-generation-clause-kept
@@ -56,3 +57,20 @@ returns-clause-told g c clean =
     let clean2 : HasCleanDisk two = omega (arith, c.generation.ensures.survives.clean) in
     all_three (λ (d : Database). AreReadableRows profile (rows_named d (codes "profile"))) (λ (d : Database). AreReadableRows generation (rows_named d (codes "generation"))) (λ (d : Database). AreReadableRows runtime (rows_named d (codes "runtime")))
     one two three four _ _ _ (c.in_ok-profile.ensures.told clean2) (c.in_ok-generation.ensures.told clean3) (c.in_ok-runtime.ensures.told clean)
+
+pub returns-in_err-generation-clause-cause : goal.returns-in_err-generation-clause-cause
+returns-in_err-generation-clause-cause g c clean =
+    let one = state g.S.Store c.args.tx.now.conn.now in
+    let two = state g.S.Store c.profile.new.tx.conn.now in
+    let three = state g.S.Store c.generation.new.tx.conn.now in
+    passed_on c.from_residual-in_err-generation.result c.in_err-generation.field-0.0 _ c.from_residual-in_err-generation.ensures.1
+    (fails_after one two three ⊥ ⊥ (λ clean. (c.in_ok-profile.ensures.told clean).0, c.profile.ensures.survives) c.generation.ensures.survives clean (λ same no. no) c.in_err-generation.field-0.0 (c.in_err-generation.ensures.cause clean))
+
+pub returns-in_err-runtime-clause-cause : goal.returns-in_err-runtime-clause-cause
+returns-in_err-runtime-clause-cause g c clean =
+    let one = state g.S.Store c.args.tx.now.conn.now in
+    let two = state g.S.Store c.profile.new.tx.conn.now in
+    let three = state g.S.Store c.generation.new.tx.conn.now in
+    let four = state g.S.Store c.runtime.new.tx.conn.now in
+    let before = passes_then one two three (λ clean. (c.in_ok-profile.ensures.told clean).0, c.profile.ensures.survives) (λ clean. (c.in_ok-generation.ensures.told clean).0, c.generation.ensures.survives) in
+    passed_on c.from_residual-in_err-runtime.result c.in_err-runtime.field-0.0 _ c.from_residual-in_err-runtime.ensures.1 (fails_after one three four ⊥ ⊥ before c.runtime.ensures.survives clean (λ same no. no) c.in_err-runtime.field-0.0 (c.in_err-runtime.ensures.cause clean))

@@ -8,6 +8,7 @@ use Rattle.rows.specs.Contents.{rows_named}
 use Rattle.rows.specs.Forms.{outs, permanent, user_root}
 use Rattle.rows.specs.Texts.{AreReadableRows}
 use Rattle.rows.proofs.ReadableRows.{all_three}
+use Rattle.rows.proofs.OpeningFailures.{passed_on, passes_then, fails_after}
 use Rattle.rows.proofs.readable.next.Goals as goal
 
 pub returns-in_err-permanent-clause-kept : goal.returns-in_err-permanent-clause-kept
@@ -56,3 +57,20 @@ returns-clause-told g c clean =
     let clean2 : HasCleanDisk two = omega (arith, c.permanent.ensures.survives.clean) in
     all_three (λ (d : Database). AreReadableRows outs (rows_named d (codes "outs"))) (λ (d : Database). AreReadableRows permanent (rows_named d (codes "permanent"))) (λ (d : Database). AreReadableRows user_root (rows_named d (codes "user_root")))
     one two three four _ _ _ (c.in_ok-outs.ensures.told clean2) (c.in_ok-permanent.ensures.told clean3) (c.in_ok-user_root.ensures.told clean)
+
+pub returns-in_err-permanent-clause-cause : goal.returns-in_err-permanent-clause-cause
+returns-in_err-permanent-clause-cause g c clean =
+    let one = state g.S.Store c.args.tx.now.conn.now in
+    let two = state g.S.Store c.outs.new.tx.conn.now in
+    let three = state g.S.Store c.permanent.new.tx.conn.now in
+    passed_on c.from_residual-in_err-permanent.result c.in_err-permanent.field-0.0 _ c.from_residual-in_err-permanent.ensures.1
+    (fails_after one two three ⊥ ⊥ (λ clean. (c.in_ok-outs.ensures.told clean).0, c.outs.ensures.survives) c.permanent.ensures.survives clean (λ same no. no) c.in_err-permanent.field-0.0 (c.in_err-permanent.ensures.cause clean))
+
+pub returns-in_err-user_root-clause-cause : goal.returns-in_err-user_root-clause-cause
+returns-in_err-user_root-clause-cause g c clean =
+    let one = state g.S.Store c.args.tx.now.conn.now in
+    let two = state g.S.Store c.outs.new.tx.conn.now in
+    let three = state g.S.Store c.permanent.new.tx.conn.now in
+    let four = state g.S.Store c.user_root.new.tx.conn.now in
+    let before = passes_then one two three (λ clean. (c.in_ok-outs.ensures.told clean).0, c.outs.ensures.survives) (λ clean. (c.in_ok-permanent.ensures.told clean).0, c.permanent.ensures.survives) in
+    passed_on c.from_residual-in_err-user_root.result c.in_err-user_root.field-0.0 _ c.from_residual-in_err-user_root.ensures.1 (fails_after one three four ⊥ ⊥ before c.user_root.ensures.survives clean (λ same no. no) c.in_err-user_root.field-0.0 (c.in_err-user_root.ensures.cause clean))

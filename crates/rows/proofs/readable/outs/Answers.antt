@@ -3,6 +3,9 @@ use Rattle.sqlite.specs.State.{HasCleanDisk}
 use Rattle.sqlite.specs.Held.{state}
 use Rattle.rows.proofs.Scans.{shown_open}
 use Rattle.rows.proofs.ReadableRows.{if_ok, inside_told}
+use Rattle.rows.proofs.Scans.{err_with}
+use Rattle.rows.proofs.OutputLemmas.{fails_all}
+use Rattle.rows.proofs.OpeningFailures.{test_fails}
 use Rattle.rows.proofs.ReadableTexts.{outs_told}
 use Rattle.rows.proofs.readable.outs.Goals as goal
 
@@ -19,3 +22,10 @@ returns-clause-inside g c clean =
     let new = state g.S.Store c.check.new.tx.conn.now in
     let early : HasCleanDisk old = omega (arith, c.check.ensures.survives.clean) in
     inside_told old new c.check.result _ (c.requires early) (if_ok c.check.result _ _ (λ b h. outs_told old new ((c.requires early).has (shown_open _ _ old new h.0 h.1)).1.1.1.0 b h) (c.check.ensures.shown clean))
+
+pub returns-clause-cause : goal.returns-clause-cause
+returns-clause-cause g c clean =
+    let old = state g.S.Store c.args.tx.now.conn.now in
+    let new = state g.S.Store c.check.new.tx.conn.now in
+    let early : HasCleanDisk old = omega (arith, c.check.ensures.survives.clean) in
+    err_with c.check.result _ _ (test_fails old new _ ⊥ (fails_all old new (c.requires early))) (c.check.ensures.cause clean)

@@ -1,0 +1,64 @@
+-- Why the tests of our tables at opening fail, one query after another.
+use Rattle.std.proofs.Common.{◌≡◌, ◌⊎◌, ℕ, List, [], inl, inr, Result, Ok, Err, IsErrAnd, IfErr, sym, subst, ◌∙◌, arith}
+use Rattle.std.specs.Prelude.{IsSome}
+use Rattle.sqlite.specs.declared.error.Error.{Error}
+use Rattle.sqlite.specs.Effect.{Database}
+use Rattle.sqlite.specs.State.{State, HasCleanDisk, Survives, FailsToQuery, IsTooLate}
+use Rattle.sqlite.proofs.StateLemmas.{survives_then}
+use Rattle.rows.specs.declared.failure.Failure.{Failure}
+use Rattle.rows.specs.declared.failure.Failure.TheVariants.{Memory, Size, Disk}
+use Rattle.rows.specs.Calls.{Rests}
+use Rattle.rows.specs.Failures.{failure_of, FailsWith, IsQueryFailure}
+use Rattle.rows.specs.Opened.{FailsToTest}
+use Rattle.rows.proofs.OwnRowids.{rests_then}
+
+-- an error that is passed on
+pub passed_on : {T : Type 0} (r : Result T Failure) (e : Failure) (P : Failure → Type 0) → IsErrAnd r (λ f. f ≡ e) → P e → IfErr r P
+passed_on (Ok x) e P is h = tt
+passed_on (Err f) e P is h = subst P (sym is) h
+
+-- a query fails for the disk or a limit on steps alone
+by_query : (old new : State) (found : Type 0) (f : Failure) → FailsWith old new ⊥ (IsSome old.step_limit) f → FailsToTest old new found f
+by_query old new found Memory h = tt
+by_query old new found Size h = h.0
+by_query old new found Disk (inl h) = inl h.0
+by_query old new found Disk (inr h) = inr (inl h.0)
+
+pub test_fails : (old new : State) (text : List ℕ) (found : Type 0) → ((e : Error) → FailsToQuery text [] old new e ⊎ IsTooLate text [] old new e → FailsWith old new ⊥ (IsSome old.step_limit) (failure_of e)) → (f : Failure) → IsQueryFailure text [] old new f → FailsToTest old new found f
+test_fails old new text found fails f h = by_query old new found f (subst (FailsWith old new ⊥ (IsSome old.step_limit)) (sym h.1) (fails h.0 h.2))
+
+-- what failed for one of several reasons
+pub fails_for : (old new : State) (P Q : Type 0) → (P → Q) → (f : Failure) → FailsToTest old new P f → FailsToTest old new Q f
+fails_for old new P Q so Memory h = tt
+fails_for old new P Q so Size h = h
+fails_for old new P Q so Disk (inl h) = inl h
+fails_for old new P Q so Disk (inr (inl h)) = inr (inl h)
+fails_for old new P Q so Disk (inr (inr h)) = inr (inr (so h))
+
+-- ---- one test after another
+
+-- it was passed, and nothing changed
+abbrev Passes : State → State → Type 0
+Passes a b = (HasCleanDisk b → Rests a b) × Survives a b (λ _. ⊥)
+
+pub passes_then : (a b c : State) → Passes a b → Passes b c → Passes a c
+passes_then a b c h k = (
+  λ clean. rests_then a b c (h.0 (omega (arith, k.1.clean, clean))) (k.0 clean),
+  survives_then a b c (λ _. ⊥) (λ _. ⊥) (λ _. ⊥) (λ clean db no. no) (λ clean db no. no) h.1 k.1,
+)
+
+after : (a b c : State) (P Q : Type 0) → Rests a b → Survives a b (λ _. ⊥) → (P → Q) → (f : Failure) → FailsToTest b c P f → FailsToTest a c Q f
+after a b c P Q same before so Memory h = tt
+after a b c P Q same before so Size h = h
+after a b c P Q same before so Disk (inl (inl more)) = inl (inl (omega (arith, more, before.counts)))
+after a b c P Q same before so Disk (inl (inr shut)) = absurd (let no = sym same.is_open ∙ shut in cc)
+after a b c P Q same before so Disk (inr (inl limit)) = inr (inl (subst IsSome before.limit limit))
+after a b c P Q same before so Disk (inr (inr h)) = inr (inr (so h))
+
+-- a failure after a test that was passed is one of both
+pub fails_after : (a b c : State) (P Q : Type 0) → Passes a b → Survives b c (λ _. ⊥) → HasCleanDisk c → (Rests a b → P → Q) → (f : Failure) → FailsToTest b c P f → FailsToTest a c Q f
+fails_after a b c P Q passes later clean so = let same = passes.0 (omega (arith, later.clean, clean)) in after a b c P Q same passes.1 (so same)
+
+-- what isn't so of what the second test saw, isn't so of what the first saw
+pub not_before : (P Q : Database → Type 0) → ((d : Database) → Q d → P d) → (a b : State) → Rests a b → ¬ P b.now → ¬ Q a.now
+not_before P Q of a b same none h = none (subst P (sym same.now) (of a.now h))
