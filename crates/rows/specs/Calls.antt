@@ -26,7 +26,7 @@ pub record IsOurs (db : Database) : Type 0 where
   pub keyed : AllByRecursion (λ t. IsKeyed (rows_named db t.name)) our_tables
   pub readable : HasReadableRows db
 
--- between transactions: what the connection shows is ours, and so did the last commit leave it
+-- what the connection shows is ours, and so did the last commit leave it
 pub record IsReady (s : State) : Type 0 where
   pub ours : IsOurs s.now
   pub settled : s.now ≡ s.committed

@@ -99,7 +99,7 @@ runtime_of e = ((string_bytes e.label, string_bytes e.target), tt)
 abbrev pub ShowsRuntimeRoot : Row → RuntimeRoot → Type 0
 ShowsRuntimeRoot row e = (column row 0 ≡ Text (string_bytes e.label)) × (column row 1 ≡ Text (string_bytes e.target))
 
--- ---- which rows can be read as an entry
+-- ---- which rows of an answer can be read as an entry: its columns are counted from 0, and none is the rowid
 
 -- a text that is UTF-8
 abbrev pub IsLegible : Value → Type 0

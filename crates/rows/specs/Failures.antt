@@ -1,15 +1,15 @@
 -- Which failure an error of the database is, and what a failure says of its call.
-use Rattle.std.specs.Prelude.{ℕ, ◌≡◌, ◌⊎◌, true, false, List, ◌∷◌, Option, Some, None, IsSome, Err, ⊤}
+use Rattle.std.specs.Prelude.{ℕ, ◌≡◌, ◌⊎◌, true, false, List, ◌∷◌, Option, Some, None, IsSome, Err}
 use Rattle.std.specs.List.{list_any}
 use Rattle.sqlite_value.specs.declared.value.Value.TheVariants.{Int}
 use Rattle.sqlite_value.specs.Order.{Row}
 use Rattle.sqlite_trees.specs.Tree.{has_rowid}
-use Rattle.sqlite_trees.specs.declared.error.StoreError.TheVariants.{Io}
+use Rattle.sqlite_disk.specs.Disk.{MoreFaults}
 use Rattle.sqlite_sql.specs.Ops.{fits_i64}
 use Rattle.sqlite_schema.specs.declared.schema.Table.{Table}
 use Rattle.sqlite_rules.specs.Edit.{next_rowid, IsOversized}
 use Rattle.sqlite.specs.Effect.{Database}
-use Rattle.sqlite.specs.State.{State, HasCause, IsUnchanged, IsRolledBack, FailsToQuery, IsTooLate, ExecutesInside}
+use Rattle.sqlite.specs.State.{State, IsUnchanged, IsRolledBack, FailsToQuery, IsTooLate, ExecutesInside}
 use Rattle.sqlite.specs.declared.error.ErrorCode.TheVariants.{OutOfMemory, TooBig, SystemIoFailure, DiskFull, Closed}
 use Rattle.sqlite.specs.declared.error.Error.{Error}
 use Rattle.sqlite.specs.declared.error.Error.TheVariants.{SqliteFailure}
@@ -49,7 +49,7 @@ unsized Disk = Disk
 
 -- a fault of the disk came in this call, or an earlier one had shut the connection
 abbrev pub HasDiskCause : State → State → Type 0
-HasDiskCause old new = HasCause old new ⊤ Io ⊎ (old.is_open ≡ false)
+HasDiskCause old new = MoreFaults old.faults new.faults ⊎ (old.is_open ≡ false)
 
 -- Why a call inside a transaction failed. For want of memory the transaction is undone, or nothing changes. A row too large, where there can be one, undoes it, and so does a fault of the disk. Where there is a reason to refuse the call, the answer is the disk too, and nothing changes.
 abbrev pub FailsWith : State → State → (large refused : Type 0) → Failure → Type 0
@@ -65,7 +65,7 @@ FailsFor old new = FailsWith old new ⊥ (IsSome old.step_limit)
 unfoldable pub IsTooLarge : Database → Table → Row → Type 0
 IsTooLarge db table values = IsOversized db.schema (record table { tree = tree_named db.schema table.name }) (Int (next_rowid (rows_named db table.name)) ∷ values)
 
--- the rowid after the last is beyond 64 bits, or a row has it
+-- no rowid is left for one more row: the one after the last is beyond 64 bits, or taken
 unfoldable pub HasNoRowidLeft : Database → Table → Type 0
 HasNoRowidLeft db table =
     let rows = rows_named db table.name in (fits_i64 (next_rowid rows) ≡ false) ⊎ (list_any (has_rowid (next_rowid rows)) rows ≡ true)

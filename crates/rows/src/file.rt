@@ -92,7 +92,7 @@ fn connect<S: Start>(
 }
 
 /// Opens the file at a path, or makes an empty database there, and takes it up. `start` stands for what the file held, which no
-/// code reads: a program passes `Unknown`, or `Wary` where a torn write may leave any bytes.
+/// code reads: a theorem is stated over any, and a program passes `Unknown`, or `Wary` where a torn write may leave any bytes.
 pub fn open<S: Start>(
     rt: &HostRuntime,
     path: &str,
