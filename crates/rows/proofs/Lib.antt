@@ -57,6 +57,7 @@ pub mod DeleteFailures
 pub mod Additions
 pub mod FreeKeys
 pub mod InsertFailures
+pub mod Sizes
 pub mod Under
 pub mod Creates
 pub mod MakingTexts

@@ -16,6 +16,7 @@ use Rattle.sqlite_schema.specs.declared.schema.Column.{Column}
 use Rattle.sqlite_schema.specs.declared.schema.Schema.{Schema}
 use Rattle.sqlite_schema.specs.declared.command.Command.{Command}
 use Rattle.sqlite_schema.specs.declared.command.Command.TheVariants.{Select}
+use Rattle.sqlite_schema.specs.declared.command.Returning.{Returning}
 use Rattle.sqlite_resolve.specs.Scope.{Name}
 use Rattle.sqlite_resolve.specs.Lowering.{and_then}
 use Rattle.sqlite_resolve.specs.Compile.{first, compiled, planned, meaning, returning, with_command, timed as timed_names}
@@ -23,6 +24,8 @@ use Rattle.sqlite_resolve.specs.declared.compiled.Compiled.{Compiled}
 use Rattle.sqlite_resolve.specs.declared.error.CompileError.{CompileError}
 use Rattle.sqlite_resolve.specs.declared.error.CompileError.TheVariants.{NoSuchTable}
 use Rattle.sqlite.specs.declared.error.Error.{Error}
+use Rattle.sqlite.specs.declared.error.Error.TheVariants.{SqliteFailure}
+use Rattle.sqlite.specs.declared.error.ErrorCode.TheVariants.{OperationInterrupted}
 use Rattle.sqlite.specs.Clock.{timed}
 use Rattle.sqlite.specs.Effect.{RefusesQuery, RefusesToRead}
 use Rattle.sqlite.specs.Listing.{understood, reads_listing, listing_schema, is_select, if_select, IsSourceOf}
@@ -93,15 +96,19 @@ IsRead text = (names : List Name) × (start : ℕ) × (end : ℕ) × (tail : ℕ
 
 -- ---- a query
 
-module _ (old new : State) (mode : old.in_transaction ≡ true) (text : List ℕ) (params : Row) (names : List (List ℕ)) (query : Query) (meant : IsUnchanged old new → IsMeant old.now.schema text (length params) (Select (record { lets = []; body = query }) names)) (reads : IsRead text)
+module _ (old new : State) (text : List ℕ) (params : Row) (names : List (List ℕ)) (query : Query) (meant : IsUnchanged old new → IsMeant old.now.schema text (length params) (Select (record { lets = []; body = query }) names)) (reads : IsRead text)
     (typed : IsUnchanged old new → accepts_program old.now.schema [] query params ≡ true) (sums_nothing : (db : Trees) → QueryOverflows query db params → ⊥) where
+  -- a limit on steps stopped it, and nothing changed
+  abbrev IsStopped : Error → Type 0
+  IsStopped e = (e ≡ SqliteFailure OperationInterrupted) × IsSome old.step_limit × IsUnchanged old new
+
   -- only a limit on steps refuses it
-  refused : (e : Error) → IsUnchanged old new → RefusesQuery old.step_limit old.now (record { lets = []; body = query }) params e → FailsWith old new ⊥ (IsSome old.step_limit) (failure_of e)
+  refused : (e : Error) → IsUnchanged old new → RefusesQuery old.step_limit old.now (record { lets = []; body = query }) params e → IsStopped e
   refused e same (inl h) = absurd (let no = sym (typed same) ∙ h.1 in cc)
   refused e same (inr (inl h)) = absurd (sums_nothing (overlay old.now.trees []) h.1)
-  refused e same (inr (inr h)) = subst (λ x. FailsWith old new ⊥ (IsSome old.step_limit) (failure_of x)) (sym h.0) (inr (h.1, same))
+  refused e same (inr (inr h)) = (h.0, h.1, same)
 
-  shown : (e : Error) (c : Compiled) (it : IsStatement old text params c) → understood old.now.schema text ≡ Ok c → FailsToShow old new text c (timed params c.formats it.now) e None → FailsWith old new ⊥ (IsSome old.step_limit) (failure_of e)
+  shown : (e : Error) (c : Compiled) (it : IsStatement old text params c) → understood old.now.schema text ≡ Ok c → FailsToShow old new text c (timed params c.formats it.now) e None → IsStopped e
   shown e c it known h =
       let m = meant h.3 in
       let same : m.0 ≡ c = one m.1.0 known in
@@ -112,13 +119,23 @@ module _ (old new : State) (mode : old.in_transaction ≡ true) (text : List ℕ
       refused e h.3 (subst (λ ps. RefusesToRead old.step_limit (Select (record { lets = []; body = query }) names) old.now ps e) full
       (subst₂ (λ k d. RefusesToRead old.step_limit k d (timed params c.formats it.now) e) command db h.2))
 
+  silent : (c : Compiled) → understood old.now.schema text ≡ Ok c → c.returning ≡ None
+  silent c is = understood_read reads.0 reads.1 reads.2 reads.3 reads.4 text reads.5 old.now.schema c is
+
+  -- the store failed, or a limit on steps stopped it
+  pub query_stops : (e : Error) → FailsToQuery text params old new e ⊎ IsTooLate text params old new e → Fails old new ⊥ e ⊎ IsStopped e
+  unfolding FailsToQuery IsNotRun
+  query_stops e (inl (inl (inl h))) = absurd (is_statement old text params _ (meant h.1) e h.0)
+  query_stops e (inl (inl (inr h))) = inl h
+  query_stops e (inl (inr h)) = inr (shown e h.0 h.1 h.1.is (subst (FailsToShow old new text h.0 (timed params h.0.formats h.1.now) e) (silent h.0 h.1.is) h.2))
+  query_stops e (inr h) = absurd (let none : IsSome {T = Returning} None = subst IsSome (silent h.0 h.1.is) h.2 in cc)
+
   -- an error of the query
   pub query_fails : (e : Error) → FailsToQuery text params old new e ⊎ IsTooLate text params old new e → FailsWith old new ⊥ (IsSome old.step_limit) (failure_of e)
-  unfolding FailsToQuery IsNotRun
-  query_fails e (inl (inl (inl h))) = absurd (is_statement old text params _ (meant h.1) e h.0)
-  query_fails e (inl (inl (inr h))) = store_failed old new ⊥ (IsSome old.step_limit) ⊥ (λ no. no) e h
-  query_fails e (inl (inr h)) = shown e h.0 h.1 h.1.is (subst (FailsToShow old new text h.0 (timed params h.0.formats h.1.now) e) (understood_read reads.0 reads.1 reads.2 reads.3 reads.4 text reads.5 old.now.schema h.0 h.1.is) h.2)
-  query_fails e (inr h) = absurd (let no = sym mode ∙ h.3 in cc)
+  query_fails e h = elim (query_stops e h) [
+    | inl failed ↦ store_failed old new ⊥ (IsSome old.step_limit) ⊥ (λ no. no) e failed
+    | inr stopped ↦ subst (λ x. FailsWith old new ⊥ (IsSome old.step_limit) (failure_of x)) (sym stopped.0) (inr (stopped.1, stopped.2))
+  ]
 
 -- a query over one table sums nothing
 sums_nothing : (q : Query) (tree : ℕ) → IsScan q tree → (params : Row) (db : Trees) → QueryOverflows q db params → ⊥
@@ -131,7 +148,7 @@ pub read_fails : (name : List ℕ) (columns : List Column) (key : List ℕ) (old
     → ((s : Schema) (at tree : ℕ) → IsKnown s name at (record (strict name columns key) { tree = tree }) → accepts_program s [] (query tree) params ≡ true)
     → (e : Error) → FailsToQuery text params old new e ⊎ IsTooLate text params old new e → FailsWith old new ⊥ (IsSome old.step_limit) (failure_of e)
 read_fails name columns key old new inside at text params names query scan is reads typed =
-    query_fails old new inside.mode text params names (query tree) (λ same. is old.now.schema (stands same).at tree (stands same).known) reads (λ same. typed old.now.schema (stands same).at tree (stands same).known) (sums_nothing (query tree) tree (scan tree) params)
+    query_fails old new text params names (query tree) (λ same. is old.now.schema (stands same).at tree (stands same).known) reads (λ same. typed old.now.schema (stands same).at tree (stands same).known) (sums_nothing (query tree) tree (scan tree) params)
   where
     tree : ℕ
     tree = tree_named old.now.schema name

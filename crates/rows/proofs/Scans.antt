@@ -98,7 +98,7 @@ shown_same sql params old new rows plain h =
     let it = subst (ShowsRows old new sql h.0 _ rows) none h.2 in
     it.3
 
-unchanged_keeps : (old new : State) → IsUnchanged old new → KeepsCommit old new
+pub unchanged_keeps : (old new : State) → IsUnchanged old new → KeepsCommit old new
 unchanged_keeps old new h = record { was_open = λ _. h.0.was_open; committed = λ _. h.0.committed_is }
 
 undone_keeps : (old new : State) → IsRolledBack old new → KeepsCommit old new

@@ -3,16 +3,10 @@ use Rattle.std.proofs.Common.{◌≡◌, ◌≢◌, ◌⊎◌, inl, inr, ℕ, Li
 use Rattle.std.specs.Prelude.{MatchBool, ◌≤◌, IfErr, IsSome}
 use Rattle.std.proofs.lemmas.Bool.{both_ways, leb-true}
 use Rattle.sqlite_value.specs.Order.{Row}
-use Rattle.sqlite_trees.specs.declared.error.StoreError.{StoreError}
-use Rattle.sqlite_trees.specs.declared.error.StoreError.TheVariants.{OutOfMemory, Io, Corrupt, Full, Broken, Unstorable}
 use Rattle.sqlite_schema.specs.declared.schema.Column.{Column}
-use Rattle.sqlite_schema.specs.declared.schema.Schema.{Schema}
 use Rattle.sqlite_schema.specs.declared.command.Command.{Command}
 use Rattle.sqlite_schema.specs.declared.command.Command.TheVariants.{Insert, Delete}
-use Rattle.sqlite_syntax.specs.declared.statement.Parsed.{Parsed}
 use Rattle.sqlite_resolve.specs.declared.compiled.Compiled.{Compiled}
-use Rattle.sqlite_resolve.specs.Lowering.{and_then}
-use Rattle.sqlite_resolve.specs.Compile.{first, compiled, planned, with_command}
 use Rattle.sqlite_resolve.specs.declared.error.CompileError.{CompileError}
 use Rattle.sqlite.specs.declared.error.Error.{Error}
 use Rattle.sqlite.specs.declared.error.Error.TheVariants.{ExecuteReturnedResults}
@@ -20,11 +14,11 @@ use Rattle.sqlite.specs.Effect.{is_query}
 use Rattle.sqlite.specs.Clock.{timed}
 use Rattle.sqlite.specs.Does.{Does}
 use Rattle.sqlite.specs.Listing.{understood}
-use Rattle.sqlite.specs.State.{State, store_error, HasCause, IsUnchanged, IsRolledBack, Fails, IsNotRun, IsNoStatement, IsMisplaced, IsStatement, ExecutesIn, ExecutesInside, RunsCommand, EndsScope, Escapes, is_pragma, shows_rows, mode_of, text_of}
+use Rattle.sqlite.specs.State.{State, IsUnchanged, IsNotRun, IsNoStatement, IsMisplaced, IsStatement, ExecutesIn, ExecutesInside, RunsCommand, EndsScope, Escapes, is_pragma, shows_rows, mode_of, text_of}
 use Rattle.rows.specs.declared.failure.Failure.{Failure}
 use Rattle.rows.specs.declared.failure.Failure.TheVariants.{Memory, Size, Disk}
 use Rattle.rows.specs.Forms.{strict}
-use Rattle.rows.specs.Standing.{IsKnown, Stands, HasTables, tree_named}
+use Rattle.rows.specs.Standing.{Stands, HasTables, tree_named}
 use Rattle.rows.specs.Calls.{IsUnderWay}
 use Rattle.rows.specs.Failures.{failure_of, FailsWith, IsWriteFailure, unsized}
 use Rattle.rows.proofs.ReadFailures.{store_failed}
@@ -178,9 +172,3 @@ pub removal_failed : {T : Type 0} (r : Result T Failure) (old new : State) (text
 removal_failed (Ok x) old new text params h fails = tt
 removal_failed (Err f) old new text params h fails =
     subst (FailsWith old new ⊥ (IsSome old.step_limit)) (sym h.1) (fails_unsized old new (IsSome old.step_limit) h.0 (subst (FailsWith old new (old.is_open ≡ false) (IsSome old.step_limit)) (sym h.2.1) (fails h.2.0 h.2.2)))
-
--- an insert that failed
-pub addition_failed : {T : Type 0} (r : Result T Failure) (old new : State) (text : List ℕ) (params : Row) (large refused : Type 0) → IfErr r (IsWriteFailure text params old new)
-    → ((e : Error) → ExecutesInside 0 text params old new (Err e) → FailsWith old new large refused (failure_of e)) → IfErr r (FailsWith old new large refused)
-addition_failed (Ok x) old new text params large refused h fails = tt
-addition_failed (Err f) old new text params large refused h fails = subst (FailsWith old new large refused) (sym h.1) (fails h.0 h.2)

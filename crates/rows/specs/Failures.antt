@@ -1,5 +1,5 @@
 -- Which failure an error of the database is, and what a failure says of its call.
-use Rattle.std.specs.Prelude.{ℕ, ◌≡◌, ◌⊎◌, true, false, List, ◌∷◌, Option, Some, None, IsSome, Err}
+use Rattle.std.specs.Prelude.{ℕ, ◌≡◌, ◌⊎◌, true, false, List, ◌∷◌, Option, Some, None, IsSome, IsTrue, Err}
 use Rattle.std.specs.List.{list_any}
 use Rattle.sqlite_value.specs.declared.value.Value.TheVariants.{Int}
 use Rattle.sqlite_value.specs.Order.{Row}
@@ -70,9 +70,13 @@ unfoldable pub HasNoRowidLeft : Database → Table → Type 0
 HasNoRowidLeft db table =
     let rows = rows_named db table.name in (fits_i64 (next_rowid rows) ≡ false) ⊎ (list_any (has_rowid (next_rowid rows)) rows ≡ true)
 
--- An insert of these values into a table: the row may be too large, and the call refused for a limit on steps, for want of a rowid, or since the entry is there, where that may be. Of a shut connection it isn't known what was too large.
+-- An insert of this text failed. It is the failure of the write, which tells a size of an open connection alone; or, where the write told a size, that of the question whether the connection is open.
+abbrev pub IsAdditionFailure : List ℕ → Row → State → State → Failure → Type 0
+IsAdditionFailure text params old new f = (IsWriteFailure text params old new f × (f ≡ Size → IsTrue old.is_open)) ⊎ FailsWith old new ⊥ ⊥ f
+
+-- An insert of these values into a table: the row may be too large, and the call refused for a limit on steps, for want of a rowid, or since the entry is there, where that may be.
 abbrev pub FailsToInsert : Table → Row → (is_there : Type 0) → State → State → Failure → Type 0
-FailsToInsert table values is_there old new = FailsWith old new (IsTooLarge old.now table values ⊎ (old.is_open ≡ false)) (IsSome old.step_limit ⊎ (HasNoRowidLeft old.now table ⊎ is_there))
+FailsToInsert table values is_there old new = FailsWith old new (IsTooLarge old.now table values) (IsSome old.step_limit ⊎ (HasNoRowidLeft old.now table ⊎ is_there))
 
 -- The store failed at a commit, which no size does, and the transaction is undone.
 abbrev pub FailsToCommit : State → State → Failure → Type 0

@@ -119,7 +119,7 @@ pub fn insert<S: Alter>(
     let _owner = owner.as_bytes();
     let _name = name.as_bytes();
     let _target = target.as_bytes();
-    statement::run(
+    statement::add(
         tx,
         "INSERT INTO generation (owner, name, num, target) VALUES (?1, ?2, ?3, ?4)",
         params![owner, name, number, target],

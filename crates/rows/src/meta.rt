@@ -71,7 +71,7 @@ pub fn insert<S: Alter>(tx: &mut Transaction<'_, S>, word: &str, value: &str) ->
     // A text is UTF-8.
     let _word = word.as_bytes();
     let _value = value.as_bytes();
-    statement::run(
+    statement::add(
         tx,
         "INSERT INTO meta (word, val) VALUES (?1, ?2)",
         params![word, value],

@@ -171,7 +171,7 @@ pub fn insert<S: Alter>(
 {
     // A text is UTF-8.
     let _base = base.as_bytes();
-    statement::run(
+    statement::add(
         tx,
         "INSERT INTO object (base, nar, hash, deriver, ca) VALUES (?1, ?2, ?3, ?4, ?5)",
         params![base, nar, hash, deriver, ca],

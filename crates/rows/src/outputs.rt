@@ -111,7 +111,7 @@ pub fn insert<S: Alter>(
     let _base = base.as_bytes();
     let _name = name.as_bytes();
     let _target = target.as_bytes();
-    statement::run(
+    statement::add(
         tx,
         "INSERT INTO outs (base, name, target) VALUES (?1, ?2, ?3)",
         params![base, name, target],

@@ -105,7 +105,7 @@ pub fn insert<S: Alter>(
     // A text is UTF-8.
     let _name = name.as_bytes();
     let _target = target.as_bytes();
-    statement::run(
+    statement::add(
         tx,
         "INSERT INTO permanent (name, target) VALUES (?1, ?2)",
         params![name, target],

@@ -133,7 +133,7 @@ pub fn insert<S: Alter>(
     // A text is UTF-8.
     let _owner = owner.as_bytes();
     let _name = name.as_bytes();
-    statement::run(
+    statement::add(
         tx,
         "INSERT INTO profile (owner, name, cur) VALUES (?1, ?2, ?3)",
         params![owner, name, current],

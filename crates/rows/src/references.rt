@@ -106,7 +106,7 @@ pub fn insert<S: Alter>(
     // A text is UTF-8.
     let _base = base.as_bytes();
     let _target = target.as_bytes();
-    statement::run(
+    statement::add(
         tx,
         "INSERT INTO refs (base, target) VALUES (?1, ?2)",
         params![base, target],

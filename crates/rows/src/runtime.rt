@@ -87,7 +87,7 @@ pub fn insert<S: Alter>(
     // A text is UTF-8.
     let _label = label.as_bytes();
     let _target = target.as_bytes();
-    statement::run(
+    statement::add(
         tx,
         "INSERT INTO runtime (label, target) VALUES (?1, ?2)",
         params![label, target],

@@ -1,20 +1,22 @@
 //! The two ways to run a statement inside a transaction.
 
-ghost use Rattle.std.specs.Prelude.{◌≡◌, ◌⊎◌, IfOk, IfErr, OnOk, OnErr, Ok, List, ℕ, true, length};
+ghost use Rattle.std.specs.Prelude.{◌≡◌, ◌≢◌, ◌⊎◌, IfOk, IfErr, OnOk, OnErr, Ok, List, ℕ, true, length};
 ghost use Rattle.std.specs.List.{AllZip, AllAdjacentBelow};
 ghost use Rattle.sqlite_value.specs.Order.{Row as Values};
-ghost use Rattle.sqlite.specs.State.{HasCleanDisk, KeepsCommit, Survives, Shown, ExecutesInside};
+ghost use Rattle.sqlite.specs.State.{HasCleanDisk, IsUnchanged, KeepsCommit, Survives, Shown, ExecutesInside};
 ghost use Rattle.sqlite.specs.Held.{state};
 ghost use Rattle.sqlite.specs.Values.{bound};
 ghost use Rattle.rows.specs.declared.failure.Failure.TheVariants.{Memory, Disk};
-ghost use Rattle.rows.specs.Failures.{IsQueryFailure, IsWriteFailure, unsized};
+ghost use Rattle.sqlite.specs.declared.error.Error.TheVariants.{SqliteFailure};
+ghost use Rattle.sqlite.specs.declared.error.ErrorCode.TheVariants.{OperationInterrupted};
+ghost use Rattle.rows.specs.Failures.{failure_of, FailsWith, IsQueryFailure, IsWriteFailure, IsAdditionFailure, unsized};
 ghost use Rattle.rows.specs.Entries.{IsAmiss};
 ghost use Rattle.rows.specs.Calls.{IsUnderWay};
 
 use crate::entry::{self, Entry};
 use crate::failure::Failure;
 use sqlite::types::ValueRef;
-use sqlite::{Alter, Row, Transaction};
+use sqlite::{Alter, Error, ErrorCode, Row, Transaction};
 use std::alloc::Global;
 
 /// The rows that a query shows.
@@ -96,4 +98,51 @@ pub(crate) fn remove<S: Alter>(
         Ok(()) => Ok(()),
         Err(failure) => Err(without_size(failure)),
     }
+}
+
+/// An error of a query, but that a limit on steps stopped it: that it does on an open connection alone.
+fn unless_stopped(error: Error) -> Result<(), Failure>
+    ensures stopped { OnOk result (error ≡ SqliteFailure OperationInterrupted) }
+    ensures failed { IfErr result (λ f. (f ≡ failure_of error) × (error ≢ SqliteFailure OperationInterrupted)) }
+{
+    match error {
+        Error::SqliteFailure(ErrorCode::OperationInterrupted) => Ok(()),
+        _ => Err(Failure::from(error)),
+    }
+}
+
+/// Succeeds if no fault has shut the connection, also where the transaction is undone. Nothing changes.
+fn ask<S: Alter>(tx: &mut Transaction<'_, S>) -> Result<(), Failure>
+    ensures same_reference { tx.new.conn.ghost_name ≡ tx.old.conn.ghost_name }
+    ensures same { HasCleanDisk (state S.Store tx.new.conn.now) → OnOk result (IsUnchanged (state S.Store tx.old.conn.now) (state S.Store tx.new.conn.now)) }
+    ensures cause { HasCleanDisk (state S.Store tx.new.conn.now) → IfErr result (FailsWith (state S.Store tx.old.conn.now) (state S.Store tx.new.conn.now) ⊥ ⊥) }
+    ensures kept { HasCleanDisk (state S.Store tx.new.conn.now) → KeepsCommit (state S.Store tx.old.conn.now) (state S.Store tx.new.conn.now) }
+    ensures survives { Survives (state S.Store tx.old.conn.now) (state S.Store tx.new.conn.now) (λ _. ⊥) }
+{
+    if let Err(error) = tx.query_all("SELECT 1", &[]) {
+        return unless_stopped(error);
+    }
+    Ok(())
+}
+
+/// Runs an insert. A size is told only if the connection was open: a shut one may name it too.
+pub(crate) fn add<S: Alter>(
+    tx: &mut Transaction<'_, S>,
+    text: &str,
+    params: &[ValueRef<'_>],
+) -> Result<(), Failure>
+    requires { HasCleanDisk (state S.Store tx.old.conn.now) → IsUnderWay (state S.Store tx.old.conn.now) }
+    ensures same_reference { tx.new.conn.ghost_name ≡ tx.old.conn.ghost_name }
+    ensures ran { HasCleanDisk (state S.Store tx.new.conn.now) → OnOk result ((count : ℕ) × ExecutesInside 0 text.now (bound params.now) (state S.Store tx.old.conn.now) (state S.Store tx.new.conn.now) (Ok count)) }
+    ensures cause { HasCleanDisk (state S.Store tx.new.conn.now) → IfErr result (IsAdditionFailure text.now (bound params.now) (state S.Store tx.old.conn.now) (state S.Store tx.new.conn.now)) }
+    ensures failed { HasCleanDisk (state S.Store tx.new.conn.now) → OnErr result (KeepsCommit (state S.Store tx.old.conn.now) (state S.Store tx.new.conn.now)) }
+    ensures survives { Survives (state S.Store tx.old.conn.now) (state S.Store tx.new.conn.now) (λ _. ⊥) }
+{
+    if let Err(failure) = run(tx, text, params) {
+        if let Failure::Size = failure {
+            ask(tx)?;
+        }
+        return Err(failure);
+    }
+    Ok(())
 }

@@ -134,7 +134,7 @@ pub fn insert<S: Alter>(
     let _owner = owner.as_bytes();
     let _name = name.as_bytes();
     let _target = target.as_bytes();
-    statement::run(
+    statement::add(
         tx,
         "INSERT INTO user_root (owner, name, target) VALUES (?1, ?2, ?3)",
         params![owner, name, target],

@@ -3,7 +3,7 @@ use Rattle.std.specs.Prelude.{IsUtf8}
 use Rattle.sqlite.specs.State.{HasCleanDisk}
 use Rattle.sqlite.specs.Held.{state}
 use Rattle.rows.proofs.Scans.{on_ok}
-use Rattle.rows.proofs.WriteFailures.{addition_failed}
+use Rattle.rows.proofs.Sizes.{addition_failed}
 use Rattle.rows.proofs.InsertFailures.{runtime_roots_insert}
 use Rattle.rows.proofs.RuntimeRootLemmas.{inserts}
 use Rattle.rows.proofs.runtime.insert.Goals as goal
@@ -11,13 +11,13 @@ use Rattle.rows.proofs.runtime.insert.Goals as goal
 pub returns-clause-done : goal.returns-clause-done
 returns-clause-done g c clean =
     let old = state g.S.Store c.args.tx.now.conn.now in
-    let new = state g.S.Store c.run.new.tx.conn.now in
-    let early : HasCleanDisk old = omega (arith, c.run.ensures.survives.clean) in
-    on_ok c.run.result _ _ (λ ran. inserts old new c.args.label.now c.args.target.now ran.0 (subst IsUtf8 c.as_bytes-label.ensures.value c.as_bytes-label.ensures.utf8) (subst IsUtf8 c.as_bytes-target.ensures.value c.as_bytes-target.ensures.utf8) (c.requires early) (rw (c.params-to_sql.ensures, c.params-to_sql-2.ensures) at ran.1)) (c.run.ensures.ran clean)
+    let new = state g.S.Store c.add.new.tx.conn.now in
+    let early : HasCleanDisk old = omega (arith, c.add.ensures.survives.clean) in
+    on_ok c.add.result _ _ (λ ran. inserts old new c.args.label.now c.args.target.now ran.0 (subst IsUtf8 c.as_bytes-label.ensures.value c.as_bytes-label.ensures.utf8) (subst IsUtf8 c.as_bytes-target.ensures.value c.as_bytes-target.ensures.utf8) (c.requires early) (rw (c.params-to_sql.ensures, c.params-to_sql-2.ensures) at ran.1)) (c.add.ensures.ran clean)
 
 pub returns-clause-cause : goal.returns-clause-cause
 returns-clause-cause g c clean =
     let old = state g.S.Store c.args.tx.now.conn.now in
-    let new = state g.S.Store c.run.new.tx.conn.now in
-    let early : HasCleanDisk old = omega (arith, c.run.ensures.survives.clean) in
-    addition_failed c.run.result old new _ _ _ _ (c.run.ensures.cause clean) (λ e h. runtime_roots_insert old new c.args.label.now c.args.target.now e (c.requires early) (rw (c.params-to_sql.ensures, c.params-to_sql-2.ensures) at h))
+    let new = state g.S.Store c.add.new.tx.conn.now in
+    let early : HasCleanDisk old = omega (arith, c.add.ensures.survives.clean) in
+    addition_failed c.add.result old new _ _ _ _ (c.add.ensures.cause clean) (λ e h. runtime_roots_insert old new c.args.label.now c.args.target.now e (c.requires early) (rw (c.params-to_sql.ensures, c.params-to_sql-2.ensures) at h))
