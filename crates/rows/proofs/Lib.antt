@@ -58,6 +58,7 @@ pub mod Additions
 pub mod FreeKeys
 pub mod InsertFailures
 pub mod Sizes
+pub mod NewEntries
 pub mod Under
 pub mod Creates
 pub mod MakingTexts

@@ -26,12 +26,13 @@ use Rattle.sqlite_resolve.specs.Write.{over}
 use Rattle.sqlite_rules.specs.Edit.{next_rowid, is_taken}
 use Rattle.sqlite_tied.specs.Compute.{everything}
 use Rattle.sqlite.specs.declared.error.Error.{Error}
+use Rattle.sqlite.specs.Effect.{Database}
 use Rattle.sqlite.specs.State.{State, ExecutesInside, IsUnchanged, Shown, FailsToQuery, IsTooLate}
 use Rattle.rows.specs.declared.failure.Failure.{Failure}
 use Rattle.rows.specs.declared.runtime.RuntimeRoot.{RuntimeRoot}
 use Rattle.rows.specs.Forms.{runtime}
 use Rattle.rows.specs.Standing.{IsNamed, IsKnown, tree_named}
-use Rattle.rows.specs.Contents.{contents_of, texts_cmp, pair_cmp, is_text, is_pair, member_of}
+use Rattle.rows.specs.Contents.{contents_of, rows_named, texts_cmp, pair_cmp, is_text, is_pair, member_of}
 use Rattle.rows.specs.Calls.{IsInside, IsUnderWay, Changes, Stays}
 use Rattle.rows.specs.Entries.{runtime_of, ShowsRuntimeRoot}
 use Rattle.rows.proofs.Orders.{pair_total, pair_antisymmetric}
@@ -63,20 +64,31 @@ pub insert_is : (s : Schema) (at tree : ℕ) → IsNamed s (codes "runtime") at 
 unfolding everything
 insert_is s at tree found = (_, insert_means insert_text refl s at (codes "runtime") runtime.columns runtime.primary tree _ found refl, refl, refl, refl, refl, refl)
 
+-- the row that is put
+abbrev pub added : Database → List ℕ → List ℕ → Row
+added db label target = Int (next_rowid (rows_named db runtime.name)) ∷ Text label ∷ Text target ∷ []
+
+-- its rowid is new, and it comes to the rows that were there
+pub puts : (old new : State) (label target : List ℕ) (count : ℕ) → IsUnderWay old → ExecutesInside 0 insert_text (Text label ∷ Text target ∷ []) old new (Ok count)
+    → (is_taken (rows_named old.now runtime.name) (added old.now label target) ≡ false) × SetsRows old new (tree_named old.now.schema runtime.name) (put_row (added old.now label target) (rows_named old.now runtime.name))
+puts old new label target count under h =
+    let stands = (under.ours h.1.was_open).has.1.1.1.1.1.1.1.1.0 in
+    let tree = tree_named old.now.schema runtime.name in
+    let m = means_command old.now.schema insert_text _ (insert_is old.now.schema stands.at tree stands.known.named) in
+    let it = inserts_in runtime.name runtime.columns runtime.primary tree stands.at 3 terms insert_text (Text label ∷ Text target ∷ []) old new count under.mode stands.known.named.1 m.0 m.1 h.0 in
+    let fresh : (not (is_taken (rows_named old.now runtime.name) (added old.now label target)) && true) ≡ true = rw cast_null at it.0.fresh in
+    let sets : SetsRows old new tree (put_row (added old.now label target) (rows_named old.now runtime.name)) = rw cast_null at it.1 in
+    (free_of _ _ fresh, sets)
+
 pub inserts : (old new : State) (label : List ℕ) (target : List ℕ) (count : ℕ) → IsUtf8 label → IsUtf8 target → IsUnderWay old → ExecutesInside 0 insert_text (Text label ∷ Text target ∷ []) old new (Ok count)
     → Changes old new (λ c. record c { runtime = finite.insert c.runtime (label, target) tt })
 inserts old new label target count label_utf8 target_utf8 under h =
     let ours = under.ours h.1.was_open in
     let stands = ours.has.1.1.1.1.1.1.1.1.0 in
-    let tree = tree_named old.now.schema (codes "runtime") in
-    let m = means_command old.now.schema insert_text _ (insert_is old.now.schema stands.at tree stands.known.named) in
-    let it = inserts_in runtime.name runtime.columns runtime.primary tree stands.at 3 terms insert_text (Text label ∷ Text target ∷ []) old new count under.mode stands.known.named.1 m.0 m.1 h.0 in
-    let rows = old.now.trees tree in
-    let row : Row = Int (next_rowid rows) ∷ Text label ∷ Text target ∷ [] in
-    let fresh : (not (is_taken rows row) && true) ≡ true = rw cast_null at it.0.fresh in
-    let free = free_of _ _ fresh in
-    let sets : SetsRows old new tree (put_row row rows) = rw cast_null at it.1 in
-    changed runtime old new (put_row row rows) stands sets _ ours (keyed_put row rows free refl) (put_readable runtime row rows (tt, (label_utf8, (target_utf8, tt)))) refl (runtime_set old new ours.has (put_row row rows) sets _ (put_set pair_total pair_antisymmetric is_pair member_of row rows free refl))
+    let rows = rows_named old.now runtime.name in
+    let row = added old.now label target in
+    let it = puts old new label target count under h in
+    changed runtime old new (put_row row rows) stands it.1 _ ours (keyed_put row rows it.0 refl) (put_readable runtime row rows (tt, (label_utf8, (target_utf8, tt)))) refl (runtime_set old new ours.has (put_row row rows) it.1 _ (put_set pair_total pair_antisymmetric is_pair member_of row rows it.0 refl))
 
 -- ---- of the first one of the key
 

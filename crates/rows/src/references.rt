@@ -89,7 +89,7 @@ pub fn of<S: Alter>(
     )
 }
 
-/// Adds one reference. If it is there already, nothing changes, whatever the answer.
+/// Adds one reference. If it is there already, the answer is `Disk` and nothing changes, unless the call fails otherwise.
 pub fn insert<S: Alter>(
     tx: &mut Transaction<'_, S>,
     base: &str,
@@ -99,6 +99,7 @@ pub fn insert<S: Alter>(
     ensures same_reference { tx.new.conn.ghost_name ≡ tx.old.conn.ghost_name }
     ensures done { HasCleanDisk (state S.Store tx.new.conn.now) → OnOk result (Changes (state S.Store tx.old.conn.now) (state S.Store tx.new.conn.now)
         (λ c. record c { refs = finite.insert c.refs (base.now, target.now) tt })) }
+    ensures new { HasCleanDisk (state S.Store tx.new.conn.now) → OnOk result (finite.get (contents_of (state S.Store tx.old.conn.now).now).refs (base.now, target.now) ≡ None) }
     ensures cause { HasCleanDisk (state S.Store tx.new.conn.now) → IfErr result (FailsToInsert refs (Text base.now ∷ Text target.now ∷ []) (finite.get (contents_of (state S.Store tx.old.conn.now).now).refs (base.now, target.now) ≡ Some tt) (state S.Store tx.old.conn.now) (state S.Store tx.new.conn.now)) }
     ensures failed { HasCleanDisk (state S.Store tx.new.conn.now) → OnErr result (KeepsCommit (state S.Store tx.old.conn.now) (state S.Store tx.new.conn.now)) }
     ensures survives { Survives (state S.Store tx.old.conn.now) (state S.Store tx.new.conn.now) (λ _. ⊥) }

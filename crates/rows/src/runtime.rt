@@ -70,7 +70,7 @@ pub fn all<S: Alter>(
     )
 }
 
-/// Adds one runtime root. If it is there already, nothing changes, whatever the answer.
+/// Adds one runtime root. If it is there already, the answer is `Disk` and nothing changes, unless the call fails otherwise.
 pub fn insert<S: Alter>(
     tx: &mut Transaction<'_, S>,
     label: &str,
@@ -80,6 +80,7 @@ pub fn insert<S: Alter>(
     ensures same_reference { tx.new.conn.ghost_name ≡ tx.old.conn.ghost_name }
     ensures done { HasCleanDisk (state S.Store tx.new.conn.now) → OnOk result (Changes (state S.Store tx.old.conn.now) (state S.Store tx.new.conn.now)
         (λ c. record c { runtime = finite.insert c.runtime (label.now, target.now) tt })) }
+    ensures new { HasCleanDisk (state S.Store tx.new.conn.now) → OnOk result (finite.get (contents_of (state S.Store tx.old.conn.now).now).runtime (label.now, target.now) ≡ None) }
     ensures cause { HasCleanDisk (state S.Store tx.new.conn.now) → IfErr result (FailsToInsert runtime (Text label.now ∷ Text target.now ∷ []) (finite.get (contents_of (state S.Store tx.old.conn.now).now).runtime (label.now, target.now) ≡ Some tt) (state S.Store tx.old.conn.now) (state S.Store tx.new.conn.now)) }
     ensures failed { HasCleanDisk (state S.Store tx.new.conn.now) → OnErr result (KeepsCommit (state S.Store tx.old.conn.now) (state S.Store tx.new.conn.now)) }
     ensures survives { Survives (state S.Store tx.old.conn.now) (state S.Store tx.new.conn.now) (λ _. ⊥) }
