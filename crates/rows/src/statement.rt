@@ -1,4 +1,4 @@
-//! The two ways to run a statement inside a transaction.
+//! The ways to run a statement inside a transaction.
 
 ghost use Rattle.std.specs.Prelude.{◌≡◌, ◌≢◌, ◌⊎◌, IfOk, IfErr, OnOk, OnErr, Ok, List, ℕ, true, length};
 ghost use Rattle.std.specs.List.{AllZip, AllAdjacentBelow};
