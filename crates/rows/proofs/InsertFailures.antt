@@ -1,5 +1,5 @@
 -- Why the inserts of each table fail: beside want of memory and a fault of the disk, for a row that is too large, for want of a rowid, by the limit on steps, and in a set for a member that is there.
-use Rattle.std.proofs.Common.{◌≡◌, ◌⊎◌, inl, inr, ℕ, ℤ, List, [], ◌∷◌, true, false, Some, None, Option, Err, refl, arith, IsTrue, String, Global}
+use Rattle.std.proofs.Common.{◌≡◌, ◌⊎◌, inl, inr, ℕ, ℤ, List, [], ◌∷◌, true, false, Some, None, Option, Err, refl, IsTrue, String, Global}
 use Rattle.std.specs.Prelude.{IsSome, is_some}
 use Rattle.std.specs.FinMap as finite
 use Rattle.sqlite_value.specs.declared.value.Value.{Value}
@@ -8,7 +8,6 @@ use Rattle.sqlite_schema.specs.declared.schema.Kind.TheVariants as kind
 use Rattle.sqlite_schema.specs.Rules.{is_of}
 use Rattle.sqlite_typing.specs.Types.{class_of}
 use Rattle.sqlite_rules.specs.Edit.{next_rowid}
-use Rattle.sqlite_tied.specs.Compute.{everything}
 use Rattle.sqlite.specs.declared.error.Error.{Error}
 use Rattle.sqlite.specs.State.{State, ExecutesInside}
 use Rattle.sqlite.specs.Values.{bound_value}

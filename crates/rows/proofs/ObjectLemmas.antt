@@ -23,7 +23,6 @@ use Rattle.sqlite_schema.specs.declared.command.Command.TheVariants.{Insert, Del
 use Rattle.sqlite_draft.specs.declared.query.Draft.{Draft}
 use Rattle.sqlite_draft.specs.declared.join.Step.TheVariants.{Inner}
 use Rattle.sqlite_draft.specs.Join.{chain}
-use Rattle.sqlite_resolve.specs.declared.compiled.Compiled.{Compiled}
 use Rattle.sqlite_resolve.specs.declared.scope.Output.{Output as Out}
 use Rattle.sqlite_resolve.specs.Lowering.{max_budget}
 use Rattle.sqlite_resolve.specs.Program.{program}

@@ -1,6 +1,5 @@
 -- What a query lists and what a DELETE leaves, once for every table of ours.
 use Rattle.std.proofs.Common.{◌≡◌, ℕ, List, [], ◌∷◌, Bool, true, not, Result, Ok, Err, IfOk, Vec, Global, map, length, refl, sym, ap, subst, ◌∙◌}
-use Rattle.std.specs.Prelude.{None}
 use Rattle.std.specs.declared.cmp.Ordering.{Ordering}
 use Rattle.sqlite_value.specs.declared.value.Value.TheVariants.{Null}
 use Rattle.std.specs.Ordering.{is_lt}
@@ -15,7 +14,6 @@ use Rattle.sqlite_schema.specs.declared.schema.Column.{Column}
 use Rattle.sqlite_schema.specs.declared.schema.Schema.{Schema}
 use Rattle.sqlite_schema.specs.declared.command.Command.{Command}
 use Rattle.sqlite_schema.specs.declared.command.Command.TheVariants.{Delete, Select}
-use Rattle.sqlite_resolve.specs.declared.compiled.Compiled.{Compiled}
 use Rattle.sqlite_rules.specs.Edit.{without_all}
 use Rattle.sqlite_rules.specs.Calls.{ids_of}
 use Rattle.sqlite.specs.State.{State, ExecutesInside, IsUnchanged, Shown}
