@@ -5,7 +5,7 @@ use Rattle.std.proofs.lemmas.Bool.{both_ways, leb-true}
 use Rattle.sqlite_value.specs.Order.{Row}
 use Rattle.sqlite_schema.specs.declared.schema.Column.{Column}
 use Rattle.sqlite_schema.specs.declared.command.Command.{Command}
-use Rattle.sqlite_schema.specs.declared.command.Command.TheVariants.{Insert, Delete}
+use Rattle.sqlite_schema.specs.declared.command.Command.TheVariants.{Insert, Delete, CreateTable}
 use Rattle.sqlite_resolve.specs.declared.compiled.Compiled.{Compiled}
 use Rattle.sqlite_resolve.specs.declared.error.CompileError.{CompileError}
 use Rattle.sqlite.specs.declared.error.Error.{Error}
@@ -21,6 +21,7 @@ use Rattle.rows.specs.Forms.{strict}
 use Rattle.rows.specs.Standing.{Stands, HasTables, tree_named}
 use Rattle.rows.specs.Calls.{IsUnderWay}
 use Rattle.rows.specs.Failures.{failure_of, FailsWith, IsWriteFailure, unsized}
+use Rattle.rows.proofs.Means.{IsMeant}
 use Rattle.rows.proofs.ReadFailures.{store_failed}
 use Rattle.rows.proofs.Statements.{Compiles}
 
@@ -34,11 +35,16 @@ pub record IsWrite (old : State) (text : List ℕ) (params : Row) (command : Com
   pub whole : length text ≤ compiled.tail
   pub given : length params ≡ length compiled.names
 
--- the command changes the rows of one table
-abbrev pub changes_rows : Command → Bool
-changes_rows (Insert at from) = true
-changes_rows (Delete at q) = true
-changes_rows _ = false
+-- so much is known of a text by what it means
+abbrev pub is_write : (old : State) (text : List ℕ) (params : Row) (command : Command) {count : ℕ} → length params ≡ count → IsMeant old.now.schema text count command → IsWrite old text params command
+is_write old text params command given c = record { compiled = c.0; is = c.1.0; command_is = c.2; silent = c.3; bare = c.4; whole = leb-true _ _ c.5; given = given ∙ sym c.6 }
+
+-- the command changes the rows of one table, or makes one
+abbrev pub changes : Command → Bool
+changes (Insert at from) = true
+changes (Delete at q) = true
+changes CreateTable = true
+changes _ = false
 
 -- how it may stop: at a row that is too large, or refused with an error that is told as the disk's
 abbrev pub MayStop : (large refused : Type 0) → Option Error → Type 0
@@ -49,28 +55,29 @@ MayStop large refused (Some e) = (failure_of e ≡ Disk) × refused
 abbrev pub OrShut : State → Type 0 → Type 0
 OrShut s large = large ⊎ (s.is_open ≡ false)
 
-is_other : (command other : Command) → changes_rows command ≡ true → changes_rows other ≡ false → command ≢ other
-is_other command other writes quiet same = absurd (let e = sym writes ∙ ap changes_rows same ∙ quiet in cc)
+is_other : (command other : Command) → changes command ≡ true → changes other ≡ false → command ≢ other
+is_other command other writes quiet same = absurd (let e = sym writes ∙ ap changes same ∙ quiet in cc)
 
-no_misplaced : (s : State) (command : Command) (e : Error) → changes_rows command ≡ true → IsMisplaced s command e → ⊥
+no_misplaced : (s : State) (command : Command) (e : Error) → changes command ≡ true → IsMisplaced s command e → ⊥
 no_misplaced s command e writes (inl (is, inl h)) = is_other command _ writes refl h.0
 no_misplaced s command e writes (inl (is, inr (inl c, h))) = is_other command _ writes refl c
 no_misplaced s command e writes (inl (is, inr (inr c, h))) = is_other command _ writes refl c
 no_misplaced s command e writes (inr (is, name, inl c, h)) = is_other command _ writes refl c
 no_misplaced s command e writes (inr (is, name, inr c, h)) = is_other command _ writes refl c
 
-stays_inside : (s : State) (command : Command) → changes_rows command ≡ true → Escapes 0 s command → ⊥
+stays_inside : (s : State) (command : Command) → changes command ≡ true → Escapes 0 s command → ⊥
 stays_inside s command writes (inl (inl c)) = is_other command _ writes refl c
 stays_inside s command writes (inl (inr c)) = is_other command _ writes refl c
 stays_inside s command writes (inr (name, inl c, h)) = is_other command _ writes refl c
 stays_inside s command writes (inr (name, inr c, h)) = is_other command _ writes refl c
 
-shows_none : (c : Compiled) → changes_rows c.command ≡ true → c.returning ≡ None → shows_rows false c ≡ false
+shows_none : (c : Compiled) → changes c.command ≡ true → c.returning ≡ None → shows_rows false c ≡ false
 shows_none c writes silent = rw silent (quiet c.command writes)
   where
-    quiet : (command : Command) → changes_rows command ≡ true → (is_query command || (is_pragma command || false)) ≡ false
+    quiet : (command : Command) → changes command ≡ true → (is_query command || (is_pragma command || false)) ≡ false
     quiet (Insert at from) h = refl
     quiet (Delete at q) h = refl
+    quiet CreateTable h = refl
     quiet _ h = absurd (let e = h in cc)
 
 -- ---- the call was refused
@@ -78,9 +85,9 @@ shows_none c writes silent = rw silent (quiet c.command writes)
 refuses : (old new : State) (large refused : Type 0) (e : Error) → IsUnchanged old new → (failure_of e ≡ Disk) × refused → FailsWith old new large refused (failure_of e)
 refuses old new large refused e same h = subst (FailsWith old new large refused) (sym h.0) (inr (h.1, same))
 
-module _ (old new : State) (text : List ℕ) (params : Row) (command : Command) (writes : changes_rows command ≡ true) (large refused : Type 0)
+module _ (old new : State) (text : List ℕ) (params : Row) (command : Command) (writes : changes command ≡ true) (large refused : Type 0)
     (known : IsTrue old.is_open → IsWrite old text params command)
-    (stops : IsTrue old.is_open → (st : List ℕ) (stop : Option Error) → Does old.step_limit (mode_of old) params old.now st None command (Err stop) → MayStop large refused stop) where
+    (stops : (live : IsTrue old.is_open) (st : List ℕ) → st ≡ text_of text (known live).compiled → (stop : Option Error) → Does old.step_limit (mode_of old) params old.now st None command (Err stop) → MayStop large refused stop) where
   same_compiled : (live : IsTrue old.is_open) (c : Compiled) → understood old.now.schema text ≡ Ok c → (known live).compiled ≡ c
   same_compiled live c is = let e : ◌≡◌ {A = Result Compiled CompileError} (Ok (known live).compiled) (Ok c) = sym (known live).is ∙ is in cc
 
@@ -96,7 +103,7 @@ module _ (old new : State) (text : List ℕ) (params : Row) (command : Command) 
       let silent : c.returning ≡ None = subst (λ (k : Compiled). k.returning ≡ None) same (known live).silent in
       let bare : c.formats ≡ [] = subst (λ (k : Compiled). k.formats ≡ []) same (known live).bare in
       let is : c.command ≡ command = subst (λ (k : Compiled). k.command ≡ command) same (known live).command_is in
-      stops live (text_of text c) stop (rw (silent, is, bare, append-nil params) at h)
+      stops live (text_of text c) (ap (text_of text) (sym same)) stop (rw (silent, is, bare, append-nil params) at h)
 
   runs : (e : Error) (c : Compiled) (it : IsStatement old text params c) → RunsCommand old new text c (timed params c.formats it.now) (Err e) → FailsWith old new (OrShut old large) refused (failure_of e)
   runs e c it (inl (inl h, same)) =
@@ -114,7 +121,7 @@ module _ (old new : State) (text : List ℕ) (params : Row) (command : Command) 
   alone e c it false shows h = runs e c it h
   alone e c it true shows h =
       let live = h.1.0.was_open in
-      let quiet : shows_rows false c ≡ false = subst (λ (k : Compiled). shows_rows false k ≡ false) (same_compiled live c it.is) (shows_none (known live).compiled (ap changes_rows (known live).command_is ∙ writes) (known live).silent) in
+      let quiet : shows_rows false c ≡ false = subst (λ (k : Compiled). shows_rows false k ≡ false) (same_compiled live c it.is) (shows_none (known live).compiled (ap changes (known live).command_is ∙ writes) (known live).silent) in
       absurd (let e = sym shows ∙ quiet in cc)
 
   -- a write fails as its command stops, or for the store
@@ -130,21 +137,19 @@ module _ (old new : State) (text : List ℕ) (params : Row) (command : Command) 
 
 -- a write to a table of ours, wherever it stands
 pub our_write_fails : (name : List ℕ) (columns : List Column) (key : List ℕ) (old new : State) → IsUnderWay old → (HasTables old.now.schema → Stands old.now.schema (strict name columns key))
-    → (text : List ℕ) (count : ℕ) (params : Row) (command : ℕ → ℕ → Command) → ((at tree : ℕ) → changes_rows (command at tree) ≡ true) → length params ≡ count → Compiles name columns key text count command
+    → (text : List ℕ) (count : ℕ) (params : Row) (command : ℕ → ℕ → Command) → ((at tree : ℕ) → changes (command at tree) ≡ true) → length params ≡ count → Compiles name columns key text count command
     → (large refused : Type 0)
     → (IsTrue old.is_open → (stands : Stands old.now.schema (strict name columns key)) (st : List ℕ) (stop : Option Error) → Does old.step_limit (mode_of old) params old.now st None (command stands.at (tree_named old.now.schema name)) (Err stop) → MayStop large refused stop)
     → (e : Error) → ExecutesInside 0 text params old new (Err e) → FailsWith old new (OrShut old large) refused (failure_of e)
 our_write_fails name columns key old new under standing text count params command writes given is large refused stops e h = go old.is_open refl
   where
     go : (b : Bool) → old.is_open ≡ b → FailsWith old new (OrShut old large) refused (failure_of e)
-    go false shut = write_fails old new text params (command 0 0) (writes 0 0) large refused (λ up. absurd (both_ways _ shut up)) (λ up st stop does. absurd (both_ways _ shut up)) e h
+    go false shut = write_fails old new text params (command 0 0) (writes 0 0) large refused (λ up. absurd (both_ways _ shut up)) (λ up st its stop does. absurd (both_ways _ shut up)) e h
     go true up =
         let stands = standing (under.ours up).has in
         let tree = tree_named old.now.schema name in
         let c = is old.now.schema stands.at tree stands.known in
-        write_fails old new text params (command stands.at tree) (writes stands.at tree) large refused
-        (λ _. record { compiled = c.0; is = c.1.0; command_is = c.2; silent = c.3; bare = c.4; whole = leb-true _ _ c.5; given = given ∙ sym c.6 })
-        (λ _. stops up stands) e h
+        write_fails old new text params (command stands.at tree) (writes stands.at tree) large refused (λ _. is_write old text params (command stands.at tree) given c) (λ _ st its. stops up stands st) e h
 
 -- where more may be said of a failure, what was said still holds
 pub fails_wider : (old new : State) (large wider refused more : Type 0) → (large → wider) → (refused → more) → (f : Failure) → FailsWith old new large refused f → FailsWith old new wider more f
