@@ -1,14 +1,14 @@
 -- Making a table beside whatever tables there are.
 use Rattle.std.proofs.Common.{◌≡◌, ◌+◌, ℕ, List, [], ◌∷◌, ◌++◌, codes, Bool, true, false, cond, not, ◌&&◌, ◌||◌, Some, None, Option, Ok, refl, sym, ap, subst, ◌∙◌}
-use Rattle.std.specs.Prelude.{find, is_some}
+use Rattle.std.specs.Prelude.{find, is_some, nat_le, length}
 use Rattle.std.specs.List.{AllByRecursion, list_all, list_any, position_from}
 use Rattle.std.proofs.lemmas.List.Folds.{list_any-append}
-use Rattle.std.specs.Fmt.{decimal}
 use Rattle.sqlite_trees.specs.Tree.{Trees}
 use Rattle.sqlite_schema.specs.declared.schema.Column.{Column}
 use Rattle.sqlite_schema.specs.declared.schema.Schema.{Schema}
 use Rattle.sqlite_schema.specs.declared.schema.Table.{Table}
 use Rattle.sqlite_schema.specs.declared.schema.Index.{Index}
+use Rattle.sqlite_schema.specs.declared.schema.Reference.{Reference}
 use Rattle.sqlite_schema.specs.declared.command.Command.TheVariants.{CreateTable}
 use Rattle.sqlite_schema.specs.Names.{same_name}
 use Rattle.sqlite_ast.specs.declared.CreateTable as ast
@@ -16,6 +16,7 @@ use Rattle.sqlite_ast.specs.declared.Statement.TheVariants as written
 use Rattle.sqlite_resolve.specs.Scope.{Name}
 use Rattle.sqlite_resolve.specs.Define as define
 use Rattle.sqlite_resolve.specs.Compile.{first, planned, meaning, timed, returning, command, create_table, is_attached, creates, is_reserved, table_defined_by}
+use Rattle.sqlite_rules.proofs.ListLemmas.{test_push}
 use Rattle.sqlite_catalog.specs.Change.{created, next_tree}
 use Rattle.sqlite.specs.Does.{Tally, lacks_sequence}
 use Rattle.sqlite.specs.Rows.{sequence}
@@ -24,9 +25,10 @@ use Rattle.sqlite.specs.Listing.{understood}
 use Rattle.sqlite.specs.State.{State, Writes, Executes}
 use Rattle.sqlite.proofs.Callers.{IsPlain, command_of, statement_of, runs_as}
 use Rattle.rows.specs.Forms.{strict}
+use Rattle.rows.specs.Finding.{is_unawaited}
 use Rattle.rows.specs.Contents.{Bytes}
-use Rattle.rows.specs.Making.{IsUnused, IsMaking, Makes, all_created, placed}
-use Rattle.rows.proofs.Means.{Means, understood_as}
+use Rattle.rows.specs.Making.{IsUnused, IsMaking, Makes, all_created, placed, index_of}
+use Rattle.rows.proofs.Means.{Means, IsMeant, understood_as}
 use Rattle.rows.proofs.Writes.{went, same_value}
 use Rattle.rows.proofs.Truths.{and_so, not_so}
 use Rattle.rows.proofs.Finds.{found_by_place}
@@ -47,13 +49,15 @@ create_means text one s t free own strict_making plain made computed stamped = u
 
 -- a text makes this table in any schema with nothing of its name
 pub record IsMakingIn (s : Schema) (text : List ℕ) (table : Table) : Type 0 where
+  pub meant : IsMeant s text 0 CreateTable
   pub command : command_of (understood s text) ≡ CreateTable
   pub statement : statement_of text (understood s text) ≡ text
   pub plain : IsPlain (understood s text)
   pub defined : table_defined_by text ≡ Ok table
 
-pub making : (s : Schema) (text : List ℕ) (table : Table) (c : _) → Means s text c → c.command ≡ CreateTable → statement_of text (Ok c) ≡ text → IsPlain (Ok c) → table_defined_by text ≡ Ok table → IsMakingIn s text table
-making s text table c means command whole plain defined = record { command = ap command_of means.0 ∙ command; statement = ap (statement_of text) means.0 ∙ whole; plain = subst IsPlain (sym means.0) plain; defined = defined }
+pub making : (s : Schema) (text : List ℕ) (table : Table) (c : _) → Means s text c → c.command ≡ CreateTable → statement_of text (Ok c) ≡ text → IsPlain (Ok c) → nat_le (length text) c.tail ≡ true → length c.names ≡ 0 → table_defined_by text ≡ Ok table
+    → IsMakingIn s text table
+making s text table c means command whole plain all none defined = record { meant = (c, means, command, plain.0, plain.1, all, none); command = ap command_of means.0 ∙ command; statement = ap (statement_of text) means.0 ∙ whole; plain = subst IsPlain (sym means.0) plain; defined = defined }
 
 -- ---- what is free stays free
 
@@ -64,10 +68,6 @@ none_more p (y ∷ ys) x n h is = go (p y) h (λ k. none_more p ys x (n + 1) k i
     go : (b : Bool) → ◌≡◌ {A = Option ℕ} (cond b (Some n) (position_from p (n + 1) ys)) None → (position_from p (n + 1) ys ≡ None → position_from p (n + 1) (ys ++ x ∷ []) ≡ None) → ◌≡◌ {A = Option ℕ} (cond b (Some n) (position_from p (n + 1) (ys ++ x ∷ []))) None
     go true k f = absurd cc
     go false k f = f k
-
--- the name of the index of a table's key
-abbrev index_of : Bytes → Bytes
-index_of title = codes "sqlite_autoindex_" ++ (title ++ (codes "_" ++ decimal 1))
 
 abbrev pub is_clear : Bytes → Bytes → Bool
 is_clear title name = not (same_name title name) && not (same_name (index_of title) name)
@@ -82,6 +82,11 @@ module _ (s : Schema) (title : Bytes) (cs : List Column) (key : List ℕ) where
   pub all_unused_after : (rest : List Table) → list_all (λ u. is_clear title u.name) rest ≡ true → AllByRecursion (λ u. IsUnused s u.name) rest → AllByRecursion (λ u. IsUnused (created s form) u.name) rest
   all_unused_after [] clear h = tt
   all_unused_after (u ∷ us) clear h = let b = and_so _ _ clear in (unused_after u.name b.0 h.0, all_unused_after us b.1 h.1)
+
+  -- nor does a foreign key of the new table wait for one
+  pub all_unawaited_after : (rest : List Table) → AllByRecursion (λ u. is_unawaited s u.name ≡ true) rest → AllByRecursion (λ u. is_unawaited (created s form) u.name ≡ true) rest
+  all_unawaited_after [] h = tt
+  all_unawaited_after (u ∷ us) h = (test_push (λ (t : Table). list_all (λ (r : Reference). not (same_name r.parent u.name)) t.references) s.tables (record (strict title cs key) { tree = next_tree s }) h.0 refl, all_unawaited_after us h.1)
 
 -- ---- a counter that is there stays there
 
@@ -137,7 +142,9 @@ makes_in text title cs key old new count making lacks inside h =
 
 pub making_after : (title : Bytes) (cs : List Column) (key : List ℕ) (rest : List Table) (old new : State) → list_all (λ u. is_clear title u.name) rest ≡ true → IsMaking (strict title cs key ∷ rest) old → Makes (strict title cs key ∷ []) old new → IsMaking rest new
 making_after title cs key rest old new clear under h = record {
+  sound = λ is_open. h.sound;
   free = λ is_open. subst (λ (s : Schema). AllByRecursion (λ u. IsUnused s u.name) rest) (sym h.schema) (all_unused_after old.now.schema title cs key rest clear (under.free h.was_open).1);
+  unawaited = λ is_open. subst (λ (s : Schema). AllByRecursion (λ u. is_unawaited s u.name ≡ true) rest) (sym h.schema) (all_unawaited_after old.now.schema title cs key rest (under.unawaited h.was_open).1);
   counted = λ is_open. ap lacks_sequence h.schema ∙ counted_after old.now.schema title cs key (under.counted h.was_open);
   mode = h.mode;
 }

@@ -61,7 +61,10 @@ pub mod Sizes
 pub mod NewEntries
 pub mod Under
 pub mod Creates
+pub mod MakingFailures
 pub mod MakingTexts
 pub mod Settles
 pub mod Stood
+pub mod MakingTogether
+pub mod SettingFailures
 pub mod Made

@@ -20,7 +20,7 @@ use Rattle.rows.specs.Contents.{Bytes, texts_cmp, is_pair, pair_of, map_of, rows
 use Rattle.rows.specs.Texts.{AreReadableRows}
 use Rattle.rows.specs.Calls.{IsKeyed}
 use Rattle.rows.specs.Making.{IsUnused, Makes, MakesMeta, MakesAll, IsMadeOf, AreSettings, first_settings, IsPut, HasMeta, Puts, IsMadeIn, all_created, placed, ours_created, others_placed, other_tables}
-use Rattle.rows.specs.Finding.{IsFree}
+use Rattle.rows.specs.Finding.{IsFree, is_unawaited}
 use Rattle.rows.proofs.Orders.{texts_total, texts_antisymmetric}
 use Rattle.rows.proofs.Truths.{cast_null, free_of}
 use Rattle.rows.proofs.Means.{means_command}
@@ -55,7 +55,7 @@ same_meta = refl
 meta_named : (s : Schema) → IsUnused s (codes "meta") → IsNamed (created s meta) (codes "meta") (0 + length s.tables) (record meta { tree = next_tree s })
 meta_named s h = (last_found (λ (t : Table). same_name t.name (codes "meta")) s.tables (record meta { tree = next_tree s }) 0 h.0 same_meta, ap (slice_get (s.tables ++ record meta { tree = next_tree s } ∷ [])) (let e : 0 + length s.tables ≡ length s.tables = omega arith in e) ∙ last_there s.tables (record meta { tree = next_tree s }))
 
-meta_tree : (s : Schema) → IsUnused s (codes "meta") → tree_named (created s meta) (codes "meta") ≡ next_tree s
+pub meta_tree : (s : Schema) → IsUnused s (codes "meta") → tree_named (created s meta) (codes "meta") ≡ next_tree s
 meta_tree s h = let it = meta_named s h in
     ap (λ o. unwrap_or (option_map (λ (t : Table). t.tree) (option_and_then (slice_get (created s meta).tables) o)) 0) it.0 ∙ ap (λ o. unwrap_or (option_map (λ (t : Table). t.tree) o) 0) it.1
 
@@ -94,7 +94,7 @@ puts old new word value count has h =
     let fresh : (not (is_taken rows row) && true) ≡ true = rw cast_null at it.0.fresh in
     let free = free_of _ _ fresh in
     let sets : SetsRows old new tree (put_row row rows) = rw cast_null at it.1 in
-    let made : IsPut word value rows (put_row row rows) = record { keyed = keyed_put row rows free refl; readable = λ word_utf8 value_utf8. put_readable meta row rows (tt, (word_utf8, (value_utf8, tt))); put = λ none. put_map texts_total texts_antisymmetric is_pair pair_of row rows free refl none } in
+    let made : IsPut word value rows (put_row row rows) = record { is = refl; keyed = keyed_put row rows free refl; readable = λ word_utf8 value_utf8. put_readable meta row rows (tt, (word_utf8, (value_utf8, tt))); put = λ none. put_map texts_total texts_antisymmetric is_pair pair_of row rows free refl none } in
     let own : rows_named new.now (codes "meta") ≡ put_row row rows = ap (λ s. new.now.trees (tree_named s (codes "meta"))) sets.schema ∙ sets.rows_are in
     record {
       was_open = sets.was_open;
@@ -187,6 +187,13 @@ all_made dir a b c d h p q =
 pub names_free : (s : Schema) (ts : List Table) → AllByRecursion (λ t. IsFree s t.name) ts → AllByRecursion (λ t. IsUnused s t.name) ts
 names_free s [] h = tt
 names_free s (t ∷ ts) h = ((h.0.table, h.0.index, h.0.view), names_free s ts h.1)
+
+pub names_unawaited : (s : Schema) (ts : List Table) → AllByRecursion (λ t. IsFree s t.name) ts → AllByRecursion (λ t. is_unawaited s t.name ≡ true) ts
+names_unawaited s [] h = tt
+names_unawaited s (t ∷ ts) h = (h.0.unawaited, names_unawaited s ts h.1)
+
+pub free_name : (s : Schema) (name : Bytes) → IsUnused s name → is_unawaited s name ≡ true → IsFree s name
+free_name s name unused unawaited = record { table = unused.0; index = unused.1; view = unused.2; unawaited = unawaited }
 
 -- what was made and committed
 pub committed_made : (dir : Bytes) (a b m n : State) → b.now ≡ a.now → b.is_open ≡ a.is_open → MakesAll dir b m → Shows m n m.now m.now false → IsMadeIn dir a n

@@ -1,22 +1,29 @@
--- What the making of our tables leaves: they stand after all that was there, and hold no row, but `meta` its two settings.
-use Rattle.std.specs.Prelude.{◌≡◌, ◌≢◌, ℕ, true, false, List, [], ◌∷◌, None, IsTrue, IsUtf8, codes}
-use Rattle.std.specs.List.{AllByRecursion}
+-- What the making of our tables leaves: they stand after all that was there, and hold no row, but `meta` its two settings. And why it fails.
+use Rattle.std.specs.Prelude.{◌≡◌, ◌≢◌, ◌⊎◌, ℕ, ◌+◌, ◌*◌, ◌^◌, ◌<◌, true, false, List, [], ◌∷◌, ◌++◌, length, None, IsSome, IsTrue, IsUtf8, ⊤, codes}
+use Rattle.std.specs.Fmt.{decimal}
+use Rattle.std.specs.List.{AllByRecursion, list_any}
 use Rattle.std.specs.FinMap as finite
 use Rattle.sqlite_value.specs.Order.{Row}
-use Rattle.sqlite_trees.specs.Tree.{Trees}
+use Rattle.sqlite_value.specs.declared.value.Value.TheVariants.{Int, Text}
+use Rattle.sqlite_trees.specs.Tree.{Trees, put_row}
 use Rattle.sqlite_schema.specs.declared.schema.Schema.{Schema}
 use Rattle.sqlite_schema.specs.declared.schema.Table.{Table}
 use Rattle.sqlite_schema.specs.Names.{table_named, index_named, view_named}
-use Rattle.sqlite_catalog.specs.Change.{created, next_tree}
+use Rattle.sqlite_rules.specs.Edit.{next_rowid}
+use Rattle.sqlite_catalog.specs.Change.{created, next_tree, is_used}
 use Rattle.sqlite.specs.Does.{lacks_sequence}
 use Rattle.sqlite.specs.Effect.{Database, IsDatabase}
 use Rattle.sqlite.specs.State.{State}
 use Rattle.rows.specs.Forms.{meta, object, refs, outs, permanent, user_root, profile, generation, runtime, our_tables}
 use Rattle.rows.specs.Standing.{IsNamed, tree_named}
+use Rattle.rows.specs.Finding.{is_unawaited}
 use Rattle.rows.specs.Contents.{Bytes, Contents, contents_of, texts_cmp, is_pair, pair_of, map_of, rows_named}
 use Rattle.rows.specs.Frozen.{KeepsFrozen}
 use Rattle.rows.specs.Texts.{AreReadable, AreReadableRows}
 use Rattle.rows.specs.Calls.{IsKeyed, IsOurs, IsReady, KeepsTheirs, Leaves}
+use Rattle.rows.specs.Failures.{HasDiskCause}
+use Rattle.rows.specs.declared.failure.Failure.{Failure}
+use Rattle.rows.specs.declared.failure.Failure.TheVariants.{Memory, Size, Disk}
 
 -- the tables made in this order
 abbrev pub all_created : Schema → List Table → Schema
@@ -101,9 +108,11 @@ pub record IsMadeIn (dir : Bytes) (old new : State) : Type 0 where
 abbrev pub IsUnused : Schema → Bytes → Type 0
 IsUnused s name = (table_named s name ≡ None) × (index_named s name ≡ None) × (view_named s name ≡ None)
 
--- a transaction is under way over a schema that has none of these tables
+-- A transaction is under way over a schema that has none of these tables, and in which no foreign key waits for one. The database obeys it.
 pub record IsMaking (tables : List Table) (s : State) : Type 0 where
+  pub sound : IsTrue s.is_open → IsDatabase s.now
   pub free : IsTrue s.is_open → AllByRecursion (λ t. IsUnused s.now.schema t.name) tables
+  pub unawaited : IsTrue s.is_open → AllByRecursion (λ t. is_unawaited s.now.schema t.name ≡ true) tables
   pub counted : IsTrue s.is_open → lacks_sequence s.now.schema ≡ false
   pub mode : s.in_transaction ≡ true
 
@@ -131,8 +140,9 @@ pub record MakesMeta (dir : Bytes) (old new : State) : Type 0 where
   pub committed : new.committed ≡ old.committed
   pub mode : new.in_transaction ≡ true
 
--- the rows of `meta` with one setting more
+-- the rows of `meta` with one setting more, at the rowid after the last
 pub record IsPut (word value : Bytes) (old new : List Row) : Type 0 where
+  pub is : new ≡ put_row (Int (next_rowid old) ∷ Text word ∷ Text value ∷ []) old
   pub keyed : IsKeyed old → IsKeyed new
   pub readable : IsUtf8 word → IsUtf8 value → AreReadableRows meta old → AreReadableRows meta new
   pub put : finite.get (map_of texts_cmp is_pair pair_of old) word ≡ None → map_of texts_cmp is_pair pair_of new ≡ finite.insert (map_of texts_cmp is_pair pair_of old) word value
@@ -163,3 +173,31 @@ pub record MakesAll (dir : Bytes) (old new : State) : Type 0 where
   pub made : IsMadeOf dir old.now new.now.trees
   pub committed : new.committed ≡ old.committed
   pub mode : new.in_transaction ≡ true
+
+-- ---- why it fails
+
+-- the directory is too long to be stored: the row of the setting would have more than a billion bytes, those of its two texts and 18 for each of its three values
+abbrev pub IsTooLong : Bytes → Type 0
+IsTooLong dir = 10 ^ 9 < length dir + 63
+
+-- the name of the index that `sqlite` makes for a table's key
+abbrev pub index_of : Bytes → Bytes
+index_of name = codes "sqlite_autoindex_" ++ (name ++ (codes "_" ++ decimal 1))
+
+-- The trees of these tables have no numbers: there are 65536, and each table takes two, one for itself and one for its key's index.
+abbrev pub LacksNumbers : Schema → List Table → Type 0
+LacksNumbers s tables = 65536 < next_tree s + 2 * length tables
+
+-- something of the schema has the name that the index of one of these tables would have
+abbrev pub LacksNames : Schema → List Table → Type 0
+LacksNames s tables = list_any (λ t. is_used s (index_of t.name)) tables ≡ true
+
+-- Why these tables aren't made. The disk is named for a fault in this call, or an earlier one that had shut the connection, and where a statement is refused: for want of numbers or names, or for a further reason, if there is one. A connection that is shut may name a size without a row too large, since its schema says nothing.
+abbrev pub FailsToMakeThese : List Table → (large refused : Type 0) → State → State → Failure → Type 0
+FailsToMakeThese tables large refused old new Memory = ⊤
+FailsToMakeThese tables large refused old new Size = large ⊎ (old.is_open ≡ false)
+FailsToMakeThese tables large refused old new Disk = HasDiskCause old new ⊎ (refused ⊎ (LacksNumbers old.now.schema tables ⊎ LacksNames old.now.schema tables))
+
+-- Why all nine aren't made: the store directory may be too long, and a limit on steps may stop the statement that stores a setting.
+abbrev pub FailsToMake : Bytes → State → State → Failure → Type 0
+FailsToMake dir old new = FailsToMakeThese our_tables (IsTooLong dir) (IsSome old.step_limit) old new

@@ -4,9 +4,10 @@ use Rattle.sqlite.specs.State.{HasCleanDisk}
 use Rattle.sqlite.specs.Held.{state}
 use Rattle.sqlite_tied.specs.Compute.{everything}
 use Rattle.rows.specs.Forms.{refs, outs, permanent, user_root, profile, generation, runtime}
-use Rattle.rows.proofs.Scans.{on_ok}
+use Rattle.rows.proofs.Scans.{on_ok, err_with}
 use Rattle.rows.proofs.Creates.{makes_in, making_after}
-use Rattle.rows.proofs.MakingTexts.{refs_text, refs_made}
+use Rattle.rows.proofs.MakingFailures.{create_fails}
+use Rattle.rows.proofs.MakingTexts.{refs_text, refs_made, refs_accepted}
 use Rattle.rows.proofs.creating.refs.Goals as goal
 
 pub returns-clause-makes : goal.returns-clause-makes
@@ -24,3 +25,11 @@ returns-clause-making g c clean =
     let new = state g.S.Store c.create.new.tx.conn.now in
     let early : HasCleanDisk old = omega (arith, c.create.ensures.survives.clean) in
     on_ok c.create.result _ _ (λ made. making_after refs.name refs.columns refs.primary (outs ∷ permanent ∷ user_root ∷ profile ∷ generation ∷ runtime ∷ []) old new refl (c.requires early) made) (returns-clause-makes g c clean)
+
+pub returns-clause-cause : goal.returns-clause-cause
+returns-clause-cause g c clean =
+    let old = state g.S.Store c.args.tx.now.conn.now in
+    let new = state g.S.Store c.create.new.tx.conn.now in
+    let early : HasCleanDisk old = omega (arith, c.create.ensures.survives.clean) in
+    let under = c.requires early in
+    err_with c.create.result _ _ (λ f h. create_fails refs_text refs.name refs.columns refs.primary refs_accepted old new (λ is_open. refs_made old.now.schema (under.free is_open).0) (λ is_open. (under.free is_open).0) under.counted f h) (c.create.ensures.cause clean)
