@@ -28,11 +28,11 @@ use Rattle.rows.specs.declared.failure.Failure.{Failure}
 use Rattle.rows.specs.declared.failure.Failure.TheVariants.{Memory, Size, Disk}
 use Rattle.rows.specs.Forms.{strict}
 use Rattle.rows.specs.Contents.{Bytes}
-use Rattle.rows.specs.Failures.{failure_of, FailsWith, IsWriteFailure}
+use Rattle.rows.specs.Failures.{failure_of, unsized, FailsWith, IsWriteFailure}
 use Rattle.rows.specs.Making.{IsUnused, LacksNumbers, LacksNames, FailsToMakeThese}
 use Rattle.rows.proofs.Creates.{IsMakingIn, counted_after}
 use Rattle.rows.proofs.Writes.{same_value}
-use Rattle.rows.proofs.WriteFailures.{MayStop, OrShut, is_write, write_fails}
+use Rattle.rows.proofs.WriteFailures.{MayStop, OrShut, is_write, write_fails, fails_wider, fails_unsized}
 
 -- the text defines the table, and is one that `sqlite` takes wherever the table's names are free
 pub record IsAccepted (text : List ℕ) (table : Table) : Type 0 where
@@ -96,7 +96,7 @@ module _ (s : Schema) (text : List ℕ) (title : Bytes) (cs : List Column) (key 
 -- ---- what the failure is
 
 -- a write that failed
-pub told : (tables : List Table) (large refused : Type 0) (old new : State) (f : Failure) → FailsWith old new (OrShut old large) (refused ⊎ (LacksNumbers old.now.schema tables ⊎ LacksNames old.now.schema tables)) f → FailsToMakeThese tables large refused old new f
+pub told : (tables : List Table) (large refused : Type 0) (old new : State) (f : Failure) → FailsWith old new large (refused ⊎ (LacksNumbers old.now.schema tables ⊎ LacksNames old.now.schema tables)) f → FailsToMakeThese tables large refused old new f
 told tables large refused old new Memory h = tt
 told tables large refused old new Size h = h.0
 told tables large refused old new Disk (inl h) = inl h.0
@@ -125,10 +125,11 @@ module _ (text : List ℕ) (title : Bytes) (cs : List Column) (key : List ℕ) (
 
   -- a CREATE TABLE of ours
   pub create_fails : (IsTrue old.is_open → IsMakingIn old.now.schema text (strict title cs key)) → (IsTrue old.is_open → IsUnused old.now.schema title) → (IsTrue old.is_open → lacks_sequence old.now.schema ≡ false)
-      → (f : Failure) → IsWriteFailure text [] old new f → FailsToMakeThese these ⊥ ⊥ old new f
+      → (f : Failure) → (g : Failure) × (f ≡ unsized g) × IsWriteFailure text [] old new g → FailsToMakeThese these ⊥ ⊥ old new f
   create_fails making free lacks f h =
-      told these ⊥ ⊥ old new f (subst (FailsWith old new (OrShut old ⊥) Refused) (sym h.1)
-      (write_fails old new text [] CreateTable refl ⊥ Refused (λ up. is_write old text [] CreateTable refl (making up).meant)
+      let it = write_fails old new text [] CreateTable refl ⊥ Refused (λ up. is_write old text [] CreateTable refl (making up).meant)
       (λ up st its stop does. let whole : st ≡ text = its ∙ ap (statement_of text) (sym (making up).meant.1.0) ∙ (making up).statement in
       table_may_stop (free up) stop (stops old.now.schema text title cs key accepted old.now (lacks up) old.step_limit (mode_of old) [] stop (subst (λ t. Does old.step_limit (mode_of old) [] old.now t None CreateTable (Err stop)) whole does)))
-      h.0 h.2))
+      h.2.0 h.2.2 in
+      let shut : FailsWith old new (old.is_open ≡ false) Refused h.0 = fails_wider old new (OrShut old ⊥) (old.is_open ≡ false) Refused Refused (λ x. elim x [ inl none ↦ absurd none | inr closed ↦ closed ]) (λ x. x) h.0 (subst (FailsWith old new (OrShut old ⊥) Refused) (sym h.2.1) it) in
+      told these ⊥ ⊥ old new f (subst (FailsWith old new ⊥ Refused) (sym h.1) (fails_unsized old new Refused h.0 shut))

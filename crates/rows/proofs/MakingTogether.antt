@@ -106,8 +106,7 @@ module _ (large refused : Type 0) (a b c : State) where
   pub fails_then : (fs : List Parts) (us : List Table) → are_clear fs us ≡ true → b.now.schema ≡ all_created a.now.schema (map table_of fs) → IsTrue b.is_open → a.faults ≤ b.faults
       → (f : Failure) → FailsToMakeThese us large refused b c f → FailsToMakeThese (map table_of fs ++ us) large refused a c f
   fails_then fs us clear made is_open rise Memory h = tt
-  fails_then fs us clear made is_open rise Size (inl big) = inl big
-  fails_then fs us clear made is_open rise Size (inr shut) = absurd (let no = sym is_open ∙ shut in cc)
+  fails_then fs us clear made is_open rise Size h = h
   fails_then fs us clear made is_open rise Disk (inl (inl more)) = inl (inl (omega (arith, rise, more)))
   fails_then fs us clear made is_open rise Disk (inl (inr shut)) = absurd (let no = sym is_open ∙ shut in cc)
   fails_then fs us clear made is_open rise Disk (inr (inl why)) = inr (inl why)
@@ -116,8 +115,7 @@ module _ (large refused : Type 0) (a b c : State) where
   -- for another reason too, and the call that fails may note more faults
   pub fails_wider : (large_too refused_too : Type 0) → (large → large_too) → (refused → refused_too) → (ts us : List Table) → b.faults ≤ c.faults → (f : Failure) → FailsToMakeThese ts large refused a b f → FailsToMakeThese (ts ++ us) large_too refused_too a c f
   fails_wider large_too refused_too grows more ts us rise Memory h = tt
-  fails_wider large_too refused_too grows more ts us rise Size (inl big) = inl (grows big)
-  fails_wider large_too refused_too grows more ts us rise Size (inr shut) = inr shut
+  fails_wider large_too refused_too grows more ts us rise Size h = grows h
   fails_wider large_too refused_too grows more ts us rise Disk (inl (inl faults)) = inl (inl (omega (arith, rise, faults)))
   fails_wider large_too refused_too grows more ts us rise Disk (inl (inr shut)) = inl (inr shut)
   fails_wider large_too refused_too grows more ts us rise Disk (inr (inl why)) = inr (inl (more why))

@@ -139,10 +139,10 @@ module _ (a : State) (free : IsFree a.now.schema (codes "meta")) (sound : IsData
       let it = write.write_fails b c insert_text values (Insert stands.at (Values terms 3)) refl (IsTooLarge b.now meta values) Refused (λ up. write.is_write b insert_text values _ refl (insert_is b.now.schema stands.at _ stands.known.named))
       (λ up st its. insert_stops meta.name meta.columns meta.primary b.now sound_b stands values refl refl ⊥ (inl (new_key b.now rows word value has new)) b.step_limit values terms 3 refl (rw cast_null refl) st) h.0 h.2 in
       let Lacks = LacksNumbers b.now.schema [] ⊎ LacksNames b.now.schema [] in
-      let big : write.OrShut b (IsTooLarge b.now meta values) → write.OrShut b large = λ x. elim x [ inl long ↦ inl (grows (too_long b.now word value own short long)) | inr shut ↦ inr shut ] in
+      let big : write.OrShut b (IsTooLarge b.now meta values) → large = λ x. elim x [ inl long ↦ grows (too_long b.now word value own short long) | inr shut ↦ absurd (both_ways _ shut is_open) ] in
       let why : Refused → IsSome a.step_limit ⊎ Lacks = λ x. elim x [ inl limited ↦ inl (subst IsSome limit limited) | inr more ↦ elim more [ inl full ↦ absurd (no_rowid_lacks b.now rows word value has new full) | inr none ↦ absurd none ] ] in
       fails_then large (IsSome a.step_limit) a b c (part meta ∷ []) [] refl made is_open rise f
-      (told [] large (IsSome a.step_limit) b c f (write.fails_wider b c _ (write.OrShut b large) _ (IsSome a.step_limit ⊎ Lacks) big why f (subst (FailsWith b c (write.OrShut b (IsTooLarge b.now meta values)) Refused) (sym h.1) it)))
+      (told [] large (IsSome a.step_limit) b c f (write.fails_wider b c _ large _ (IsSome a.step_limit ⊎ Lacks) big why f (subst (FailsWith b c (write.OrShut b (IsTooLarge b.now meta values)) Refused) (sym h.1) it)))
 
   module _ (b : State) (made : Makes (meta ∷ []) a b) (rise : a.faults ≤ b.faults) (limit : b.step_limit ≡ a.step_limit) where
     tree_b : tree_named b.now.schema meta.name ≡ next_tree a.now.schema

@@ -4,22 +4,26 @@ ghost use Rattle.std.specs.Prelude.{◌≡◌, true, [], ◌∷◌, ℕ, Ok, OnO
 ghost use Rattle.sqlite.specs.State.{HasCleanDisk, KeepsCommit, Survives, ExecutesInside};
 ghost use Rattle.sqlite.specs.Held.{state};
 ghost use Rattle.rows.specs.Forms.{meta, object, refs, outs, permanent, user_root, profile, generation, runtime};
-ghost use Rattle.rows.specs.Failures.{IsWriteFailure};
+ghost use Rattle.rows.specs.declared.failure.Failure.{Failure};
+ghost use Rattle.rows.specs.Failures.{IsWriteFailure, unsized};
 ghost use Rattle.rows.specs.Making.{IsMaking, Makes, FailsToMakeThese};
 
 use crate::failure::Failure;
+use crate::statement::without_size;
 use sqlite::{Alter, Transaction};
 
 fn create<S: Alter>(tx: &mut Transaction<'_, S>, text: &str) -> Result<(), Failure>
     requires { HasCleanDisk (state S.Store tx.old.conn.now) → (state S.Store tx.old.conn.now).in_transaction ≡ true }
     ensures same_reference { tx.new.conn.ghost_name ≡ tx.old.conn.ghost_name }
     ensures ran { HasCleanDisk (state S.Store tx.new.conn.now) → OnOk result ((count : ℕ) × ExecutesInside 0 text.now [] (state S.Store tx.old.conn.now) (state S.Store tx.new.conn.now) (Ok count)) }
-    ensures cause { HasCleanDisk (state S.Store tx.new.conn.now) → IfErr result (IsWriteFailure text.now [] (state S.Store tx.old.conn.now) (state S.Store tx.new.conn.now)) }
+    ensures cause { HasCleanDisk (state S.Store tx.new.conn.now) → IfErr result (λ f. (g : Failure) × (f ≡ unsized g) × IsWriteFailure text.now [] (state S.Store tx.old.conn.now) (state S.Store tx.new.conn.now) g) }
     ensures kept { HasCleanDisk (state S.Store tx.new.conn.now) → KeepsCommit (state S.Store tx.old.conn.now) (state S.Store tx.new.conn.now) }
     ensures survives { Survives (state S.Store tx.old.conn.now) (state S.Store tx.new.conn.now) (λ _. ⊥) }
 {
-    tx.execute(text, &[])?;
-    Ok(())
+    match tx.execute(text, &[]) {
+        Ok(_) => Ok(()),
+        Err(error) => Err(without_size(Failure::from(error))),
+    }
 }
 
 pub(crate) fn meta<S: Alter>(tx: &mut Transaction<'_, S>) -> Result<(), Failure>

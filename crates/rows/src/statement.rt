@@ -72,7 +72,8 @@ pub(crate) fn run<S: Alter>(
     Ok(())
 }
 
-fn without_size(failure: Failure) -> Failure
+/// The failure of a write whose row can't be too large: a shut connection alone may name a size, so that is the disk's.
+pub(crate) fn without_size(failure: Failure) -> Failure
     ensures { result ≡ unsized failure }
 {
     match failure {
