@@ -9,6 +9,7 @@ use Rattle.sqlite_value.proofs.OrderLemmas.{value_cmp_total}
 use Rattle.sqlite_trees.specs.Tree.{rowid, put_row, has_rowid, without_rowid}
 use Rattle.sqlite_rules.specs.Lists.{Has}
 use Rattle.sqlite_rules.specs.Edit.{is_taken, without_all}
+use Rattle.rows.proofs.Truths.{neither}
 
 -- two values are one to an index
 abbrev pub tie : Value → Value → Bool
@@ -43,10 +44,6 @@ once (r ∷ rows) d a b (inr here) (inr there) e = once rows d.1 a b here there 
 
 -- ---- a new row
 
-not_either : (a b : Bool) → (a || b) ≡ false → (a ≡ false) × (b ≡ false)
-not_either true b h = absurd (let e = h in cc)
-not_either false b h = (cc, h)
-
 lack_put : (v : Value) (new : Row) (rows : List Row) → tie v (rowid new) ≡ false → Lack v rows → Lack v (put_row new rows)
 lack_put v new [] off h = (off, tt)
 lack_put v new (r ∷ rows) off h = go (value_cmp (rowid r) (rowid new)) (lack_put v new rows off h.1)
@@ -58,15 +55,15 @@ lack_put v new (r ∷ rows) off h = go (value_cmp (rowid r) (rowid new)) (lack_p
 
 lack_taken : (new : Row) (rows : List Row) → is_taken rows new ≡ false → Lack (rowid new) rows
 lack_taken new [] free = tt
-lack_taken new (r ∷ rows) free = let off = not_either _ _ free in (turned (rowid new) (rowid r) ∙ off.0, lack_taken new rows off.1)
+lack_taken new (r ∷ rows) free = let off = neither _ _ free in (turned (rowid new) (rowid r) ∙ off.0, lack_taken new rows off.1)
 
 pub apart_put : (new : Row) (rows : List Row) → is_taken rows new ≡ false → AreApart rows → AreApart (put_row new rows)
 unfolding IsDistinct
 apart_put new [] free h = (tt, tt)
-apart_put new (r ∷ rows) free h = let off = not_either _ _ free in go (value_cmp (rowid r) (rowid new)) off.0 (apart_put new rows off.1 h.1)
+apart_put new (r ∷ rows) free h = let off = neither _ _ free in go (value_cmp (rowid r) (rowid new)) off.0 (apart_put new rows off.1 h.1)
   where
     go : (c : Ordering) → is_eq c ≡ false → AreApart (put_row new rows) → AreApart (match_ordering c (r ∷ put_row new rows) (new ∷ rows) (new ∷ r ∷ rows))
-    go Less off later = (lack_put (rowid r) new rows (let e = not_either _ _ free in e.0) h.0, later)
+    go Less off later = (lack_put (rowid r) new rows (let e = neither _ _ free in e.0) h.0, later)
     go Equal off later = absurd (let e = off in cc)
     go Greater off later = (lack_taken new (r ∷ rows) free, h)
 

@@ -15,11 +15,12 @@ use Rattle.rows.specs.Calls.{IsOurs, IsUnderWay}
 use Rattle.rows.specs.Entries.{IsAmiss, IsTextRow, IsPairRow, IsTripleRow, IsProfileRow, IsGenerationRow, IsObjectRow, IsListedRow, ShowsText, setting_of, ShowsSetting, stored_of, ShowsObject, listed_of, ShowsListed, reference_of, ShowsReference, output_of, ShowsOutput, permanent_of, ShowsPermanentRoot, user_root_of, ShowsUserRoot, current_of, ShowsProfile, generation_in, ShowsGeneration, runtime_of, ShowsRuntimeRoot}
 use Rattle.rows.proofs.Orders.{texts_antisymmetric, pair_antisymmetric, triple_antisymmetric}
 use Rattle.rows.proofs.Truths.{and_so}
+use Rattle.rows.proofs.Typed.{base_is}
 use Rattle.rows.proofs.ReadableMaps as maps
 use Rattle.rows.proofs.Statements.{Compiles}
 use Rattle.rows.proofs.Rising.{AreKept, shown_well}
 use Rattle.rows.proofs.KeyOrders.{by_text, by_pair, by_triple}
-use Rattle.rows.proofs.Legible.{pair_row, triple_row, profile_row, generation_row, base_is, object_row, listed_row, path_row}
+use Rattle.rows.proofs.Legible.{pair_row, triple_row, profile_row, generation_row, object_row, listed_row, path_row}
 use Rattle.rows.proofs.SettingLemmas as settings
 use Rattle.rows.proofs.ObjectLemmas as objects
 use Rattle.rows.proofs.ListingLemmas as listing

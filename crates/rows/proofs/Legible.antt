@@ -9,6 +9,7 @@ use Rattle.rows.specs.Contents.{is_text, is_blob, is_text_or_null, is_pair, is_t
 use Rattle.rows.specs.Texts.{IsReadable}
 use Rattle.rows.specs.Entries.{IsLegible, IsLegibleIfAny, IsBlob, IsTextRow, IsPairRow, IsTripleRow, IsProfileRow, IsGenerationRow, IsObjectRow, IsListedRow}
 use Rattle.rows.proofs.Truths.{and_so}
+use Rattle.rows.proofs.Typed.{base_is}
 
 text : (v : Value) → is_text v ≡ true → IsReadable v → IsLegible v
 text Null h k = absurd (let no = h in cc)
@@ -60,9 +61,6 @@ generation_row r h utf8 =
     let front = and_so _ _ (and_so _ _ h).0 in
     let pair = and_so _ _ front.0 in
     (refl, text (column r 1) pair.0 (utf8 0 (omega arith)), text (column r 2) pair.1 (utf8 1 (omega arith)), int (column r 3) front.1, text (column r 4) (and_so _ _ h).1 (utf8 3 (omega arith)))
-
-pub base_is : (r : Row) → is_object r ≡ true → is_text (column r 1) ≡ true
-base_is r h = (and_so _ _ (and_so _ _ (and_so _ _ (and_so _ _ h).0).0).0).0
 
 pub object_row : (r : Row) → is_object r ≡ true → IsReadableTo 5 r → IsObjectRow (column r 1 ∷ column r 2 ∷ column r 3 ∷ column r 4 ∷ column r 5 ∷ [])
 object_row r h utf8 =

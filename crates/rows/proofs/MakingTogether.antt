@@ -20,7 +20,7 @@ use Rattle.rows.specs.Contents.{Bytes}
 use Rattle.rows.specs.Making.{IsUnused, Makes, index_of, all_created, LacksNumbers, LacksNames, FailsToMakeThese}
 use Rattle.rows.proofs.Creates.{is_clear, unused_after}
 use Rattle.rows.proofs.Lists.{rises, all_below}
-use Rattle.rows.proofs.Truths.{and_so}
+use Rattle.rows.proofs.Truths.{and_so, neither}
 use Rattle.rows.proofs.Stood.{Parts, table_of}
 use Rattle.rows.proofs.MakingFailures.{none_used}
 
@@ -51,10 +51,6 @@ two_more s title cs key =
 none_if : {X : Type 0} (o : Option X) → is_some o ≡ false → o ≡ None
 none_if None h = refl
 none_if (Some x) h = cc
-
-neither : (a b : Bool) → (a || b) ≡ false → (a ≡ false) × (b ≡ false)
-neither true b h = cc
-neither false b h = (refl, h)
 
 unused_if : (s : Schema) (name : Bytes) → is_used s name ≡ false → IsUnused s name
 unused_if s name h = let last = neither _ _ h in let first = neither _ _ last.0 in (none_if _ first.0, none_if _ first.1, none_if _ last.1)

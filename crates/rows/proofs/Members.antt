@@ -22,6 +22,7 @@ use Rattle.std.specs.Cmp.{tied_itself}
 use Rattle.rows.specs.Calls.{IsKeyed}
 use Rattle.rows.proofs.Orders.{found_has, tied_some}
 use Rattle.rows.proofs.Apart.{once, apart_put, apart_left}
+use Rattle.rows.proofs.Truths.{not_so}
 use Rattle.rows.proofs.Scans.{IsScan, scan_sound, scan_complete}
 use Rattle.rows.proofs.Writes.{rowids_where}
 
@@ -105,10 +106,6 @@ keyed_put new rows free int keyed = record { ints = ints; apart = apart_put new 
 -- no rowid of the list is this row's
 abbrev pub Spares : List ℤ → Row → Type 0
 Spares ids x = (id : ℤ) → Has ids id → has_rowid id x ≡ false
-
-not_so : (b : Bool) → not b ≡ true → b ≡ false
-not_so true h = cc
-not_so false h = refl
 
 pub left_from : (ids : List ℤ) (rows : List Row) (x : Row) → Has (without_all rows ids) x → Has rows x × Spares ids x
 left_from [] rows x h = (h, λ id none. absurd none)

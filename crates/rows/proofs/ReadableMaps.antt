@@ -16,7 +16,7 @@ use Rattle.rows.specs.Texts.{IsReadable, AreReadable, HasReadableRows}
 use Rattle.rows.specs.Calls.{IsKeyed, IsOurs}
 use Rattle.rows.proofs.Orders.{texts_total, texts_antisymmetric, pair_total, pair_antisymmetric, triple_total, triple_antisymmetric}
 use Rattle.rows.proofs.Truths.{and_so}
-use Rattle.rows.proofs.Typed.{objects_typed, pairs_typed, triples_typed, profiles_typed, generations_typed}
+use Rattle.rows.proofs.Typed.{objects_typed, base_is, pairs_typed, triples_typed, profiles_typed, generations_typed}
 use Rattle.rows.proofs.UniqueKeys.{texts_equal, ints_equal, agree_one, agree_two, agree_three, one_key}
 use Rattle.rows.proofs.MappedRows.{row_of, HasOneRowEach, entry_of}
 use Rattle.rows.proofs.ReadableValues.{utf8_of, readable_of, readable_int, blob_readable, utf8_if, readable_if}
@@ -171,10 +171,7 @@ module _ (db : Database) (sound : IsDatabase db) (has : HasTables db.schema) (ke
 
   pub object_once : HasOneRowEach texts_total texts_antisymmetric is_object object_of (rows_named db object.name)
   object_once a b here there ka kb same =
-      one_key db sound object.name object.columns object.primary has.1.0 keyed.1.0 a b here there (agree_one a b 1 (texts_equal (column a 1) (column b 1) (base a ka) (base b kb) same))
-    where
-      base : (r : Row) → is_object r ≡ true → is_text (column r 1) ≡ true
-      base r k = (and_so _ _ (and_so _ _ (and_so _ _ (and_so _ _ k).0).0).0).0
+      one_key db sound object.name object.columns object.primary has.1.0 keyed.1.0 a b here there (agree_one a b 1 (texts_equal (column a 1) (column b 1) (base_is a ka) (base_is b kb) same))
 
   pair_once : {X : Type 0} (name : Bytes) (kind : Row → Bool) (entry : Row → (Bytes × Bytes) × X) → ((r : Row) → kind r ≡ true → is_pair r ≡ true) → ((r : Row) → (entry r).0 ≡ (bytes (column r 1), bytes (column r 2)))
       → ((a b : Row) → Has (rows_named db name) a → Has (rows_named db name) b → agree plain (1 ∷ 2 ∷ []) a (1 ∷ 2 ∷ []) b ≡ true → a ≡ b) → HasOneRowEach pair_total pair_antisymmetric kind entry (rows_named db name)

@@ -1,5 +1,5 @@
 -- SQL's tests of equal values, and truths of two.
-use Rattle.std.proofs.Common.{◌≡◌, List, ℕ, ℤ, Bool, true, false, not, ◌&&◌, cond, Some, refl, ap, ◌∙◌}
+use Rattle.std.proofs.Common.{◌≡◌, List, ℕ, ℤ, Bool, true, false, not, ◌&&◌, ◌||◌, cond, Some, refl, ap, ◌∙◌}
 use Rattle.std.specs.Ordering.{is_eq, eq_by_cmp, int_cmp}
 use Rattle.sqlite_value.specs.declared.value.Value.{Value}
 use Rattle.sqlite_value.specs.declared.value.Value.TheVariants.{Null, Int, Real, Text, Blob}
@@ -73,3 +73,8 @@ both_tests a b x y e f = rw (e, f) (ap (λ z. x && z) (and_one y))
 
 pub all_tests : (a b c x y z : Bool) → a ≡ x → b ≡ y → c ≡ z → (a && (b && (c && true))) ≡ (x && (y && z))
 all_tests a b c x y z e f g = rw (e, f, g) (ap (λ w. x && (y && w)) (and_one z))
+
+-- neither of two
+pub neither : (a b : Bool) → (a || b) ≡ false → (a ≡ false) × (b ≡ false)
+neither true b h = cc
+neither false b h = (refl, h)

@@ -89,6 +89,10 @@ objects_typed db sound stands row there =
     let fifth : is_text_or_null (column row 5) ≡ true = text_if_of _ (ap (is_of kind.Text) (sym (later (drop 1 (drop 1 (drop 1 (drop 1 row)))) 0 ∙ later (drop 1 (drop 1 (drop 1 row))) 1 ∙ later (drop 1 (drop 1 row)) 2 ∙ later (drop 1 row) 3 ∙ later row 4)) ∙ typed.1.1.1.1.0) in
     rw (first, second, third, fourth, fifth) refl
 
+-- the path of an object
+pub base_is : (r : Row) → is_object r ≡ true → is_text (column r 1) ≡ true
+base_is r h = (and_so _ _ (and_so _ _ (and_so _ _ (and_so _ _ h).0).0).0).0
+
 -- ---- the rows of the other tables
 
 int_of : (v : Value) → is_of kind.Integer v ≡ true → not (is_null v) ≡ true → is_int v ≡ true

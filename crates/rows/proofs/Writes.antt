@@ -34,7 +34,7 @@ use Rattle.sqlite_rules.specs.declared.action.Deed.{Deed}
 use Rattle.sqlite_rules.specs.Action.{Work, work_by, work_for, works, deed_for, pairs}
 use Rattle.rows.specs.Standing.{points_at, is_unreferred}
 use Rattle.rows.specs.Frozen.{KeepsUnshown}
-use Rattle.rows.proofs.Truths.{and_so}
+use Rattle.rows.proofs.Truths.{and_so, not_so}
 use Rattle.rows.proofs.Finds.{found_by_place}
 
 -- inside a transaction: one table has these rows, and each other table, ours or theirs, has those that it had
@@ -98,10 +98,6 @@ pub works_of_none : (s : Schema) (keys : Keys) (depth tree : ℕ) (news : List R
 works_of_none s keys depth tree news =
     all_empty (λ (child : Table). filter_map (work_for s keys depth tree [] news child) child.references) s.tables (λ child. all_none (work_for s keys depth tree [] news child) child.references (λ ref. by_none depth tree child ref _ _))
 
-not_true : (b : Bool) → not b ≡ true → b ≡ false
-not_true true h = cc
-not_true false h = refl
-
 by_order : (depth tree : ℕ) (moves : List (Row × Row)) (child p : Table) (ref : Reference) (deed : Option Deed) (places : List ℕ) (o : _) → (p.tree == tree) ≡ false → work_by depth tree moves child ref deed (option_map (λ x. (p.tree, places, x)) o) ≡ None
 by_order depth tree moves child p ref None places o other = refl
 by_order depth tree moves child p ref (Some deed) places None other = refl
@@ -116,7 +112,7 @@ by_parent : (depth tree : ℕ) (moves : List (Row × Row)) (child : Table) (ref 
     → work_by depth tree moves child ref deed (option_and_then (λ t. option_and_then (key_in t) (key_places t ref.parent_columns)) parent) ≡ None
 by_parent depth tree moves child ref None parent other = refl
 by_parent depth tree moves child ref (Some deed) None other = refl
-by_parent depth tree moves child ref (Some deed) (Some p) other = by_places depth tree moves child p ref (Some deed) (key_places p ref.parent_columns) (not_true _ other)
+by_parent depth tree moves child ref (Some deed) (Some p) other = by_places depth tree moves child p ref (Some deed) (key_places p ref.parent_columns) (not_so _ other)
 
 module _ (s : Schema) (keys : Keys) (depth tree : ℕ) (olds : List Row) where
   no_work : (child : Table) (refs : List Reference) → list_all (λ r. not (points_at s tree r)) refs ≡ true → filter_map (work_for s keys depth tree olds [] child) refs ≡ []
