@@ -96,11 +96,11 @@ module _ (s : Schema) (text : List ℕ) (title : Bytes) (cs : List Column) (key 
 -- ---- what the failure is
 
 -- a write that failed
-pub told : (tables : List Table) (large refused : Type 0) (old new : State) (f : Failure) → FailsWith old new large (refused ⊎ (LacksNumbers old.now.schema tables ⊎ LacksNames old.now.schema tables)) f → FailsToMakeThese tables large refused old new f
-told tables large refused old new Memory h = tt
-told tables large refused old new Size h = h.0
-told tables large refused old new Disk (inl h) = inl h.0
-told tables large refused old new Disk (inr h) = inr h.0
+pub told : (tables : List Table) (large refused : Type 0) (old new : State) → (large → IsTrue old.is_open) → (f : Failure) → FailsWith old new large (refused ⊎ (LacksNumbers old.now.schema tables ⊎ LacksNames old.now.schema tables)) f → FailsToMakeThese tables large refused old new f
+told tables large refused old new up Memory h = tt
+told tables large refused old new up Size h = (h.0, up h.0)
+told tables large refused old new up Disk (inl h) = inl h.0
+told tables large refused old new up Disk (inr h) = inr h.0
 
 refusal_is : (why : Refusal) → failure_of (alter_error why) ≡ Disk
 refusal_is (Invalid e) = refl
@@ -132,4 +132,4 @@ module _ (text : List ℕ) (title : Bytes) (cs : List Column) (key : List ℕ) (
       table_may_stop (free up) stop (stops old.now.schema text title cs key accepted old.now (lacks up) old.step_limit (mode_of old) [] stop (subst (λ t. Does old.step_limit (mode_of old) [] old.now t None CreateTable (Err stop)) whole does)))
       h.2.0 h.2.2 in
       let shut : FailsWith old new (old.is_open ≡ false) Refused h.0 = fails_wider old new (OrShut old ⊥) (old.is_open ≡ false) Refused Refused (λ x. elim x [ inl none ↦ absurd none | inr closed ↦ closed ]) (λ x. x) h.0 (subst (FailsWith old new (OrShut old ⊥) Refused) (sym h.2.1) it) in
-      told these ⊥ ⊥ old new f (subst (FailsWith old new ⊥ Refused) (sym h.1) (fails_unsized old new Refused h.0 shut))
+      told these ⊥ ⊥ old new (λ none. absurd none) f (subst (FailsWith old new ⊥ Refused) (sym h.1) (fails_unsized old new Refused h.0 shut))

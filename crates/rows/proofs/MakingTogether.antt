@@ -99,19 +99,19 @@ lacks_then (f ∷ fs) us s clear h = let b = and_so _ _ clear in lacks_before s 
 
 module _ (large refused : Type 0) (a b c : State) where
   -- after these were made
-  pub fails_then : (fs : List Parts) (us : List Table) → are_clear fs us ≡ true → b.now.schema ≡ all_created a.now.schema (map table_of fs) → IsTrue b.is_open → a.faults ≤ b.faults
+  pub fails_then : (fs : List Parts) (us : List Table) → are_clear fs us ≡ true → IsTrue a.is_open → b.now.schema ≡ all_created a.now.schema (map table_of fs) → IsTrue b.is_open → a.faults ≤ b.faults
       → (f : Failure) → FailsToMakeThese us large refused b c f → FailsToMakeThese (map table_of fs ++ us) large refused a c f
-  fails_then fs us clear made is_open rise Memory h = tt
-  fails_then fs us clear made is_open rise Size h = h
-  fails_then fs us clear made is_open rise Disk (inl (inl more)) = inl (inl (omega (arith, rise, more)))
-  fails_then fs us clear made is_open rise Disk (inl (inr shut)) = absurd (let no = sym is_open ∙ shut in cc)
-  fails_then fs us clear made is_open rise Disk (inr (inl why)) = inr (inl why)
-  fails_then fs us clear made is_open rise Disk (inr (inr lacks)) = inr (inr (lacks_then fs us a.now.schema clear (subst (λ s. LacksNumbers s us ⊎ LacksNames s us) made lacks)))
+  fails_then fs us clear was_open made is_open rise Memory h = tt
+  fails_then fs us clear was_open made is_open rise Size h = (h.0, was_open)
+  fails_then fs us clear was_open made is_open rise Disk (inl (inl more)) = inl (inl (omega (arith, rise, more)))
+  fails_then fs us clear was_open made is_open rise Disk (inl (inr shut)) = absurd (let no = sym is_open ∙ shut in cc)
+  fails_then fs us clear was_open made is_open rise Disk (inr (inl why)) = inr (inl why)
+  fails_then fs us clear was_open made is_open rise Disk (inr (inr lacks)) = inr (inr (lacks_then fs us a.now.schema clear (subst (λ s. LacksNumbers s us ⊎ LacksNames s us) made lacks)))
 
   -- for another reason too, and the call that fails may note more faults
   pub fails_wider : (large_too refused_too : Type 0) → (large → large_too) → (refused → refused_too) → (ts us : List Table) → b.faults ≤ c.faults → (f : Failure) → FailsToMakeThese ts large refused a b f → FailsToMakeThese (ts ++ us) large_too refused_too a c f
   fails_wider large_too refused_too grows more ts us rise Memory h = tt
-  fails_wider large_too refused_too grows more ts us rise Size h = grows h
+  fails_wider large_too refused_too grows more ts us rise Size h = (grows h.0, h.1)
   fails_wider large_too refused_too grows more ts us rise Disk (inl (inl faults)) = inl (inl (omega (arith, rise, faults)))
   fails_wider large_too refused_too grows more ts us rise Disk (inl (inr shut)) = inl (inr shut)
   fails_wider large_too refused_too grows more ts us rise Disk (inr (inl why)) = inr (inl (more why))
@@ -121,7 +121,7 @@ module _ (large refused : Type 0) (a b c : State) where
 -- one of several, after these were made
 pub fails_among : (large refused : Type 0) (a b c : State) (fs : List Parts) (ts us : List Table) → are_clear fs (ts ++ us) ≡ true → Makes (map table_of fs) a b → a.faults ≤ b.faults → (f : Failure) → FailsToMakeThese ts large refused b c f
     → FailsToMakeThese (map table_of fs ++ (ts ++ us)) large refused a c f
-fails_among large refused a b c fs ts us clear made rise f h = fails_then large refused a b c fs (ts ++ us) clear made.schema made.is_open rise f (fails_wider large refused b c c large refused (λ x. x) (λ x. x) ts us (omega arith) f h)
+fails_among large refused a b c fs ts us clear made rise f h = fails_then large refused a b c fs (ts ++ us) clear made.was_open made.schema made.is_open rise f (fails_wider large refused b c c large refused (λ x. x) (λ x. x) ts us (omega arith) f h)
 
 -- an error that becomes a failure
 pub becomes : {T : Type 0} (r : Result T Failure) (R P : Failure → Type 0) → IsErrAnd r R → ((f : Failure) → R f → P f) → IfErr r P

@@ -128,9 +128,9 @@ module _ (a : State) (free : IsFree a.now.schema (codes "meta")) (sound : IsData
       (each_stands db sound_there a.now.schema (part meta ∷ []) (subst (λ s. AllByRecursion (StandsAs s) (placed a.now.schema (meta ∷ []))) (sym made) (all_stand a.now.schema (part meta ∷ []) refl (free, tt) (are_low a.now sound)))).0
 
   -- `meta` stands with these rows, and gets one more
-  in_meta : (b c : State) (rows : List Row) (word value : Bytes) (large : Type 0) → b.now.schema ≡ created a.now.schema meta → IsTrue b.is_open → IsDatabase b.now → rows_named b.now meta.name ≡ rows → IsNew rows word value → length word + 36 ≤ 10 ^ 9
+  in_meta : (b c : State) (rows : List Row) (word value : Bytes) (large : Type 0) → IsTrue a.is_open → b.now.schema ≡ created a.now.schema meta → IsTrue b.is_open → IsDatabase b.now → rows_named b.now meta.name ≡ rows → IsNew rows word value → length word + 36 ≤ 10 ^ 9
       → (10 ^ 9 < length word + length value + 54 → large) → a.faults ≤ b.faults → b.step_limit ≡ a.step_limit → (f : Failure) → IsWriteFailure insert_text (Text word ∷ Text value ∷ []) b c f → FailsToMakeThese (meta ∷ []) large (IsSome a.step_limit) a c f
-  in_meta b c rows word value large made is_open sound_b has new short grows rise limit f h =
+  in_meta b c rows word value large was_open made is_open sound_b has new short grows rise limit f h =
       let stands = stands_in b.now sound_b made in
       let values = Text word ∷ Text value ∷ [] in
       let tree : tree_named b.now.schema meta.name ≡ next_tree a.now.schema = ap (λ (s : Schema). tree_named s meta.name) made ∙ meta_tree a.now.schema (free.table, free.index, free.view) in
@@ -141,8 +141,8 @@ module _ (a : State) (free : IsFree a.now.schema (codes "meta")) (sound : IsData
       let Lacks = LacksNumbers b.now.schema [] ⊎ LacksNames b.now.schema [] in
       let big : write.OrShut b (IsTooLarge b.now meta values) → large = λ x. elim x [ inl long ↦ grows (too_long b.now word value own short long) | inr shut ↦ absurd (both_ways _ shut is_open) ] in
       let why : Refused → IsSome a.step_limit ⊎ Lacks = λ x. elim x [ inl limited ↦ inl (subst IsSome limit limited) | inr more ↦ elim more [ inl full ↦ absurd (no_rowid_lacks b.now rows word value has new full) | inr none ↦ absurd none ] ] in
-      fails_then large (IsSome a.step_limit) a b c (part meta ∷ []) [] refl made is_open rise f
-      (told [] large (IsSome a.step_limit) b c f (write.fails_wider b c _ large _ (IsSome a.step_limit ⊎ Lacks) big why f (subst (FailsWith b c (write.OrShut b (IsTooLarge b.now meta values)) Refused) (sym h.1) it)))
+      fails_then large (IsSome a.step_limit) a b c (part meta ∷ []) [] refl was_open made is_open rise f
+      (told [] large (IsSome a.step_limit) b c (λ big. is_open) f (write.fails_wider b c _ large _ (IsSome a.step_limit ⊎ Lacks) big why f (subst (FailsWith b c (write.OrShut b (IsTooLarge b.now meta values)) Refused) (sym h.1) it)))
 
   module _ (b : State) (made : Makes (meta ∷ []) a b) (rise : a.faults ≤ b.faults) (limit : b.step_limit ≡ a.step_limit) where
     tree_b : tree_named b.now.schema meta.name ≡ next_tree a.now.schema
@@ -152,9 +152,9 @@ module _ (a : State) (free : IsFree a.now.schema (codes "meta")) (sound : IsData
     rows_b = ap b.now.trees tree_b ∙ made.empty.0
 
     pub first_fails : (dir : Bytes) (c : State) (f : Failure) → IsWriteFailure insert_text (Text (codes "schema") ∷ Text (codes "1") ∷ []) b c f → FailsToMakeThese (meta ∷ []) (IsTooLong dir) (IsSome a.step_limit) a c f
-    first_fails dir c f h = in_meta b c [] (codes "schema") (codes "1") (IsTooLong dir) made.schema made.is_open made.sound rows_b first_new (omega arith) (λ big. absurd (omega (arith, big))) rise limit f h
+    first_fails dir c f h = in_meta b c [] (codes "schema") (codes "1") (IsTooLong dir) made.was_open made.schema made.is_open made.sound rows_b first_new (omega arith) (λ big. absurd (omega (arith, big))) rise limit f h
 
     pub second_fails : (dir : Bytes) (c d : State) → Puts (codes "schema") (codes "1") b c → b.faults ≤ c.faults → c.step_limit ≡ b.step_limit → (f : Failure) → IsWriteFailure insert_text (Text (codes "store-dir") ∷ Text dir ∷ []) c d f → FailsToMakeThese (meta ∷ []) (IsTooLong dir) (IsSome a.step_limit) a d f
     second_fails dir c d p more still f h =
         let rows_c : rows_named c.now meta.name ≡ first_row ∷ [] = p.rows.is ∙ ap (λ rows. put_row (row_of rows (codes "schema") (codes "1")) rows) rows_b in
-        in_meta c d (first_row ∷ []) (codes "store-dir") dir (IsTooLong dir) (p.schema ∙ made.schema) p.is_open p.sound rows_c (second_new dir) (omega arith) (λ big. omega (arith, big)) (omega (arith, rise, more)) (still ∙ limit) f h
+        in_meta c d (first_row ∷ []) (codes "store-dir") dir (IsTooLong dir) made.was_open (p.schema ∙ made.schema) p.is_open p.sound rows_c (second_new dir) (omega arith) (λ big. omega (arith, big)) (omega (arith, rise, more)) (still ∙ limit) f h

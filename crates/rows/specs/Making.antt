@@ -192,10 +192,10 @@ LacksNumbers s tables = 65536 < next_tree s + 2 * length tables
 abbrev pub LacksNames : Schema → List Table → Type 0
 LacksNames s tables = list_any (λ t. is_used s (index_of t.name)) tables ≡ true
 
--- Why these tables aren't made. A size is named for a row too large, where there may be one. The disk is named for a fault in this call, or an earlier one that had shut the connection, and where a statement is refused: for want of numbers or names, or for a further reason, if there is one.
+-- Why these tables aren't made. A size is named for a row too large, where there may be one, and never of a connection that an earlier fault had shut. The disk is named for a fault in this call, or that earlier one, and where a statement is refused: for want of numbers or names, or for a further reason, if there is one.
 abbrev pub FailsToMakeThese : List Table → (large refused : Type 0) → State → State → Failure → Type 0
 FailsToMakeThese tables large refused old new Memory = ⊤
-FailsToMakeThese tables large refused old new Size = large
+FailsToMakeThese tables large refused old new Size = large × IsTrue old.is_open
 FailsToMakeThese tables large refused old new Disk = HasDiskCause old new ⊎ (refused ⊎ (LacksNumbers old.now.schema tables ⊎ LacksNames old.now.schema tables))
 
 -- Why all nine aren't made: the store directory may be too long, and a limit on steps may stop the statement that stores a setting.

@@ -34,7 +34,7 @@ returns-in_err-next-clause-cause g c clean =
     let large = IsTooLong c.args.store_dir.now in
     let these = fails_wider ⊥ ⊥ b d d large (IsSome a.step_limit) (λ no. absurd no) (λ no. absurd no) (object ∷ refs ∷ outs ∷ permanent ∷ []) (user_root ∷ profile ∷ generation ∷ runtime ∷ []) (omega arith) _ (c.in_err-next.ensures.cause clean) in
     passed_on _ _ _ c.from_residual-in_err-next.ensures.1
-    (fails_then large (IsSome a.step_limit) a b d (part meta ∷ []) (object ∷ refs ∷ outs ∷ permanent ∷ user_root ∷ profile ∷ generation ∷ runtime ∷ []) refl made.schema made.is_open c.settle.ensures.survives.counts _ these)
+    (fails_then large (IsSome a.step_limit) a b d (part meta ∷ []) (object ∷ refs ∷ outs ∷ permanent ∷ user_root ∷ profile ∷ generation ∷ runtime ∷ []) refl made.was_open made.schema made.is_open c.settle.ensures.survives.counts _ these)
 
 pub returns-clause-cause : goal.returns-clause-cause
 unfolding digits everything
@@ -51,5 +51,5 @@ returns-clause-cause g c clean =
     let rise : a.faults ≤ d.faults = omega (arith, c.settle.ensures.survives.counts, c.next.ensures.survives.counts) in
     let large = IsTooLong c.args.store_dir.now in
     let lasts = user_root ∷ profile ∷ generation ∷ runtime ∷ [] in
-    err_with c.last.result _ _ (λ f h. fails_then large (IsSome a.step_limit) a d e (part meta ∷ part object ∷ part refs ∷ part outs ∷ part permanent ∷ []) lasts refl made more.is_open rise f
+    err_with c.last.result _ _ (λ f h. fails_then large (IsSome a.step_limit) a d e (part meta ∷ part object ∷ part refs ∷ part outs ∷ part permanent ∷ []) lasts refl first.was_open made more.is_open rise f
     (fails_wider ⊥ ⊥ d e e large (IsSome a.step_limit) (λ no. absurd no) (λ no. absurd no) lasts [] (omega arith) f h)) (c.last.ensures.cause clean)
