@@ -111,15 +111,15 @@ module _ (a b c : State) where
 
 -- ---- what the calls answer
 
-open_size : (old new : State) (large refused : Type 0) (f : Failure) → (f ≡ Size → IsTrue old.is_open) → FailsWith old new (OrShut old large) refused f → FailsWith old new large refused f
+open_size : (old new : State) (large refused : Type 0) (f : Failure) → (f ≡ Size → IsTrue old.is_open) → FailsWith old new (OrShut old large) refused f → FailsWith old new (large × IsTrue old.is_open) refused f
 open_size old new large refused Memory up h = h
-open_size old new large refused Size up (inl big, back) = (big, back)
+open_size old new large refused Size up (inl big, back) = ((big, up refl), back)
 open_size old new large refused Size up (inr shut, back) = absurd (both_ways _ shut (up refl))
 open_size old new large refused Disk up h = h
 
 -- an insert that failed
 pub addition_failed : {T : Type 0} (r : Result T Failure) (old new : State) (text : List ℕ) (params : Row) (large refused : Type 0) → IfErr r (IsAdditionFailure text params old new)
-    → ((e : Error) → ExecutesInside 0 text params old new (Err e) → FailsWith old new (OrShut old large) refused (failure_of e)) → IfErr r (FailsWith old new large refused)
+    → ((e : Error) → ExecutesInside 0 text params old new (Err e) → FailsWith old new (OrShut old large) refused (failure_of e)) → IfErr r (FailsWith old new (large × IsTrue old.is_open) refused)
 addition_failed (Ok x) old new text params large refused h fails = tt
 addition_failed (Err f) old new text params large refused (inl (h, up)) fails = open_size old new large refused f up (subst (FailsWith old new (OrShut old large) refused) (sym h.1) (fails h.0 h.2))
-addition_failed (Err f) old new text params large refused (inr h) fails = fails_wider old new ⊥ large ⊥ refused (λ no. absurd no) (λ no. absurd no) f h
+addition_failed (Err f) old new text params large refused (inr h) fails = fails_wider old new ⊥ (large × IsTrue old.is_open) ⊥ refused (λ no. absurd no) (λ no. absurd no) f h

@@ -74,9 +74,9 @@ HasNoRowidLeft db table =
 abbrev pub IsAdditionFailure : List ℕ → Row → State → State → Failure → Type 0
 IsAdditionFailure text params old new f = (IsWriteFailure text params old new f × (f ≡ Size → IsTrue old.is_open)) ⊎ FailsWith old new ⊥ ⊥ f
 
--- An insert of these values into a table: the row may be too large, and the call refused for a limit on steps, for want of a rowid, or since the entry is there, where that may be.
+-- An insert of these values into a table: the row may be too large, which is told of an open connection alone, and the call refused for a limit on steps, for want of a rowid, or since the entry is there, where that may be.
 abbrev pub FailsToInsert : Table → Row → (is_there : Type 0) → State → State → Failure → Type 0
-FailsToInsert table values is_there old new = FailsWith old new (IsTooLarge old.now table values) (IsSome old.step_limit ⊎ (HasNoRowidLeft old.now table ⊎ is_there))
+FailsToInsert table values is_there old new = FailsWith old new (IsTooLarge old.now table values × IsTrue old.is_open) (IsSome old.step_limit ⊎ (HasNoRowidLeft old.now table ⊎ is_there))
 
 -- The store failed at a commit, which no size does, and the transaction is undone.
 abbrev pub FailsToCommit : State → State → Failure → Type 0
