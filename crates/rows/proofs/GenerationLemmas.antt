@@ -1,5 +1,5 @@
 -- What the statements on the generations mean and do.
-use Rattle.std.proofs.Common.{◌≡◌, ℕ, ℤ, pos, negsuc, List, [], ◌∷◌, codes, true, false, not, ◌&&◌, Some, None, Ok, Result, IfOk, Vec, Global, map, length, refl}
+use Rattle.std.proofs.Common.{◌≡◌, ℕ, ℤ, pos, negsuc, List, [], ◌∷◌, codes, true, false, not, ◌&&◌, Some, None, Ok, Result, IfOk, Vec, Global, map, length, refl, IsTrue}
 use Rattle.std.specs.Prelude.{IsUtf8}
 use Rattle.std.specs.Ordering.{eq_by_cmp, is_lt, int_cmp}
 use Rattle.std.specs.List.{list_all, AllAdjacentBelow}
@@ -26,13 +26,14 @@ use Rattle.sqlite_resolve.specs.Write.{over}
 use Rattle.sqlite_rules.specs.Edit.{next_rowid, is_taken, id_in}
 use Rattle.sqlite_tied.specs.Compute.{everything}
 use Rattle.sqlite.specs.declared.error.Error.{Error}
-use Rattle.sqlite.specs.State.{State, ExecutesInside, IsUnchanged, Shown, FailsToQuery, IsTooLate}
+use Rattle.sqlite.specs.State.{State, ExecutesInside, FailsToQuery}
 use Rattle.rows.specs.declared.failure.Failure.{Failure}
 use Rattle.rows.specs.declared.generations.Generation.{Generation}
 use Rattle.rows.specs.Forms.{generation}
 use Rattle.rows.specs.Standing.{IsNamed, IsKnown, tree_named}
 use Rattle.rows.specs.Contents.{contents_of, texts_cmp, triple_cmp, is_text, is_generation, generation_of}
-use Rattle.rows.specs.Calls.{IsInside, IsUnderWay, Changes, Stays}
+use Rattle.rows.specs.Queries.{IsRead}
+use Rattle.rows.specs.Calls.{IsReady, IsAtRest, IsUnderWay, Changes, Rests}
 use Rattle.rows.specs.Entries.{generation_in, ShowsGeneration}
 use Rattle.rows.proofs.Orders.{triple_total, triple_antisymmetric}
 use Rattle.rows.proofs.Truths.{cast_null, cast_int, free_of, and_so, text_test, int_test, both_tests, all_tests}
@@ -49,7 +50,7 @@ use Rattle.rows.proofs.ContentsLemmas.{generation_set}
 use Rattle.rows.specs.Failures.{failure_of, FailsWith}
 use Rattle.rows.proofs.ReadFailures.{read_fails}
 use Rattle.std.specs.Prelude.{◌⊎◌, IsSome}
-use Rattle.rows.proofs.Statements.{answered_same, Compiles, Selects, reads_part, deletes_part, whole_map}
+use Rattle.rows.proofs.Statements.{Compiles, Selects, reads_part, deletes_part, whole_map}
 
 -- ---- one more
 
@@ -109,7 +110,7 @@ pub deletes : (old new : State) (owner : List ℕ) (name : List ℕ) (number : �
     → Changes old new (λ c. record c { generations = finite.retain_keys c.generations (λ k. not (eq_by_cmp texts_cmp k.0 owner && (eq_by_cmp texts_cmp k.1 name && eq_by_cmp int_cmp k.2 number))) })
 deletes old new owner name number count under h =
     let ours = under.ours h.1.was_open in
-    let it = deletes_part generation.name generation.columns generation.primary triple_total triple_antisymmetric is_generation generation_of old new under (λ has. has.1.1.1.1.1.1.1.0) delete_text (Text owner ∷ Text name ∷ Int number ∷ []) of_three (λ k. eq_by_cmp texts_cmp k.0 owner && (eq_by_cmp texts_cmp k.1 name && eq_by_cmp int_cmp k.2 number)) (said_three owner name number) delete_is count h ours.keyed.1.1.1.1.1.1.1.0 in
+    let it = deletes_part generation.name generation.columns generation.primary triple_total triple_antisymmetric is_generation generation_of old new (λ has. has.1.1.1.1.1.1.1.0) under delete_text (Text owner ∷ Text name ∷ Int number ∷ []) of_three (λ k. eq_by_cmp texts_cmp k.0 owner && (eq_by_cmp texts_cmp k.1 name && eq_by_cmp int_cmp k.2 number)) (said_three owner name number) delete_is count h ours.keyed.1.1.1.1.1.1.1.0 in
     changed generation old new it.0 ours.has.1.1.1.1.1.1.1.0 it.1 _ ours it.2 it.3 refl (generation_set old new ours.has it.0 it.1 _ it.4)
 
 -- ---- reading them
@@ -165,11 +166,11 @@ all_is s at tree known =
       refl,
     )
 
-pub reads_all : (old new : State) (r : Result (Vec Generation Global) Failure) → IsUnderWay old → Selects ShowsGeneration old new all_text [] r → IfOk r (λ all. AllAdjacentBelow (λ x y. true ≡ is_lt (triple_cmp (generation_in x).0 (generation_in y).0)) all.items (length all.items))
-    → IfOk r (λ all. Stays old new × (map generation_in all.items ≡ finite.entries (contents_of old.now).generations))
-reads_all old new r under selects up =
-    whole_map triple_total triple_antisymmetric generation_in r (Stays old new) (contents_of old.now).generations
-    (reads_part generation.name generation.columns generation.primary triple_total triple_antisymmetric is_generation generation_of old new under (λ has. has.1.1.1.1.1.1.1.0) all_text [] names (query []) (λ tree. record { from = refl; group = refl; distinct = refl; whole = λ params rows. refl }) (λ _. true) (λ tree r kind. refl) ShowsGeneration generation_in (fits [] []) all_is r selects up)
+pub reads_all : (old new : State) (r : Result (Vec Generation Global) Failure) → (IsTrue old.is_open → IsReady old) → Selects ShowsGeneration old new all_text [] r → IfOk r (λ all. AllAdjacentBelow (λ x y. true ≡ is_lt (triple_cmp (generation_in x).0 (generation_in y).0)) all.items (length all.items))
+    → IfOk r (λ all. Rests old new × (map generation_in all.items ≡ finite.entries (contents_of old.now).generations))
+reads_all old new r ready selects up =
+    whole_map triple_total triple_antisymmetric generation_in r (Rests old new) (contents_of old.now).generations
+    (reads_part generation.name generation.columns generation.primary triple_total triple_antisymmetric is_generation generation_of old new (λ has. has.1.1.1.1.1.1.1.0) ready all_text [] names (query []) (λ tree. record { from = refl; group = refl; distinct = refl; whole = λ params rows. refl }) (λ _. true) (λ tree r kind. refl) ShowsGeneration generation_in (fits [] []) all_is r selects up)
 
 abbrev pub of_text : List ℕ
 of_text = codes "SELECT owner, name, num, target FROM generation WHERE owner = ?1 AND name = ?2 ORDER BY owner, name, num"
@@ -194,28 +195,28 @@ of_is s at tree known =
       refl,
     )
 
-pub reads_of : (old new : State) (owner : List ℕ) (name : List ℕ) (r : Result (Vec Generation Global) Failure) → IsUnderWay old → Selects ShowsGeneration old new of_text (Text owner ∷ Text name ∷ []) r → IfOk r (λ all. AllAdjacentBelow (λ x y. true ≡ is_lt (triple_cmp (generation_in x).0 (generation_in y).0)) all.items (length all.items))
-    → IfOk r (λ all. Stays old new × (map generation_in all.items ≡ finite.entries (finite.retain_keys (contents_of old.now).generations (λ k. eq_by_cmp texts_cmp k.0 owner && eq_by_cmp texts_cmp k.1 name))))
-reads_of old new owner name r under selects up =
-    reads_part generation.name generation.columns generation.primary triple_total triple_antisymmetric is_generation generation_of old new under (λ has. has.1.1.1.1.1.1.1.0) of_text (Text owner ∷ Text name ∷ []) names (query of_two) (λ tree. record { from = refl; group = refl; distinct = refl; whole = λ params rows. refl }) (λ k. eq_by_cmp texts_cmp k.0 owner && eq_by_cmp texts_cmp k.1 name) (λ tree. said_two owner name) ShowsGeneration generation_in (fits (Text owner ∷ Text name ∷ []) of_two) of_is r selects up
-
--- ---- what is answered changes nothing
-
-pub same_all : (old new : State) → IsUnderWay old → (params : Row) (rows : List Row) → Shown all_text params old new rows → IsUnchanged old new
-same_all old new under params rows shown = answered_same generation.name generation.columns generation.primary old new under (λ has. has.1.1.1.1.1.1.1.0) all_text (λ at tree. Select (whole [] tree) names) all_is params rows shown
-
-pub same_of : (old new : State) → IsUnderWay old → (params : Row) (rows : List Row) → Shown of_text params old new rows → IsUnchanged old new
-same_of old new under params rows shown = answered_same generation.name generation.columns generation.primary old new under (λ has. has.1.1.1.1.1.1.1.0) of_text (λ at tree. Select (whole of_two tree) names) of_is params rows shown
+pub reads_of : (old new : State) (owner : List ℕ) (name : List ℕ) (r : Result (Vec Generation Global) Failure) → (IsTrue old.is_open → IsReady old) → Selects ShowsGeneration old new of_text (Text owner ∷ Text name ∷ []) r → IfOk r (λ all. AllAdjacentBelow (λ x y. true ≡ is_lt (triple_cmp (generation_in x).0 (generation_in y).0)) all.items (length all.items))
+    → IfOk r (λ all. Rests old new × (map generation_in all.items ≡ finite.entries (finite.retain_keys (contents_of old.now).generations (λ k. eq_by_cmp texts_cmp k.0 owner && eq_by_cmp texts_cmp k.1 name))))
+reads_of old new owner name r ready selects up =
+    reads_part generation.name generation.columns generation.primary triple_total triple_antisymmetric is_generation generation_of old new (λ has. has.1.1.1.1.1.1.1.0) ready of_text (Text owner ∷ Text name ∷ []) names (query of_two) (λ tree. record { from = refl; group = refl; distinct = refl; whole = λ params rows. refl }) (λ k. eq_by_cmp texts_cmp k.0 owner && eq_by_cmp texts_cmp k.1 name) (λ tree. said_two owner name) ShowsGeneration generation_in (fits (Text owner ∷ Text name ∷ []) of_two) of_is r selects up
 
 -- ---- why a read fails
 
 pub scan : (filter : List Term) (tree : ℕ) → IsScan (query filter tree) tree
 scan filter tree = record { from = refl; group = refl; distinct = refl; whole = λ params rows. refl }
 
-pub fails_all : (old new : State) → IsInside old → (e : Error) → FailsToQuery all_text [] old new e ⊎ IsTooLate all_text [] old new e → FailsWith old new ⊥ (IsSome old.step_limit) (failure_of e)
+pub all_read : IsRead all_text
 unfolding everything
-fails_all old new inside = read_fails generation.name generation.columns generation.primary old new inside (λ has. has.1.1.1.1.1.1.1.0) all_text [] names (query []) (scan []) all_is (_, _, _, _, _, refl) (λ s at tree known. rw (known.low, known.by_tree) refl)
+all_read = (_, _, _, _, _, refl)
 
-pub fails_of : (old new : State) (owner : List ℕ) (name : List ℕ) → IsInside old → (e : Error) → FailsToQuery of_text (Text owner ∷ Text name ∷ []) old new e ⊎ IsTooLate of_text (Text owner ∷ Text name ∷ []) old new e → FailsWith old new ⊥ (IsSome old.step_limit) (failure_of e)
+pub fails_all : (old new : State) → IsAtRest old → (e : Error) → FailsToQuery all_text [] old new e → FailsWith old new ⊥ (IsSome old.step_limit) (failure_of e)
 unfolding everything
-fails_of old new owner name inside = read_fails generation.name generation.columns generation.primary old new inside (λ has. has.1.1.1.1.1.1.1.0) of_text (Text owner ∷ Text name ∷ []) names (query of_two) (scan of_two) of_is (_, _, _, _, _, refl) (λ s at tree known. rw (known.low, known.by_tree) refl)
+fails_all old new rests = read_fails generation.name generation.columns generation.primary old new rests (λ has. has.1.1.1.1.1.1.1.0) all_text [] names (query []) (scan []) all_is all_read (λ s at tree known. rw (known.low, known.by_tree) refl)
+
+pub of_read : IsRead of_text
+unfolding everything
+of_read = (_, _, _, _, _, refl)
+
+pub fails_of : (old new : State) (owner : List ℕ) (name : List ℕ) → IsAtRest old → (e : Error) → FailsToQuery of_text (Text owner ∷ Text name ∷ []) old new e → FailsWith old new ⊥ (IsSome old.step_limit) (failure_of e)
+unfolding everything
+fails_of old new owner name rests = read_fails generation.name generation.columns generation.primary old new rests (λ has. has.1.1.1.1.1.1.1.0) of_text (Text owner ∷ Text name ∷ []) names (query of_two) (scan of_two) of_is of_read (λ s at tree known. rw (known.low, known.by_tree) refl)

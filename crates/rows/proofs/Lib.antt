@@ -16,6 +16,8 @@ pub mod Entries
 pub mod Places
 pub mod ContentsLemmas
 pub mod Statements
+pub mod ReadFailures
+pub mod RowByRow
 pub mod Rising
 pub mod Typed
 pub mod UniqueKeys
@@ -25,7 +27,6 @@ pub mod ReadableMaps
 pub mod Alike
 pub mod One
 pub mod Steps
-pub mod ReadFailures
 pub mod SettingLemmas
 pub mod ObjectLemmas
 pub mod ListingLemmas

@@ -1,5 +1,5 @@
 -- What the statement that lists the objects without their archives means and reads.
-use Rattle.std.proofs.Common.{◌≡◌, ℕ, pos, negsuc, List, [], ◌∷◌, codes, Bool, true, false, ◌&&◌, Some, None, Ok, Result, Err, IfOk, Vec, Global, map, length, refl, subst, ◌∙◌}
+use Rattle.std.proofs.Common.{◌≡◌, ℕ, pos, negsuc, List, [], ◌∷◌, codes, Bool, true, false, ◌&&◌, Some, None, Ok, Result, Err, IfOk, Vec, Global, map, length, refl, subst, ◌∙◌, IsTrue}
 use Rattle.std.specs.Ordering.{is_lt}
 use Rattle.std.specs.List.{AllAdjacentBelow}
 use Rattle.std.specs.FinMap as finite
@@ -20,13 +20,14 @@ use Rattle.sqlite_resolve.specs.Lowering.{max_budget}
 use Rattle.sqlite_resolve.specs.Program.{program}
 use Rattle.sqlite_tied.specs.Compute.{everything}
 use Rattle.sqlite.specs.declared.error.Error.{Error}
-use Rattle.sqlite.specs.State.{State, IsUnchanged, Shown, FailsToQuery, IsTooLate}
+use Rattle.sqlite.specs.State.{State, FailsToQuery}
 use Rattle.rows.specs.declared.failure.Failure.{Failure}
 use Rattle.rows.specs.declared.objects.Listed.{Listed}
 use Rattle.rows.specs.Forms.{object}
 use Rattle.rows.specs.Standing.{IsKnown}
 use Rattle.rows.specs.Contents.{Bytes, Stored, Described, without_archive, map_of, rows_named, contents_of, texts_cmp, is_text, is_blob, is_text_or_null, text_if_any, is_object, object_of}
-use Rattle.rows.specs.Calls.{IsInside, IsOurs, IsUnderWay, Stays}
+use Rattle.rows.specs.Queries.{IsRead}
+use Rattle.rows.specs.Calls.{IsReady, IsAtRest, IsOurs, IsUnderWay, Rests}
 use Rattle.rows.specs.Entries.{listed_of, ShowsListed}
 use Rattle.rows.proofs.Orders.{texts_total, texts_antisymmetric}
 use Rattle.rows.proofs.Truths.{and_so}
@@ -37,7 +38,7 @@ use Rattle.rows.proofs.Scans.{IsScan, shows}
 use Rattle.rows.specs.Failures.{failure_of, FailsWith}
 use Rattle.rows.proofs.ReadFailures.{read_fails}
 use Rattle.std.specs.Prelude.{◌⊎◌, IsSome}
-use Rattle.rows.proofs.Statements.{answered_same, Compiles, Selects, reads_part, whole_map}
+use Rattle.rows.proofs.Statements.{Compiles, Selects, reads_part, whole_map}
 use Rattle.rows.proofs.Typed.{objects_typed}
 use Rattle.rows.proofs.Alike.{map_made}
 
@@ -118,24 +119,23 @@ objects_listed : (old : State) → IsOurs old.now → finite.entries (map_of tex
 objects_listed old ours = map_made texts_cmp described is_object object_of is_listed listed_in texts_total (rows_named old.now object.name) (λ r there.
     let kind = objects_typed old.now ours.sound ours.has.1.0 r there in (kind, all_but_second (is_text (column r 1)) (is_blob (column r 2)) (is_blob (column r 3)) (is_text_or_null (column r 4)) (is_text_or_null (column r 5)) kind, refl))
 
-pub reads_all : (old new : State) (r : Result (Vec Listed Global) Failure) → IsUnderWay old → Selects ShowsListed old new all_text [] r → IfOk r (λ all. AllAdjacentBelow (λ x y. true ≡ is_lt (texts_cmp (listed_of x).0 (listed_of y).0)) all.items (length all.items))
-    → IfOk r (λ all. Stays old new × (map listed_of all.items ≡ map without_archive (finite.entries (contents_of old.now).objects)))
-reads_all old new (Err e) under selects up = tt
-reads_all old new (Ok all) under selects up =
-    let got = whole_map texts_total texts_antisymmetric listed_of (Ok all) (Stays old new) (map_of texts_cmp is_listed listed_in (rows_named old.now object.name))
-    (reads_part object.name object.columns object.primary texts_total texts_antisymmetric is_listed listed_in old new under (λ has. has.1.0) all_text [] names query (λ tree. record { from = refl; group = refl; distinct = refl; whole = λ params rows. refl }) (λ _. true) (λ tree r kind. refl) ShowsListed listed_of fits all_is (Ok all) selects up) in
-    (got.0, got.1 ∙ objects_listed old (subst IsOurs got.0.now got.0.ours))
-
--- ---- what is answered changes nothing
-
-pub same_all : (old new : State) → IsUnderWay old → (params : Row) (rows : List Row) → Shown all_text params old new rows → IsUnchanged old new
-same_all old new under params rows shown = answered_same object.name object.columns object.primary old new under (λ has. has.1.0) all_text (λ at tree. Select (whole tree) names) all_is params rows shown
+pub reads_all : (old new : State) (r : Result (Vec Listed Global) Failure) → (IsTrue old.is_open → IsReady old) → Selects ShowsListed old new all_text [] r → IfOk r (λ all. AllAdjacentBelow (λ x y. true ≡ is_lt (texts_cmp (listed_of x).0 (listed_of y).0)) all.items (length all.items))
+    → IfOk r (λ all. Rests old new × (map listed_of all.items ≡ map without_archive (finite.entries (contents_of old.now).objects)))
+reads_all old new (Err e) ready selects up = tt
+reads_all old new (Ok all) ready selects up =
+    let got = whole_map texts_total texts_antisymmetric listed_of (Ok all) (Rests old new) (map_of texts_cmp is_listed listed_in (rows_named old.now object.name))
+    (reads_part object.name object.columns object.primary texts_total texts_antisymmetric is_listed listed_in old new (λ has. has.1.0) ready all_text [] names query (λ tree. record { from = refl; group = refl; distinct = refl; whole = λ params rows. refl }) (λ _. true) (λ tree r kind. refl) ShowsListed listed_of fits all_is (Ok all) selects up) in
+    (got.0, got.1 ∙ objects_listed old (ready got.0.was_open).ours)
 
 -- ---- why a read fails
 
 pub scan : (tree : ℕ) → IsScan (query tree) tree
 scan tree = record { from = refl; group = refl; distinct = refl; whole = λ params rows. refl }
 
-pub fails_all : (old new : State) → IsInside old → (e : Error) → FailsToQuery all_text [] old new e ⊎ IsTooLate all_text [] old new e → FailsWith old new ⊥ (IsSome old.step_limit) (failure_of e)
+pub all_read : IsRead all_text
 unfolding everything
-fails_all old new inside = read_fails object.name object.columns object.primary old new inside (λ has. has.1.0) all_text [] names query scan all_is (_, _, _, _, _, refl) (λ s at tree known. rw (known.low, known.by_tree) refl)
+all_read = (_, _, _, _, _, refl)
+
+pub fails_all : (old new : State) → IsAtRest old → (e : Error) → FailsToQuery all_text [] old new e → FailsWith old new ⊥ (IsSome old.step_limit) (failure_of e)
+unfolding everything
+fails_all old new rests = read_fails object.name object.columns object.primary old new rests (λ has. has.1.0) all_text [] names query scan all_is all_read (λ s at tree known. rw (known.low, known.by_tree) refl)

@@ -1,7 +1,11 @@
--- Two lists as one, and a number above each of a list.
-use Rattle.std.proofs.Common.{◌<◌, ◌≤◌, ◌+◌, ℕ, List, [], ◌∷◌, ◌++◌, arith}
-use Rattle.std.specs.Prelude.{fold, max}
-use Rattle.std.specs.List.{AllByRecursion}
+-- Two lists as one, one more at the end of a list, and a number above each of a list.
+use Rattle.std.proofs.Common.{◌≡◌, ◌<◌, ◌≤◌, ◌+◌, ◌-◌, inl, inr, ℕ, List, [], ◌∷◌, ◌++◌, length, length-append, get_or, Some, sym, ap, subst, subst₂, ◌∙◌, arith}
+use Rattle.std.specs.Prelude.{fold, max, slice_get}
+use Rattle.std.specs.List.{AllByRecursion, AllAdjacentBelow}
+use Rattle.std.proofs.Math.ListN.{get_or-append}
+use Rattle.std.proofs.Math.Seq.{get_or-append_seam}
+use Rattle.std.proofs.lemmas.Option.{slice_get-get_or, slice_get_within, get_or_from_slice_get}
+use Rattle.std.proofs.Math.Nat.{eq-or-lt_of_le}
 
 pub one_list : {X : Type 0} (P : X → Type 0) (xs ys : List X) → AllByRecursion P (xs ++ ys) → AllByRecursion P xs × AllByRecursion P ys
 one_list P [] ys h = (tt, h)
@@ -18,3 +22,28 @@ rises g (x ∷ xs) n = omega (arith, rises g xs (max n (g x + 1)))
 pub all_below : {X : Type 0} (g : X → ℕ) (xs : List X) (n : ℕ) → AllByRecursion (λ x. g x < fold (λ m x. max m (g x + 1)) n xs) xs
 all_below g [] n = tt
 all_below g (x ∷ xs) n = (omega (arith, rises g xs (max n (g x + 1))), all_below g xs (max n (g x + 1)))
+
+-- ---- one more at the end of a list, in which each element is so beside the next
+
+module _ {X : Type 0} (R : X → X → Type 0) (xs : List X) (y : X) where
+  pub more_adjacent : AllAdjacentBelow R xs (length xs) → ((x : X) → slice_get xs (length xs - 1) ≡ Some x → R x y) → AllAdjacentBelow R (xs ++ y ∷ []) (length (xs ++ y ∷ []))
+  more_adjacent h last k d low =
+      let long = length-append xs (y ∷ []) in
+      let within : k < length xs = omega (arith, long, low) in
+      let here : get_or (xs ++ y ∷ []) k d ≡ get_or xs k d = get_or-append xs (y ∷ []) d k within in
+      elim (eq-or-lt_of_le {n = k + 1} {m = length xs} (omega (arith, within))) [
+        | inl end ↦
+          let next : get_or (xs ++ y ∷ []) (k + 1) d ≡ y = ap (λ n. get_or (xs ++ y ∷ []) n d) end ∙ get_or-append_seam xs y [] d in
+          let is : slice_get xs (length xs - 1) ≡ Some (get_or xs k d) = ap (λ n. slice_get xs n) (omega (arith, end)) ∙ slice_get-get_or xs k d within in
+          subst₂ R (sym here) (sym next) (last (get_or xs k d) is)
+        | inr more ↦ subst₂ R (sym here) (sym (get_or-append xs (y ∷ []) d (k + 1) more)) (h k d more)
+      ]
+
+  -- so of the last of a list and one more, if it is so of the longer list
+  pub adjacent_last : AllAdjacentBelow R (xs ++ y ∷ []) (length (xs ++ y ∷ [])) → (x : X) → slice_get xs (length xs - 1) ≡ Some x → R x y
+  adjacent_last h x is =
+      let k = length xs - 1 in
+      let some = slice_get_within xs k x is in
+      let next : get_or (xs ++ y ∷ []) (k + 1) x ≡ y = ap (λ n. get_or (xs ++ y ∷ []) n x) (omega (arith, some)) ∙ get_or-append_seam xs y [] x in
+      let here : get_or (xs ++ y ∷ []) k x ≡ x = get_or-append xs (y ∷ []) x k (omega (arith, some)) ∙ get_or_from_slice_get xs k x x is in
+      subst₂ R here next (h k x (omega (arith, length-append xs (y ∷ []), some)))

@@ -28,7 +28,7 @@ use Rattle.rows.specs.declared.failure.Failure.{Failure}
 use Rattle.rows.specs.declared.failure.Failure.TheVariants.{Memory, Size, Disk}
 use Rattle.rows.specs.Forms.{strict}
 use Rattle.rows.specs.Contents.{Bytes}
-use Rattle.rows.specs.Failures.{failure_of, unsized, FailsWith, IsWriteFailure}
+use Rattle.rows.specs.Failures.{failure_of, without_size, FailsWith, IsWriteFailure}
 use Rattle.rows.specs.Making.{IsUnused, LacksNumbers, LacksNames, FailsToMakeThese}
 use Rattle.rows.proofs.Creates.{IsMakingIn, counted_after}
 use Rattle.rows.proofs.Writes.{same_value}
@@ -125,7 +125,7 @@ module _ (text : List ℕ) (title : Bytes) (cs : List Column) (key : List ℕ) (
 
   -- a CREATE TABLE of ours
   pub create_fails : (IsTrue old.is_open → IsMakingIn old.now.schema text (strict title cs key)) → (IsTrue old.is_open → IsUnused old.now.schema title) → (IsTrue old.is_open → lacks_sequence old.now.schema ≡ false)
-      → (f : Failure) → (g : Failure) × (f ≡ unsized g) × IsWriteFailure text [] old new g → FailsToMakeThese these ⊥ ⊥ old new f
+      → (f : Failure) → (g : Failure) × (f ≡ without_size g) × IsWriteFailure text [] old new g → FailsToMakeThese these ⊥ ⊥ old new f
   create_fails making free lacks f h =
       let it = write_fails old new text [] CreateTable refl ⊥ Refused (λ up. is_write old text [] CreateTable refl (making up).meant)
       (λ up st its stop does. let whole : st ≡ text = its ∙ ap (statement_of text) (sym (making up).meant.1.0) ∙ (making up).statement in

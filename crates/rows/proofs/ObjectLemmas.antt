@@ -1,5 +1,5 @@
 -- What the statements on the objects mean and do.
-use Rattle.std.proofs.Common.{◌≡◌, ℕ, pos, negsuc, List, [], ◌∷◌, ◌++◌, inl, arith, vec_len, codes, Bool, true, false, not, ◌&&◌, Some, None, Option, Ok, Result, Err, IfOk, Vec, Global, String, map, length, refl, sym, ap, subst, ◌∙◌}
+use Rattle.std.proofs.Common.{◌≡◌, ℕ, pos, negsuc, List, [], ◌∷◌, ◌++◌, inl, arith, vec_len, codes, Bool, true, false, not, ◌&&◌, Some, None, Option, Ok, Result, Err, IfOk, Vec, Global, String, map, length, refl, sym, ap, subst, ◌∙◌, IsTrue}
 use Rattle.std.specs.Prelude.{string_bytes, ◌<◌, ◌↔◌, IsSome, IsUtf8}
 use Rattle.std.specs.Option.{option_to_list}
 use Rattle.sqlite_rules.proofs.ListLemmas.{has_right}
@@ -30,13 +30,14 @@ use Rattle.sqlite_resolve.specs.Write.{over}
 use Rattle.sqlite_rules.specs.Edit.{next_rowid, is_taken}
 use Rattle.sqlite_tied.specs.Compute.{everything}
 use Rattle.sqlite.specs.declared.error.Error.{Error}
-use Rattle.sqlite.specs.State.{State, ExecutesInside, IsUnchanged, Shown, FailsToQuery, IsTooLate}
+use Rattle.sqlite.specs.State.{State, ExecutesInside, FailsToQuery}
 use Rattle.rows.specs.declared.failure.Failure.{Failure}
 use Rattle.rows.specs.declared.objects.Object.{Object}
 use Rattle.rows.specs.Forms.{object}
 use Rattle.rows.specs.Standing.{IsNamed, IsKnown, tree_named}
 use Rattle.rows.specs.Contents.{Bytes, Stored, map_of, rows_named, contents_of, texts_cmp, is_text, is_blob, is_object, object_of, text_if_any}
-use Rattle.rows.specs.Calls.{IsInside, IsOurs, IsUnderWay, Changes, Stays}
+use Rattle.rows.specs.Queries.{IsRead}
+use Rattle.rows.specs.Calls.{IsReady, IsAtRest, IsOurs, IsUnderWay, Changes, Rests}
 use Rattle.rows.specs.Entries.{stored_of, ShowsObject, ShowsText, IsStored, stored}
 use Rattle.rows.proofs.Orders.{texts_total, texts_antisymmetric}
 use Rattle.rows.proofs.Truths.{cast_null, free_of, and_so, and_one, text_test}
@@ -54,7 +55,7 @@ use Rattle.rows.proofs.ContentsLemmas.{object_set}
 use Rattle.rows.specs.Failures.{failure_of, FailsWith}
 use Rattle.rows.proofs.ReadFailures.{read_fails}
 use Rattle.std.specs.Prelude.{◌⊎◌, IsSome}
-use Rattle.rows.proofs.Statements.{answered_same, Compiles, Selects, reads_part, whole_map, deletes_part}
+use Rattle.rows.proofs.Statements.{Compiles, Selects, reads_part, whole_map, deletes_part}
 use Rattle.rows.proofs.Typed.{objects_typed}
 use Rattle.rows.proofs.Alike.{map_made}
 use Rattle.rows.proofs.One.{one_is, none_is}
@@ -117,7 +118,7 @@ pub deletes : (old new : State) (base : List ℕ) (count : ℕ) → IsUnderWay o
     → Changes old new (λ c. record c { objects = finite.retain_keys c.objects (λ k. not (eq_by_cmp texts_cmp k base)) })
 deletes old new base count under h =
     let ours = under.ours h.1.was_open in
-    let it = deletes_part object.name object.columns object.primary texts_total texts_antisymmetric is_object object_of old new under (λ has. has.1.0) delete_text (Text base ∷ []) of_one (λ k. eq_by_cmp texts_cmp k base) (said_one base) delete_is count h ours.keyed.1.0 in
+    let it = deletes_part object.name object.columns object.primary texts_total texts_antisymmetric is_object object_of old new (λ has. has.1.0) under delete_text (Text base ∷ []) of_one (λ k. eq_by_cmp texts_cmp k base) (said_one base) delete_is count h ours.keyed.1.0 in
     changed object old new it.0 ours.has.1.0 it.1 _ ours it.2 it.3 refl (object_set old new ours.has it.0 it.1 _ it.4)
 
 -- ---- reading them
@@ -173,10 +174,10 @@ of_is s at tree known =
       refl,
     )
 
-pub reads_of : (old new : State) (base : List ℕ) (r : Result (Vec Object Global) Failure) → IsUnderWay old → Selects ShowsObject old new of_text (Text base ∷ []) r → IfOk r (λ all. AllAdjacentBelow (λ x y. true ≡ is_lt (texts_cmp (stored_of x).0 (stored_of y).0)) all.items (length all.items))
-    → IfOk r (λ all. Stays old new × (map stored_of all.items ≡ finite.entries (finite.retain_keys (contents_of old.now).objects (λ k. eq_by_cmp texts_cmp k base))))
-reads_of old new base r under selects up =
-    reads_part object.name object.columns object.primary texts_total texts_antisymmetric is_object object_of old new under (λ has. has.1.0) of_text (Text base ∷ []) names (query of_one) (λ tree. record { from = refl; group = refl; distinct = refl; whole = λ params rows. refl }) (λ k. eq_by_cmp texts_cmp k base) (λ tree. said_one base) ShowsObject stored_of (fits (Text base ∷ []) of_one) of_is r selects up
+pub reads_of : (old new : State) (base : List ℕ) (r : Result (Vec Object Global) Failure) → (IsTrue old.is_open → IsReady old) → Selects ShowsObject old new of_text (Text base ∷ []) r → IfOk r (λ all. AllAdjacentBelow (λ x y. true ≡ is_lt (texts_cmp (stored_of x).0 (stored_of y).0)) all.items (length all.items))
+    → IfOk r (λ all. Rests old new × (map stored_of all.items ≡ finite.entries (finite.retain_keys (contents_of old.now).objects (λ k. eq_by_cmp texts_cmp k base))))
+reads_of old new base r ready selects up =
+    reads_part object.name object.columns object.primary texts_total texts_antisymmetric is_object object_of old new (λ has. has.1.0) ready of_text (Text base ∷ []) names (query of_one) (λ tree. record { from = refl; group = refl; distinct = refl; whole = λ params rows. refl }) (λ k. eq_by_cmp texts_cmp k base) (λ tree. said_one base) ShowsObject stored_of (fits (Text base ∷ []) of_one) of_is r selects up
 
 -- ---- reading their keys alone
 
@@ -240,13 +241,13 @@ module _ (old : State) (ours : IsOurs old.now) where
   paths = map_made texts_cmp (λ (x : Stored). tt) is_object object_of has_key key_in texts_total (rows_named old.now object.name) (λ r there.
       let kind = objects_typed old.now ours.sound ours.has.1.0 r there in (kind, (and_so _ _ (and_so _ _ (and_so _ _ (and_so _ _ kind).0).0).0).0, refl))
 
-pub reads_keys : (old new : State) (r : Result (Vec (String Global) Global) Failure) → IsUnderWay old → Selects ShowsText old new keys_text [] r → IfOk r (λ all. AllAdjacentBelow (λ x y. true ≡ is_lt (texts_cmp (string_bytes x) (string_bytes y))) all.items (length all.items))
-    → IfOk r (λ all. Stays old new × (map string_bytes all.items ≡ finite.keys (contents_of old.now).objects))
-reads_keys old new (Err e) under selects up = tt
-reads_keys old new (Ok all) under selects up =
-    let got = whole_map texts_total texts_antisymmetric key_of (Ok all) (Stays old new) (map_of texts_cmp has_key key_in (rows_named old.now object.name))
-    (reads_part object.name object.columns object.primary texts_total texts_antisymmetric has_key key_in old new under (λ has. has.1.0) keys_text [] (codes "base" ∷ []) keys_query (λ tree. record { from = refl; group = refl; distinct = refl; whole = λ params rows. refl }) (λ _. true) (λ tree r kind. refl) ShowsText key_of key_fits keys_is (Ok all) selects up) in
-    let ours = subst IsOurs got.0.now got.0.ours in
+pub reads_keys : (old new : State) (r : Result (Vec (String Global) Global) Failure) → (IsTrue old.is_open → IsReady old) → Selects ShowsText old new keys_text [] r → IfOk r (λ all. AllAdjacentBelow (λ x y. true ≡ is_lt (texts_cmp (string_bytes x) (string_bytes y))) all.items (length all.items))
+    → IfOk r (λ all. Rests old new × (map string_bytes all.items ≡ finite.keys (contents_of old.now).objects))
+reads_keys old new (Err e) ready selects up = tt
+reads_keys old new (Ok all) ready selects up =
+    let got = whole_map texts_total texts_antisymmetric key_of (Ok all) (Rests old new) (map_of texts_cmp has_key key_in (rows_named old.now object.name))
+    (reads_part object.name object.columns object.primary texts_total texts_antisymmetric has_key key_in old new (λ has. has.1.0) ready keys_text [] (codes "base" ∷ []) keys_query (λ tree. record { from = refl; group = refl; distinct = refl; whole = λ params rows. refl }) (λ _. true) (λ tree r kind. refl) ShowsText key_of key_fits keys_is (Ok all) selects up) in
+    let ours = (ready got.0.was_open).ours in
     let same : map key_of all.items ≡ map (λ e. (e.0, tt)) (finite.entries (contents_of old.now).objects) = got.1 ∙ paths old ours in
     (got.0, sym (map-map (λ (e : Bytes × Unit {0}). e.0) key_of all.items) ∙ ap (map (λ (e : Bytes × Unit {0}). e.0)) same ∙ map-map (λ (e : Bytes × Unit {0}). e.0) (λ (e : Bytes × Stored). (e.0, tt)) (finite.entries (contents_of old.now).objects))
 
@@ -264,26 +265,26 @@ last_is objects base all rest (Some x) read is some =
     one_is texts_total texts_antisymmetric objects base (stored_of x).0 (stored_of x).1 (subst (λ l. Has l (stored_of x)) read (mapped_has stored_of all.items x there))
 last_is objects base all rest None read is some = none_of objects base all.items read (λ more. absurd (let e = some.1 (omega (arith, all.ok.0, more)) in cc))
 
--- ---- what is answered changes nothing
-
-pub same_of : (old new : State) → IsUnderWay old → (params : Row) (rows : List Row) → Shown of_text params old new rows → IsUnchanged old new
-same_of old new under params rows shown = answered_same object.name object.columns object.primary old new under (λ has. has.1.0) of_text (λ at tree. Select (whole of_one tree) names) of_is params rows shown
-
-pub same_keys : (old new : State) → IsUnderWay old → (params : Row) (rows : List Row) → Shown keys_text params old new rows → IsUnchanged old new
-same_keys old new under params rows shown = answered_same object.name object.columns object.primary old new under (λ has. has.1.0) keys_text (λ at tree. Select (keys_whole tree) (codes "base" ∷ [])) keys_is params rows shown
-
 -- ---- why a read fails
 
 pub scan : (filter : List Term) (tree : ℕ) → IsScan (query filter tree) tree
 scan filter tree = record { from = refl; group = refl; distinct = refl; whole = λ params rows. refl }
 
-pub fails_of : (old new : State) (base : List ℕ) → IsInside old → (e : Error) → FailsToQuery of_text (Text base ∷ []) old new e ⊎ IsTooLate of_text (Text base ∷ []) old new e → FailsWith old new ⊥ (IsSome old.step_limit) (failure_of e)
+pub of_read : IsRead of_text
 unfolding everything
-fails_of old new base inside = read_fails object.name object.columns object.primary old new inside (λ has. has.1.0) of_text (Text base ∷ []) names (query of_one) (scan of_one) of_is (_, _, _, _, _, refl) (λ s at tree known. rw (known.low, known.by_tree) refl)
+of_read = (_, _, _, _, _, refl)
+
+pub fails_of : (old new : State) (base : List ℕ) → IsAtRest old → (e : Error) → FailsToQuery of_text (Text base ∷ []) old new e → FailsWith old new ⊥ (IsSome old.step_limit) (failure_of e)
+unfolding everything
+fails_of old new base rests = read_fails object.name object.columns object.primary old new rests (λ has. has.1.0) of_text (Text base ∷ []) names (query of_one) (scan of_one) of_is of_read (λ s at tree known. rw (known.low, known.by_tree) refl)
 
 pub keys_scan : (tree : ℕ) → IsScan (keys_query tree) tree
 keys_scan tree = record { from = refl; group = refl; distinct = refl; whole = λ params rows. refl }
 
-pub fails_keys : (old new : State) → IsInside old → (e : Error) → FailsToQuery keys_text [] old new e ⊎ IsTooLate keys_text [] old new e → FailsWith old new ⊥ (IsSome old.step_limit) (failure_of e)
+pub keys_read : IsRead keys_text
 unfolding everything
-fails_keys old new inside = read_fails object.name object.columns object.primary old new inside (λ has. has.1.0) keys_text [] (codes "base" ∷ []) keys_query keys_scan keys_is (_, _, _, _, _, refl) (λ s at tree known. rw (known.low, known.by_tree) refl)
+keys_read = (_, _, _, _, _, refl)
+
+pub fails_keys : (old new : State) → IsAtRest old → (e : Error) → FailsToQuery keys_text [] old new e → FailsWith old new ⊥ (IsSome old.step_limit) (failure_of e)
+unfolding everything
+fails_keys old new rests = read_fails object.name object.columns object.primary old new rests (λ has. has.1.0) keys_text [] (codes "base" ∷ []) keys_query keys_scan keys_is keys_read (λ s at tree known. rw (known.low, known.by_tree) refl)

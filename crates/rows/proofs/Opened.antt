@@ -1,4 +1,4 @@
--- That the last commit is ours, where the rowids and texts that a transaction shows were tested; and what an open that failed is told as.
+-- That a connection is ready, where the rowids and texts that it shows were tested; and what an open that failed is told as.
 use Rattle.std.proofs.Common.{◌≡◌, ◌↔◌, Bool, Option, Some, None, Result, Ok, Err, IfOk, IfErr, IfSome, OnOk, IsTrue, sym, ap, subst, ◌∙◌}
 use Rattle.std.specs.List.{AllByRecursion}
 use Rattle.sqlite_wal.specs.Recovery.{Image}
@@ -17,22 +17,25 @@ use Rattle.sqlite.specs.Effect.{Database, IsDatabase}
 use Rattle.rows.specs.declared.failure.Failure.{Failure}
 use Rattle.rows.specs.Forms.{our_tables}
 use Rattle.rows.specs.Contents.{contents_of, rows_named}
-use Rattle.rows.specs.Calls.{IsKeyed, IsInside, IsOurs, IsReady, Rests}
+use Rattle.rows.specs.Calls.{IsAtRest, IsKeyed, IsOurs, IsReady, Rests}
 use Rattle.rows.proofs.ReadableMaps.{readable_by_maps}
 
 then : {A B C : Type 0} → A ↔ B → B ↔ C → A ↔ C
 then h k = (λ a. k.0 (h.0 a), λ c. h.1 (k.1 c))
 
--- whether the texts are UTF-8 was told of what the transaction saw at first, and where they are the last commit is ours
-pub tested : (a m n : State) (r : Result Bool Failure) → IsInside a → (IsTrue a.is_open → IsDatabase a.now) → (IsTrue a.is_open → a.now ≡ a.committed) → Rests a m × AllByRecursion (λ t. IsKeyed (rows_named a.now t.name)) our_tables → IfOk r (λ b. Rests m n × (IsTrue b ↔ HasReadableRows m.now))
-    → IfOk r (λ b. IsTrue b → IsOurs n.committed) × IfOk r (λ b. IsTrue b ↔ AreReadable (contents_of a.now))
-tested a m n (Err e) inside sound settled keyed told = (tt, tt)
-tested a m n (Ok b) inside sound settled keyed told =
+-- whether the texts are UTF-8 was told of what the connection showed at first, and where they are it is ready
+pub tested : (a m n : State) (r : Result Bool Failure) → IsAtRest a → (IsTrue a.is_open → IsDatabase a.now) → Rests a m × AllByRecursion (λ t. IsKeyed (rows_named a.now t.name)) our_tables → IfOk r (λ b. Rests m n × (IsTrue b ↔ HasReadableRows m.now))
+    → IfOk r (λ b. IsTrue b → IsReady n) × IfOk r (λ b. IsTrue b ↔ AreReadable (contents_of a.now))
+tested a m n (Err e) rests sound keyed told = (tt, tt)
+tested a m n (Ok b) rests sound keyed told =
     let is_sound = sound keyed.0.was_open in
-    let has = inside.has keyed.0.was_open in
+    let has = rests.has keyed.0.was_open in
     let by_rows : IsTrue b ↔ HasReadableRows a.now = subst (λ (d : Database). IsTrue b ↔ HasReadableRows d) keyed.0.now told.1 in
-    let ours : IsTrue b → IsOurs a.now = λ yes. record { sound = is_sound; has = has; keyed = keyed.1; readable = by_rows.0 yes } in
-    (λ yes. subst IsOurs (settled keyed.0.was_open ∙ sym keyed.0.committed ∙ sym told.0.committed) (ours yes), then by_rows (readable_by_maps a.now is_sound has keyed.1))
+    let same : n.now ≡ a.now = told.0.now ∙ keyed.0.now in
+    let ours : IsTrue b → IsOurs a.now = λ yes. record { sound = is_sound; has = has; keyed = keyed.1; readable = by_rows.0 yes } in (
+      λ yes. record { ours = subst IsOurs (sym same) (ours yes); settled = same ∙ rests.settled keyed.0.was_open ∙ sym keyed.0.committed ∙ sym told.0.committed },
+      then by_rows (readable_by_maps a.now is_sound has keyed.1),
+    )
 
 -- what was found before the test is found after it, since nothing changed
 pub found_by : (f : Finding) (old new : State) → (f ≡ Ours ↔ HasTables old.now.schema × AreReadable (contents_of old.now)) → (f ≡ Nothing ↔ HasNone old.now.schema) → (f ≡ Ours → IsReady new) → new.now ≡ old.now → new.now ≡ new.committed → IsFound f new

@@ -1,21 +1,23 @@
--- Why the tests of our tables at opening fail, one query after another.
+-- Why the tests of our tables at opening fail, one query after another, and how they leave the connection.
 use Rattle.std.proofs.Common.{◌≡◌, ◌⊎◌, ℕ, List, [], inl, inr, Result, Ok, Err, IsErrAnd, IfErr, sym, subst, ◌∙◌, arith}
 use Rattle.std.specs.Prelude.{IsSome}
 use Rattle.sqlite.specs.declared.error.Error.{Error}
 use Rattle.sqlite.specs.Effect.{Database}
-use Rattle.sqlite.specs.State.{State, HasCleanDisk, Survives, FailsToQuery, IsTooLate}
+use Rattle.sqlite.specs.State.{State, HasCleanDisk, Survives, IsUnchanged, FailsToQuery}
 use Rattle.sqlite.proofs.StateLemmas.{survives_then}
 use Rattle.rows.specs.declared.failure.Failure.{Failure}
 use Rattle.rows.specs.declared.failure.Failure.TheVariants.{Memory, Size, Disk}
-use Rattle.rows.specs.Calls.{Rests}
+use Rattle.rows.specs.Standing.{HasTables}
+use Rattle.rows.specs.Calls.{IsAtRest, IsAsBefore, Rests}
 use Rattle.rows.specs.Failures.{failure_of, FailsWith, IsQueryFailure}
 use Rattle.rows.specs.Opened.{FailsToTest}
-use Rattle.rows.proofs.OwnRowids.{rests_then}
 
 -- an error that is passed on
 pub passed_on : {T : Type 0} (r : Result T Failure) (e : Failure) (P : Failure → Type 0) → IsErrAnd r (λ f. f ≡ e) → P e → IfErr r P
 passed_on (Ok x) e P is h = tt
 passed_on (Err f) e P is h = subst P (sym is) h
+
+-- ---- why they fail
 
 -- a query fails for the disk or a limit on steps alone
 by_query : (old new : State) (found : Type 0) (f : Failure) → FailsWith old new ⊥ (IsSome old.step_limit) f → FailsToTest old new found f
@@ -24,8 +26,13 @@ by_query old new found Size h = h.0
 by_query old new found Disk (inl h) = inl h.0
 by_query old new found Disk (inr h) = inr (inl h.0)
 
-pub test_fails : (old new : State) (text : List ℕ) (found : Type 0) → ((e : Error) → FailsToQuery text [] old new e ⊎ IsTooLate text [] old new e → FailsWith old new ⊥ (IsSome old.step_limit) (failure_of e)) → (f : Failure) → IsQueryFailure text [] old new f → FailsToTest old new found f
+pub test_fails : (old new : State) (text : List ℕ) (found : Type 0) → ((e : Error) → FailsToQuery text [] old new e → FailsWith old new ⊥ (IsSome old.step_limit) (failure_of e)) → (f : Failure) → IsQueryFailure text [] old new f → FailsToTest old new found f
 test_fails old new text found fails f h = by_query old new found f (subst (FailsWith old new ⊥ (IsSome old.step_limit)) (sym h.1) (fails h.0 h.2))
+
+-- a query of texts failed, or no memory was left for them
+pub texts_fail : (old new : State) (text : List ℕ) → ((e : Error) → FailsToQuery text [] old new e → FailsWith old new ⊥ (IsSome old.step_limit) (failure_of e)) → (f : Failure) → IsQueryFailure text [] old new f ⊎ ((f ≡ Memory) × IsUnchanged old new) → FailsToTest old new ⊥ f
+texts_fail old new text fails f (inl h) = test_fails old new text ⊥ fails f h
+texts_fail old new text fails f (inr h) = subst (FailsToTest old new ⊥) (sym h.0) tt
 
 -- what failed for one of several reasons
 pub fails_for : (old new : State) (P Q : Type 0) → (P → Q) → (f : Failure) → FailsToTest old new P f → FailsToTest old new Q f
@@ -34,6 +41,27 @@ fails_for old new P Q so Size h = h
 fails_for old new P Q so Disk (inl h) = inl h
 fails_for old new P Q so Disk (inr (inl h)) = inr (inl h)
 fails_for old new P Q so Disk (inr (inr h)) = inr (inr (so h))
+
+-- ---- what stays
+
+pub as_before_then : (a b c : State) → (HasCleanDisk b → IsAsBefore a b) → (HasCleanDisk c → IsAsBefore b c) → Survives b c (λ _. ⊥) → HasCleanDisk c → IsAsBefore a c
+as_before_then a b c first next survives clean =
+    let h = first (omega (arith, survives.clean, clean)) in
+    let k = next clean in
+    record { was_open = λ is_open. h.was_open (k.was_open is_open); now = λ is_open. k.now is_open ∙ h.now (k.was_open is_open); committed = λ is_open. k.committed is_open ∙ h.committed (k.was_open is_open) }
+
+pub rests_after : (a b : State) → IsAtRest a → IsAsBefore a b → IsAtRest b
+rests_after a b rests h = record {
+  has = λ is_open. subst (λ (d : Database). HasTables d.schema) (sym (h.now is_open)) (rests.has (h.was_open is_open));
+  settled = λ is_open. h.now is_open ∙ rests.settled (h.was_open is_open) ∙ sym (h.committed is_open);
+}
+
+pub rests_then : (a b c : State) → Rests a b → Rests b c → Rests a c
+rests_then a b c h k = record { was_open = h.was_open; is_open = k.is_open; now = k.now ∙ h.now; committed = k.committed ∙ h.committed; mode = k.mode ∙ h.mode; marks = k.marks ∙ h.marks }
+
+-- neither of two calls leaves anything to a crash
+pub survives_both : (a b c : State) → Survives a b (λ _. ⊥) → Survives b c (λ _. ⊥) → Survives a c (λ _. ⊥)
+survives_both a b c h k = survives_then a b c (λ _. ⊥) (λ _. ⊥) (λ _. ⊥) (λ clean db no. no) (λ clean db no. no) h k
 
 -- ---- one test after another
 
@@ -44,7 +72,7 @@ Passes a b = (HasCleanDisk b → Rests a b) × Survives a b (λ _. ⊥)
 pub passes_then : (a b c : State) → Passes a b → Passes b c → Passes a c
 passes_then a b c h k = (
   λ clean. rests_then a b c (h.0 (omega (arith, k.1.clean, clean))) (k.0 clean),
-  survives_then a b c (λ _. ⊥) (λ _. ⊥) (λ _. ⊥) (λ clean db no. no) (λ clean db no. no) h.1 k.1,
+  survives_both a b c h.1 k.1,
 )
 
 after : (a b c : State) (P Q : Type 0) → Rests a b → Survives a b (λ _. ⊥) → (P → Q) → (f : Failure) → FailsToTest b c P f → FailsToTest a c Q f

@@ -1,5 +1,5 @@
 -- What the statements on the outputs mean and do.
-use Rattle.std.proofs.Common.{◌≡◌, ℕ, pos, negsuc, List, [], ◌∷◌, codes, true, false, not, ◌&&◌, Some, None, Ok, Result, IfOk, Vec, Global, map, length, refl, ◌∙◌}
+use Rattle.std.proofs.Common.{◌≡◌, ℕ, pos, negsuc, List, [], ◌∷◌, codes, true, false, not, ◌&&◌, Some, None, Ok, Result, IfOk, Vec, Global, map, length, refl, ◌∙◌, IsTrue}
 use Rattle.std.specs.Prelude.{IsUtf8}
 use Rattle.std.specs.Ordering.{eq_by_cmp, is_lt}
 use Rattle.std.specs.List.{list_all, AllAdjacentBelow}
@@ -25,13 +25,14 @@ use Rattle.sqlite_resolve.specs.Write.{over}
 use Rattle.sqlite_rules.specs.Edit.{next_rowid, is_taken}
 use Rattle.sqlite_tied.specs.Compute.{everything}
 use Rattle.sqlite.specs.declared.error.Error.{Error}
-use Rattle.sqlite.specs.State.{State, ExecutesInside, IsUnchanged, Shown, FailsToQuery, IsTooLate}
+use Rattle.sqlite.specs.State.{State, ExecutesInside, FailsToQuery}
 use Rattle.rows.specs.declared.failure.Failure.{Failure}
 use Rattle.rows.specs.declared.outputs.Output.{Output}
 use Rattle.rows.specs.Forms.{outs}
 use Rattle.rows.specs.Standing.{IsNamed, IsKnown, tree_named}
 use Rattle.rows.specs.Contents.{contents_of, texts_cmp, pair_cmp, is_text, is_triple, target_of}
-use Rattle.rows.specs.Calls.{IsInside, IsUnderWay, Changes, Stays}
+use Rattle.rows.specs.Queries.{IsRead}
+use Rattle.rows.specs.Calls.{IsReady, IsAtRest, IsUnderWay, Changes, Rests}
 use Rattle.rows.specs.Entries.{output_of, ShowsOutput}
 use Rattle.rows.proofs.Orders.{pair_total, pair_antisymmetric}
 use Rattle.rows.proofs.Truths.{cast_null, free_of, and_so, and_one, text_test}
@@ -48,7 +49,7 @@ use Rattle.rows.proofs.ContentsLemmas.{outs_set}
 use Rattle.rows.specs.Failures.{failure_of, FailsWith}
 use Rattle.rows.proofs.ReadFailures.{read_fails}
 use Rattle.std.specs.Prelude.{◌⊎◌, IsSome}
-use Rattle.rows.proofs.Statements.{answered_same, Compiles, Selects, reads_part, deletes_part, whole_map}
+use Rattle.rows.proofs.Statements.{Compiles, Selects, reads_part, deletes_part, whole_map}
 
 -- ---- one more
 
@@ -100,7 +101,7 @@ pub delete_ofs : (old new : State) (base : List ℕ) (count : ℕ) → IsUnderWa
     → Changes old new (λ c. record c { outs = finite.retain_keys c.outs (λ k. not (eq_by_cmp texts_cmp k.0 base)) })
 delete_ofs old new base count under h =
     let ours = under.ours h.1.was_open in
-    let it = deletes_part outs.name outs.columns outs.primary pair_total pair_antisymmetric is_triple target_of old new under (λ has. has.1.1.1.0) delete_of_text (Text base ∷ []) of_one (λ k. eq_by_cmp texts_cmp k.0 base) (said_one base) delete_of_is count h ours.keyed.1.1.1.0 in
+    let it = deletes_part outs.name outs.columns outs.primary pair_total pair_antisymmetric is_triple target_of old new (λ has. has.1.1.1.0) under delete_of_text (Text base ∷ []) of_one (λ k. eq_by_cmp texts_cmp k.0 base) (said_one base) delete_of_is count h ours.keyed.1.1.1.0 in
     changed outs old new it.0 ours.has.1.1.1.0 it.1 _ ours it.2 it.3 refl (outs_set old new ours.has it.0 it.1 _ it.4)
 
 -- ---- reading them
@@ -156,11 +157,11 @@ all_is s at tree known =
       refl,
     )
 
-pub reads_all : (old new : State) (r : Result (Vec Output Global) Failure) → IsUnderWay old → Selects ShowsOutput old new all_text [] r → IfOk r (λ all. AllAdjacentBelow (λ x y. true ≡ is_lt (pair_cmp (output_of x).0 (output_of y).0)) all.items (length all.items))
-    → IfOk r (λ all. Stays old new × (map output_of all.items ≡ finite.entries (contents_of old.now).outs))
-reads_all old new r under selects up =
-    whole_map pair_total pair_antisymmetric output_of r (Stays old new) (contents_of old.now).outs
-    (reads_part outs.name outs.columns outs.primary pair_total pair_antisymmetric is_triple target_of old new under (λ has. has.1.1.1.0) all_text [] names (query []) (λ tree. record { from = refl; group = refl; distinct = refl; whole = λ params rows. refl }) (λ _. true) (λ tree r kind. refl) ShowsOutput output_of (fits [] []) all_is r selects up)
+pub reads_all : (old new : State) (r : Result (Vec Output Global) Failure) → (IsTrue old.is_open → IsReady old) → Selects ShowsOutput old new all_text [] r → IfOk r (λ all. AllAdjacentBelow (λ x y. true ≡ is_lt (pair_cmp (output_of x).0 (output_of y).0)) all.items (length all.items))
+    → IfOk r (λ all. Rests old new × (map output_of all.items ≡ finite.entries (contents_of old.now).outs))
+reads_all old new r ready selects up =
+    whole_map pair_total pair_antisymmetric output_of r (Rests old new) (contents_of old.now).outs
+    (reads_part outs.name outs.columns outs.primary pair_total pair_antisymmetric is_triple target_of old new (λ has. has.1.1.1.0) ready all_text [] names (query []) (λ tree. record { from = refl; group = refl; distinct = refl; whole = λ params rows. refl }) (λ _. true) (λ tree r kind. refl) ShowsOutput output_of (fits [] []) all_is r selects up)
 
 abbrev pub of_text : List ℕ
 of_text = codes "SELECT base, name, target FROM outs WHERE base = ?1 ORDER BY base, name"
@@ -185,28 +186,28 @@ of_is s at tree known =
       refl,
     )
 
-pub reads_of : (old new : State) (base : List ℕ) (r : Result (Vec Output Global) Failure) → IsUnderWay old → Selects ShowsOutput old new of_text (Text base ∷ []) r → IfOk r (λ all. AllAdjacentBelow (λ x y. true ≡ is_lt (pair_cmp (output_of x).0 (output_of y).0)) all.items (length all.items))
-    → IfOk r (λ all. Stays old new × (map output_of all.items ≡ finite.entries (finite.retain_keys (contents_of old.now).outs (λ k. eq_by_cmp texts_cmp k.0 base))))
-reads_of old new base r under selects up =
-    reads_part outs.name outs.columns outs.primary pair_total pair_antisymmetric is_triple target_of old new under (λ has. has.1.1.1.0) of_text (Text base ∷ []) names (query of_one) (λ tree. record { from = refl; group = refl; distinct = refl; whole = λ params rows. refl }) (λ k. eq_by_cmp texts_cmp k.0 base) (λ tree. said_one base) ShowsOutput output_of (fits (Text base ∷ []) of_one) of_is r selects up
-
--- ---- what is answered changes nothing
-
-pub same_all : (old new : State) → IsUnderWay old → (params : Row) (rows : List Row) → Shown all_text params old new rows → IsUnchanged old new
-same_all old new under params rows shown = answered_same outs.name outs.columns outs.primary old new under (λ has. has.1.1.1.0) all_text (λ at tree. Select (whole [] tree) names) all_is params rows shown
-
-pub same_of : (old new : State) → IsUnderWay old → (params : Row) (rows : List Row) → Shown of_text params old new rows → IsUnchanged old new
-same_of old new under params rows shown = answered_same outs.name outs.columns outs.primary old new under (λ has. has.1.1.1.0) of_text (λ at tree. Select (whole of_one tree) names) of_is params rows shown
+pub reads_of : (old new : State) (base : List ℕ) (r : Result (Vec Output Global) Failure) → (IsTrue old.is_open → IsReady old) → Selects ShowsOutput old new of_text (Text base ∷ []) r → IfOk r (λ all. AllAdjacentBelow (λ x y. true ≡ is_lt (pair_cmp (output_of x).0 (output_of y).0)) all.items (length all.items))
+    → IfOk r (λ all. Rests old new × (map output_of all.items ≡ finite.entries (finite.retain_keys (contents_of old.now).outs (λ k. eq_by_cmp texts_cmp k.0 base))))
+reads_of old new base r ready selects up =
+    reads_part outs.name outs.columns outs.primary pair_total pair_antisymmetric is_triple target_of old new (λ has. has.1.1.1.0) ready of_text (Text base ∷ []) names (query of_one) (λ tree. record { from = refl; group = refl; distinct = refl; whole = λ params rows. refl }) (λ k. eq_by_cmp texts_cmp k.0 base) (λ tree. said_one base) ShowsOutput output_of (fits (Text base ∷ []) of_one) of_is r selects up
 
 -- ---- why a read fails
 
 pub scan : (filter : List Term) (tree : ℕ) → IsScan (query filter tree) tree
 scan filter tree = record { from = refl; group = refl; distinct = refl; whole = λ params rows. refl }
 
-pub fails_all : (old new : State) → IsInside old → (e : Error) → FailsToQuery all_text [] old new e ⊎ IsTooLate all_text [] old new e → FailsWith old new ⊥ (IsSome old.step_limit) (failure_of e)
+pub all_read : IsRead all_text
 unfolding everything
-fails_all old new inside = read_fails outs.name outs.columns outs.primary old new inside (λ has. has.1.1.1.0) all_text [] names (query []) (scan []) all_is (_, _, _, _, _, refl) (λ s at tree known. rw (known.low, known.by_tree) refl)
+all_read = (_, _, _, _, _, refl)
 
-pub fails_of : (old new : State) (base : List ℕ) → IsInside old → (e : Error) → FailsToQuery of_text (Text base ∷ []) old new e ⊎ IsTooLate of_text (Text base ∷ []) old new e → FailsWith old new ⊥ (IsSome old.step_limit) (failure_of e)
+pub fails_all : (old new : State) → IsAtRest old → (e : Error) → FailsToQuery all_text [] old new e → FailsWith old new ⊥ (IsSome old.step_limit) (failure_of e)
 unfolding everything
-fails_of old new base inside = read_fails outs.name outs.columns outs.primary old new inside (λ has. has.1.1.1.0) of_text (Text base ∷ []) names (query of_one) (scan of_one) of_is (_, _, _, _, _, refl) (λ s at tree known. rw (known.low, known.by_tree) refl)
+fails_all old new rests = read_fails outs.name outs.columns outs.primary old new rests (λ has. has.1.1.1.0) all_text [] names (query []) (scan []) all_is all_read (λ s at tree known. rw (known.low, known.by_tree) refl)
+
+pub of_read : IsRead of_text
+unfolding everything
+of_read = (_, _, _, _, _, refl)
+
+pub fails_of : (old new : State) (base : List ℕ) → IsAtRest old → (e : Error) → FailsToQuery of_text (Text base ∷ []) old new e → FailsWith old new ⊥ (IsSome old.step_limit) (failure_of e)
+unfolding everything
+fails_of old new base rests = read_fails outs.name outs.columns outs.primary old new rests (λ has. has.1.1.1.0) of_text (Text base ∷ []) names (query of_one) (scan of_one) of_is of_read (λ s at tree known. rw (known.low, known.by_tree) refl)

@@ -1,5 +1,5 @@
 -- That the rowids of a table, as a query shows them, are integers that differ, so each row has its own.
-use Rattle.std.proofs.Common.{◌≡◌, ◌↔◌, ◌+◌, ◌<◌, zero, get_or, ap₂, arith, Ordering, Equal, Greater, IsSorted, inl, inr, ℕ, suc, ℤ, pos, negsuc, List, [], ◌∷◌, map, flat_map, codes, true, false, None, Option, Ok, IsTrue, refl, sym, ap, subst, subst₂, ◌∙◌, IsPermutation, length, Less, slice_get}
+use Rattle.std.proofs.Common.{◌≡◌, ◌↔◌, ◌+◌, ◌++◌, get_or, ap₂, arith, Ordering, Equal, Greater, IsSorted, inl, inr, ℕ, suc, ℤ, pos, negsuc, List, [], ◌∷◌, map, flat_map, codes, true, false, None, Option, Ok, IsTrue, refl, sym, ap, subst, subst₂, ◌∙◌, IsPermutation, length, Less, slice_get}
 use Rattle.std.specs.Prelude.{nat_lt, nat_le, ◌-◌, ◌^◌, option_and_then}
 use Rattle.std.specs.List.{AllByRecursion, IsDistinct, AllAdjacentBelow}
 use Rattle.std.specs.List.Sorted.{IsStrictlySortedBy}
@@ -37,17 +37,17 @@ use Rattle.sqlite_resolve.specs.Expr.{lower, lower_to, node, opened, passes}
 use Rattle.sqlite_resolve.specs.Lowering.{spend, begin, finish}
 use Rattle.sqlite_resolve.specs.Scope.{Name, Context, find as found_in, column as named_column, term_of}
 use Rattle.sqlite_rules.specs.Lists.{Has}
-use Rattle.sqlite.specs.Effect.{Database}
-use Rattle.sqlite.specs.State.{State, Shown as Answered}
+use Rattle.sqlite.specs.State.{State}
 use Rattle.sqlite.specs.Values.{IsInt}
 use Rattle.sqlite.proofs.Callers.{reads_as}
 use Rattle.rows.specs.Forms.{strict}
-use Rattle.rows.specs.Standing.{Stands, HasTables, tree_named}
+use Rattle.rows.specs.Standing.{Stands, tree_named}
 use Rattle.rows.specs.Contents.{rows_named}
-use Rattle.rows.specs.Calls.{IsKeyed, IsInside, Rests}
+use Rattle.rows.specs.Calls.{IsKeyed, Rests}
+use Rattle.rows.specs.Queries.{Answers}
 use Rattle.rows.specs.Opened.{ShowIds}
 use Rattle.rows.proofs.Means.{means_command, plain_state}
-use Rattle.rows.proofs.Scans.{IsScan, scan_complete, kept, listed, shown_same}
+use Rattle.rows.proofs.Scans.{IsScan, scan_complete, kept, listed, unchanged_rests}
 use Rattle.rows.proofs.Apart.{tie, turned}
 use Rattle.rows.proofs.Statements.{Compiles}
 use Rattle.rows.proofs.Writes.{overlay_low}
@@ -153,7 +153,7 @@ keyed_from order tree db rows answer ids =
 
 -- the rows that were shown, whose first values are integers that differ
 abbrev pub ShowsApart : List ℕ → State → State → Type 0
-ShowsApart text old new = (rows : List Row) × Answered text [] old new rows × ShowIds rows
+ShowsApart text old new = (rows : List Row) × Answers text [] old new rows × ShowIds rows
 
 -- each row of the table has a rowid of its own, and nothing changes
 pub keyed_if : (name : List ℕ) (columns : List Column) (key : List ℕ) (text : List ℕ) (order : List (Term × Key)) (old new : State) → Stands old.now.schema (strict name columns key)
@@ -161,10 +161,9 @@ pub keyed_if : (name : List ℕ) (columns : List Column) (key : List ℕ) (text 
 keyed_if name columns key text order old new stands is h =
     let tree = tree_named old.now.schema name in
     let m = means_command old.now.schema text _ (is old.now.schema stands.at tree stands.known) in
-    let got = reads_as text [] old new old.now.schema refl _ m.0 m.1 m.2 h.0 h.1 in
+    let got = reads_as text [] old new old.now.schema refl _ m.0 m.1 m.2 h.0 h.1.0 in
     let answer : IsAnswer (query order tree) (overlay old.now.trees []) [] h.0 = got.answer Null in
-    let same = shown_same text [] old new h.0 m.1 h.1 in
-    (record { was_open = same.0.was_open; is_open = same.0.is_open; now = same.0.now_is; committed = same.0.committed_is; mode = same.0.mode; marks = same.2 }, subst IsKeyed (overlay_low old.now.trees tree stands.known.low) (keyed_from order tree (overlay old.now.trees []) h.0 answer h.2))
+    (unchanged_rests old new h.1.1.1, subst IsKeyed (overlay_low old.now.trees tree stands.known.low) (keyed_from order tree (overlay old.now.trees []) h.0 answer h.2))
 
 -- ---- what a sort and a test of neighbours say of integers
 
@@ -193,14 +192,14 @@ rise_sorted ns sorted same up = (
 
 -- ---- what rows show that aren't integers, or not different ones
 
-all_ints : (rows : List Row) (ns : List ℤ) → map first rows ≡ map Int ns → (k : ℕ) (x : Row) → k < length rows → x ≡ get_or rows k x → IsInt (first x)
-all_ints [] ns e k x low at = absurd (omega (arith, low))
-all_ints (r ∷ rows) [] e k x low at = absurd cc
-all_ints (r ∷ rows) (n ∷ ns) e zero x low at = let is : first r ≡ Int n = cc in (n, ap first at ∙ is)
-all_ints (r ∷ rows) (n ∷ ns) e (suc k) x low at = let rest : map first rows ≡ map Int ns = cc in all_ints rows ns rest k x (omega (arith, low)) at
+is_int_last : (rows : List Row) (x : Row) (ns : List ℤ) → map first (rows ++ x ∷ []) ≡ map Int ns → IsInt (first x)
+is_int_last [] x [] e = absurd cc
+is_int_last [] x (n ∷ ns) e = let is : first x ≡ Int n = cc in (n, is)
+is_int_last (r ∷ rows) x [] e = absurd cc
+is_int_last (r ∷ rows) x (n ∷ ns) e = let rest : map first (rows ++ x ∷ []) ≡ map Int ns = cc in is_int_last rows x ns rest
 
-pub no_ids : (rows : List Row) (k : ℕ) (x : Row) → k < length rows → x ≡ get_or rows k x → ¬ IsInt (first x) → ¬ ShowIds rows
-no_ids rows k x low at none ids = none (all_ints rows ids.0 ids.1 k x low at)
+pub no_id : (rows : List Row) (x : Row) → ¬ IsInt (first x) → ¬ ShowIds (rows ++ x ∷ [])
+no_id rows x none ids = none (is_int_last rows x ids.0 ids.1)
 
 same_ints : (ns ms : List ℤ) → ◌≡◌ {A = List Value} (map Int ns) (map Int ms) → ns ≡ ms
 same_ints [] [] e = refl
@@ -211,10 +210,18 @@ same_ints (n ∷ ns) (m ∷ ms) e = let head : n ≡ m = cc in let rest : ◌≡
 pub differ_not : (rows : List Row) (ns : List ℤ) → map first rows ≡ map Int ns → ¬ IsDistinct (eq_by_cmp int_cmp) ns → ¬ ShowIds rows
 differ_not rows ns shown same ids = same (subst (IsDistinct (eq_by_cmp int_cmp)) (same_ints ids.0 ns (sym ids.1 ∙ shown)) ids.2)
 
--- ---- one table after another
+-- ---- the first rows of those that show integers that differ
 
-pub rests_then : (a b c : State) → Rests a b → Rests b c → Rests a c
-rests_then a b c h k = record { was_open = h.was_open; is_open = k.is_open; now = k.now ∙ h.now; committed = k.committed ∙ h.committed; mode = k.mode ∙ h.mode; marks = k.marks ∙ h.marks }
+front_ids : (rows tail : List Row) (ns : List ℤ) → map first (rows ++ tail) ≡ map Int ns → IsDistinct (eq_by_cmp int_cmp) ns
+    → (ms : List ℤ) × (map first rows ≡ map Int ms) × IsDistinct (eq_by_cmp int_cmp) ms × ((P : ℤ → Type 0) → AllByRecursion P ns → AllByRecursion P ms)
+unfolding IsDistinct
+front_ids [] tail ns e apart = ([], refl, tt, λ P all. tt)
+front_ids (r ∷ rows) tail [] e apart = absurd cc
+front_ids (r ∷ rows) tail (n ∷ ns) e apart =
+    let head : first r ≡ Int n = cc in
+    let rest : map first (rows ++ tail) ≡ map Int ns = cc in
+    let it = front_ids rows tail ns rest apart.1 in
+    (n ∷ it.0, ap₂ (λ v vs. v ∷ vs) head it.1, (it.3 _ apart.0, it.2), λ P all. (all.0, it.3 P all.1))
 
-pub inside_after : (a b : State) → IsInside a → Rests a b → IsInside b
-inside_after a b inside h = record { has = λ is_open. subst (λ (d : Database). HasTables d.schema) (sym h.now) (inside.has h.was_open); mode = h.mode ∙ inside.mode }
+pub front : (rows tail : List Row) → ShowIds (rows ++ tail) → ShowIds rows
+front rows tail ids = let it = front_ids rows tail ids.0 ids.1 ids.2 in (it.0, it.1, it.2)

@@ -1,5 +1,5 @@
 -- What the statements on the permanent roots mean and do.
-use Rattle.std.proofs.Common.{◌≡◌, ℕ, pos, negsuc, List, [], ◌∷◌, codes, true, false, not, ◌&&◌, Some, None, Ok, Result, IfOk, Vec, Global, map, length, refl, ◌∙◌}
+use Rattle.std.proofs.Common.{◌≡◌, ℕ, pos, negsuc, List, [], ◌∷◌, codes, true, false, not, ◌&&◌, Some, None, Ok, Result, IfOk, Vec, Global, map, length, refl, ◌∙◌, IsTrue}
 use Rattle.std.specs.Prelude.{IsUtf8}
 use Rattle.std.specs.Ordering.{eq_by_cmp, is_lt}
 use Rattle.std.specs.List.{list_all, AllAdjacentBelow}
@@ -25,13 +25,14 @@ use Rattle.sqlite_resolve.specs.Write.{over}
 use Rattle.sqlite_rules.specs.Edit.{next_rowid, is_taken}
 use Rattle.sqlite_tied.specs.Compute.{everything}
 use Rattle.sqlite.specs.declared.error.Error.{Error}
-use Rattle.sqlite.specs.State.{State, ExecutesInside, IsUnchanged, Shown, FailsToQuery, IsTooLate}
+use Rattle.sqlite.specs.State.{State, ExecutesInside, FailsToQuery}
 use Rattle.rows.specs.declared.failure.Failure.{Failure}
 use Rattle.rows.specs.declared.permanent.PermanentRoot.{PermanentRoot}
 use Rattle.rows.specs.Forms.{permanent}
 use Rattle.rows.specs.Standing.{IsNamed, IsKnown, tree_named}
 use Rattle.rows.specs.Contents.{contents_of, texts_cmp, is_text, is_pair, pair_of}
-use Rattle.rows.specs.Calls.{IsInside, IsUnderWay, Changes, Stays}
+use Rattle.rows.specs.Queries.{IsRead}
+use Rattle.rows.specs.Calls.{IsReady, IsAtRest, IsUnderWay, Changes, Rests}
 use Rattle.rows.specs.Entries.{permanent_of, ShowsPermanentRoot}
 use Rattle.rows.proofs.Orders.{texts_total, texts_antisymmetric}
 use Rattle.rows.proofs.Truths.{cast_null, free_of, and_so, and_one, text_test}
@@ -48,7 +49,7 @@ use Rattle.rows.proofs.ContentsLemmas.{permanent_set}
 use Rattle.rows.specs.Failures.{failure_of, FailsWith}
 use Rattle.rows.proofs.ReadFailures.{read_fails}
 use Rattle.std.specs.Prelude.{◌⊎◌, IsSome}
-use Rattle.rows.proofs.Statements.{answered_same, Compiles, Selects, reads_part, deletes_part, whole_map}
+use Rattle.rows.proofs.Statements.{Compiles, Selects, reads_part, deletes_part, whole_map}
 
 -- ---- one more
 
@@ -100,7 +101,7 @@ pub deletes : (old new : State) (name : List ℕ) (count : ℕ) → IsUnderWay o
     → Changes old new (λ c. record c { permanent = finite.retain_keys c.permanent (λ k. not (eq_by_cmp texts_cmp k name)) })
 deletes old new name count under h =
     let ours = under.ours h.1.was_open in
-    let it = deletes_part permanent.name permanent.columns permanent.primary texts_total texts_antisymmetric is_pair pair_of old new under (λ has. has.1.1.1.1.0) delete_text (Text name ∷ []) of_one (λ k. eq_by_cmp texts_cmp k name) (said_one name) delete_is count h ours.keyed.1.1.1.1.0 in
+    let it = deletes_part permanent.name permanent.columns permanent.primary texts_total texts_antisymmetric is_pair pair_of old new (λ has. has.1.1.1.1.0) under delete_text (Text name ∷ []) of_one (λ k. eq_by_cmp texts_cmp k name) (said_one name) delete_is count h ours.keyed.1.1.1.1.0 in
     changed permanent old new it.0 ours.has.1.1.1.1.0 it.1 _ ours it.2 it.3 refl (permanent_set old new ours.has it.0 it.1 _ it.4)
 
 -- ---- reading them
@@ -156,11 +157,11 @@ all_is s at tree known =
       refl,
     )
 
-pub reads_all : (old new : State) (r : Result (Vec PermanentRoot Global) Failure) → IsUnderWay old → Selects ShowsPermanentRoot old new all_text [] r → IfOk r (λ all. AllAdjacentBelow (λ x y. true ≡ is_lt (texts_cmp (permanent_of x).0 (permanent_of y).0)) all.items (length all.items))
-    → IfOk r (λ all. Stays old new × (map permanent_of all.items ≡ finite.entries (contents_of old.now).permanent))
-reads_all old new r under selects up =
-    whole_map texts_total texts_antisymmetric permanent_of r (Stays old new) (contents_of old.now).permanent
-    (reads_part permanent.name permanent.columns permanent.primary texts_total texts_antisymmetric is_pair pair_of old new under (λ has. has.1.1.1.1.0) all_text [] names (query []) (λ tree. record { from = refl; group = refl; distinct = refl; whole = λ params rows. refl }) (λ _. true) (λ tree r kind. refl) ShowsPermanentRoot permanent_of (fits [] []) all_is r selects up)
+pub reads_all : (old new : State) (r : Result (Vec PermanentRoot Global) Failure) → (IsTrue old.is_open → IsReady old) → Selects ShowsPermanentRoot old new all_text [] r → IfOk r (λ all. AllAdjacentBelow (λ x y. true ≡ is_lt (texts_cmp (permanent_of x).0 (permanent_of y).0)) all.items (length all.items))
+    → IfOk r (λ all. Rests old new × (map permanent_of all.items ≡ finite.entries (contents_of old.now).permanent))
+reads_all old new r ready selects up =
+    whole_map texts_total texts_antisymmetric permanent_of r (Rests old new) (contents_of old.now).permanent
+    (reads_part permanent.name permanent.columns permanent.primary texts_total texts_antisymmetric is_pair pair_of old new (λ has. has.1.1.1.1.0) ready all_text [] names (query []) (λ tree. record { from = refl; group = refl; distinct = refl; whole = λ params rows. refl }) (λ _. true) (λ tree r kind. refl) ShowsPermanentRoot permanent_of (fits [] []) all_is r selects up)
 
 abbrev pub of_text : List ℕ
 of_text = codes "SELECT name, target FROM permanent WHERE name = ?1 ORDER BY name"
@@ -185,28 +186,28 @@ of_is s at tree known =
       refl,
     )
 
-pub reads_of : (old new : State) (name : List ℕ) (r : Result (Vec PermanentRoot Global) Failure) → IsUnderWay old → Selects ShowsPermanentRoot old new of_text (Text name ∷ []) r → IfOk r (λ all. AllAdjacentBelow (λ x y. true ≡ is_lt (texts_cmp (permanent_of x).0 (permanent_of y).0)) all.items (length all.items))
-    → IfOk r (λ all. Stays old new × (map permanent_of all.items ≡ finite.entries (finite.retain_keys (contents_of old.now).permanent (λ k. eq_by_cmp texts_cmp k name))))
-reads_of old new name r under selects up =
-    reads_part permanent.name permanent.columns permanent.primary texts_total texts_antisymmetric is_pair pair_of old new under (λ has. has.1.1.1.1.0) of_text (Text name ∷ []) names (query of_one) (λ tree. record { from = refl; group = refl; distinct = refl; whole = λ params rows. refl }) (λ k. eq_by_cmp texts_cmp k name) (λ tree. said_one name) ShowsPermanentRoot permanent_of (fits (Text name ∷ []) of_one) of_is r selects up
-
--- ---- what is answered changes nothing
-
-pub same_all : (old new : State) → IsUnderWay old → (params : Row) (rows : List Row) → Shown all_text params old new rows → IsUnchanged old new
-same_all old new under params rows shown = answered_same permanent.name permanent.columns permanent.primary old new under (λ has. has.1.1.1.1.0) all_text (λ at tree. Select (whole [] tree) names) all_is params rows shown
-
-pub same_of : (old new : State) → IsUnderWay old → (params : Row) (rows : List Row) → Shown of_text params old new rows → IsUnchanged old new
-same_of old new under params rows shown = answered_same permanent.name permanent.columns permanent.primary old new under (λ has. has.1.1.1.1.0) of_text (λ at tree. Select (whole of_one tree) names) of_is params rows shown
+pub reads_of : (old new : State) (name : List ℕ) (r : Result (Vec PermanentRoot Global) Failure) → (IsTrue old.is_open → IsReady old) → Selects ShowsPermanentRoot old new of_text (Text name ∷ []) r → IfOk r (λ all. AllAdjacentBelow (λ x y. true ≡ is_lt (texts_cmp (permanent_of x).0 (permanent_of y).0)) all.items (length all.items))
+    → IfOk r (λ all. Rests old new × (map permanent_of all.items ≡ finite.entries (finite.retain_keys (contents_of old.now).permanent (λ k. eq_by_cmp texts_cmp k name))))
+reads_of old new name r ready selects up =
+    reads_part permanent.name permanent.columns permanent.primary texts_total texts_antisymmetric is_pair pair_of old new (λ has. has.1.1.1.1.0) ready of_text (Text name ∷ []) names (query of_one) (λ tree. record { from = refl; group = refl; distinct = refl; whole = λ params rows. refl }) (λ k. eq_by_cmp texts_cmp k name) (λ tree. said_one name) ShowsPermanentRoot permanent_of (fits (Text name ∷ []) of_one) of_is r selects up
 
 -- ---- why a read fails
 
 pub scan : (filter : List Term) (tree : ℕ) → IsScan (query filter tree) tree
 scan filter tree = record { from = refl; group = refl; distinct = refl; whole = λ params rows. refl }
 
-pub fails_all : (old new : State) → IsInside old → (e : Error) → FailsToQuery all_text [] old new e ⊎ IsTooLate all_text [] old new e → FailsWith old new ⊥ (IsSome old.step_limit) (failure_of e)
+pub all_read : IsRead all_text
 unfolding everything
-fails_all old new inside = read_fails permanent.name permanent.columns permanent.primary old new inside (λ has. has.1.1.1.1.0) all_text [] names (query []) (scan []) all_is (_, _, _, _, _, refl) (λ s at tree known. rw (known.low, known.by_tree) refl)
+all_read = (_, _, _, _, _, refl)
 
-pub fails_of : (old new : State) (name : List ℕ) → IsInside old → (e : Error) → FailsToQuery of_text (Text name ∷ []) old new e ⊎ IsTooLate of_text (Text name ∷ []) old new e → FailsWith old new ⊥ (IsSome old.step_limit) (failure_of e)
+pub fails_all : (old new : State) → IsAtRest old → (e : Error) → FailsToQuery all_text [] old new e → FailsWith old new ⊥ (IsSome old.step_limit) (failure_of e)
 unfolding everything
-fails_of old new name inside = read_fails permanent.name permanent.columns permanent.primary old new inside (λ has. has.1.1.1.1.0) of_text (Text name ∷ []) names (query of_one) (scan of_one) of_is (_, _, _, _, _, refl) (λ s at tree known. rw (known.low, known.by_tree) refl)
+fails_all old new rests = read_fails permanent.name permanent.columns permanent.primary old new rests (λ has. has.1.1.1.1.0) all_text [] names (query []) (scan []) all_is all_read (λ s at tree known. rw (known.low, known.by_tree) refl)
+
+pub of_read : IsRead of_text
+unfolding everything
+of_read = (_, _, _, _, _, refl)
+
+pub fails_of : (old new : State) (name : List ℕ) → IsAtRest old → (e : Error) → FailsToQuery of_text (Text name ∷ []) old new e → FailsWith old new ⊥ (IsSome old.step_limit) (failure_of e)
+unfolding everything
+fails_of old new name rests = read_fails permanent.name permanent.columns permanent.primary old new rests (λ has. has.1.1.1.1.0) of_text (Text name ∷ []) names (query of_one) (scan of_one) of_is of_read (λ s at tree known. rw (known.low, known.by_tree) refl)

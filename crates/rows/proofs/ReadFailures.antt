@@ -32,7 +32,8 @@ use Rattle.sqlite.specs.Listing.{understood, reads_listing, listing_schema, is_s
 use Rattle.sqlite.specs.State.{State, Fails, IsUnchanged, IsStatement, IsNoStatement, IsNotRun, FailsToQuery, FailsToShow, IsTooLate}
 use Rattle.rows.specs.Forms.{strict}
 use Rattle.rows.specs.Standing.{IsKnown, Stands, HasTables, tree_named}
-use Rattle.rows.specs.Calls.{IsInside}
+use Rattle.rows.specs.Calls.{IsAtRest}
+use Rattle.rows.specs.Queries.{parsed, IsRead}
 use Rattle.rows.specs.Failures.{failure_of, FailsWith}
 use Rattle.rows.proofs.Means.{IsMeant}
 use Rattle.rows.proofs.Scans.{IsScan}
@@ -50,7 +51,7 @@ store_failed old new large refused too_big grows e (Unstorable, is, why, back, t
 
 -- ---- a text that is a statement
 
-one : {r : Result Compiled CompileError} {a b : Compiled} → r ≡ Ok a → r ≡ Ok b → a ≡ b
+pub one : {r : Result Compiled CompileError} {a b : Compiled} → r ≡ Ok a → r ≡ Ok b → a ≡ b
 one h k = let e = sym h ∙ k in cc
 
 -- a statement with all its parameters is one
@@ -62,19 +63,16 @@ is_statement s text params command m e (inr (c, is, inr (inr h))) = let same : m
 
 -- ---- a SELECT shows no rows of a write, whatever the schema
 
-module _ (names : List Name) (start end tail : ℕ) (sel : Read) where
-  abbrev parsed : Parsed
-  parsed = record { statement = written.Select sel; names = names; formats = []; start = start; end = end; tail = tail }
-
-  compiled_read : (text : List ℕ) → first text ≡ Ok parsed → (s : Schema) (c : Compiled) → compiled s text ≡ Ok c → c.returning ≡ None
+module _ (names : List Name) (start end tail : ℕ) (select : Read) where
+  compiled_read : (text : List ℕ) → first text ≡ Ok (parsed names start end tail select) → (s : Schema) (c : Compiled) → compiled s text ≡ Ok c → c.returning ≡ None
   unfolding compiled planned meaning returning timed_names
   compiled_read text one s c h = go _ (rw one at h)
     where
-      go : (r : Result Command CompileError) → ◌≡◌ {A = Result Compiled CompileError} (and_then (and_then (and_then r (λ k. Ok (k, None))) (λ found. Ok ([], found))) (λ plan. Ok (with_command parsed plan))) (Ok c) → c.returning ≡ None
-      go (Ok k) e = let same : with_command parsed ([], (k, None)) ≡ c = cc in ap (λ (x : Compiled). x.returning) (sym same)
+      go : (r : Result Command CompileError) → ◌≡◌ {A = Result Compiled CompileError} (and_then (and_then (and_then r (λ k. Ok (k, None))) (λ found. Ok ([], found))) (λ plan. Ok (with_command (parsed names start end tail select) plan))) (Ok c) → c.returning ≡ None
+      go (Ok k) e = let same : with_command (parsed names start end tail select) ([], (k, None)) ≡ c = cc in ap (λ (x : Compiled). x.returning) (sym same)
       go (Err fault) e = cc
 
-  understood_read : (text : List ℕ) → first text ≡ Ok parsed → (s : Schema) (c : Compiled) → understood s text ≡ Ok c → c.returning ≡ None
+  pub understood_read : (text : List ℕ) → first text ≡ Ok (parsed names start end tail select) → (s : Schema) (c : Compiled) → understood s text ≡ Ok c → c.returning ≡ None
   unfolding understood
   understood_read text one s c h = go (reads_listing s text) h
     where
@@ -89,10 +87,6 @@ module _ (names : List Name) (start end tail : ℕ) (sel : Read) where
       go : (b : Bool) → (if b then if_select (compiled listing_schema text) else compiled s text) ≡ Ok c → c.returning ≡ None
       go true e = picked _ refl e
       go false e = compiled_read text one s c e
-
--- the text is a SELECT
-abbrev pub IsRead : List ℕ → Type 0
-IsRead text = (names : List Name) × (start : ℕ) × (end : ℕ) × (tail : ℕ) × (sel : Read) × (first text ≡ Ok (parsed names start end tail sel))
 
 -- ---- a query
 
@@ -131,8 +125,8 @@ module _ (old new : State) (text : List ℕ) (params : Row) (names : List (List 
   query_stops e (inr h) = absurd (let none : IsSome {T = Returning} None = subst IsSome (silent h.0 h.1.is) h.2 in cc)
 
   -- an error of the query
-  pub query_fails : (e : Error) → FailsToQuery text params old new e ⊎ IsTooLate text params old new e → FailsWith old new ⊥ (IsSome old.step_limit) (failure_of e)
-  query_fails e h = elim (query_stops e h) [
+  pub query_fails : (e : Error) → FailsToQuery text params old new e → FailsWith old new ⊥ (IsSome old.step_limit) (failure_of e)
+  query_fails e h = elim (query_stops e (inl h)) [
     | inl failed ↦ store_failed old new ⊥ (IsSome old.step_limit) ⊥ (λ no. no) e failed
     | inr stopped ↦ subst (λ x. FailsWith old new ⊥ (IsSome old.step_limit) (failure_of x)) (sym stopped.0) (inr (stopped.1, stopped.2))
   ]
@@ -143,15 +137,15 @@ sums_nothing q tree scan params db (inl h) = subst (λ g. Overflows g (matches d
 sums_nothing q tree scan params db (inr h) = (subst (λ j. FoldOverflows db j (params ∷ [])) scan.from h).4
 
 -- an error of a query over one table of ours
-pub read_fails : (name : List ℕ) (columns : List Column) (key : List ℕ) (old new : State) → IsInside old → (HasTables old.now.schema → Stands old.now.schema (strict name columns key)) → (text : List ℕ) (params : Row) (names : List (List ℕ)) (query : ℕ → Query) → ((tree : ℕ) → IsScan (query tree) tree)
+pub read_fails : (name : List ℕ) (columns : List Column) (key : List ℕ) (old new : State) → IsAtRest old → (HasTables old.now.schema → Stands old.now.schema (strict name columns key)) → (text : List ℕ) (params : Row) (names : List (List ℕ)) (query : ℕ → Query) → ((tree : ℕ) → IsScan (query tree) tree)
     → Compiles name columns key text (length params) (λ at tree. Select (record { lets = []; body = query tree }) names) → IsRead text
     → ((s : Schema) (at tree : ℕ) → IsKnown s name at (record (strict name columns key) { tree = tree }) → accepts_program s [] (query tree) params ≡ true)
-    → (e : Error) → FailsToQuery text params old new e ⊎ IsTooLate text params old new e → FailsWith old new ⊥ (IsSome old.step_limit) (failure_of e)
-read_fails name columns key old new inside at text params names query scan is reads typed =
+    → (e : Error) → FailsToQuery text params old new e → FailsWith old new ⊥ (IsSome old.step_limit) (failure_of e)
+read_fails name columns key old new rests at text params names query scan is reads typed =
     query_fails old new text params names (query tree) (λ same. is old.now.schema (stands same).at tree (stands same).known) reads (λ same. typed old.now.schema (stands same).at tree (stands same).known) (sums_nothing (query tree) tree (scan tree) params)
   where
     tree : ℕ
     tree = tree_named old.now.schema name
 
     stands : IsUnchanged old new → Stands old.now.schema (strict name columns key)
-    stands same = at (inside.has same.0.was_open)
+    stands same = at (rests.has same.0.was_open)

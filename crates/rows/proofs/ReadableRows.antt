@@ -1,5 +1,5 @@
 -- That the texts of a table are UTF-8 exactly where those are that a query over all its rows shows.
-use Rattle.std.proofs.Common.{◌≡◌, ◌↔◌, ℕ, zero, suc, ◌+◌, ◌<◌, List, [], ◌∷◌, Bool, true, false, ◌&&◌, IsTrue, Result, Ok, Err, IfOk, OnOk, length, refl, sym, ap, subst, ◌∙◌, arith}
+use Rattle.std.proofs.Common.{◌≡◌, ◌↔◌, ℕ, zero, suc, ◌+◌, ◌<◌, List, [], ◌∷◌, Bool, true, false, ◌&&◌, IsTrue, Result, Ok, Err, IfOk, length, refl, sym, ap, subst, ◌∙◌, arith}
 use Rattle.std.specs.List.{AllByRecursion}
 use Rattle.sqlite_value.specs.declared.value.Value.TheVariants.{Null}
 use Rattle.sqlite_value.specs.Order.{Row, column}
@@ -10,18 +10,19 @@ use Rattle.sqlite_sql.specs.Program.{overlay}
 use Rattle.sqlite_schema.specs.declared.schema.Column.{Column}
 use Rattle.sqlite_schema.specs.declared.command.Command.TheVariants.{Select}
 use Rattle.sqlite.specs.Effect.{Database}
-use Rattle.sqlite.specs.State.{State, Shown as Answered}
+use Rattle.sqlite.specs.State.{State}
 use Rattle.sqlite.proofs.Callers.{reads_as}
 use Rattle.rows.specs.Forms.{strict, meta, object, refs, outs, permanent, user_root, profile, generation, runtime}
 use Rattle.rows.specs.Standing.{Stands, tree_named}
 use Rattle.rows.specs.Contents.{rows_named}
 use Rattle.rows.specs.Texts.{IsReadable, IsReadableRow, AreReadableRows, HasReadableRows}
-use Rattle.rows.specs.Calls.{IsInside, Rests}
+use Rattle.rows.specs.Queries.{Answers}
+use Rattle.rows.specs.Calls.{Rests}
 use Rattle.rows.proofs.Means.{means_command}
-use Rattle.rows.proofs.Scans.{IsScan, shows, scan_sound, scan_complete, shown_same}
+use Rattle.rows.proofs.Scans.{IsScan, shows, scan_sound, scan_complete, unchanged_rests}
 use Rattle.rows.proofs.Statements.{Compiles}
 use Rattle.rows.proofs.Writes.{overlay_low}
-use Rattle.rows.proofs.OwnRowids.{inside_after, rests_then}
+use Rattle.rows.proofs.OpeningFailures.{rests_then}
 
 -- so many columns of a row, from this one on
 abbrev pub cells : ℕ → ℕ → Row → Row
@@ -49,7 +50,7 @@ all_cells n row = (
 
 -- the rows that were shown, and whether their texts are UTF-8
 abbrev pub Tells : List ℕ → State → State → Bool → Type 0
-Tells text old new b = (rows : List Row) × Answered text [] old new rows × (IsTrue b ↔ AllByRecursion IsReadableRow rows)
+Tells text old new b = (rows : List Row) × Answers text [] old new rows × (IsTrue b ↔ AllByRecursion IsReadableRow rows)
 
 module _ (name : List ℕ) (columns : List Column) (key : List ℕ) (text : List ℕ) (names : List (List ℕ)) (query : ℕ → Query) (scan : (tree : ℕ) → IsScan (query tree) tree) (whole : (tree : ℕ) → (query tree).filter ≡ [])
     {count : ℕ} (is : Compiles name columns key text count (λ at tree. Select (record { lets = []; body = query tree }) names)) where
@@ -61,10 +62,9 @@ module _ (name : List ℕ) (columns : List Column) (key : List ℕ) (text : List
       let db = overlay old.now.trees [] in
       let same_rows : db tree ≡ old.now.trees tree = overlay_low old.now.trees tree stands.known.low in
       let m = means_command old.now.schema text _ (is old.now.schema stands.at tree stands.known) in
-      let got = reads_as text [] old new old.now.schema refl _ m.0 m.1 m.2 h.0 h.1 in
-      let answer : IsAnswer (query tree) db [] h.0 = got.answer Null in
-      let same = shown_same text [] old new h.0 m.1 h.1 in (
-        record { was_open = same.0.was_open; is_open = same.0.is_open; now = same.0.now_is; committed = same.0.committed_is; mode = same.0.mode; marks = same.2 },
+      let got = reads_as text [] old new old.now.schema refl _ m.0 m.1 m.2 h.0 h.1.0 in
+      let answer : IsAnswer (query tree) db [] h.0 = got.answer Null in (
+        unchanged_rests old new h.1.1.1,
         (
           λ yes row at there low.
               (each tree row there).0 (all_has IsReadableRow h.0 _ (h.2.0 yes) (scan_complete (query tree) tree (scan tree) db [] h.0 answer row (subst (λ rows. Has rows row) (sym same_rows) there) (rw (whole tree) refl))) at low,
@@ -80,10 +80,6 @@ module _ (name : List ℕ) (columns : List Column) (key : List ℕ) (text : List
 pub if_ok : {T E : Type 0} (r : Result T E) (P Q : T → Type 0) → ((x : T) → P x → Q x) → IfOk r P → IfOk r Q
 if_ok (Ok x) P Q f h = f x h
 if_ok (Err e) P Q f h = tt
-
-pub inside_told : {E : Type 0} (old new : State) (r : Result Bool E) (P : Bool → Type 0) → IsInside old → IfOk r (λ b. Rests old new × P b) → OnOk r (IsInside new)
-inside_told old new (Ok b) P inside h = inside_after old new inside h.0
-inside_told old new (Err e) P inside h = tt
 
 -- ---- three tables in a row
 

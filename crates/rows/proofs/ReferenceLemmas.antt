@@ -1,5 +1,5 @@
 -- What the statements on the references mean and do.
-use Rattle.std.proofs.Common.{◌≡◌, ℕ, pos, negsuc, List, [], ◌∷◌, codes, true, false, not, ◌&&◌, Some, None, Ok, Result, IfOk, Vec, Global, map, length, refl, ◌∙◌}
+use Rattle.std.proofs.Common.{◌≡◌, ℕ, pos, negsuc, List, [], ◌∷◌, codes, true, false, not, ◌&&◌, Some, None, Ok, Result, IfOk, Vec, Global, map, length, refl, ◌∙◌, IsTrue}
 use Rattle.std.specs.Prelude.{IsUtf8}
 use Rattle.std.specs.Ordering.{eq_by_cmp, is_lt}
 use Rattle.std.specs.Prelude.{◌⊎◌, IsSome}
@@ -27,13 +27,14 @@ use Rattle.sqlite_rules.specs.Edit.{next_rowid, is_taken}
 use Rattle.sqlite_tied.specs.Compute.{everything}
 use Rattle.sqlite.specs.declared.error.Error.{Error}
 use Rattle.sqlite.specs.Effect.{Database}
-use Rattle.sqlite.specs.State.{State, ExecutesInside, IsUnchanged, Shown, FailsToQuery, IsTooLate}
+use Rattle.sqlite.specs.State.{State, ExecutesInside, FailsToQuery}
 use Rattle.rows.specs.declared.failure.Failure.{Failure}
 use Rattle.rows.specs.declared.references.Reference.{Reference}
 use Rattle.rows.specs.Forms.{refs}
 use Rattle.rows.specs.Standing.{IsNamed, IsKnown, tree_named}
 use Rattle.rows.specs.Contents.{contents_of, rows_named, texts_cmp, pair_cmp, is_text, is_pair, member_of}
-use Rattle.rows.specs.Calls.{IsInside, IsUnderWay, Changes, Stays}
+use Rattle.rows.specs.Queries.{IsRead}
+use Rattle.rows.specs.Calls.{IsReady, IsAtRest, IsUnderWay, Changes, Rests}
 use Rattle.rows.specs.Entries.{reference_of, ShowsReference}
 use Rattle.rows.proofs.Orders.{pair_total, pair_antisymmetric}
 use Rattle.rows.proofs.Truths.{cast_null, free_of, and_so, and_one, text_test}
@@ -49,7 +50,7 @@ use Rattle.rows.proofs.Places.{changed}
 use Rattle.rows.proofs.ContentsLemmas.{refs_set}
 use Rattle.rows.specs.Failures.{failure_of, FailsWith}
 use Rattle.rows.proofs.ReadFailures.{read_fails}
-use Rattle.rows.proofs.Statements.{answered_same, Compiles, Selects, reads_part, deletes_part, whole_map}
+use Rattle.rows.proofs.Statements.{Compiles, Selects, reads_part, deletes_part, whole_map}
 
 -- ---- one more
 
@@ -112,7 +113,7 @@ pub delete_ofs : (old new : State) (base : List ℕ) (count : ℕ) → IsUnderWa
     → Changes old new (λ c. record c { refs = finite.retain_keys c.refs (λ k. not (eq_by_cmp texts_cmp k.0 base)) })
 delete_ofs old new base count under h =
     let ours = under.ours h.1.was_open in
-    let it = deletes_part refs.name refs.columns refs.primary pair_total pair_antisymmetric is_pair member_of old new under (λ has. has.1.1.0) delete_of_text (Text base ∷ []) of_one (λ k. eq_by_cmp texts_cmp k.0 base) (said_one base) delete_of_is count h ours.keyed.1.1.0 in
+    let it = deletes_part refs.name refs.columns refs.primary pair_total pair_antisymmetric is_pair member_of old new (λ has. has.1.1.0) under delete_of_text (Text base ∷ []) of_one (λ k. eq_by_cmp texts_cmp k.0 base) (said_one base) delete_of_is count h ours.keyed.1.1.0 in
     changed refs old new it.0 ours.has.1.1.0 it.1 _ ours it.2 it.3 refl (refs_set old new ours.has it.0 it.1 _ it.4)
 
 -- ---- reading them
@@ -168,11 +169,11 @@ all_is s at tree known =
       refl,
     )
 
-pub reads_all : (old new : State) (r : Result (Vec Reference Global) Failure) → IsUnderWay old → Selects ShowsReference old new all_text [] r → IfOk r (λ all. AllAdjacentBelow (λ x y. true ≡ is_lt (pair_cmp (reference_of x).0 (reference_of y).0)) all.items (length all.items))
-    → IfOk r (λ all. Stays old new × (map reference_of all.items ≡ finite.entries (contents_of old.now).refs))
-reads_all old new r under selects up =
-    whole_map pair_total pair_antisymmetric reference_of r (Stays old new) (contents_of old.now).refs
-    (reads_part refs.name refs.columns refs.primary pair_total pair_antisymmetric is_pair member_of old new under (λ has. has.1.1.0) all_text [] names (query []) (λ tree. record { from = refl; group = refl; distinct = refl; whole = λ params rows. refl }) (λ _. true) (λ tree r kind. refl) ShowsReference reference_of (fits [] []) all_is r selects up)
+pub reads_all : (old new : State) (r : Result (Vec Reference Global) Failure) → (IsTrue old.is_open → IsReady old) → Selects ShowsReference old new all_text [] r → IfOk r (λ all. AllAdjacentBelow (λ x y. true ≡ is_lt (pair_cmp (reference_of x).0 (reference_of y).0)) all.items (length all.items))
+    → IfOk r (λ all. Rests old new × (map reference_of all.items ≡ finite.entries (contents_of old.now).refs))
+reads_all old new r ready selects up =
+    whole_map pair_total pair_antisymmetric reference_of r (Rests old new) (contents_of old.now).refs
+    (reads_part refs.name refs.columns refs.primary pair_total pair_antisymmetric is_pair member_of old new (λ has. has.1.1.0) ready all_text [] names (query []) (λ tree. record { from = refl; group = refl; distinct = refl; whole = λ params rows. refl }) (λ _. true) (λ tree r kind. refl) ShowsReference reference_of (fits [] []) all_is r selects up)
 
 abbrev pub of_text : List ℕ
 of_text = codes "SELECT base, target FROM refs WHERE base = ?1 ORDER BY base, target"
@@ -197,28 +198,28 @@ of_is s at tree known =
       refl,
     )
 
-pub reads_of : (old new : State) (base : List ℕ) (r : Result (Vec Reference Global) Failure) → IsUnderWay old → Selects ShowsReference old new of_text (Text base ∷ []) r → IfOk r (λ all. AllAdjacentBelow (λ x y. true ≡ is_lt (pair_cmp (reference_of x).0 (reference_of y).0)) all.items (length all.items))
-    → IfOk r (λ all. Stays old new × (map reference_of all.items ≡ finite.entries (finite.retain_keys (contents_of old.now).refs (λ k. eq_by_cmp texts_cmp k.0 base))))
-reads_of old new base r under selects up =
-    reads_part refs.name refs.columns refs.primary pair_total pair_antisymmetric is_pair member_of old new under (λ has. has.1.1.0) of_text (Text base ∷ []) names (query of_one) (λ tree. record { from = refl; group = refl; distinct = refl; whole = λ params rows. refl }) (λ k. eq_by_cmp texts_cmp k.0 base) (λ tree. said_one base) ShowsReference reference_of (fits (Text base ∷ []) of_one) of_is r selects up
-
--- ---- what is answered changes nothing
-
-pub same_all : (old new : State) → IsUnderWay old → (params : Row) (rows : List Row) → Shown all_text params old new rows → IsUnchanged old new
-same_all old new under params rows shown = answered_same refs.name refs.columns refs.primary old new under (λ has. has.1.1.0) all_text (λ at tree. Select (whole [] tree) names) all_is params rows shown
-
-pub same_of : (old new : State) → IsUnderWay old → (params : Row) (rows : List Row) → Shown of_text params old new rows → IsUnchanged old new
-same_of old new under params rows shown = answered_same refs.name refs.columns refs.primary old new under (λ has. has.1.1.0) of_text (λ at tree. Select (whole of_one tree) names) of_is params rows shown
+pub reads_of : (old new : State) (base : List ℕ) (r : Result (Vec Reference Global) Failure) → (IsTrue old.is_open → IsReady old) → Selects ShowsReference old new of_text (Text base ∷ []) r → IfOk r (λ all. AllAdjacentBelow (λ x y. true ≡ is_lt (pair_cmp (reference_of x).0 (reference_of y).0)) all.items (length all.items))
+    → IfOk r (λ all. Rests old new × (map reference_of all.items ≡ finite.entries (finite.retain_keys (contents_of old.now).refs (λ k. eq_by_cmp texts_cmp k.0 base))))
+reads_of old new base r ready selects up =
+    reads_part refs.name refs.columns refs.primary pair_total pair_antisymmetric is_pair member_of old new (λ has. has.1.1.0) ready of_text (Text base ∷ []) names (query of_one) (λ tree. record { from = refl; group = refl; distinct = refl; whole = λ params rows. refl }) (λ k. eq_by_cmp texts_cmp k.0 base) (λ tree. said_one base) ShowsReference reference_of (fits (Text base ∷ []) of_one) of_is r selects up
 
 -- ---- why a read fails
 
 pub scan : (filter : List Term) (tree : ℕ) → IsScan (query filter tree) tree
 scan filter tree = record { from = refl; group = refl; distinct = refl; whole = λ params rows. refl }
 
-pub fails_all : (old new : State) → IsInside old → (e : Error) → FailsToQuery all_text [] old new e ⊎ IsTooLate all_text [] old new e → FailsWith old new ⊥ (IsSome old.step_limit) (failure_of e)
+pub all_read : IsRead all_text
 unfolding everything
-fails_all old new inside = read_fails refs.name refs.columns refs.primary old new inside (λ has. has.1.1.0) all_text [] names (query []) (scan []) all_is (_, _, _, _, _, refl) (λ s at tree known. rw (known.low, known.by_tree) refl)
+all_read = (_, _, _, _, _, refl)
 
-pub fails_of : (old new : State) (base : List ℕ) → IsInside old → (e : Error) → FailsToQuery of_text (Text base ∷ []) old new e ⊎ IsTooLate of_text (Text base ∷ []) old new e → FailsWith old new ⊥ (IsSome old.step_limit) (failure_of e)
+pub fails_all : (old new : State) → IsAtRest old → (e : Error) → FailsToQuery all_text [] old new e → FailsWith old new ⊥ (IsSome old.step_limit) (failure_of e)
 unfolding everything
-fails_of old new base inside = read_fails refs.name refs.columns refs.primary old new inside (λ has. has.1.1.0) of_text (Text base ∷ []) names (query of_one) (scan of_one) of_is (_, _, _, _, _, refl) (λ s at tree known. rw (known.low, known.by_tree) refl)
+fails_all old new rests = read_fails refs.name refs.columns refs.primary old new rests (λ has. has.1.1.0) all_text [] names (query []) (scan []) all_is all_read (λ s at tree known. rw (known.low, known.by_tree) refl)
+
+pub of_read : IsRead of_text
+unfolding everything
+of_read = (_, _, _, _, _, refl)
+
+pub fails_of : (old new : State) (base : List ℕ) → IsAtRest old → (e : Error) → FailsToQuery of_text (Text base ∷ []) old new e → FailsWith old new ⊥ (IsSome old.step_limit) (failure_of e)
+unfolding everything
+fails_of old new base rests = read_fails refs.name refs.columns refs.primary old new rests (λ has. has.1.1.0) of_text (Text base ∷ []) names (query of_one) (scan of_one) of_is of_read (λ s at tree known. rw (known.low, known.by_tree) refl)

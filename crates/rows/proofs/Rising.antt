@@ -1,6 +1,6 @@
 -- That what a query shows in the order of a key can be read, and rises.
-use Rattle.std.proofs.Common.{◌≡◌, ◌⊎◌, inl, inr, ℕ, zero, suc, ◌+◌, ◌<◌, List, [], ◌∷◌, ◌++◌, length, map, flat_map, get_or, Bool, true, false, cond, Result, Ok, Err, refl, sym, ap, subst, subst₂, ◌∙◌, arith}
-use Rattle.std.specs.Prelude.{IsSorted, IfErr}
+use Rattle.std.proofs.Common.{◌≡◌, ◌⊎◌, inl, inr, ℕ, zero, suc, ◌+◌, ◌<◌, List, [], ◌∷◌, ◌++◌, length, map, flat_map, get_or, Bool, true, false, cond, Result, Ok, Err, IsTrue, IfOk, refl, sym, ap, ap₂, subst, subst₂, ◌∙◌, length-append, arith}
+use Rattle.std.specs.Prelude.{IsSome, IsSorted, IfErr}
 use Rattle.std.specs.declared.cmp.Ordering.{Ordering}
 use Rattle.std.specs.declared.cmp.Ordering.TheVariants.{Less, Equal, Greater}
 use Rattle.std.specs.Ordering.{is_lt, is_eq, eq_by_cmp, ordering_reverse}
@@ -20,10 +20,11 @@ use Rattle.sqlite_sql.proofs.QueryLemmas.{output_cmp_total}
 use Rattle.sqlite_schema.specs.declared.schema.Column.{Column}
 use Rattle.sqlite_schema.specs.declared.command.Command.TheVariants.{Select}
 use Rattle.sqlite_rules.specs.Lists.{Has}
-use Rattle.sqlite_rules.proofs.ListLemmas.{all_has, all_from}
+use Rattle.sqlite_rules.proofs.ListLemmas.{all_has, all_from, has_left}
+use Rattle.std.proofs.Math.ListN.{get_or-append}
 use Rattle.sqlite_rules.proofs.ProbeLemmas.{has_mapped, mapped_has}
 use Rattle.sqlite.specs.declared.error.Error.{Error}
-use Rattle.sqlite.specs.State.{State, Shown, IsUnchanged, FailsToQuery, IsTooLate}
+use Rattle.sqlite.specs.State.{State, FailsToQuery}
 use Rattle.sqlite.proofs.Callers.{reads_as}
 use Rattle.rows.specs.declared.failure.Failure.{Failure}
 use Rattle.rows.specs.declared.failure.Failure.TheVariants.{Memory, Disk}
@@ -31,13 +32,15 @@ use Rattle.rows.specs.Forms.{strict}
 use Rattle.rows.specs.Standing.{Stands, HasTables, tree_named}
 use Rattle.rows.specs.Contents.{rows_named}
 use Rattle.rows.specs.Texts.{IsReadable}
-use Rattle.rows.specs.Calls.{IsOurs, IsUnderWay}
-use Rattle.rows.specs.Failures.{failure_of, IsQueryFailure, FailsWith}
+use Rattle.rows.specs.Queries.{Gives}
+use Rattle.rows.specs.Calls.{IsOurs, IsReady}
+use Rattle.rows.specs.Failures.{failure_of, IsQueryFailure, FailsWith, FailsFor}
 use Rattle.rows.specs.Entries.{IsAmiss}
 use Rattle.rows.proofs.Apart.{tie, AreApart}
 use Rattle.rows.proofs.Means.{means_command}
-use Rattle.rows.proofs.Scans.{IsScan, shows, kept, listed, scan_sound, has_matched, has_permuted, shown_open}
+use Rattle.rows.proofs.Scans.{IsScan, shows, kept, listed, scan_sound, has_matched, has_permuted}
 use Rattle.rows.proofs.Statements.{Compiles}
+use Rattle.rows.proofs.RowByRow.{whole}
 use Rattle.rows.proofs.Writes.{overlay_low}
 
 -- ---- a list in order, in which no two are tied
@@ -54,6 +57,16 @@ rising {c = c} o xs up apart k d low =
     above _ _ (o.antisymm (get_or xs k d) (get_or xs (k + 1) d)) (apart_from_distinct (eq_by_cmp c) xs k (k + 1) d apart (omega arith) low) (up k d (omega arith) low)
 
 -- ---- two lists, one beside the other
+
+-- what the front of a list is made of, is the front of what the list is made of
+parted : {X Y : Type 0} (f : X → Y) (xs : List X) (ys zs : List Y) → ys ++ zs ≡ map f xs → (front : List X) × (back : List X) × (xs ≡ front ++ back) × (ys ≡ map f front)
+parted f xs [] zs h = ([], xs, refl, refl)
+parted f [] (y ∷ ys) zs h = absurd (let no = h in cc)
+parted f (x ∷ xs) (y ∷ ys) zs h =
+    let later : ys ++ zs ≡ map f xs = cc in
+    let here : y ≡ f x = cc in
+    let rest = parted f xs ys zs later in
+    (x ∷ rest.0, rest.1, ap (λ l. x ∷ l) rest.2, ap₂ (λ v vs. v ∷ vs) here rest.3)
 
 zip_at : {X Y : Type 0} (P : X → Y → Type 0) (xs : List X) (ys : List Y) → AllZip P xs ys → (k : ℕ) (d : X) (e : Y) → k < length ys → P (get_or xs k d) (get_or ys k e)
 zip_at P xs [] z k d e low = absurd (omega (arith, low))
@@ -107,7 +120,7 @@ module _ {X E : Type 0} (c : X → X → Ordering) (test : Row → Bool) (env : 
 
 -- ---- what a query shows
 
-module _ (q : Query) (tree : ℕ) (scan : IsScan q tree) (db : Trees) (params : Row) (rows : List Row) (answer : IsAnswer q db params rows) where
+module _ (q : Query) (tree : ℕ) (scan : IsScan q tree) (db : Trees) (params : Row) (rows tail : List Row) (answer : IsAnswer q db params (rows ++ tail)) where
   abbrev made : Row → Output
   made r = output q (params ∷ r ∷ [])
 
@@ -120,14 +133,14 @@ module _ (q : Query) (tree : ℕ) (scan : IsScan q tree) (db : Trees) (params : 
   -- what it puts in order is made of rows of the table
   ordered_from : (x : Output) → Has answer.ordered x → (r : Row) × Has (db tree) r × (x ≡ made r)
   ordered_from x h =
-      let e = has_mapped (output q) _ x (subst (λ l. Has l x) (kept q tree scan db params rows answer) (has_permuted answer.kept answer.ordered x answer.same h)) in
+      let e = has_mapped (output q) _ x (subst (λ l. Has l x) (kept q tree scan db params (rows ++ tail) answer) (has_permuted answer.kept answer.ordered x answer.same h)) in
       let r = has_matched test env (db tree) e.0 e.1 in
       (r.0, r.1, e.2 ∙ ap (output q) r.3)
 
   -- and rises
   ordered_rises : AreApart (db tree) → ((a b : Row) → Has (db tree) a → Has (db tree) b → output_cmp q (made a) (made b) ≡ Equal → a ≡ b) → AllAdjacentBelow (λ x y. output_cmp q x y ≡ Less) answer.ordered (length answer.ordered)
   ordered_rises apart once =
-      let each : IsDistinct (eq_by_cmp (output_cmp q)) answer.kept = subst (IsDistinct (eq_by_cmp (output_cmp q))) (sym (kept q tree scan db params rows answer)) (passed_apart (output_cmp q) test env (output q) (db tree) apart once) in
+      let each : IsDistinct (eq_by_cmp (output_cmp q)) answer.kept = subst (IsDistinct (eq_by_cmp (output_cmp q))) (sym (kept q tree scan db params (rows ++ tail) answer)) (passed_apart (output_cmp q) test env (output q) (db tree) apart once) in
       rising (output_cmp_total q) answer.ordered answer.sorted (IsDistinct-IsPermutation (eq_by_cmp (output_cmp q)) (λ x y. (eq_by_cmp_equiv (output_cmp_total q)).symm x y) answer.kept answer.ordered answer.same each)
 
   module _ {K : Type 0} {R : K → K → Ordering} (same : finite.IsAntisymmetric R) (kind : Row → Bool) (key : Row → K) (width : ℕ) (own : AreKept kind key width (db tree))
@@ -147,12 +160,16 @@ module _ (q : Query) (tree : ℕ) (scan : IsScan q tree) (db : Trees) (params : 
 
     pub entries_rise : (all : List T) → AllZip ShowsItem rows all → AllAdjacentBelow (λ x y. true ≡ is_lt (R (item x) (item y))) all (length all)
     entries_rise all z k d low =
-        let fit : AllZip Fits answer.ordered all = all_fit answer.ordered all (λ x h. h) (subst (λ l. AllZip ShowsItem l all) (listed q tree scan db params rows answer) z) in
-        let long : length all ≡ length answer.ordered = AllZip-long Fits answer.ordered all fit in
+        let part = parted (λ (x : Output). x.1) answer.ordered rows tail (listed q tree scan db params (rows ++ tail) answer) in
+        let front = part.0 in
+        let fit : AllZip Fits front all = all_fit front all (λ x h. subst (λ l. Has l x) (sym part.2) (has_left front part.1 x h)) (subst (λ l. AllZip ShowsItem l all) part.3 z) in
+        let long : length all ≡ length front = AllZip-long Fits front all fit in
         let nothing : Output = ([], []) in
-        let x = zip_at Fits answer.ordered all fit k nothing d (omega (arith, low)) in
-        let y = zip_at Fits answer.ordered all fit (k + 1) nothing d low in
-        let up : output_cmp q (get_or answer.ordered k nothing) (get_or answer.ordered (k + 1) nothing) ≡ Less = ordered_rises own.apart once k nothing (omega (arith, long, low)) in
+        let x = zip_at Fits front all fit k nothing d (omega (arith, low)) in
+        let y = zip_at Fits front all fit (k + 1) nothing d low in
+        let within : k + 1 < length (front ++ part.1) = omega (arith, length-append front part.1, long, low) in
+        let rises : output_cmp q (get_or (front ++ part.1) k nothing) (get_or (front ++ part.1) (k + 1) nothing) ≡ Less = subst (λ l. k + 1 < length l → output_cmp q (get_or l k nothing) (get_or l (k + 1) nothing) ≡ Less) part.2 (ordered_rises own.apart once k nothing) within in
+        let up : output_cmp q (get_or front k nothing) (get_or front (k + 1) nothing) ≡ Less = subst₂ (λ u v. output_cmp q u v ≡ Less) (get_or-append front part.1 nothing k (omega (arith, long, low))) (get_or-append front part.1 nothing (k + 1) (omega (arith, long, low))) rises in
         let below : R (key x.0) (key y.0) ≡ Less = sym (orders x.0 y.0 x.1 y.1) ∙ subst₂ (λ u v. output_cmp q u v ≡ Less) x.2 y.2 up in
         subst₂ (λ u v. true ≡ is_lt (R u v)) x.3 y.3 (sym (ap is_lt below))
       where
@@ -165,36 +182,37 @@ module _ (q : Query) (tree : ℕ) (scan : IsScan q tree) (db : Trees) (params : 
     -- so each row can be read, and the entries rise
     pub none_amiss : (IsLegible : Row → Type 0) → ((r : Row) → kind r ≡ true → ((at : ℕ) → at < width → IsReadable (column r (at + 1))) → IsLegible (shows q params r)) → ¬ IsAmiss IsLegible ShowsItem (λ x y. is_lt (R (item x) (item y))) rows
     none_amiss IsLegible legible (inl h) = h (all_from IsLegible rows (λ x there.
-        let r = scan_sound q tree scan db params rows answer x there in
+        let r = scan_sound q tree scan db params (rows ++ tail) answer x (has_left rows tail x there) in
         subst IsLegible (sym r.3) (legible r.0 (own.typed r.0 r.1) (λ at low. own.readable r.0 at r.1 low))))
     none_amiss IsLegible legible (inr h) = h.2 (entries_rise h.0 h.1)
 
 -- ---- what a text shows of a table of ours
 
-module _ (name : List ℕ) (columns : List Column) (primary : List ℕ) {K : Type 0} {R : K → K → Ordering} (same : finite.IsAntisymmetric R) (kind : Row → Bool) (key : Row → K) (width : ℕ) (old new : State) (under : IsUnderWay old)
+module _ (name : List ℕ) (columns : List Column) (primary : List ℕ) {K : Type 0} {R : K → K → Ordering} (same : finite.IsAntisymmetric R) (kind : Row → Bool) (key : Row → K) (width : ℕ) (old new : State) (ready : IsTrue old.is_open → IsReady old)
     (at : HasTables old.now.schema → Stands old.now.schema (strict name columns primary)) (own : IsOurs old.now → AreKept kind key width (rows_named old.now name)) (text : List ℕ) (params : Row) (names : List (List ℕ)) (query : ℕ → Query)
     (scan : (tree : ℕ) → IsScan (query tree) tree) {count : ℕ} (is : Compiles name columns primary text count (λ at tree. Select (record { lets = []; body = query tree }) names))
     (orders : (tree : ℕ) (a b : Row) → kind a ≡ true → kind b ≡ true → output_cmp (query tree) (output (query tree) (params ∷ a ∷ [])) (output (query tree) (params ∷ b ∷ [])) ≡ R (key a) (key b)) where
   pub shown_well : {T : Type 0} (ShowsItem : Row → T → Type 0) (item : T → K) → ((tree : ℕ) (r : Row) (t : T) → ShowsItem (shows (query tree) params r) t → key r ≡ item t)
       → (IsLegible : Row → Type 0) → ((tree : ℕ) (r : Row) → kind r ≡ true → ((at : ℕ) → at < width → IsReadable (column r (at + 1))) → IsLegible (shows (query tree) params r))
-      → (rows : List Row) → Shown text params old new rows → ¬ IsAmiss IsLegible ShowsItem (λ x y. is_lt (R (item x) (item y))) rows
-  shown_well ShowsItem item fits IsLegible legible rows shown =
-      let ours = under.ours (shown_open _ _ old new rows shown) in
+      → (rows : List Row) → Gives text params old new rows → ¬ IsAmiss IsLegible ShowsItem (λ x y. is_lt (R (item x) (item y))) rows
+  shown_well ShowsItem item fits IsLegible legible rows given =
+      let ours = (ready given.1.0.was_open).ours in
       let stands = at ours.has in
       let tree = tree_named old.now.schema name in
       let db = overlay old.now.trees [] in
       let same_rows : db tree ≡ old.now.trees tree = overlay_low old.now.trees tree stands.known.low in
       let m = means_command old.now.schema text _ (is old.now.schema stands.at tree stands.known) in
-      let got = reads_as text params old new old.now.schema refl _ m.0 m.1 m.2 rows shown in
-      let answer : IsAnswer (query tree) db params rows = got.answer Null in
-      none_amiss (query tree) tree (scan tree) db params rows answer same kind key width (subst (AreKept kind key width) (sym same_rows) (own ours)) (orders tree) ShowsItem item (fits tree) IsLegible (legible tree)
+      let all = whole text params old new names (query tree) (is old.now.schema stands.at tree stands.known) rows given in
+      let got = reads_as text params old new old.now.schema refl _ m.0 m.1 m.2 (rows ++ all.0) all.1 in
+      let answer : IsAnswer (query tree) db params (rows ++ all.0) = got.answer Null in
+      none_amiss (query tree) tree (scan tree) db params rows all.0 answer same kind key width (subst (AreKept kind key width) (sym same_rows) (own ours)) (orders tree) ShowsItem item (fits tree) IsLegible (legible tree)
 
 -- ---- so a read fails only for want of memory, once its query was answered
 
-pub select_fails : {T : Type 0} (r : Result T Failure) (old new : State) (text : List ℕ) (params : Row) (Answered Amiss : List Row → Type 0) (large refused : Type 0)
-    → ((e : Error) → FailsToQuery text params old new e ⊎ IsTooLate text params old new e → FailsWith old new large refused (failure_of e)) → ((rows : List Row) → Answered rows → IsUnchanged old new) → ((rows : List Row) → Answered rows → ¬ Amiss rows)
-    → IfErr r (λ f. IsQueryFailure text params old new f ⊎ ((rows : List Row) × Answered rows × ((f ≡ Memory) ⊎ ((f ≡ Disk) × Amiss rows)))) → IfErr r (FailsWith old new large refused)
-select_fails (Ok x) old new text params A B large refused why same well h = tt
-select_fails (Err f) old new text params A B large refused why same well (inl h) = subst (FailsWith old new large refused) (sym h.1) (why h.0 h.2)
-select_fails (Err f) old new text params A B large refused why same well (inr (rows, shown, inl memory)) = subst (FailsWith old new large refused) (sym memory) (inr (same rows shown))
-select_fails (Err f) old new text params A B large refused why same well (inr (rows, shown, inr h)) = absurd (well rows shown h.1)
+pub select_fails : {T : Type 0} (r : Result T Failure) (old new : State) (text : List ℕ) (params : Row) (Amiss : List Row → Type 0)
+    → ((e : Error) → FailsToQuery text params old new e → FailsWith old new ⊥ (IsSome old.step_limit) (failure_of e)) → ((rows : List Row) → Gives text params old new rows → ¬ Amiss rows)
+    → IfErr r (λ f. IsQueryFailure text params old new f ⊎ ((rows : List Row) × Gives text params old new rows × ((f ≡ Memory) ⊎ ((f ≡ Disk) × Amiss rows)))) → IfErr r (FailsFor old new)
+select_fails (Ok x) old new text params A why well h = tt
+select_fails (Err f) old new text params A why well (inl h) = subst (FailsFor old new) (sym h.1) (why h.0 h.2)
+select_fails (Err f) old new text params A why well (inr (rows, given, inl memory)) = subst (FailsFor old new) (sym memory) (inr given.1)
+select_fails (Err f) old new text params A why well (inr (rows, given, inr h)) = absurd (well rows given h.1)

@@ -12,6 +12,7 @@ use Rattle.sqlite_resolve.specs.Program.{program}
 use Rattle.sqlite_tied.specs.Compute.{everything}
 use Rattle.rows.specs.Forms.{meta, object, refs, outs, permanent, user_root, profile, generation, runtime}
 use Rattle.rows.specs.Standing.{IsKnown}
+use Rattle.rows.specs.Queries.{IsRead}
 use Rattle.rows.proofs.Means.{ordered_by_one, ordered_by_two, ordered_by_three, plain_state}
 use Rattle.rows.proofs.Columns.{bounds_are, result_context, from_in, shown_in}
 use Rattle.rows.proofs.OwnRowids.{draft, whole, rowid_column, outputs_rowid, below}
@@ -33,6 +34,10 @@ by_three = (col 1 1, ascending Binary) ∷ (col 1 2, ascending Binary) ∷ (col 
 
 abbrev pub meta_text : List ℕ
 meta_text = codes "SELECT rowid FROM meta ORDER BY word"
+
+pub meta_read : IsRead meta_text
+unfolding everything
+meta_read = (_, _, _, _, _, refl)
 
 meta_typed : (s : Schema) (at tree : ℕ) → IsKnown s (codes "meta") at (record meta { tree = tree }) → program s [] (draft by_one tree) ≡ Ok (whole by_one tree)
 unfolding everything
@@ -61,6 +66,10 @@ meta_is s at tree known =
 abbrev pub object_text : List ℕ
 object_text = codes "SELECT rowid FROM object ORDER BY base"
 
+pub object_read : IsRead object_text
+unfolding everything
+object_read = (_, _, _, _, _, refl)
+
 object_typed : (s : Schema) (at tree : ℕ) → IsKnown s (codes "object") at (record object { tree = tree }) → program s [] (draft by_one tree) ≡ Ok (whole by_one tree)
 unfolding everything
 object_typed s at tree known = rw (known.low, known.by_tree)
@@ -87,6 +96,10 @@ object_is s at tree known =
 
 abbrev pub refs_text : List ℕ
 refs_text = codes "SELECT rowid FROM refs ORDER BY base, target"
+
+pub refs_read : IsRead refs_text
+unfolding everything
+refs_read = (_, _, _, _, _, refl)
 
 refs_typed : (s : Schema) (at tree : ℕ) → IsKnown s (codes "refs") at (record refs { tree = tree }) → program s [] (draft by_two tree) ≡ Ok (whole by_two tree)
 unfolding everything
@@ -115,6 +128,10 @@ refs_is s at tree known =
 abbrev pub outs_text : List ℕ
 outs_text = codes "SELECT rowid FROM outs ORDER BY base, name"
 
+pub outs_read : IsRead outs_text
+unfolding everything
+outs_read = (_, _, _, _, _, refl)
+
 outs_typed : (s : Schema) (at tree : ℕ) → IsKnown s (codes "outs") at (record outs { tree = tree }) → program s [] (draft by_two tree) ≡ Ok (whole by_two tree)
 unfolding everything
 outs_typed s at tree known = rw (known.low, known.by_tree)
@@ -141,6 +158,10 @@ outs_is s at tree known =
 
 abbrev pub permanent_text : List ℕ
 permanent_text = codes "SELECT rowid FROM permanent ORDER BY name"
+
+pub permanent_read : IsRead permanent_text
+unfolding everything
+permanent_read = (_, _, _, _, _, refl)
 
 permanent_typed : (s : Schema) (at tree : ℕ) → IsKnown s (codes "permanent") at (record permanent { tree = tree }) → program s [] (draft by_one tree) ≡ Ok (whole by_one tree)
 unfolding everything
@@ -169,6 +190,10 @@ permanent_is s at tree known =
 abbrev pub user_root_text : List ℕ
 user_root_text = codes "SELECT rowid FROM user_root ORDER BY owner, name"
 
+pub user_root_read : IsRead user_root_text
+unfolding everything
+user_root_read = (_, _, _, _, _, refl)
+
 user_root_typed : (s : Schema) (at tree : ℕ) → IsKnown s (codes "user_root") at (record user_root { tree = tree }) → program s [] (draft by_two tree) ≡ Ok (whole by_two tree)
 unfolding everything
 user_root_typed s at tree known = rw (known.low, known.by_tree)
@@ -195,6 +220,10 @@ user_root_is s at tree known =
 
 abbrev pub profile_text : List ℕ
 profile_text = codes "SELECT rowid FROM profile ORDER BY owner, name"
+
+pub profile_read : IsRead profile_text
+unfolding everything
+profile_read = (_, _, _, _, _, refl)
 
 profile_typed : (s : Schema) (at tree : ℕ) → IsKnown s (codes "profile") at (record profile { tree = tree }) → program s [] (draft by_two tree) ≡ Ok (whole by_two tree)
 unfolding everything
@@ -223,6 +252,10 @@ profile_is s at tree known =
 abbrev pub generation_text : List ℕ
 generation_text = codes "SELECT rowid FROM generation ORDER BY owner, name, num"
 
+pub generation_read : IsRead generation_text
+unfolding everything
+generation_read = (_, _, _, _, _, refl)
+
 generation_typed : (s : Schema) (at tree : ℕ) → IsKnown s (codes "generation") at (record generation { tree = tree }) → program s [] (draft by_three tree) ≡ Ok (whole by_three tree)
 unfolding everything
 generation_typed s at tree known = rw (known.low, known.by_tree)
@@ -249,6 +282,10 @@ generation_is s at tree known =
 
 abbrev pub runtime_text : List ℕ
 runtime_text = codes "SELECT rowid FROM runtime ORDER BY label, target"
+
+pub runtime_read : IsRead runtime_text
+unfolding everything
+runtime_read = (_, _, _, _, _, refl)
 
 runtime_typed : (s : Schema) (at tree : ℕ) → IsKnown s (codes "runtime") at (record runtime { tree = tree }) → program s [] (draft by_two tree) ≡ Ok (whole by_two tree)
 unfolding everything

@@ -1,5 +1,5 @@
 -- What the statements on the runtime roots mean and do.
-use Rattle.std.proofs.Common.{◌≡◌, ℕ, pos, negsuc, List, [], ◌∷◌, codes, true, false, not, ◌&&◌, Some, None, Ok, Result, IfOk, Vec, Global, map, length, refl, ◌∙◌}
+use Rattle.std.proofs.Common.{◌≡◌, ℕ, pos, negsuc, List, [], ◌∷◌, codes, true, false, not, ◌&&◌, Some, None, Ok, Result, IfOk, Vec, Global, map, length, refl, ◌∙◌, IsTrue}
 use Rattle.std.specs.Prelude.{IsUtf8}
 use Rattle.std.specs.Ordering.{eq_by_cmp, is_lt}
 use Rattle.std.specs.List.{list_all, AllAdjacentBelow}
@@ -26,13 +26,14 @@ use Rattle.sqlite_rules.specs.Edit.{next_rowid, is_taken}
 use Rattle.sqlite_tied.specs.Compute.{everything}
 use Rattle.sqlite.specs.declared.error.Error.{Error}
 use Rattle.sqlite.specs.Effect.{Database}
-use Rattle.sqlite.specs.State.{State, ExecutesInside, IsUnchanged, Shown, FailsToQuery, IsTooLate}
+use Rattle.sqlite.specs.State.{State, ExecutesInside, FailsToQuery}
 use Rattle.rows.specs.declared.failure.Failure.{Failure}
 use Rattle.rows.specs.declared.runtime.RuntimeRoot.{RuntimeRoot}
 use Rattle.rows.specs.Forms.{runtime}
 use Rattle.rows.specs.Standing.{IsNamed, IsKnown, tree_named}
 use Rattle.rows.specs.Contents.{contents_of, rows_named, texts_cmp, pair_cmp, is_text, is_pair, member_of}
-use Rattle.rows.specs.Calls.{IsInside, IsUnderWay, Changes, Stays}
+use Rattle.rows.specs.Queries.{IsRead}
+use Rattle.rows.specs.Calls.{IsReady, IsAtRest, IsUnderWay, Changes, Rests}
 use Rattle.rows.specs.Entries.{runtime_of, ShowsRuntimeRoot}
 use Rattle.rows.proofs.Orders.{pair_total, pair_antisymmetric}
 use Rattle.rows.proofs.Truths.{cast_null, free_of, and_so, and_one, text_test}
@@ -49,7 +50,7 @@ use Rattle.rows.proofs.ContentsLemmas.{runtime_set}
 use Rattle.rows.specs.Failures.{failure_of, FailsWith}
 use Rattle.rows.proofs.ReadFailures.{read_fails}
 use Rattle.std.specs.Prelude.{◌⊎◌, IsSome}
-use Rattle.rows.proofs.Statements.{answered_same, Compiles, Selects, reads_part, deletes_part, whole_map}
+use Rattle.rows.proofs.Statements.{Compiles, Selects, reads_part, deletes_part, whole_map}
 
 -- ---- one more
 
@@ -112,7 +113,7 @@ pub delete_ofs : (old new : State) (label : List ℕ) (count : ℕ) → IsUnderW
     → Changes old new (λ c. record c { runtime = finite.retain_keys c.runtime (λ k. not (eq_by_cmp texts_cmp k.0 label)) })
 delete_ofs old new label count under h =
     let ours = under.ours h.1.was_open in
-    let it = deletes_part runtime.name runtime.columns runtime.primary pair_total pair_antisymmetric is_pair member_of old new under (λ has. has.1.1.1.1.1.1.1.1.0) delete_of_text (Text label ∷ []) of_one (λ k. eq_by_cmp texts_cmp k.0 label) (said_one label) delete_of_is count h ours.keyed.1.1.1.1.1.1.1.1.0 in
+    let it = deletes_part runtime.name runtime.columns runtime.primary pair_total pair_antisymmetric is_pair member_of old new (λ has. has.1.1.1.1.1.1.1.1.0) under delete_of_text (Text label ∷ []) of_one (λ k. eq_by_cmp texts_cmp k.0 label) (said_one label) delete_of_is count h ours.keyed.1.1.1.1.1.1.1.1.0 in
     changed runtime old new it.0 ours.has.1.1.1.1.1.1.1.1.0 it.1 _ ours it.2 it.3 refl (runtime_set old new ours.has it.0 it.1 _ it.4)
 
 -- ---- reading them
@@ -168,22 +169,21 @@ all_is s at tree known =
       refl,
     )
 
-pub reads_all : (old new : State) (r : Result (Vec RuntimeRoot Global) Failure) → IsUnderWay old → Selects ShowsRuntimeRoot old new all_text [] r → IfOk r (λ all. AllAdjacentBelow (λ x y. true ≡ is_lt (pair_cmp (runtime_of x).0 (runtime_of y).0)) all.items (length all.items))
-    → IfOk r (λ all. Stays old new × (map runtime_of all.items ≡ finite.entries (contents_of old.now).runtime))
-reads_all old new r under selects up =
-    whole_map pair_total pair_antisymmetric runtime_of r (Stays old new) (contents_of old.now).runtime
-    (reads_part runtime.name runtime.columns runtime.primary pair_total pair_antisymmetric is_pair member_of old new under (λ has. has.1.1.1.1.1.1.1.1.0) all_text [] names (query []) (λ tree. record { from = refl; group = refl; distinct = refl; whole = λ params rows. refl }) (λ _. true) (λ tree r kind. refl) ShowsRuntimeRoot runtime_of (fits [] []) all_is r selects up)
-
--- ---- what is answered changes nothing
-
-pub same_all : (old new : State) → IsUnderWay old → (params : Row) (rows : List Row) → Shown all_text params old new rows → IsUnchanged old new
-same_all old new under params rows shown = answered_same runtime.name runtime.columns runtime.primary old new under (λ has. has.1.1.1.1.1.1.1.1.0) all_text (λ at tree. Select (whole [] tree) names) all_is params rows shown
+pub reads_all : (old new : State) (r : Result (Vec RuntimeRoot Global) Failure) → (IsTrue old.is_open → IsReady old) → Selects ShowsRuntimeRoot old new all_text [] r → IfOk r (λ all. AllAdjacentBelow (λ x y. true ≡ is_lt (pair_cmp (runtime_of x).0 (runtime_of y).0)) all.items (length all.items))
+    → IfOk r (λ all. Rests old new × (map runtime_of all.items ≡ finite.entries (contents_of old.now).runtime))
+reads_all old new r ready selects up =
+    whole_map pair_total pair_antisymmetric runtime_of r (Rests old new) (contents_of old.now).runtime
+    (reads_part runtime.name runtime.columns runtime.primary pair_total pair_antisymmetric is_pair member_of old new (λ has. has.1.1.1.1.1.1.1.1.0) ready all_text [] names (query []) (λ tree. record { from = refl; group = refl; distinct = refl; whole = λ params rows. refl }) (λ _. true) (λ tree r kind. refl) ShowsRuntimeRoot runtime_of (fits [] []) all_is r selects up)
 
 -- ---- why a read fails
 
 pub scan : (filter : List Term) (tree : ℕ) → IsScan (query filter tree) tree
 scan filter tree = record { from = refl; group = refl; distinct = refl; whole = λ params rows. refl }
 
-pub fails_all : (old new : State) → IsInside old → (e : Error) → FailsToQuery all_text [] old new e ⊎ IsTooLate all_text [] old new e → FailsWith old new ⊥ (IsSome old.step_limit) (failure_of e)
+pub all_read : IsRead all_text
 unfolding everything
-fails_all old new inside = read_fails runtime.name runtime.columns runtime.primary old new inside (λ has. has.1.1.1.1.1.1.1.1.0) all_text [] names (query []) (scan []) all_is (_, _, _, _, _, refl) (λ s at tree known. rw (known.low, known.by_tree) refl)
+all_read = (_, _, _, _, _, refl)
+
+pub fails_all : (old new : State) → IsAtRest old → (e : Error) → FailsToQuery all_text [] old new e → FailsWith old new ⊥ (IsSome old.step_limit) (failure_of e)
+unfolding everything
+fails_all old new rests = read_fails runtime.name runtime.columns runtime.primary old new rests (λ has. has.1.1.1.1.1.1.1.1.0) all_text [] names (query []) (scan []) all_is all_read (λ s at tree known. rw (known.low, known.by_tree) refl)

@@ -18,7 +18,7 @@ use Rattle.sqlite.specs.declared.error.Error.{Error}
 use Rattle.sqlite.specs.Listing.{understood}
 use Rattle.sqlite.specs.State.{State, Shown, ShowsRows, IsUnchanged, IsRolledBack, FailsToQuery, FailsToShow, IsNotRun, IsTooLate, KeepsCommit}
 use Rattle.sqlite.proofs.Callers.{IsPlain}
-use Rattle.rows.specs.Calls.{IsOurs, IsUnderWay, Stays}
+use Rattle.rows.specs.Calls.{Rests}
 
 -- ---- a query over one table: each row of its answer shows a row that passes, and each such row is shown
 
@@ -117,20 +117,8 @@ failed_keeps sql params old new e (inl (inl (inr h))) = undone_keeps old new h.3
 failed_keeps sql params old new e (inl (inr h)) = shows_failed old new sql h.0 _ e h.0.returning h.2
 failed_keeps sql params old new e (inr h) = unchanged_keeps old new h.5
 
--- the tables stay as they are, and the transaction goes on
-pub stays_shown : (sql : List ℕ) (params : Row) (old new : State) (rows : List Row) → IsUnderWay old → IsPlain (understood old.now.schema sql) → Shown sql params old new rows → Stays old new
-stays_shown sql params old new rows under plain h =
-    let same = shown_same sql params old new rows plain h in
-    record { was_open = same.0.was_open; is_open = same.0.is_open; now = same.0.now_is; committed = same.0.committed_is; mode = same.0.mode ∙ under.mode; marks = same.2; ours = subst IsOurs (sym same.0.now_is) (under.ours same.0.was_open) }
-
-written : (old new : State) (sql : List ℕ) (c : Compiled) (params : Row) (rows : List Row) (what : Option Returning) → old.in_transaction ≡ true → ShowsRows old new sql c params rows what → KeepsCommit old new
-written old new sql c params rows None inside h = unchanged_keeps old new h.3
-written old new sql c params rows (Some what) inside h = record { was_open = λ _. h.1.shown.was_open; committed = λ _. h.1.shown.committed_is ∙ rw inside refl }
-
--- nor does one that was answered inside a transaction
-pub shown_keeps : (sql : List ℕ) (params : Row) (old new : State) (rows : List Row) → old.in_transaction ≡ true → Shown sql params old new rows → KeepsCommit old new
-unfolding Shown
-shown_keeps sql params old new rows inside h = written old new sql h.0 _ rows h.0.returning inside h.2
+pub unchanged_rests : (old new : State) → IsUnchanged old new → Rests old new
+unchanged_rests old new h = record { was_open = h.0.was_open; is_open = h.0.is_open; now = h.0.now_is; committed = h.0.committed_is; mode = h.0.mode; marks = h.2 }
 
 -- what an error says, whatever the result
 pub any_err : {T E : Type 0} (r : Result T E) (P : Type 0) → P → OnErr r P

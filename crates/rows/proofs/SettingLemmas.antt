@@ -1,5 +1,5 @@
 -- What the statements on the settings mean and do.
-use Rattle.std.proofs.Common.{◌≡◌, ℕ, pos, negsuc, List, [], ◌∷◌, codes, true, false, not, ◌&&◌, Some, None, Ok, Result, IfOk, Vec, Global, map, length, refl, ◌∙◌}
+use Rattle.std.proofs.Common.{◌≡◌, ℕ, pos, negsuc, List, [], ◌∷◌, codes, true, false, not, ◌&&◌, Some, None, Ok, Result, IfOk, Vec, Global, map, length, refl, ◌∙◌, IsTrue}
 use Rattle.std.specs.Prelude.{IsUtf8}
 use Rattle.std.specs.Ordering.{eq_by_cmp, is_lt}
 use Rattle.std.specs.List.{list_all, AllAdjacentBelow}
@@ -25,13 +25,14 @@ use Rattle.sqlite_resolve.specs.Write.{over}
 use Rattle.sqlite_rules.specs.Edit.{next_rowid, is_taken}
 use Rattle.sqlite_tied.specs.Compute.{everything}
 use Rattle.sqlite.specs.declared.error.Error.{Error}
-use Rattle.sqlite.specs.State.{State, ExecutesInside, IsUnchanged, Shown, FailsToQuery, IsTooLate}
+use Rattle.sqlite.specs.State.{State, ExecutesInside, FailsToQuery}
 use Rattle.rows.specs.declared.failure.Failure.{Failure}
 use Rattle.rows.specs.declared.meta.Setting.{Setting}
 use Rattle.rows.specs.Forms.{meta}
 use Rattle.rows.specs.Standing.{IsNamed, IsKnown, tree_named}
 use Rattle.rows.specs.Contents.{contents_of, texts_cmp, is_text, is_pair, pair_of}
-use Rattle.rows.specs.Calls.{IsInside, IsUnderWay, Changes, Stays}
+use Rattle.rows.specs.Queries.{IsRead}
+use Rattle.rows.specs.Calls.{IsReady, IsAtRest, IsUnderWay, Changes, Rests}
 use Rattle.rows.specs.Entries.{setting_of, ShowsSetting}
 use Rattle.rows.proofs.Orders.{texts_total, texts_antisymmetric}
 use Rattle.rows.proofs.Truths.{cast_null, free_of, and_so, and_one, text_test}
@@ -48,7 +49,7 @@ use Rattle.rows.proofs.ContentsLemmas.{meta_set}
 use Rattle.rows.specs.Failures.{failure_of, FailsWith}
 use Rattle.rows.proofs.ReadFailures.{read_fails}
 use Rattle.std.specs.Prelude.{◌⊎◌, IsSome}
-use Rattle.rows.proofs.Statements.{answered_same, Compiles, Selects, reads_part, deletes_part, whole_map}
+use Rattle.rows.proofs.Statements.{Compiles, Selects, reads_part, deletes_part, whole_map}
 
 -- ---- one more
 
@@ -100,7 +101,7 @@ pub deletes : (old new : State) (word : List ℕ) (count : ℕ) → IsUnderWay o
     → Changes old new (λ c. record c { meta = finite.retain_keys c.meta (λ k. not (eq_by_cmp texts_cmp k word)) })
 deletes old new word count under h =
     let ours = under.ours h.1.was_open in
-    let it = deletes_part meta.name meta.columns meta.primary texts_total texts_antisymmetric is_pair pair_of old new under (λ has. has.0) delete_text (Text word ∷ []) of_one (λ k. eq_by_cmp texts_cmp k word) (said_one word) delete_is count h ours.keyed.0 in
+    let it = deletes_part meta.name meta.columns meta.primary texts_total texts_antisymmetric is_pair pair_of old new (λ has. has.0) under delete_text (Text word ∷ []) of_one (λ k. eq_by_cmp texts_cmp k word) (said_one word) delete_is count h ours.keyed.0 in
     changed meta old new it.0 ours.has.0 it.1 _ ours it.2 it.3 refl (meta_set old new ours.has it.0 it.1 _ it.4)
 
 -- ---- reading them
@@ -156,22 +157,21 @@ all_is s at tree known =
       refl,
     )
 
-pub reads_all : (old new : State) (r : Result (Vec Setting Global) Failure) → IsUnderWay old → Selects ShowsSetting old new all_text [] r → IfOk r (λ all. AllAdjacentBelow (λ x y. true ≡ is_lt (texts_cmp (setting_of x).0 (setting_of y).0)) all.items (length all.items))
-    → IfOk r (λ all. Stays old new × (map setting_of all.items ≡ finite.entries (contents_of old.now).meta))
-reads_all old new r under selects up =
-    whole_map texts_total texts_antisymmetric setting_of r (Stays old new) (contents_of old.now).meta
-    (reads_part meta.name meta.columns meta.primary texts_total texts_antisymmetric is_pair pair_of old new under (λ has. has.0) all_text [] names (query []) (λ tree. record { from = refl; group = refl; distinct = refl; whole = λ params rows. refl }) (λ _. true) (λ tree r kind. refl) ShowsSetting setting_of (fits [] []) all_is r selects up)
-
--- ---- what is answered changes nothing
-
-pub same_all : (old new : State) → IsUnderWay old → (params : Row) (rows : List Row) → Shown all_text params old new rows → IsUnchanged old new
-same_all old new under params rows shown = answered_same meta.name meta.columns meta.primary old new under (λ has. has.0) all_text (λ at tree. Select (whole [] tree) names) all_is params rows shown
+pub reads_all : (old new : State) (r : Result (Vec Setting Global) Failure) → (IsTrue old.is_open → IsReady old) → Selects ShowsSetting old new all_text [] r → IfOk r (λ all. AllAdjacentBelow (λ x y. true ≡ is_lt (texts_cmp (setting_of x).0 (setting_of y).0)) all.items (length all.items))
+    → IfOk r (λ all. Rests old new × (map setting_of all.items ≡ finite.entries (contents_of old.now).meta))
+reads_all old new r ready selects up =
+    whole_map texts_total texts_antisymmetric setting_of r (Rests old new) (contents_of old.now).meta
+    (reads_part meta.name meta.columns meta.primary texts_total texts_antisymmetric is_pair pair_of old new (λ has. has.0) ready all_text [] names (query []) (λ tree. record { from = refl; group = refl; distinct = refl; whole = λ params rows. refl }) (λ _. true) (λ tree r kind. refl) ShowsSetting setting_of (fits [] []) all_is r selects up)
 
 -- ---- why a read fails
 
 pub scan : (filter : List Term) (tree : ℕ) → IsScan (query filter tree) tree
 scan filter tree = record { from = refl; group = refl; distinct = refl; whole = λ params rows. refl }
 
-pub fails_all : (old new : State) → IsInside old → (e : Error) → FailsToQuery all_text [] old new e ⊎ IsTooLate all_text [] old new e → FailsWith old new ⊥ (IsSome old.step_limit) (failure_of e)
+pub all_read : IsRead all_text
 unfolding everything
-fails_all old new inside = read_fails meta.name meta.columns meta.primary old new inside (λ has. has.0) all_text [] names (query []) (scan []) all_is (_, _, _, _, _, refl) (λ s at tree known. rw (known.low, known.by_tree) refl)
+all_read = (_, _, _, _, _, refl)
+
+pub fails_all : (old new : State) → IsAtRest old → (e : Error) → FailsToQuery all_text [] old new e → FailsWith old new ⊥ (IsSome old.step_limit) (failure_of e)
+unfolding everything
+fails_all old new rests = read_fails meta.name meta.columns meta.primary old new rests (λ has. has.0) all_text [] names (query []) (scan []) all_is all_read (λ s at tree known. rw (known.low, known.by_tree) refl)

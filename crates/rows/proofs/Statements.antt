@@ -1,5 +1,5 @@
 -- What a query lists and what a DELETE leaves, once for every table of ours.
-use Rattle.std.proofs.Common.{◌≡◌, ℕ, List, [], ◌∷◌, Bool, true, not, Result, Ok, Err, IfOk, Vec, Global, map, length, refl, sym, ap, subst, ◌∙◌}
+use Rattle.std.proofs.Common.{◌≡◌, ℕ, List, [], ◌∷◌, Bool, true, not, Result, Ok, Err, IfOk, Vec, Global, map, length, IsTrue, refl, sym, ap, subst, ◌∙◌}
 use Rattle.std.specs.declared.cmp.Ordering.{Ordering}
 use Rattle.sqlite_value.specs.declared.value.Value.TheVariants.{Null}
 use Rattle.std.specs.Ordering.{is_lt}
@@ -16,18 +16,19 @@ use Rattle.sqlite_schema.specs.declared.command.Command.{Command}
 use Rattle.sqlite_schema.specs.declared.command.Command.TheVariants.{Delete, Select}
 use Rattle.sqlite_rules.specs.Edit.{without_all}
 use Rattle.sqlite_rules.specs.Calls.{ids_of}
-use Rattle.sqlite.specs.State.{State, ExecutesInside, IsUnchanged, Shown}
+use Rattle.sqlite.specs.State.{State, ExecutesInside}
 use Rattle.sqlite.proofs.Callers.{reads_as}
 use Rattle.rows.specs.declared.failure.Failure.{Failure}
 use Rattle.rows.specs.Forms.{strict}
 use Rattle.rows.specs.Standing.{IsKnown, Stands, HasTables, tree_named}
 use Rattle.rows.specs.Contents.{map_of, rows_named}
 use Rattle.rows.specs.Texts.{AreReadableRows}
-use Rattle.rows.specs.Calls.{IsKeyed, IsUnderWay, Stays}
+use Rattle.rows.specs.Queries.{Answers}
+use Rattle.rows.specs.Calls.{IsKeyed, IsReady, IsUnderWay, Rests}
 use Rattle.rows.proofs.Orders.{rises_by}
 use Rattle.rows.proofs.Means.{IsMeant, means_command}
 use Rattle.rows.proofs.Writes.{SetsRows, deletes_in, rowids_where, overlay_low}
-use Rattle.rows.proofs.Scans.{IsScan, shows, shown_open, shown_same, stays_shown}
+use Rattle.rows.proofs.Scans.{IsScan, shows, unchanged_rests}
 use Rattle.rows.proofs.Entries.{part_listed, all_kept, left_map}
 use Rattle.rows.proofs.Members.{keyed_left}
 use Rattle.rows.proofs.ReadableWrites.{left_readable}
@@ -38,15 +39,7 @@ Compiles name columns key text count command = (s : Schema) (at tree : ℕ) → 
 
 -- the entries that were read, with the rows that show them
 abbrev pub Selects : {T : Type 0} → (Row → T → Type 0) → State → State → List ℕ → Row → Result (Vec T Global) Failure → Type 0
-Selects ShowsItem old new text params r = IfOk r (λ all. (rows : List Row) × Shown text params old new rows × AllZip ShowsItem rows all.items)
-
--- a query that was answered changed nothing
-pub answered_same : (name : List ℕ) (columns : List Column) (key : List ℕ) (old new : State) → IsUnderWay old → (HasTables old.now.schema → Stands old.now.schema (strict name columns key)) → (text : List ℕ) {count : ℕ} (command : ℕ → ℕ → Command) → Compiles name columns key text count command → (params : Row) (rows : List Row)
-    → Shown text params old new rows → IsUnchanged old new
-answered_same name columns key old new under at text command is params rows shown =
-    let stands = at (under.ours (shown_open _ _ old new rows shown)).has in
-    let m = means_command old.now.schema text _ (is old.now.schema stands.at (tree_named old.now.schema name) stands.known) in
-    shown_same text params old new rows m.1 shown
+Selects ShowsItem old new text params r = IfOk r (λ all. (rows : List Row) × Answers text params old new rows × AllZip ShowsItem rows all.items)
 
 -- where no key is left out
 pub whole_map : {K X T : Type 0} {R : K → K → Ordering} (o : IsTotalOrder R) (same : finite.IsAntisymmetric R) (item : T → K × X) (r : Result (Vec T Global) Failure) (P : Type 0) (m : finite.FinMap R X)
@@ -54,35 +47,36 @@ pub whole_map : {K X T : Type 0} {R : K → K → Ordering} (o : IsTotalOrder R)
 whole_map o same item (Err e) P m h = tt
 whole_map o same item (Ok all) P m h = (h.0, h.1 ∙ ap finite.entries (all_kept o same m))
 
-module _ (name : List ℕ) (columns : List Column) (key : List ℕ) {K X : Type 0} {R : K → K → Ordering} (o : IsTotalOrder R) (same : finite.IsAntisymmetric R) (kind : Row → Bool) (entry : Row → K × X) (old new : State) (under : IsUnderWay old)
+module _ (name : List ℕ) (columns : List Column) (key : List ℕ) {K X : Type 0} {R : K → K → Ordering} (o : IsTotalOrder R) (same : finite.IsAntisymmetric R) (kind : Row → Bool) (entry : Row → K × X) (old new : State)
     (at : HasTables old.now.schema → Stands old.now.schema (strict name columns key)) where
   abbrev rows_are : finite.FinMap R X
   rows_are = map_of R kind entry (rows_named old.now name)
 
-  module _ {T : Type 0} (text : List ℕ) (params : Row) (names : List (List ℕ)) (query : ℕ → Query) (scan : (tree : ℕ) → IsScan (query tree) tree) (test : K → Bool)
+  module _ (ready : IsTrue old.is_open → IsReady old) {T : Type 0} (text : List ℕ) (params : Row) (names : List (List ℕ)) (query : ℕ → Query) (scan : (tree : ℕ) → IsScan (query tree) tree) (test : K → Bool)
       (said : (tree : ℕ) (r : Row) → kind r ≡ true → list_all (holds (params ∷ r ∷ [])) (query tree).filter ≡ test (entry r).0)
       (ShowsItem : Row → T → Type 0) (item : T → K × X) (fits : (tree : ℕ) (r : Row) (t : T) → ShowsItem (shows (query tree) params r) t → (kind r ≡ true) × (entry r ≡ item t))
       {count : ℕ} (is : Compiles name columns key text count (λ at tree. Select (record { lets = []; body = query tree }) names)) where
-    listed : (all : List T) (rows : List Row) → Shown text params old new rows → AllZip ShowsItem rows all → AllAdjacentBelow (λ x y. true ≡ is_lt (R (item x).0 (item y).0)) all (length all)
-        → Stays old new × (map item all ≡ finite.entries (finite.retain_keys rows_are test))
+    listed : (all : List T) (rows : List Row) → Answers text params old new rows → AllZip ShowsItem rows all → AllAdjacentBelow (λ x y. true ≡ is_lt (R (item x).0 (item y).0)) all (length all)
+        → Rests old new × (map item all ≡ finite.entries (finite.retain_keys rows_are test))
     listed all rows shown texts up =
-        let stands = at (under.ours (shown_open _ _ old new rows shown)).has in
+        let same_all = shown.1.1 in
+        let stands = at (ready same_all.0.was_open).ours.has in
         let tree = tree_named old.now.schema name in
         let db = overlay old.now.trees [] in
         let same_rows : db tree ≡ old.now.trees tree = overlay_low old.now.trees tree stands.known.low in
         let m = means_command old.now.schema text _ (is old.now.schema stands.at tree stands.known) in
-        let got = reads_as text params old new old.now.schema refl _ m.0 m.1 m.2 rows shown in
+        let got = reads_as text params old new old.now.schema refl _ m.0 m.1 m.2 rows shown.0 in
         let answer : IsAnswer (query tree) db params rows = got.answer Null in
         let part = part_listed o same kind entry tree (query tree) (scan tree) db params rows answer test (said tree) ShowsItem item (fits tree) all texts (rises_by o (λ t. (item t).0) all up) in
-        (stays_shown text params old new rows under m.1 shown, part ∙ ap (λ rs. finite.entries (finite.retain_keys (map_of R kind entry rs) test)) same_rows)
+        (unchanged_rests old new same_all, part ∙ ap (λ rs. finite.entries (finite.retain_keys (map_of R kind entry rs) test)) same_rows)
 
     -- the entries of a part of the keys, in order, and nothing changes
     pub reads_part : (r : Result (Vec T Global) Failure) → Selects ShowsItem old new text params r → IfOk r (λ all. AllAdjacentBelow (λ x y. true ≡ is_lt (R (item x).0 (item y).0)) all.items (length all.items))
-        → IfOk r (λ all. Stays old new × (map item all.items ≡ finite.entries (finite.retain_keys rows_are test)))
+        → IfOk r (λ all. Rests old new × (map item all.items ≡ finite.entries (finite.retain_keys rows_are test)))
     reads_part (Err e) selects up = tt
     reads_part (Ok all) selects up = listed all.items selects.0 selects.1 selects.2 up
 
-  module _ (text : List ℕ) (params : Row) (filter : List Term) (test : K → Bool) (said : (r : Row) → kind r ≡ true → list_all (holds (params ∷ r ∷ [])) filter ≡ test (entry r).0)
+  module _ (under : IsUnderWay old) (text : List ℕ) (params : Row) (filter : List Term) (test : K → Bool) (said : (r : Row) → kind r ≡ true → list_all (holds (params ∷ r ∷ [])) filter ≡ test (entry r).0)
       {count : ℕ} (is : Compiles name columns key text count (λ at tree. Delete at (record { lets = []; body = rowids_where tree filter }))) where
     -- the entries of a part of the keys are gone, and the others stay
     pub deletes_part : (count : ℕ) → ExecutesInside 0 text params old new (Ok count) → IsKeyed (rows_named old.now name)

@@ -1,5 +1,5 @@
--- Calls one after another inside a transaction.
-use Rattle.std.proofs.Common.{◌≡◌, inl, inr, false, List, [], ◌∷◌, refl, sym, ap, subst, ◌∙◌, arith}
+-- Calls one after another.
+use Rattle.std.proofs.Common.{◌≡◌, inl, inr, false, List, [], ◌∷◌, refl, sym, ap, subst, ◌∙◌, arith, IsTrue}
 use Rattle.std.specs.List.{AllByRecursion}
 use Rattle.sqlite_trees.specs.Tree.{Trees}
 use Rattle.sqlite_trees.proofs.ListLemmas.{all_of}
@@ -11,7 +11,7 @@ use Rattle.sqlite.proofs.StateLemmas.{survives_then}
 use Rattle.rows.specs.Forms.{is_our_name}
 use Rattle.rows.specs.Contents.{Contents, contents_of}
 use Rattle.rows.specs.Frozen.{IsUnshown, KeepsUnshown}
-use Rattle.rows.specs.Calls.{IsOurs, IsReady, IsUnderWay, IsCommitted, KeepsTheirs, Leaves, Changes, Stays}
+use Rattle.rows.specs.Calls.{IsOurs, IsReady, IsUnderWay, IsCommitted, KeepsTheirs, Leaves, Changes, IsAsBefore}
 use Rattle.rows.proofs.Frozen.{frozen_of, frozen_then}
 
 theirs_walk : (a b c : Database) (ts : List Table) → AllByRecursion (λ t. is_our_name t.name ≡ false → b.trees t.tree ≡ a.trees t.tree) ts → AllByRecursion (λ t. is_our_name t.name ≡ false → c.trees t.tree ≡ b.trees t.tree) ts
@@ -52,38 +52,19 @@ committed_is old new under h none = record {
   unmarked = none;
 }
 
--- a read after a change, and a change after a read, is that change
-pub stays_then : (a b c : State) (f : Contents → Contents) → Stays a b → Changes b c f → Changes a c f
-stays_then a b c f h k = record {
-  was_open = h.was_open;
-  is_open = k.is_open;
-  schema = k.schema ∙ ap (λ (d : Database). d.schema) h.now;
-  contents = k.contents ∙ ap (λ d. f (contents_of d)) h.now;
-  theirs = subst (λ (d : Database). KeepsTheirs d c.now) h.now k.theirs;
-  unshown = subst (λ (d : Database). KeepsUnshown d c.now.trees) h.now k.unshown;
-  ours = k.ours;
-  committed = k.committed ∙ h.committed;
-  mode = k.mode;
-  marks = k.marks ∙ h.marks;
-}
-
-pub then_stays : (a b c : State) (f : Contents → Contents) → Changes a b f → Stays b c → Changes a c f
-then_stays a b c f h k = record {
-  was_open = h.was_open;
-  is_open = k.is_open;
-  schema = ap (λ (d : Database). d.schema) k.now ∙ h.schema;
-  contents = ap contents_of k.now ∙ h.contents;
-  theirs = subst (λ (d : Database). KeepsTheirs a.now d) (sym k.now) h.theirs;
-  unshown = subst (λ (d : Database). KeepsUnshown a.now d.trees) (sym k.now) h.unshown;
-  ours = k.ours;
-  committed = k.committed ∙ h.committed;
-  mode = k.mode;
-  marks = k.marks ∙ h.marks;
-}
+-- after a read, whether it was done or failed, a connection that was ready is
+pub ready_after : (a b : State) → (IsTrue a.is_open → IsReady a) → IsAsBefore a b → IsTrue b.is_open → IsReady b
+ready_after a b ready h is_open =
+    let was = ready (h.was_open is_open) in
+    record { ours = subst IsOurs (sym (h.now is_open)) was.ours; settled = h.now is_open ∙ was.settled ∙ sym (h.committed is_open) }
 
 -- two reads in a row
-pub stays_twice : (a b c : State) → Stays a b → Stays b c → Stays a c
-stays_twice a b c h k = record { was_open = h.was_open; is_open = k.is_open; now = k.now ∙ h.now; ours = k.ours; committed = k.committed ∙ h.committed; mode = k.mode; marks = k.marks ∙ h.marks }
+pub before_then : (a b c : State) → IsAsBefore a b → IsAsBefore b c → IsAsBefore a c
+before_then a b c h k = record {
+  was_open = λ is_open. h.was_open (k.was_open is_open);
+  now = λ is_open. k.now is_open ∙ h.now (k.was_open is_open);
+  committed = λ is_open. k.committed is_open ∙ h.committed (k.was_open is_open);
+}
 
 -- ---- what a crash leaves of a commit
 

@@ -1,13 +1,11 @@
--- That a transaction goes on after a call.
+-- That a transaction goes on after a call, and what is so of a connection that is ready.
+use Rattle.std.specs.Prelude.{IsTrue}
 use Rattle.sqlite.specs.State.{State}
 use Rattle.rows.specs.Contents.{Contents}
-use Rattle.rows.specs.Calls.{IsUnderWay, IsInside, Changes, Stays}
-
-pub stays_under : (old new : State) → Stays old new → IsUnderWay new
-stays_under old new h = record { ours = λ is_open. h.ours; mode = h.mode }
+use Rattle.rows.specs.Calls.{IsReady, IsAtRest, IsUnderWay, Changes}
 
 pub changes_under : (old new : State) (change : Contents → Contents) → Changes old new change → IsUnderWay new
 changes_under old new change h = record { ours = λ is_open. h.ours; mode = h.mode }
 
-pub under_inside : (s : State) → IsUnderWay s → IsInside s
-under_inside s h = record { has = λ is_open. (h.ours is_open).has; mode = h.mode }
+pub ready_rests : (s : State) → (IsTrue s.is_open → IsReady s) → IsAtRest s
+ready_rests s h = record { has = λ is_open. (h is_open).ours.has; settled = λ is_open. (h is_open).settled }

@@ -1,5 +1,5 @@
 -- What the statements on the user roots mean and do.
-use Rattle.std.proofs.Common.{◌≡◌, ℕ, pos, negsuc, List, [], ◌∷◌, codes, true, false, not, ◌&&◌, Some, None, Ok, Result, IfOk, Vec, Global, map, length, refl, ◌∙◌}
+use Rattle.std.proofs.Common.{◌≡◌, ℕ, pos, negsuc, List, [], ◌∷◌, codes, true, false, not, ◌&&◌, Some, None, Ok, Result, IfOk, Vec, Global, map, length, refl, ◌∙◌, IsTrue}
 use Rattle.std.specs.Prelude.{IsUtf8}
 use Rattle.std.specs.Ordering.{eq_by_cmp, is_lt}
 use Rattle.std.specs.List.{list_all, AllAdjacentBelow}
@@ -25,13 +25,14 @@ use Rattle.sqlite_resolve.specs.Write.{over}
 use Rattle.sqlite_rules.specs.Edit.{next_rowid, is_taken}
 use Rattle.sqlite_tied.specs.Compute.{everything}
 use Rattle.sqlite.specs.declared.error.Error.{Error}
-use Rattle.sqlite.specs.State.{State, ExecutesInside, IsUnchanged, Shown, FailsToQuery, IsTooLate}
+use Rattle.sqlite.specs.State.{State, ExecutesInside, FailsToQuery}
 use Rattle.rows.specs.declared.failure.Failure.{Failure}
 use Rattle.rows.specs.declared.user_roots.UserRoot.{UserRoot}
 use Rattle.rows.specs.Forms.{user_root}
 use Rattle.rows.specs.Standing.{IsNamed, IsKnown, tree_named}
 use Rattle.rows.specs.Contents.{contents_of, texts_cmp, pair_cmp, is_text, is_triple, target_of}
-use Rattle.rows.specs.Calls.{IsInside, IsUnderWay, Changes, Stays}
+use Rattle.rows.specs.Queries.{IsRead}
+use Rattle.rows.specs.Calls.{IsReady, IsAtRest, IsUnderWay, Changes, Rests}
 use Rattle.rows.specs.Entries.{user_root_of, ShowsUserRoot}
 use Rattle.rows.proofs.Orders.{pair_total, pair_antisymmetric}
 use Rattle.rows.proofs.Truths.{cast_null, free_of, and_so, and_one, text_test, both_tests}
@@ -48,7 +49,7 @@ use Rattle.rows.proofs.ContentsLemmas.{user_root_set}
 use Rattle.rows.specs.Failures.{failure_of, FailsWith}
 use Rattle.rows.proofs.ReadFailures.{read_fails}
 use Rattle.std.specs.Prelude.{◌⊎◌, IsSome}
-use Rattle.rows.proofs.Statements.{answered_same, Compiles, Selects, reads_part, deletes_part, whole_map}
+use Rattle.rows.proofs.Statements.{Compiles, Selects, reads_part, deletes_part, whole_map}
 
 -- ---- one more
 
@@ -108,7 +109,7 @@ pub deletes : (old new : State) (owner : List ℕ) (name : List ℕ) (count : �
     → Changes old new (λ c. record c { user_roots = finite.retain_keys c.user_roots (λ k. not (eq_by_cmp texts_cmp k.0 owner && eq_by_cmp texts_cmp k.1 name)) })
 deletes old new owner name count under h =
     let ours = under.ours h.1.was_open in
-    let it = deletes_part user_root.name user_root.columns user_root.primary pair_total pair_antisymmetric is_triple target_of old new under (λ has. has.1.1.1.1.1.0) delete_text (Text owner ∷ Text name ∷ []) of_two (λ k. eq_by_cmp texts_cmp k.0 owner && eq_by_cmp texts_cmp k.1 name) (said_two owner name) delete_is count h ours.keyed.1.1.1.1.1.0 in
+    let it = deletes_part user_root.name user_root.columns user_root.primary pair_total pair_antisymmetric is_triple target_of old new (λ has. has.1.1.1.1.1.0) under delete_text (Text owner ∷ Text name ∷ []) of_two (λ k. eq_by_cmp texts_cmp k.0 owner && eq_by_cmp texts_cmp k.1 name) (said_two owner name) delete_is count h ours.keyed.1.1.1.1.1.0 in
     changed user_root old new it.0 ours.has.1.1.1.1.1.0 it.1 _ ours it.2 it.3 refl (user_root_set old new ours.has it.0 it.1 _ it.4)
 
 -- ---- reading them
@@ -164,11 +165,11 @@ all_is s at tree known =
       refl,
     )
 
-pub reads_all : (old new : State) (r : Result (Vec UserRoot Global) Failure) → IsUnderWay old → Selects ShowsUserRoot old new all_text [] r → IfOk r (λ all. AllAdjacentBelow (λ x y. true ≡ is_lt (pair_cmp (user_root_of x).0 (user_root_of y).0)) all.items (length all.items))
-    → IfOk r (λ all. Stays old new × (map user_root_of all.items ≡ finite.entries (contents_of old.now).user_roots))
-reads_all old new r under selects up =
-    whole_map pair_total pair_antisymmetric user_root_of r (Stays old new) (contents_of old.now).user_roots
-    (reads_part user_root.name user_root.columns user_root.primary pair_total pair_antisymmetric is_triple target_of old new under (λ has. has.1.1.1.1.1.0) all_text [] names (query []) (λ tree. record { from = refl; group = refl; distinct = refl; whole = λ params rows. refl }) (λ _. true) (λ tree r kind. refl) ShowsUserRoot user_root_of (fits [] []) all_is r selects up)
+pub reads_all : (old new : State) (r : Result (Vec UserRoot Global) Failure) → (IsTrue old.is_open → IsReady old) → Selects ShowsUserRoot old new all_text [] r → IfOk r (λ all. AllAdjacentBelow (λ x y. true ≡ is_lt (pair_cmp (user_root_of x).0 (user_root_of y).0)) all.items (length all.items))
+    → IfOk r (λ all. Rests old new × (map user_root_of all.items ≡ finite.entries (contents_of old.now).user_roots))
+reads_all old new r ready selects up =
+    whole_map pair_total pair_antisymmetric user_root_of r (Rests old new) (contents_of old.now).user_roots
+    (reads_part user_root.name user_root.columns user_root.primary pair_total pair_antisymmetric is_triple target_of old new (λ has. has.1.1.1.1.1.0) ready all_text [] names (query []) (λ tree. record { from = refl; group = refl; distinct = refl; whole = λ params rows. refl }) (λ _. true) (λ tree r kind. refl) ShowsUserRoot user_root_of (fits [] []) all_is r selects up)
 
 abbrev pub of_text : List ℕ
 of_text = codes "SELECT owner, name, target FROM user_root WHERE owner = ?1 ORDER BY owner, name"
@@ -193,10 +194,10 @@ of_is s at tree known =
       refl,
     )
 
-pub reads_of : (old new : State) (owner : List ℕ) (r : Result (Vec UserRoot Global) Failure) → IsUnderWay old → Selects ShowsUserRoot old new of_text (Text owner ∷ []) r → IfOk r (λ all. AllAdjacentBelow (λ x y. true ≡ is_lt (pair_cmp (user_root_of x).0 (user_root_of y).0)) all.items (length all.items))
-    → IfOk r (λ all. Stays old new × (map user_root_of all.items ≡ finite.entries (finite.retain_keys (contents_of old.now).user_roots (λ k. eq_by_cmp texts_cmp k.0 owner))))
-reads_of old new owner r under selects up =
-    reads_part user_root.name user_root.columns user_root.primary pair_total pair_antisymmetric is_triple target_of old new under (λ has. has.1.1.1.1.1.0) of_text (Text owner ∷ []) names (query of_one) (λ tree. record { from = refl; group = refl; distinct = refl; whole = λ params rows. refl }) (λ k. eq_by_cmp texts_cmp k.0 owner) (λ tree. said_one owner) ShowsUserRoot user_root_of (fits (Text owner ∷ []) of_one) of_is r selects up
+pub reads_of : (old new : State) (owner : List ℕ) (r : Result (Vec UserRoot Global) Failure) → (IsTrue old.is_open → IsReady old) → Selects ShowsUserRoot old new of_text (Text owner ∷ []) r → IfOk r (λ all. AllAdjacentBelow (λ x y. true ≡ is_lt (pair_cmp (user_root_of x).0 (user_root_of y).0)) all.items (length all.items))
+    → IfOk r (λ all. Rests old new × (map user_root_of all.items ≡ finite.entries (finite.retain_keys (contents_of old.now).user_roots (λ k. eq_by_cmp texts_cmp k.0 owner))))
+reads_of old new owner r ready selects up =
+    reads_part user_root.name user_root.columns user_root.primary pair_total pair_antisymmetric is_triple target_of old new (λ has. has.1.1.1.1.1.0) ready of_text (Text owner ∷ []) names (query of_one) (λ tree. record { from = refl; group = refl; distinct = refl; whole = λ params rows. refl }) (λ k. eq_by_cmp texts_cmp k.0 owner) (λ tree. said_one owner) ShowsUserRoot user_root_of (fits (Text owner ∷ []) of_one) of_is r selects up
 
 abbrev pub at_text : List ℕ
 at_text = codes "SELECT owner, name, target FROM user_root WHERE owner = ?1 AND name = ?2 ORDER BY owner, name"
@@ -221,35 +222,36 @@ at_is s at tree known =
       refl,
     )
 
-pub reads_at : (old new : State) (owner : List ℕ) (name : List ℕ) (r : Result (Vec UserRoot Global) Failure) → IsUnderWay old → Selects ShowsUserRoot old new at_text (Text owner ∷ Text name ∷ []) r → IfOk r (λ all. AllAdjacentBelow (λ x y. true ≡ is_lt (pair_cmp (user_root_of x).0 (user_root_of y).0)) all.items (length all.items))
-    → IfOk r (λ all. Stays old new × (map user_root_of all.items ≡ finite.entries (finite.retain_keys (contents_of old.now).user_roots (λ k. eq_by_cmp texts_cmp k.0 owner && eq_by_cmp texts_cmp k.1 name))))
-reads_at old new owner name r under selects up =
-    reads_part user_root.name user_root.columns user_root.primary pair_total pair_antisymmetric is_triple target_of old new under (λ has. has.1.1.1.1.1.0) at_text (Text owner ∷ Text name ∷ []) names (query of_two) (λ tree. record { from = refl; group = refl; distinct = refl; whole = λ params rows. refl }) (λ k. eq_by_cmp texts_cmp k.0 owner && eq_by_cmp texts_cmp k.1 name) (λ tree. said_two owner name) ShowsUserRoot user_root_of (fits (Text owner ∷ Text name ∷ []) of_two) at_is r selects up
-
--- ---- what is answered changes nothing
-
-pub same_all : (old new : State) → IsUnderWay old → (params : Row) (rows : List Row) → Shown all_text params old new rows → IsUnchanged old new
-same_all old new under params rows shown = answered_same user_root.name user_root.columns user_root.primary old new under (λ has. has.1.1.1.1.1.0) all_text (λ at tree. Select (whole [] tree) names) all_is params rows shown
-
-pub same_of : (old new : State) → IsUnderWay old → (params : Row) (rows : List Row) → Shown of_text params old new rows → IsUnchanged old new
-same_of old new under params rows shown = answered_same user_root.name user_root.columns user_root.primary old new under (λ has. has.1.1.1.1.1.0) of_text (λ at tree. Select (whole of_one tree) names) of_is params rows shown
-
-pub same_at : (old new : State) → IsUnderWay old → (params : Row) (rows : List Row) → Shown at_text params old new rows → IsUnchanged old new
-same_at old new under params rows shown = answered_same user_root.name user_root.columns user_root.primary old new under (λ has. has.1.1.1.1.1.0) at_text (λ at tree. Select (whole of_two tree) names) at_is params rows shown
+pub reads_at : (old new : State) (owner : List ℕ) (name : List ℕ) (r : Result (Vec UserRoot Global) Failure) → (IsTrue old.is_open → IsReady old) → Selects ShowsUserRoot old new at_text (Text owner ∷ Text name ∷ []) r → IfOk r (λ all. AllAdjacentBelow (λ x y. true ≡ is_lt (pair_cmp (user_root_of x).0 (user_root_of y).0)) all.items (length all.items))
+    → IfOk r (λ all. Rests old new × (map user_root_of all.items ≡ finite.entries (finite.retain_keys (contents_of old.now).user_roots (λ k. eq_by_cmp texts_cmp k.0 owner && eq_by_cmp texts_cmp k.1 name))))
+reads_at old new owner name r ready selects up =
+    reads_part user_root.name user_root.columns user_root.primary pair_total pair_antisymmetric is_triple target_of old new (λ has. has.1.1.1.1.1.0) ready at_text (Text owner ∷ Text name ∷ []) names (query of_two) (λ tree. record { from = refl; group = refl; distinct = refl; whole = λ params rows. refl }) (λ k. eq_by_cmp texts_cmp k.0 owner && eq_by_cmp texts_cmp k.1 name) (λ tree. said_two owner name) ShowsUserRoot user_root_of (fits (Text owner ∷ Text name ∷ []) of_two) at_is r selects up
 
 -- ---- why a read fails
 
 pub scan : (filter : List Term) (tree : ℕ) → IsScan (query filter tree) tree
 scan filter tree = record { from = refl; group = refl; distinct = refl; whole = λ params rows. refl }
 
-pub fails_all : (old new : State) → IsInside old → (e : Error) → FailsToQuery all_text [] old new e ⊎ IsTooLate all_text [] old new e → FailsWith old new ⊥ (IsSome old.step_limit) (failure_of e)
+pub all_read : IsRead all_text
 unfolding everything
-fails_all old new inside = read_fails user_root.name user_root.columns user_root.primary old new inside (λ has. has.1.1.1.1.1.0) all_text [] names (query []) (scan []) all_is (_, _, _, _, _, refl) (λ s at tree known. rw (known.low, known.by_tree) refl)
+all_read = (_, _, _, _, _, refl)
 
-pub fails_of : (old new : State) (owner : List ℕ) → IsInside old → (e : Error) → FailsToQuery of_text (Text owner ∷ []) old new e ⊎ IsTooLate of_text (Text owner ∷ []) old new e → FailsWith old new ⊥ (IsSome old.step_limit) (failure_of e)
+pub fails_all : (old new : State) → IsAtRest old → (e : Error) → FailsToQuery all_text [] old new e → FailsWith old new ⊥ (IsSome old.step_limit) (failure_of e)
 unfolding everything
-fails_of old new owner inside = read_fails user_root.name user_root.columns user_root.primary old new inside (λ has. has.1.1.1.1.1.0) of_text (Text owner ∷ []) names (query of_one) (scan of_one) of_is (_, _, _, _, _, refl) (λ s at tree known. rw (known.low, known.by_tree) refl)
+fails_all old new rests = read_fails user_root.name user_root.columns user_root.primary old new rests (λ has. has.1.1.1.1.1.0) all_text [] names (query []) (scan []) all_is all_read (λ s at tree known. rw (known.low, known.by_tree) refl)
 
-pub fails_at : (old new : State) (owner : List ℕ) (name : List ℕ) → IsInside old → (e : Error) → FailsToQuery at_text (Text owner ∷ Text name ∷ []) old new e ⊎ IsTooLate at_text (Text owner ∷ Text name ∷ []) old new e → FailsWith old new ⊥ (IsSome old.step_limit) (failure_of e)
+pub of_read : IsRead of_text
 unfolding everything
-fails_at old new owner name inside = read_fails user_root.name user_root.columns user_root.primary old new inside (λ has. has.1.1.1.1.1.0) at_text (Text owner ∷ Text name ∷ []) names (query of_two) (scan of_two) at_is (_, _, _, _, _, refl) (λ s at tree known. rw (known.low, known.by_tree) refl)
+of_read = (_, _, _, _, _, refl)
+
+pub fails_of : (old new : State) (owner : List ℕ) → IsAtRest old → (e : Error) → FailsToQuery of_text (Text owner ∷ []) old new e → FailsWith old new ⊥ (IsSome old.step_limit) (failure_of e)
+unfolding everything
+fails_of old new owner rests = read_fails user_root.name user_root.columns user_root.primary old new rests (λ has. has.1.1.1.1.1.0) of_text (Text owner ∷ []) names (query of_one) (scan of_one) of_is of_read (λ s at tree known. rw (known.low, known.by_tree) refl)
+
+pub at_read : IsRead at_text
+unfolding everything
+at_read = (_, _, _, _, _, refl)
+
+pub fails_at : (old new : State) (owner : List ℕ) (name : List ℕ) → IsAtRest old → (e : Error) → FailsToQuery at_text (Text owner ∷ Text name ∷ []) old new e → FailsWith old new ⊥ (IsSome old.step_limit) (failure_of e)
+unfolding everything
+fails_at old new owner name rests = read_fails user_root.name user_root.columns user_root.primary old new rests (λ has. has.1.1.1.1.1.0) at_text (Text owner ∷ Text name ∷ []) names (query of_two) (scan of_two) at_is at_read (λ s at tree known. rw (known.low, known.by_tree) refl)

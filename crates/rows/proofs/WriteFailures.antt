@@ -20,7 +20,7 @@ use Rattle.rows.specs.declared.failure.Failure.TheVariants.{Memory, Size, Disk}
 use Rattle.rows.specs.Forms.{strict}
 use Rattle.rows.specs.Standing.{Stands, HasTables, tree_named}
 use Rattle.rows.specs.Calls.{IsUnderWay}
-use Rattle.rows.specs.Failures.{failure_of, FailsWith, IsWriteFailure, unsized}
+use Rattle.rows.specs.Failures.{failure_of, FailsWith, IsWriteFailure, without_size}
 use Rattle.rows.proofs.Means.{IsMeant}
 use Rattle.rows.proofs.ReadFailures.{store_failed}
 use Rattle.rows.proofs.Statements.{Compiles}
@@ -164,7 +164,7 @@ refused_more (inl h) = inl h
 refused_more (inr h) = inr (inl h)
 
 -- a size that only a shut connection can tell may be told as the disk
-pub fails_unsized : (old new : State) (refused : Type 0) (f : Failure) → FailsWith old new (old.is_open ≡ false) refused f → FailsWith old new ⊥ refused (unsized f)
+pub fails_unsized : (old new : State) (refused : Type 0) (f : Failure) → FailsWith old new (old.is_open ≡ false) refused f → FailsWith old new ⊥ refused (without_size f)
 fails_unsized old new refused Memory h = h
 fails_unsized old new refused Size h = inl (inr h.0, h.1)
 fails_unsized old new refused Disk h = h
@@ -172,7 +172,7 @@ fails_unsized old new refused Disk h = h
 -- ---- what the calls answer
 
 -- a delete that failed
-pub removal_failed : {T : Type 0} (r : Result T Failure) (old new : State) (text : List ℕ) (params : Row) → IfErr r (λ f. (g : Failure) × (f ≡ unsized g) × IsWriteFailure text params old new g)
+pub removal_failed : {T : Type 0} (r : Result T Failure) (old new : State) (text : List ℕ) (params : Row) → IfErr r (λ f. (g : Failure) × (f ≡ without_size g) × IsWriteFailure text params old new g)
     → ((e : Error) → ExecutesInside 0 text params old new (Err e) → FailsWith old new (old.is_open ≡ false) (IsSome old.step_limit) (failure_of e)) → IfErr r (FailsWith old new ⊥ (IsSome old.step_limit))
 removal_failed (Ok x) old new text params h fails = tt
 removal_failed (Err f) old new text params h fails =

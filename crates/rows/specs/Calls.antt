@@ -59,22 +59,12 @@ pub record Changes (old new : State) (change : Contents → Contents) : Type 0 w
   pub mode : new.in_transaction ≡ true
   pub marks : new.marks ≡ old.marks
 
--- Inside a transaction, which goes on: nothing changes.
-pub record Stays (old new : State) : Type 0 where
-  pub was_open : IsTrue old.is_open
-  pub is_open : IsTrue new.is_open
-  pub now : new.now ≡ old.now
-  pub ours : IsOurs new.now
-  pub committed : new.committed ≡ old.committed
-  pub mode : new.in_transaction ≡ true
-  pub marks : new.marks ≡ old.marks
-
--- A transaction is under way over a schema in which our tables stand, unless a fault has shut the connection.
-pub record IsInside (s : State) : Type 0 where
+-- A schema in which our tables stand, and what is shown is what the last commit left, unless a fault has shut the connection. It isn't known yet that the tables are ours.
+pub record IsAtRest (s : State) : Type 0 where
   pub has : IsTrue s.is_open → HasTables s.now.schema
-  pub mode : s.in_transaction ≡ true
+  pub settled : IsTrue s.is_open → s.now ≡ s.committed
 
--- The same while the tables are tested, of which it isn't known yet that they are ours: nothing changes.
+-- Nothing changes.
 pub record Rests (old new : State) : Type 0 where
   pub was_open : IsTrue old.is_open
   pub is_open : IsTrue new.is_open
@@ -82,6 +72,12 @@ pub record Rests (old new : State) : Type 0 where
   pub committed : new.committed ≡ old.committed
   pub mode : new.in_transaction ≡ old.in_transaction
   pub marks : new.marks ≡ old.marks
+
+-- Nothing that is shown changes, at an error too: where the connection is still open it was open, and it shows what it showed, with the same last commit.
+pub record IsAsBefore (old new : State) : Type 0 where
+  pub was_open : IsTrue new.is_open → IsTrue old.is_open
+  pub now : IsTrue new.is_open → new.now ≡ old.now
+  pub committed : IsTrue new.is_open → new.committed ≡ old.committed
 
 -- The transaction was committed: the tables hold what it saw, and so did the last commit leave them.
 pub record IsCommitted (old new : State) : Type 0 where

@@ -9,7 +9,7 @@ use Rattle.sqlite_sql.specs.Ops.{fits_i64}
 use Rattle.sqlite_schema.specs.declared.schema.Table.{Table}
 use Rattle.sqlite_rules.specs.Edit.{next_rowid, IsOversized}
 use Rattle.sqlite.specs.Effect.{Database}
-use Rattle.sqlite.specs.State.{State, IsUnchanged, IsRolledBack, FailsToQuery, IsTooLate, ExecutesInside}
+use Rattle.sqlite.specs.State.{State, IsUnchanged, IsRolledBack, FailsToQuery, ExecutesInside}
 use Rattle.sqlite.specs.declared.error.ErrorCode.TheVariants.{OutOfMemory, TooBig, SystemIoFailure, DiskFull, Closed}
 use Rattle.sqlite.specs.declared.error.Error.{Error}
 use Rattle.sqlite.specs.declared.error.Error.TheVariants.{SqliteFailure}
@@ -35,23 +35,23 @@ opening_failure _ = None
 
 -- a query of this text answered an error, and this is its failure
 abbrev pub IsQueryFailure : List ℕ → Row → State → State → Failure → Type 0
-IsQueryFailure text params old new f = (e : Error) × (f ≡ failure_of e) × (FailsToQuery text params old new e ⊎ IsTooLate text params old new e)
+IsQueryFailure text params old new f = (e : Error) × (f ≡ failure_of e) × FailsToQuery text params old new e
 
 -- a write of this text answered an error, and this is its failure
 abbrev pub IsWriteFailure : List ℕ → Row → State → State → Failure → Type 0
 IsWriteFailure text params old new f = (e : Error) × (f ≡ failure_of e) × ExecutesInside 0 text params old new (Err e)
 
 -- what a delete tells of a failure: it writes no row that may be too large, so a size comes of a shut connection alone, if at all
-abbrev pub unsized : Failure → Failure
-unsized Memory = Memory
-unsized Size = Disk
-unsized Disk = Disk
+abbrev pub without_size : Failure → Failure
+without_size Memory = Memory
+without_size Size = Disk
+without_size Disk = Disk
 
 -- a fault of the disk came in this call, or an earlier one had shut the connection
 abbrev pub HasDiskCause : State → State → Type 0
 HasDiskCause old new = MoreFaults old.faults new.faults ⊎ (old.is_open ≡ false)
 
--- Why a call inside a transaction failed. For want of memory the transaction is undone, or nothing changes. A row too large, where there can be one, undoes it, and so does a fault of the disk. Where there is a reason to refuse the call, the answer is the disk too, and nothing changes.
+-- Why a call failed. For want of memory the transaction is undone, or nothing changes. A row too large, where there can be one, undoes it, and so does a fault of the disk. Where there is a reason to refuse the call, the answer is the disk too, and nothing changes.
 abbrev pub FailsWith : State → State → (large refused : Type 0) → Failure → Type 0
 FailsWith old new large refused Memory = IsRolledBack old new ⊎ IsUnchanged old new
 FailsWith old new large refused Size = large × IsRolledBack old new

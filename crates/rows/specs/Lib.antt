@@ -4,6 +4,7 @@ pub mod Contents
 pub mod Frozen
 pub mod Texts
 pub mod Calls
+pub mod Queries
 pub mod Failures
 pub mod Entries
 pub mod Shapes

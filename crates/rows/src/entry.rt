@@ -7,8 +7,8 @@ ghost use Rattle.rows.specs.declared.failure.Failure.TheVariants.{Memory, Disk};
 ghost use Rattle.rows.specs.Entries.{IsAmiss};
 
 use crate::failure::Failure;
+use crate::reading::Sink;
 use sqlite::Row;
-use std::alloc::Global;
 
 /// An entry of a table, which a row shows by its columns.
 pub trait Entry: Sized + Drop {
@@ -51,19 +51,6 @@ impl Entry for String {
     }
 }
 
-/// The entries that the rows show, which must rise: an honest disk gives no others.
-pub(crate) fn entries<T: Entry>(alloc: Global, rows: &[Row]) -> Result<Vec<T>, Failure>
-    ensures shown { IfOk result (λ all. AllZip T.is_shown rows.now all.items) }
-    ensures rises { IfOk result (λ all. AllAdjacentBelow (λ x y. true ≡ T.is_below x y) all.items (length all.items)) }
-    ensures amiss { IfErr result (λ f. (f ≡ Memory) ⊎ ((f ≡ Disk) × IsAmiss T.is_legible T.is_shown T.is_below rows.now)) }
-{
-    let all = read_all(alloc, rows)?;
-    if !rises(&all) {
-        return Err(Failure::Disk);
-    }
-    Ok(all)
-}
-
 /// A row that isn't as its table has them is `Disk`.
 fn read<T: Entry>(row: &Row) -> Result<T, Failure>
     ensures shown { IfOk result (T.is_shown row.now) }
@@ -76,24 +63,20 @@ fn read<T: Entry>(row: &Row) -> Result<T, Failure>
     }
 }
 
-fn read_all<T: Entry>(alloc: Global, rows: &[Row]) -> Result<Vec<T>, Failure>
-    ensures shown { IfOk result (λ all. AllZip T.is_shown rows.now all.items) }
-    ensures illegible { IfErr result (λ f. (f ≡ Memory) ⊎ ((f ≡ Disk) × (¬ AllByRecursion T.is_legible rows.now))) }
-{
-    let mut all = Vec::new(alloc);
-    for row in rows {
-        all.push(read(row)?)?;
-    }
-    Ok(all)
-}
+/// The entries that the rows show, which rise.
+impl<T: Entry> Sink for Vec<T> {
+    ghost is_of = { λ rows all. AllZip T.is_shown rows all.items × AllAdjacentBelow (λ x y. true ≡ T.is_below x y) all.items (length all.items) };
 
-fn rises<T: Entry>(all: &[T]) -> bool
-    ensures { IsTrue result ↔ AllAdjacentBelow (λ x y. true ≡ T.is_below x y) all.now (length all.now) }
-{
-    for at in 1..all.len() {
-        if !all[at - 1].is_below(&all[at]) {
-            return false;
+    ghost is_amiss = { IsAmiss T.is_legible T.is_shown T.is_below };
+
+    fn take(&mut self, row: &Row) -> Result<(), Failure> {
+        let entry: T = read(row)?;
+        if let Some(last) = self.last() {
+            if !last.is_below(&entry) {
+                return Err(Failure::Disk);
+            }
         }
+        self.push(entry)?;
+        Ok(())
     }
-    true
 }

@@ -1,218 +1,235 @@
 //! That each row of each of our tables has a rowid of its own, an integer.
 
-ghost use Rattle.std.specs.Prelude.{◌≡◌, IfErr, OnOk, codes};
+ghost use Rattle.std.specs.Prelude.{◌≡◌, IfErr, OnOk, codes, false};
 ghost use Rattle.std.specs.List.{AllByRecursion};
-ghost use Rattle.sqlite.specs.State.{HasCleanDisk, KeepsCommit, Survives};
+ghost use Rattle.sqlite.specs.State.{HasCleanDisk, Survives};
 ghost use Rattle.sqlite.specs.Held.{state};
 ghost use Rattle.rows.specs.Forms.{our_tables};
 ghost use Rattle.rows.specs.Contents.{rows_named};
-ghost use Rattle.rows.specs.Calls.{IsInside, IsKeyed, Rests};
+ghost use Rattle.rows.specs.Calls.{IsAtRest, IsAsBefore, IsKeyed, Rests};
 ghost use Rattle.rows.specs.Opened.{FailsToTest};
 
 use crate::failure::Failure;
 use crate::rowids::check;
-use sqlite::{Alter, Transaction};
+use sqlite::{Alter, Connection};
 use std::alloc::Global;
 
-fn meta<S: Alter>(alloc: Global, tx: &mut Transaction<'_, S>) -> Result<(), Failure>
-    requires { HasCleanDisk (state S.Store tx.old.conn.now) → IsInside (state S.Store tx.old.conn.now) }
-    ensures same_reference { tx.new.conn.ghost_name ≡ tx.old.conn.ghost_name }
-    ensures inside { HasCleanDisk (state S.Store tx.new.conn.now) → OnOk result (IsInside (state S.Store tx.new.conn.now)) }
-    ensures keyed { HasCleanDisk (state S.Store tx.new.conn.now) → OnOk result (Rests (state S.Store tx.old.conn.now) (state S.Store tx.new.conn.now)
-        × IsKeyed (rows_named (state S.Store tx.old.conn.now).now (codes "meta"))) }
-    ensures cause { HasCleanDisk (state S.Store tx.new.conn.now) → IfErr result (FailsToTest (state S.Store tx.old.conn.now) (state S.Store tx.new.conn.now)
-        (¬ IsKeyed (rows_named (state S.Store tx.old.conn.now).now (codes "meta")))) }
-    ensures kept { HasCleanDisk (state S.Store tx.new.conn.now) → KeepsCommit (state S.Store tx.old.conn.now) (state S.Store tx.new.conn.now) }
-    ensures survives { Survives (state S.Store tx.old.conn.now) (state S.Store tx.new.conn.now) (λ _. ⊥) }
+fn meta<S: Alter>(alloc: Global, conn: &mut Connection<S>) -> Result<(), Failure>
+    requires alone { conn.old.in_transaction ≡ false }
+    requires rests { HasCleanDisk (state S.Store conn.old) → IsAtRest (state S.Store conn.old) }
+    ensures alone { conn.new.in_transaction ≡ false }
+    ensures rests { HasCleanDisk (state S.Store conn.new) → IsAtRest (state S.Store conn.new) }
+    ensures keyed { HasCleanDisk (state S.Store conn.new) → OnOk result (Rests (state S.Store conn.old) (state S.Store conn.new)
+        × IsKeyed (rows_named (state S.Store conn.old).now (codes "meta"))) }
+    ensures cause { HasCleanDisk (state S.Store conn.new) → IfErr result (FailsToTest (state S.Store conn.old) (state S.Store conn.new)
+        (¬ IsKeyed (rows_named (state S.Store conn.old).now (codes "meta")))) }
+    ensures same { HasCleanDisk (state S.Store conn.new) → IsAsBefore (state S.Store conn.old) (state S.Store conn.new) }
+    ensures survives { Survives (state S.Store conn.old) (state S.Store conn.new) (λ _. ⊥) }
 {
-    check(alloc, tx, "SELECT rowid FROM meta ORDER BY word")
+    check(alloc, conn, "SELECT rowid FROM meta ORDER BY word")
 }
 
-fn object<S: Alter>(alloc: Global, tx: &mut Transaction<'_, S>) -> Result<(), Failure>
-    requires { HasCleanDisk (state S.Store tx.old.conn.now) → IsInside (state S.Store tx.old.conn.now) }
-    ensures same_reference { tx.new.conn.ghost_name ≡ tx.old.conn.ghost_name }
-    ensures inside { HasCleanDisk (state S.Store tx.new.conn.now) → OnOk result (IsInside (state S.Store tx.new.conn.now)) }
-    ensures keyed { HasCleanDisk (state S.Store tx.new.conn.now) → OnOk result (Rests (state S.Store tx.old.conn.now) (state S.Store tx.new.conn.now)
-        × IsKeyed (rows_named (state S.Store tx.old.conn.now).now (codes "object"))) }
-    ensures cause { HasCleanDisk (state S.Store tx.new.conn.now) → IfErr result (FailsToTest (state S.Store tx.old.conn.now) (state S.Store tx.new.conn.now)
-        (¬ IsKeyed (rows_named (state S.Store tx.old.conn.now).now (codes "object")))) }
-    ensures kept { HasCleanDisk (state S.Store tx.new.conn.now) → KeepsCommit (state S.Store tx.old.conn.now) (state S.Store tx.new.conn.now) }
-    ensures survives { Survives (state S.Store tx.old.conn.now) (state S.Store tx.new.conn.now) (λ _. ⊥) }
+fn object<S: Alter>(alloc: Global, conn: &mut Connection<S>) -> Result<(), Failure>
+    requires alone { conn.old.in_transaction ≡ false }
+    requires rests { HasCleanDisk (state S.Store conn.old) → IsAtRest (state S.Store conn.old) }
+    ensures alone { conn.new.in_transaction ≡ false }
+    ensures rests { HasCleanDisk (state S.Store conn.new) → IsAtRest (state S.Store conn.new) }
+    ensures keyed { HasCleanDisk (state S.Store conn.new) → OnOk result (Rests (state S.Store conn.old) (state S.Store conn.new)
+        × IsKeyed (rows_named (state S.Store conn.old).now (codes "object"))) }
+    ensures cause { HasCleanDisk (state S.Store conn.new) → IfErr result (FailsToTest (state S.Store conn.old) (state S.Store conn.new)
+        (¬ IsKeyed (rows_named (state S.Store conn.old).now (codes "object")))) }
+    ensures same { HasCleanDisk (state S.Store conn.new) → IsAsBefore (state S.Store conn.old) (state S.Store conn.new) }
+    ensures survives { Survives (state S.Store conn.old) (state S.Store conn.new) (λ _. ⊥) }
 {
-    check(alloc, tx, "SELECT rowid FROM object ORDER BY base")
+    check(alloc, conn, "SELECT rowid FROM object ORDER BY base")
 }
 
-fn refs<S: Alter>(alloc: Global, tx: &mut Transaction<'_, S>) -> Result<(), Failure>
-    requires { HasCleanDisk (state S.Store tx.old.conn.now) → IsInside (state S.Store tx.old.conn.now) }
-    ensures same_reference { tx.new.conn.ghost_name ≡ tx.old.conn.ghost_name }
-    ensures inside { HasCleanDisk (state S.Store tx.new.conn.now) → OnOk result (IsInside (state S.Store tx.new.conn.now)) }
-    ensures keyed { HasCleanDisk (state S.Store tx.new.conn.now) → OnOk result (Rests (state S.Store tx.old.conn.now) (state S.Store tx.new.conn.now)
-        × IsKeyed (rows_named (state S.Store tx.old.conn.now).now (codes "refs"))) }
-    ensures cause { HasCleanDisk (state S.Store tx.new.conn.now) → IfErr result (FailsToTest (state S.Store tx.old.conn.now) (state S.Store tx.new.conn.now)
-        (¬ IsKeyed (rows_named (state S.Store tx.old.conn.now).now (codes "refs")))) }
-    ensures kept { HasCleanDisk (state S.Store tx.new.conn.now) → KeepsCommit (state S.Store tx.old.conn.now) (state S.Store tx.new.conn.now) }
-    ensures survives { Survives (state S.Store tx.old.conn.now) (state S.Store tx.new.conn.now) (λ _. ⊥) }
+fn refs<S: Alter>(alloc: Global, conn: &mut Connection<S>) -> Result<(), Failure>
+    requires alone { conn.old.in_transaction ≡ false }
+    requires rests { HasCleanDisk (state S.Store conn.old) → IsAtRest (state S.Store conn.old) }
+    ensures alone { conn.new.in_transaction ≡ false }
+    ensures rests { HasCleanDisk (state S.Store conn.new) → IsAtRest (state S.Store conn.new) }
+    ensures keyed { HasCleanDisk (state S.Store conn.new) → OnOk result (Rests (state S.Store conn.old) (state S.Store conn.new)
+        × IsKeyed (rows_named (state S.Store conn.old).now (codes "refs"))) }
+    ensures cause { HasCleanDisk (state S.Store conn.new) → IfErr result (FailsToTest (state S.Store conn.old) (state S.Store conn.new)
+        (¬ IsKeyed (rows_named (state S.Store conn.old).now (codes "refs")))) }
+    ensures same { HasCleanDisk (state S.Store conn.new) → IsAsBefore (state S.Store conn.old) (state S.Store conn.new) }
+    ensures survives { Survives (state S.Store conn.old) (state S.Store conn.new) (λ _. ⊥) }
 {
-    check(alloc, tx, "SELECT rowid FROM refs ORDER BY base, target")
+    check(alloc, conn, "SELECT rowid FROM refs ORDER BY base, target")
 }
 
-fn outs<S: Alter>(alloc: Global, tx: &mut Transaction<'_, S>) -> Result<(), Failure>
-    requires { HasCleanDisk (state S.Store tx.old.conn.now) → IsInside (state S.Store tx.old.conn.now) }
-    ensures same_reference { tx.new.conn.ghost_name ≡ tx.old.conn.ghost_name }
-    ensures inside { HasCleanDisk (state S.Store tx.new.conn.now) → OnOk result (IsInside (state S.Store tx.new.conn.now)) }
-    ensures keyed { HasCleanDisk (state S.Store tx.new.conn.now) → OnOk result (Rests (state S.Store tx.old.conn.now) (state S.Store tx.new.conn.now)
-        × IsKeyed (rows_named (state S.Store tx.old.conn.now).now (codes "outs"))) }
-    ensures cause { HasCleanDisk (state S.Store tx.new.conn.now) → IfErr result (FailsToTest (state S.Store tx.old.conn.now) (state S.Store tx.new.conn.now)
-        (¬ IsKeyed (rows_named (state S.Store tx.old.conn.now).now (codes "outs")))) }
-    ensures kept { HasCleanDisk (state S.Store tx.new.conn.now) → KeepsCommit (state S.Store tx.old.conn.now) (state S.Store tx.new.conn.now) }
-    ensures survives { Survives (state S.Store tx.old.conn.now) (state S.Store tx.new.conn.now) (λ _. ⊥) }
+fn outs<S: Alter>(alloc: Global, conn: &mut Connection<S>) -> Result<(), Failure>
+    requires alone { conn.old.in_transaction ≡ false }
+    requires rests { HasCleanDisk (state S.Store conn.old) → IsAtRest (state S.Store conn.old) }
+    ensures alone { conn.new.in_transaction ≡ false }
+    ensures rests { HasCleanDisk (state S.Store conn.new) → IsAtRest (state S.Store conn.new) }
+    ensures keyed { HasCleanDisk (state S.Store conn.new) → OnOk result (Rests (state S.Store conn.old) (state S.Store conn.new)
+        × IsKeyed (rows_named (state S.Store conn.old).now (codes "outs"))) }
+    ensures cause { HasCleanDisk (state S.Store conn.new) → IfErr result (FailsToTest (state S.Store conn.old) (state S.Store conn.new)
+        (¬ IsKeyed (rows_named (state S.Store conn.old).now (codes "outs")))) }
+    ensures same { HasCleanDisk (state S.Store conn.new) → IsAsBefore (state S.Store conn.old) (state S.Store conn.new) }
+    ensures survives { Survives (state S.Store conn.old) (state S.Store conn.new) (λ _. ⊥) }
 {
-    check(alloc, tx, "SELECT rowid FROM outs ORDER BY base, name")
+    check(alloc, conn, "SELECT rowid FROM outs ORDER BY base, name")
 }
 
-fn permanent<S: Alter>(alloc: Global, tx: &mut Transaction<'_, S>) -> Result<(), Failure>
-    requires { HasCleanDisk (state S.Store tx.old.conn.now) → IsInside (state S.Store tx.old.conn.now) }
-    ensures same_reference { tx.new.conn.ghost_name ≡ tx.old.conn.ghost_name }
-    ensures inside { HasCleanDisk (state S.Store tx.new.conn.now) → OnOk result (IsInside (state S.Store tx.new.conn.now)) }
-    ensures keyed { HasCleanDisk (state S.Store tx.new.conn.now) → OnOk result (Rests (state S.Store tx.old.conn.now) (state S.Store tx.new.conn.now)
-        × IsKeyed (rows_named (state S.Store tx.old.conn.now).now (codes "permanent"))) }
-    ensures cause { HasCleanDisk (state S.Store tx.new.conn.now) → IfErr result (FailsToTest (state S.Store tx.old.conn.now) (state S.Store tx.new.conn.now)
-        (¬ IsKeyed (rows_named (state S.Store tx.old.conn.now).now (codes "permanent")))) }
-    ensures kept { HasCleanDisk (state S.Store tx.new.conn.now) → KeepsCommit (state S.Store tx.old.conn.now) (state S.Store tx.new.conn.now) }
-    ensures survives { Survives (state S.Store tx.old.conn.now) (state S.Store tx.new.conn.now) (λ _. ⊥) }
+fn permanent<S: Alter>(alloc: Global, conn: &mut Connection<S>) -> Result<(), Failure>
+    requires alone { conn.old.in_transaction ≡ false }
+    requires rests { HasCleanDisk (state S.Store conn.old) → IsAtRest (state S.Store conn.old) }
+    ensures alone { conn.new.in_transaction ≡ false }
+    ensures rests { HasCleanDisk (state S.Store conn.new) → IsAtRest (state S.Store conn.new) }
+    ensures keyed { HasCleanDisk (state S.Store conn.new) → OnOk result (Rests (state S.Store conn.old) (state S.Store conn.new)
+        × IsKeyed (rows_named (state S.Store conn.old).now (codes "permanent"))) }
+    ensures cause { HasCleanDisk (state S.Store conn.new) → IfErr result (FailsToTest (state S.Store conn.old) (state S.Store conn.new)
+        (¬ IsKeyed (rows_named (state S.Store conn.old).now (codes "permanent")))) }
+    ensures same { HasCleanDisk (state S.Store conn.new) → IsAsBefore (state S.Store conn.old) (state S.Store conn.new) }
+    ensures survives { Survives (state S.Store conn.old) (state S.Store conn.new) (λ _. ⊥) }
 {
-    check(alloc, tx, "SELECT rowid FROM permanent ORDER BY name")
+    check(alloc, conn, "SELECT rowid FROM permanent ORDER BY name")
 }
 
-fn user_root<S: Alter>(alloc: Global, tx: &mut Transaction<'_, S>) -> Result<(), Failure>
-    requires { HasCleanDisk (state S.Store tx.old.conn.now) → IsInside (state S.Store tx.old.conn.now) }
-    ensures same_reference { tx.new.conn.ghost_name ≡ tx.old.conn.ghost_name }
-    ensures inside { HasCleanDisk (state S.Store tx.new.conn.now) → OnOk result (IsInside (state S.Store tx.new.conn.now)) }
-    ensures keyed { HasCleanDisk (state S.Store tx.new.conn.now) → OnOk result (Rests (state S.Store tx.old.conn.now) (state S.Store tx.new.conn.now)
-        × IsKeyed (rows_named (state S.Store tx.old.conn.now).now (codes "user_root"))) }
-    ensures cause { HasCleanDisk (state S.Store tx.new.conn.now) → IfErr result (FailsToTest (state S.Store tx.old.conn.now) (state S.Store tx.new.conn.now)
-        (¬ IsKeyed (rows_named (state S.Store tx.old.conn.now).now (codes "user_root")))) }
-    ensures kept { HasCleanDisk (state S.Store tx.new.conn.now) → KeepsCommit (state S.Store tx.old.conn.now) (state S.Store tx.new.conn.now) }
-    ensures survives { Survives (state S.Store tx.old.conn.now) (state S.Store tx.new.conn.now) (λ _. ⊥) }
+fn user_root<S: Alter>(alloc: Global, conn: &mut Connection<S>) -> Result<(), Failure>
+    requires alone { conn.old.in_transaction ≡ false }
+    requires rests { HasCleanDisk (state S.Store conn.old) → IsAtRest (state S.Store conn.old) }
+    ensures alone { conn.new.in_transaction ≡ false }
+    ensures rests { HasCleanDisk (state S.Store conn.new) → IsAtRest (state S.Store conn.new) }
+    ensures keyed { HasCleanDisk (state S.Store conn.new) → OnOk result (Rests (state S.Store conn.old) (state S.Store conn.new)
+        × IsKeyed (rows_named (state S.Store conn.old).now (codes "user_root"))) }
+    ensures cause { HasCleanDisk (state S.Store conn.new) → IfErr result (FailsToTest (state S.Store conn.old) (state S.Store conn.new)
+        (¬ IsKeyed (rows_named (state S.Store conn.old).now (codes "user_root")))) }
+    ensures same { HasCleanDisk (state S.Store conn.new) → IsAsBefore (state S.Store conn.old) (state S.Store conn.new) }
+    ensures survives { Survives (state S.Store conn.old) (state S.Store conn.new) (λ _. ⊥) }
 {
     check(
         alloc,
-        tx,
+        conn,
         "SELECT rowid FROM user_root ORDER BY owner, name",
     )
 }
 
-fn profile<S: Alter>(alloc: Global, tx: &mut Transaction<'_, S>) -> Result<(), Failure>
-    requires { HasCleanDisk (state S.Store tx.old.conn.now) → IsInside (state S.Store tx.old.conn.now) }
-    ensures same_reference { tx.new.conn.ghost_name ≡ tx.old.conn.ghost_name }
-    ensures inside { HasCleanDisk (state S.Store tx.new.conn.now) → OnOk result (IsInside (state S.Store tx.new.conn.now)) }
-    ensures keyed { HasCleanDisk (state S.Store tx.new.conn.now) → OnOk result (Rests (state S.Store tx.old.conn.now) (state S.Store tx.new.conn.now)
-        × IsKeyed (rows_named (state S.Store tx.old.conn.now).now (codes "profile"))) }
-    ensures cause { HasCleanDisk (state S.Store tx.new.conn.now) → IfErr result (FailsToTest (state S.Store tx.old.conn.now) (state S.Store tx.new.conn.now)
-        (¬ IsKeyed (rows_named (state S.Store tx.old.conn.now).now (codes "profile")))) }
-    ensures kept { HasCleanDisk (state S.Store tx.new.conn.now) → KeepsCommit (state S.Store tx.old.conn.now) (state S.Store tx.new.conn.now) }
-    ensures survives { Survives (state S.Store tx.old.conn.now) (state S.Store tx.new.conn.now) (λ _. ⊥) }
-{
-    check(alloc, tx, "SELECT rowid FROM profile ORDER BY owner, name")
-}
-
-fn generation<S: Alter>(alloc: Global, tx: &mut Transaction<'_, S>) -> Result<(), Failure>
-    requires { HasCleanDisk (state S.Store tx.old.conn.now) → IsInside (state S.Store tx.old.conn.now) }
-    ensures same_reference { tx.new.conn.ghost_name ≡ tx.old.conn.ghost_name }
-    ensures inside { HasCleanDisk (state S.Store tx.new.conn.now) → OnOk result (IsInside (state S.Store tx.new.conn.now)) }
-    ensures keyed { HasCleanDisk (state S.Store tx.new.conn.now) → OnOk result (Rests (state S.Store tx.old.conn.now) (state S.Store tx.new.conn.now)
-        × IsKeyed (rows_named (state S.Store tx.old.conn.now).now (codes "generation"))) }
-    ensures cause { HasCleanDisk (state S.Store tx.new.conn.now) → IfErr result (FailsToTest (state S.Store tx.old.conn.now) (state S.Store tx.new.conn.now)
-        (¬ IsKeyed (rows_named (state S.Store tx.old.conn.now).now (codes "generation")))) }
-    ensures kept { HasCleanDisk (state S.Store tx.new.conn.now) → KeepsCommit (state S.Store tx.old.conn.now) (state S.Store tx.new.conn.now) }
-    ensures survives { Survives (state S.Store tx.old.conn.now) (state S.Store tx.new.conn.now) (λ _. ⊥) }
+fn profile<S: Alter>(alloc: Global, conn: &mut Connection<S>) -> Result<(), Failure>
+    requires alone { conn.old.in_transaction ≡ false }
+    requires rests { HasCleanDisk (state S.Store conn.old) → IsAtRest (state S.Store conn.old) }
+    ensures alone { conn.new.in_transaction ≡ false }
+    ensures rests { HasCleanDisk (state S.Store conn.new) → IsAtRest (state S.Store conn.new) }
+    ensures keyed { HasCleanDisk (state S.Store conn.new) → OnOk result (Rests (state S.Store conn.old) (state S.Store conn.new)
+        × IsKeyed (rows_named (state S.Store conn.old).now (codes "profile"))) }
+    ensures cause { HasCleanDisk (state S.Store conn.new) → IfErr result (FailsToTest (state S.Store conn.old) (state S.Store conn.new)
+        (¬ IsKeyed (rows_named (state S.Store conn.old).now (codes "profile")))) }
+    ensures same { HasCleanDisk (state S.Store conn.new) → IsAsBefore (state S.Store conn.old) (state S.Store conn.new) }
+    ensures survives { Survives (state S.Store conn.old) (state S.Store conn.new) (λ _. ⊥) }
 {
     check(
         alloc,
-        tx,
+        conn,
+        "SELECT rowid FROM profile ORDER BY owner, name",
+    )
+}
+
+fn generation<S: Alter>(alloc: Global, conn: &mut Connection<S>) -> Result<(), Failure>
+    requires alone { conn.old.in_transaction ≡ false }
+    requires rests { HasCleanDisk (state S.Store conn.old) → IsAtRest (state S.Store conn.old) }
+    ensures alone { conn.new.in_transaction ≡ false }
+    ensures rests { HasCleanDisk (state S.Store conn.new) → IsAtRest (state S.Store conn.new) }
+    ensures keyed { HasCleanDisk (state S.Store conn.new) → OnOk result (Rests (state S.Store conn.old) (state S.Store conn.new)
+        × IsKeyed (rows_named (state S.Store conn.old).now (codes "generation"))) }
+    ensures cause { HasCleanDisk (state S.Store conn.new) → IfErr result (FailsToTest (state S.Store conn.old) (state S.Store conn.new)
+        (¬ IsKeyed (rows_named (state S.Store conn.old).now (codes "generation")))) }
+    ensures same { HasCleanDisk (state S.Store conn.new) → IsAsBefore (state S.Store conn.old) (state S.Store conn.new) }
+    ensures survives { Survives (state S.Store conn.old) (state S.Store conn.new) (λ _. ⊥) }
+{
+    check(
+        alloc,
+        conn,
         "SELECT rowid FROM generation ORDER BY owner, name, num",
     )
 }
 
-fn runtime<S: Alter>(alloc: Global, tx: &mut Transaction<'_, S>) -> Result<(), Failure>
-    requires { HasCleanDisk (state S.Store tx.old.conn.now) → IsInside (state S.Store tx.old.conn.now) }
-    ensures same_reference { tx.new.conn.ghost_name ≡ tx.old.conn.ghost_name }
-    ensures inside { HasCleanDisk (state S.Store tx.new.conn.now) → OnOk result (IsInside (state S.Store tx.new.conn.now)) }
-    ensures keyed { HasCleanDisk (state S.Store tx.new.conn.now) → OnOk result (Rests (state S.Store tx.old.conn.now) (state S.Store tx.new.conn.now)
-        × IsKeyed (rows_named (state S.Store tx.old.conn.now).now (codes "runtime"))) }
-    ensures cause { HasCleanDisk (state S.Store tx.new.conn.now) → IfErr result (FailsToTest (state S.Store tx.old.conn.now) (state S.Store tx.new.conn.now)
-        (¬ IsKeyed (rows_named (state S.Store tx.old.conn.now).now (codes "runtime")))) }
-    ensures kept { HasCleanDisk (state S.Store tx.new.conn.now) → KeepsCommit (state S.Store tx.old.conn.now) (state S.Store tx.new.conn.now) }
-    ensures survives { Survives (state S.Store tx.old.conn.now) (state S.Store tx.new.conn.now) (λ _. ⊥) }
+fn runtime<S: Alter>(alloc: Global, conn: &mut Connection<S>) -> Result<(), Failure>
+    requires alone { conn.old.in_transaction ≡ false }
+    requires rests { HasCleanDisk (state S.Store conn.old) → IsAtRest (state S.Store conn.old) }
+    ensures alone { conn.new.in_transaction ≡ false }
+    ensures rests { HasCleanDisk (state S.Store conn.new) → IsAtRest (state S.Store conn.new) }
+    ensures keyed { HasCleanDisk (state S.Store conn.new) → OnOk result (Rests (state S.Store conn.old) (state S.Store conn.new)
+        × IsKeyed (rows_named (state S.Store conn.old).now (codes "runtime"))) }
+    ensures cause { HasCleanDisk (state S.Store conn.new) → IfErr result (FailsToTest (state S.Store conn.old) (state S.Store conn.new)
+        (¬ IsKeyed (rows_named (state S.Store conn.old).now (codes "runtime")))) }
+    ensures same { HasCleanDisk (state S.Store conn.new) → IsAsBefore (state S.Store conn.old) (state S.Store conn.new) }
+    ensures survives { Survives (state S.Store conn.old) (state S.Store conn.new) (λ _. ⊥) }
 {
     check(
         alloc,
-        tx,
+        conn,
         "SELECT rowid FROM runtime ORDER BY label, target",
     )
 }
 
-fn first<S: Alter>(alloc: Global, tx: &mut Transaction<'_, S>) -> Result<(), Failure>
-    requires { HasCleanDisk (state S.Store tx.old.conn.now) → IsInside (state S.Store tx.old.conn.now) }
-    ensures same_reference { tx.new.conn.ghost_name ≡ tx.old.conn.ghost_name }
-    ensures inside { HasCleanDisk (state S.Store tx.new.conn.now) → OnOk result (IsInside (state S.Store tx.new.conn.now)) }
-    ensures keyed { HasCleanDisk (state S.Store tx.new.conn.now) → OnOk result (Rests (state S.Store tx.old.conn.now) (state S.Store tx.new.conn.now)
-        × IsKeyed (rows_named (state S.Store tx.old.conn.now).now (codes "meta")) × IsKeyed (rows_named (state S.Store tx.old.conn.now).now (codes "object")) × IsKeyed (rows_named (state S.Store tx.old.conn.now).now (codes "refs"))) }
-    ensures cause { HasCleanDisk (state S.Store tx.new.conn.now) → IfErr result (FailsToTest (state S.Store tx.old.conn.now) (state S.Store tx.new.conn.now)
-        (¬ (IsKeyed (rows_named (state S.Store tx.old.conn.now).now (codes "meta")) × IsKeyed (rows_named (state S.Store tx.old.conn.now).now (codes "object")) × IsKeyed (rows_named (state S.Store tx.old.conn.now).now (codes "refs"))))) }
-    ensures kept { HasCleanDisk (state S.Store tx.new.conn.now) → KeepsCommit (state S.Store tx.old.conn.now) (state S.Store tx.new.conn.now) }
-    ensures survives { Survives (state S.Store tx.old.conn.now) (state S.Store tx.new.conn.now) (λ _. ⊥) }
+fn first<S: Alter>(alloc: Global, conn: &mut Connection<S>) -> Result<(), Failure>
+    requires alone { conn.old.in_transaction ≡ false }
+    requires rests { HasCleanDisk (state S.Store conn.old) → IsAtRest (state S.Store conn.old) }
+    ensures alone { conn.new.in_transaction ≡ false }
+    ensures rests { HasCleanDisk (state S.Store conn.new) → IsAtRest (state S.Store conn.new) }
+    ensures keyed { HasCleanDisk (state S.Store conn.new) → OnOk result (Rests (state S.Store conn.old) (state S.Store conn.new)
+        × IsKeyed (rows_named (state S.Store conn.old).now (codes "meta")) × IsKeyed (rows_named (state S.Store conn.old).now (codes "object")) × IsKeyed (rows_named (state S.Store conn.old).now (codes "refs"))) }
+    ensures cause { HasCleanDisk (state S.Store conn.new) → IfErr result (FailsToTest (state S.Store conn.old) (state S.Store conn.new)
+        (¬ (IsKeyed (rows_named (state S.Store conn.old).now (codes "meta")) × IsKeyed (rows_named (state S.Store conn.old).now (codes "object")) × IsKeyed (rows_named (state S.Store conn.old).now (codes "refs"))))) }
+    ensures same { HasCleanDisk (state S.Store conn.new) → IsAsBefore (state S.Store conn.old) (state S.Store conn.new) }
+    ensures survives { Survives (state S.Store conn.old) (state S.Store conn.new) (λ _. ⊥) }
 {
-    meta(alloc, tx)?;
-    object(alloc, tx)?;
-    refs(alloc, tx)
+    meta(alloc, conn)?;
+    object(alloc, conn)?;
+    refs(alloc, conn)
 }
 
-fn next<S: Alter>(alloc: Global, tx: &mut Transaction<'_, S>) -> Result<(), Failure>
-    requires { HasCleanDisk (state S.Store tx.old.conn.now) → IsInside (state S.Store tx.old.conn.now) }
-    ensures same_reference { tx.new.conn.ghost_name ≡ tx.old.conn.ghost_name }
-    ensures inside { HasCleanDisk (state S.Store tx.new.conn.now) → OnOk result (IsInside (state S.Store tx.new.conn.now)) }
-    ensures keyed { HasCleanDisk (state S.Store tx.new.conn.now) → OnOk result (Rests (state S.Store tx.old.conn.now) (state S.Store tx.new.conn.now)
-        × IsKeyed (rows_named (state S.Store tx.old.conn.now).now (codes "outs")) × IsKeyed (rows_named (state S.Store tx.old.conn.now).now (codes "permanent")) × IsKeyed (rows_named (state S.Store tx.old.conn.now).now (codes "user_root"))) }
-    ensures cause { HasCleanDisk (state S.Store tx.new.conn.now) → IfErr result (FailsToTest (state S.Store tx.old.conn.now) (state S.Store tx.new.conn.now)
-        (¬ (IsKeyed (rows_named (state S.Store tx.old.conn.now).now (codes "outs")) × IsKeyed (rows_named (state S.Store tx.old.conn.now).now (codes "permanent")) × IsKeyed (rows_named (state S.Store tx.old.conn.now).now (codes "user_root"))))) }
-    ensures kept { HasCleanDisk (state S.Store tx.new.conn.now) → KeepsCommit (state S.Store tx.old.conn.now) (state S.Store tx.new.conn.now) }
-    ensures survives { Survives (state S.Store tx.old.conn.now) (state S.Store tx.new.conn.now) (λ _. ⊥) }
+fn next<S: Alter>(alloc: Global, conn: &mut Connection<S>) -> Result<(), Failure>
+    requires alone { conn.old.in_transaction ≡ false }
+    requires rests { HasCleanDisk (state S.Store conn.old) → IsAtRest (state S.Store conn.old) }
+    ensures alone { conn.new.in_transaction ≡ false }
+    ensures rests { HasCleanDisk (state S.Store conn.new) → IsAtRest (state S.Store conn.new) }
+    ensures keyed { HasCleanDisk (state S.Store conn.new) → OnOk result (Rests (state S.Store conn.old) (state S.Store conn.new)
+        × IsKeyed (rows_named (state S.Store conn.old).now (codes "outs")) × IsKeyed (rows_named (state S.Store conn.old).now (codes "permanent")) × IsKeyed (rows_named (state S.Store conn.old).now (codes "user_root"))) }
+    ensures cause { HasCleanDisk (state S.Store conn.new) → IfErr result (FailsToTest (state S.Store conn.old) (state S.Store conn.new)
+        (¬ (IsKeyed (rows_named (state S.Store conn.old).now (codes "outs")) × IsKeyed (rows_named (state S.Store conn.old).now (codes "permanent")) × IsKeyed (rows_named (state S.Store conn.old).now (codes "user_root"))))) }
+    ensures same { HasCleanDisk (state S.Store conn.new) → IsAsBefore (state S.Store conn.old) (state S.Store conn.new) }
+    ensures survives { Survives (state S.Store conn.old) (state S.Store conn.new) (λ _. ⊥) }
 {
-    outs(alloc, tx)?;
-    permanent(alloc, tx)?;
-    user_root(alloc, tx)
+    outs(alloc, conn)?;
+    permanent(alloc, conn)?;
+    user_root(alloc, conn)
 }
 
-fn last<S: Alter>(alloc: Global, tx: &mut Transaction<'_, S>) -> Result<(), Failure>
-    requires { HasCleanDisk (state S.Store tx.old.conn.now) → IsInside (state S.Store tx.old.conn.now) }
-    ensures same_reference { tx.new.conn.ghost_name ≡ tx.old.conn.ghost_name }
-    ensures inside { HasCleanDisk (state S.Store tx.new.conn.now) → OnOk result (IsInside (state S.Store tx.new.conn.now)) }
-    ensures keyed { HasCleanDisk (state S.Store tx.new.conn.now) → OnOk result (Rests (state S.Store tx.old.conn.now) (state S.Store tx.new.conn.now)
-        × IsKeyed (rows_named (state S.Store tx.old.conn.now).now (codes "profile")) × IsKeyed (rows_named (state S.Store tx.old.conn.now).now (codes "generation")) × IsKeyed (rows_named (state S.Store tx.old.conn.now).now (codes "runtime"))) }
-    ensures cause { HasCleanDisk (state S.Store tx.new.conn.now) → IfErr result (FailsToTest (state S.Store tx.old.conn.now) (state S.Store tx.new.conn.now)
-        (¬ (IsKeyed (rows_named (state S.Store tx.old.conn.now).now (codes "profile")) × IsKeyed (rows_named (state S.Store tx.old.conn.now).now (codes "generation")) × IsKeyed (rows_named (state S.Store tx.old.conn.now).now (codes "runtime"))))) }
-    ensures kept { HasCleanDisk (state S.Store tx.new.conn.now) → KeepsCommit (state S.Store tx.old.conn.now) (state S.Store tx.new.conn.now) }
-    ensures survives { Survives (state S.Store tx.old.conn.now) (state S.Store tx.new.conn.now) (λ _. ⊥) }
+fn last<S: Alter>(alloc: Global, conn: &mut Connection<S>) -> Result<(), Failure>
+    requires alone { conn.old.in_transaction ≡ false }
+    requires rests { HasCleanDisk (state S.Store conn.old) → IsAtRest (state S.Store conn.old) }
+    ensures alone { conn.new.in_transaction ≡ false }
+    ensures rests { HasCleanDisk (state S.Store conn.new) → IsAtRest (state S.Store conn.new) }
+    ensures keyed { HasCleanDisk (state S.Store conn.new) → OnOk result (Rests (state S.Store conn.old) (state S.Store conn.new)
+        × IsKeyed (rows_named (state S.Store conn.old).now (codes "profile")) × IsKeyed (rows_named (state S.Store conn.old).now (codes "generation")) × IsKeyed (rows_named (state S.Store conn.old).now (codes "runtime"))) }
+    ensures cause { HasCleanDisk (state S.Store conn.new) → IfErr result (FailsToTest (state S.Store conn.old) (state S.Store conn.new)
+        (¬ (IsKeyed (rows_named (state S.Store conn.old).now (codes "profile")) × IsKeyed (rows_named (state S.Store conn.old).now (codes "generation")) × IsKeyed (rows_named (state S.Store conn.old).now (codes "runtime"))))) }
+    ensures same { HasCleanDisk (state S.Store conn.new) → IsAsBefore (state S.Store conn.old) (state S.Store conn.new) }
+    ensures survives { Survives (state S.Store conn.old) (state S.Store conn.new) (λ _. ⊥) }
 {
-    profile(alloc, tx)?;
-    generation(alloc, tx)?;
-    runtime(alloc, tx)
+    profile(alloc, conn)?;
+    generation(alloc, conn)?;
+    runtime(alloc, conn)
 }
 
 /// Succeeds if each row of our tables has a rowid of its own, and fails with `Disk` if not.
-pub(crate) fn all<S: Alter>(alloc: Global, tx: &mut Transaction<'_, S>) -> Result<(), Failure>
-    requires { HasCleanDisk (state S.Store tx.old.conn.now) → IsInside (state S.Store tx.old.conn.now) }
-    ensures same_reference { tx.new.conn.ghost_name ≡ tx.old.conn.ghost_name }
-    ensures inside { HasCleanDisk (state S.Store tx.new.conn.now) → OnOk result (IsInside (state S.Store tx.new.conn.now)) }
-    ensures keyed { HasCleanDisk (state S.Store tx.new.conn.now) → OnOk result (Rests (state S.Store tx.old.conn.now) (state S.Store tx.new.conn.now)
-        × AllByRecursion (λ t. IsKeyed (rows_named (state S.Store tx.old.conn.now).now t.name)) our_tables) }
-    ensures cause { HasCleanDisk (state S.Store tx.new.conn.now) → IfErr result (FailsToTest (state S.Store tx.old.conn.now) (state S.Store tx.new.conn.now)
-        (¬ AllByRecursion (λ t. IsKeyed (rows_named (state S.Store tx.old.conn.now).now t.name)) our_tables)) }
-    ensures kept { HasCleanDisk (state S.Store tx.new.conn.now) → KeepsCommit (state S.Store tx.old.conn.now) (state S.Store tx.new.conn.now) }
-    ensures survives { Survives (state S.Store tx.old.conn.now) (state S.Store tx.new.conn.now) (λ _. ⊥) }
+pub(crate) fn all<S: Alter>(alloc: Global, conn: &mut Connection<S>) -> Result<(), Failure>
+    requires alone { conn.old.in_transaction ≡ false }
+    requires rests { HasCleanDisk (state S.Store conn.old) → IsAtRest (state S.Store conn.old) }
+    ensures alone { conn.new.in_transaction ≡ false }
+    ensures rests { HasCleanDisk (state S.Store conn.new) → IsAtRest (state S.Store conn.new) }
+    ensures keyed { HasCleanDisk (state S.Store conn.new) → OnOk result (Rests (state S.Store conn.old) (state S.Store conn.new)
+        × AllByRecursion (λ t. IsKeyed (rows_named (state S.Store conn.old).now t.name)) our_tables) }
+    ensures cause { HasCleanDisk (state S.Store conn.new) → IfErr result (FailsToTest (state S.Store conn.old) (state S.Store conn.new)
+        (¬ AllByRecursion (λ t. IsKeyed (rows_named (state S.Store conn.old).now t.name)) our_tables)) }
+    ensures same { HasCleanDisk (state S.Store conn.new) → IsAsBefore (state S.Store conn.old) (state S.Store conn.new) }
+    ensures survives { Survives (state S.Store conn.old) (state S.Store conn.new) (λ _. ⊥) }
 {
-    first(alloc, tx)?;
-    next(alloc, tx)?;
-    last(alloc, tx)
+    first(alloc, conn)?;
+    next(alloc, conn)?;
+    last(alloc, conn)
 }

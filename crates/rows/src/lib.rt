@@ -18,6 +18,7 @@ pub mod outputs;
 pub mod permanent;
 pub mod profiles;
 mod readable;
+mod reading;
 pub mod references;
 mod rowids;
 pub mod runtime;

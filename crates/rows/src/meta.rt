@@ -1,6 +1,6 @@
 //! The settings of the database: each a word and its value.
 
-ghost use Rattle.std.specs.Prelude.{◌∷◌, [], ◌≡◌, ◌&&◌, IfOk, IfErr, OnOk, OnErr, IsTrue, None, map, not, pos};
+ghost use Rattle.std.specs.Prelude.{◌∷◌, [], ◌≡◌, ◌&&◌, IfOk, IfErr, OnOk, OnErr, IsTrue, None, map, not, pos, false};
 ghost use Rattle.sqlite_value.specs.declared.value.Value.TheVariants.{Text};
 ghost use Rattle.rows.specs.Forms.{meta};
 ghost use Rattle.std.specs.Ordering.{eq_by_cmp, is_lt, int_cmp};
@@ -8,14 +8,14 @@ ghost use Rattle.std.specs.FinMap as finite;
 ghost use Rattle.sqlite.specs.State.{HasCleanDisk, KeepsCommit, Survives};
 ghost use Rattle.sqlite.specs.Held.{state};
 ghost use Rattle.rows.specs.Failures.{FailsFor, FailsToInsert};
-ghost use Rattle.rows.specs.Calls.{IsUnderWay, Changes, Stays};
+ghost use Rattle.rows.specs.Calls.{IsUnderWay, Changes, IsReady, IsAsBefore, Rests};
 ghost use Rattle.rows.specs.Contents.{texts_cmp, contents_of};
 ghost use Rattle.rows.specs.Entries.{setting_of, ShowsSetting, IsPairRow};
 
 use crate::entry::Entry;
 use crate::failure::Failure;
-use crate::statement;
-use sqlite::{Alter, Row, Transaction, params};
+use crate::{reading, statement};
+use sqlite::{Alter, Connection, Row, Transaction, params};
 use std::alloc::Global;
 
 /// One setting: a word, and its value.
@@ -45,16 +45,18 @@ impl Entry for Setting {
 }
 
 /// All settings, in order.
-pub fn all<S: Alter>(alloc: Global, tx: &mut Transaction<'_, S>) -> Result<Vec<Setting>, Failure>
-    requires { HasCleanDisk (state S.Store tx.old.conn.now) → IsUnderWay (state S.Store tx.old.conn.now) }
-    ensures same_reference { tx.new.conn.ghost_name ≡ tx.old.conn.ghost_name }
-    ensures reads { HasCleanDisk (state S.Store tx.new.conn.now) → IfOk result (λ all. Stays (state S.Store tx.old.conn.now) (state S.Store tx.new.conn.now)
-        × (map setting_of all.items ≡ finite.entries (contents_of (state S.Store tx.old.conn.now).now).meta)) }
-    ensures cause { HasCleanDisk (state S.Store tx.new.conn.now) → IfErr result (FailsFor (state S.Store tx.old.conn.now) (state S.Store tx.new.conn.now)) }
-    ensures failed { HasCleanDisk (state S.Store tx.new.conn.now) → OnErr result (KeepsCommit (state S.Store tx.old.conn.now) (state S.Store tx.new.conn.now)) }
-    ensures survives { Survives (state S.Store tx.old.conn.now) (state S.Store tx.new.conn.now) (λ _. ⊥) }
+pub fn all<S: Alter>(alloc: Global, conn: &mut Connection<S>) -> Result<Vec<Setting>, Failure>
+    requires alone { conn.old.in_transaction ≡ false }
+    requires ready { HasCleanDisk (state S.Store conn.old) → IsTrue (state S.Store conn.old).is_open → IsReady (state S.Store conn.old) }
+    ensures alone { conn.new.in_transaction ≡ false }
+    ensures reads { HasCleanDisk (state S.Store conn.new) → IfOk result (λ all. Rests (state S.Store conn.old) (state S.Store conn.new)
+        × (map setting_of all.items ≡ finite.entries (contents_of (state S.Store conn.old).now).meta)) }
+    ensures cause { HasCleanDisk (state S.Store conn.new) → IfErr result (FailsFor (state S.Store conn.old) (state S.Store conn.new)) }
+    ensures same { HasCleanDisk (state S.Store conn.new) → IsAsBefore (state S.Store conn.old) (state S.Store conn.new) }
+    ensures ready { HasCleanDisk (state S.Store conn.new) → IsTrue (state S.Store conn.new).is_open → IsReady (state S.Store conn.new) }
+    ensures survives { Survives (state S.Store conn.old) (state S.Store conn.new) (λ _. ⊥) }
 {
-    statement::select(alloc, tx, "SELECT word, val FROM meta ORDER BY word", &[])
+    reading::select(alloc, conn, "SELECT word, val FROM meta ORDER BY word", &[])
 }
 
 /// Adds one setting, under a key that is new.

@@ -4,75 +4,39 @@
 ghost use Rattle.std.specs.Prelude.{◌≡◌, ◌↔◌, true, false, IsTrue, IfOk, IfErr, OnOk};
 ghost use Rattle.std.specs.List.{AllByRecursion};
 ghost use Rattle.sqlite.specs.Effect.{IsDatabase};
-ghost use Rattle.sqlite.specs.State.{HasCleanDisk, IsLive, KeepsCommit, Survives};
+ghost use Rattle.sqlite.specs.State.{HasCleanDisk, IsLive, Survives};
 ghost use Rattle.sqlite.specs.Held.{state};
 ghost use Rattle.rows.specs.Standing.{HasTables};
 ghost use Rattle.rows.specs.Finding.{HasNone};
 ghost use Rattle.rows.specs.Forms.{our_tables};
 ghost use Rattle.rows.specs.Contents.{contents_of, rows_named};
 ghost use Rattle.rows.specs.Texts.{AreReadable};
-ghost use Rattle.rows.specs.Calls.{IsInside, IsKeyed, IsOurs, IsReady};
+ghost use Rattle.rows.specs.Calls.{IsAtRest, IsAsBefore, IsKeyed, IsReady};
 ghost use Rattle.rows.specs.Opened.{FailsToTest, FailsToOpen};
 ghost use Rattle.rows.specs.declared.finding.Finding.TheVariants.{Ours, Nothing};
 
 use crate::failure::Failure;
 use crate::finding::{self, Finding};
-use crate::{keyed, readable, statement};
-use sqlite::{Alter, Connection, Transaction};
+use crate::{keyed, readable};
+use sqlite::{Alter, Connection};
 use std::alloc::Global;
 
-/// Whether each text of our tables is UTF-8. Fails with `Disk` if two rows of a table share a rowid.
-fn test<S: Alter>(alloc: Global, tx: &mut Transaction<'_, S>) -> Result<bool, Failure>
-    requires inside { HasCleanDisk (state S.Store tx.old.conn.now) → IsInside (state S.Store tx.old.conn.now) }
-    requires sound { HasCleanDisk (state S.Store tx.old.conn.now) → IsTrue (state S.Store tx.old.conn.now).is_open → IsDatabase (state S.Store tx.old.conn.now).now }
-    requires settled { HasCleanDisk (state S.Store tx.old.conn.now) → IsTrue (state S.Store tx.old.conn.now).is_open → (state S.Store tx.old.conn.now).now ≡ (state S.Store tx.old.conn.now).committed }
-    ensures same_reference { tx.new.conn.ghost_name ≡ tx.old.conn.ghost_name }
-    ensures ours { HasCleanDisk (state S.Store tx.new.conn.now) → IfOk result (λ all. IsTrue all → IsOurs (state S.Store tx.new.conn.now).committed) }
-    ensures told { HasCleanDisk (state S.Store tx.new.conn.now) → IfOk result (λ all. IsTrue all ↔ AreReadable (contents_of (state S.Store tx.old.conn.now).now)) }
-    ensures open { HasCleanDisk (state S.Store tx.new.conn.now) → OnOk result (IsTrue (state S.Store tx.old.conn.now).is_open) }
-    ensures cause { HasCleanDisk (state S.Store tx.new.conn.now) → IfErr result (FailsToTest (state S.Store tx.old.conn.now) (state S.Store tx.new.conn.now)
-        (¬ AllByRecursion (λ t. IsKeyed (rows_named (state S.Store tx.old.conn.now).now t.name)) our_tables)) }
-    ensures kept { HasCleanDisk (state S.Store tx.new.conn.now) → KeepsCommit (state S.Store tx.old.conn.now) (state S.Store tx.new.conn.now) }
-    ensures survives { Survives (state S.Store tx.old.conn.now) (state S.Store tx.new.conn.now) (λ _. ⊥) }
-{
-    keyed::all(alloc, tx)?;
-    readable::all(tx)
-}
-
 /// Whether each text of our tables is UTF-8. Fails with `Disk` if two rows of a table share a rowid. Nothing changes.
-fn check<S: Alter>(alloc: Global, conn: &mut Connection<S>) -> Result<bool, Failure>
+fn test<S: Alter>(alloc: Global, conn: &mut Connection<S>) -> Result<bool, Failure>
     requires alone { conn.old.in_transaction ≡ false }
-    requires has { HasCleanDisk (state S.Store conn.old) → IsTrue (state S.Store conn.old).is_open → HasTables (state S.Store conn.old).now.schema }
+    requires rests { HasCleanDisk (state S.Store conn.old) → IsAtRest (state S.Store conn.old) }
     requires sound { HasCleanDisk (state S.Store conn.old) → IsTrue (state S.Store conn.old).is_open → IsDatabase (state S.Store conn.old).now }
-    requires settled { HasCleanDisk (state S.Store conn.old) → IsTrue (state S.Store conn.old).is_open → (state S.Store conn.old).now ≡ (state S.Store conn.old).committed }
     ensures alone { conn.new.in_transaction ≡ false }
-    ensures ready { HasCleanDisk (state S.Store conn.new) → IsTrue (state S.Store conn.new).is_open → IfOk result (λ all. IsTrue all → IsReady (state S.Store conn.new)) }
+    ensures ready { HasCleanDisk (state S.Store conn.new) → IfOk result (λ all. IsTrue all → IsReady (state S.Store conn.new)) }
+    ensures told { HasCleanDisk (state S.Store conn.new) → IfOk result (λ all. IsTrue all ↔ AreReadable (contents_of (state S.Store conn.old).now)) }
     ensures open { HasCleanDisk (state S.Store conn.new) → OnOk result (IsTrue (state S.Store conn.old).is_open) }
-    ensures told { HasCleanDisk (state S.Store conn.new) → IsTrue (state S.Store conn.new).is_open → IfOk result (λ all. IsTrue all ↔ AreReadable (contents_of (state S.Store conn.old).now)) }
     ensures cause { HasCleanDisk (state S.Store conn.new) → IfErr result (FailsToTest (state S.Store conn.old) (state S.Store conn.new)
         (¬ AllByRecursion (λ t. IsKeyed (rows_named (state S.Store conn.old).now t.name)) our_tables)) }
-    ensures was_open { HasCleanDisk (state S.Store conn.new) → IsTrue (state S.Store conn.new).is_open → IsTrue (state S.Store conn.old).is_open }
-    ensures same { HasCleanDisk (state S.Store conn.new) → IsTrue (state S.Store conn.new).is_open → ((state S.Store conn.new).now ≡ (state S.Store conn.old).now) × ((state S.Store conn.new).committed ≡ (state S.Store conn.old).committed) }
+    ensures same { HasCleanDisk (state S.Store conn.new) → IsAsBefore (state S.Store conn.old) (state S.Store conn.new) }
     ensures survives { Survives (state S.Store conn.old) (state S.Store conn.new) (λ _. ⊥) }
 {
-    let mut tx = conn.transaction();
-    let tested = test(alloc, &mut tx);
-    tx.rollback();
-    tested
-}
-
-/// Succeeds if no fault has shut the connection.
-#[tactic(auto, using(crate::proofs::Scans::shown_open))]
-fn ask<S: Alter>(tx: &mut Transaction<'_, S>) -> Result<(), Failure>
-    requires { HasCleanDisk (state S.Store tx.old.conn.now) → (state S.Store tx.old.conn.now).in_transaction ≡ true }
-    ensures same_reference { tx.new.conn.ghost_name ≡ tx.old.conn.ghost_name }
-    ensures open { HasCleanDisk (state S.Store tx.new.conn.now) → OnOk result (IsTrue (state S.Store tx.old.conn.now).is_open) }
-    ensures cause { HasCleanDisk (state S.Store tx.new.conn.now) → IfErr result (FailsToTest (state S.Store tx.old.conn.now) (state S.Store tx.new.conn.now) ⊥) }
-    ensures kept { HasCleanDisk (state S.Store tx.new.conn.now) → KeepsCommit (state S.Store tx.old.conn.now) (state S.Store tx.new.conn.now) }
-    ensures survives { Survives (state S.Store tx.old.conn.now) (state S.Store tx.new.conn.now) (λ _. ⊥) }
-{
-    let _one = statement::query(tx, "SELECT 1", &[])?;
-    Ok(())
+    keyed::all(alloc, conn)?;
+    readable::all(conn)
 }
 
 /// Succeeds if no fault has shut the connection. Nothing changes.
@@ -82,14 +46,11 @@ fn probe<S: Alter>(conn: &mut Connection<S>) -> Result<(), Failure>
     ensures alone { conn.new.in_transaction ≡ false }
     ensures open { HasCleanDisk (state S.Store conn.new) → OnOk result (IsTrue (state S.Store conn.old).is_open) }
     ensures cause { HasCleanDisk (state S.Store conn.new) → IfErr result (FailsToTest (state S.Store conn.old) (state S.Store conn.new) ⊥) }
-    ensures was_open { HasCleanDisk (state S.Store conn.new) → IsTrue (state S.Store conn.new).is_open → IsTrue (state S.Store conn.old).is_open }
-    ensures same { HasCleanDisk (state S.Store conn.new) → IsTrue (state S.Store conn.new).is_open → ((state S.Store conn.new).now ≡ (state S.Store conn.old).now) × ((state S.Store conn.new).committed ≡ (state S.Store conn.old).committed) }
+    ensures same { HasCleanDisk (state S.Store conn.new) → IsAsBefore (state S.Store conn.old) (state S.Store conn.new) }
     ensures survives { Survives (state S.Store conn.old) (state S.Store conn.new) (λ _. ⊥) }
 {
-    let mut tx = conn.transaction();
-    let asked = ask(&mut tx);
-    tx.rollback();
-    asked
+    conn.query_all("SELECT 1", &[])?;
+    Ok(())
 }
 
 /// What the connection's schema holds of ours.
@@ -120,7 +81,7 @@ pub fn open<S: Alter>(alloc: Global, conn: &mut Connection<S>) -> Result<Finding
     prove!(settled);
     let found = find(conn);
     if let Finding::Ours = found {
-        if !check(alloc, conn)? {
+        if !test(alloc, conn)? {
             return Ok(Finding::Other);
         }
     } else {

@@ -1,21 +1,23 @@
 //! That each row of our tables has a rowid of its own, an integer: deletes rest on it.
 
-ghost use Rattle.std.specs.Prelude.{◌≡◌, ◌↔◌, ◌⊎◌, [], IfOk, IfErr, OnOk, IsTrue, true, length, map, List, ℤ};
+ghost use Rattle.std.specs.Prelude.{◌≡◌, ◌↔◌, ◌⊎◌, [], IfOk, IfErr, OnOk, IsTrue, true, false, length, map, List, ℤ};
 ghost use Rattle.std.specs.List.{AllAdjacentBelow, IsDistinct};
 ghost use Rattle.std.specs.declared.cmp.Ordering.TheVariants.{Less};
 ghost use Rattle.std.specs.Ordering.{eq_by_cmp, int_cmp};
 ghost use Rattle.sqlite_value.specs.declared.value.Value.TheVariants.{Int};
 ghost use Rattle.sqlite_value.specs.Order.{Row as Values, column};
-ghost use Rattle.sqlite.specs.State.{HasCleanDisk, KeepsCommit, Survives, Shown};
+ghost use Rattle.sqlite.specs.State.{HasCleanDisk, Survives};
 ghost use Rattle.sqlite.specs.Held.{state};
 ghost use Rattle.sqlite.specs.Values.{IsInt};
 ghost use Rattle.rows.specs.declared.failure.Failure.TheVariants.{Memory, Disk};
+ghost use Rattle.rows.specs.Calls.{IsAsBefore};
 ghost use Rattle.rows.specs.Failures.{IsQueryFailure};
+ghost use Rattle.rows.specs.Queries.{IsRead, Gives, Answers};
 ghost use Rattle.rows.specs.Opened.{ShowIds};
 
 use crate::failure::Failure;
-use crate::statement;
-use sqlite::{Alter, Row, Transaction};
+use crate::reading::{Sink, read_into};
+use sqlite::{Alter, Connection, Row};
 use std::alloc::Global;
 
 /// An error that is no want of memory is `Disk`, whatever it is.
@@ -32,15 +34,21 @@ fn read_id(row: &Row) -> Result<i64, Failure>
     }
 }
 
-fn read_ids(alloc: Global, rows: &[Row]) -> Result<Vec<i64>, Failure>
-    ensures shown { IfOk result (λ ids. map (λ row. column row 0) rows.now ≡ map Int ids.items) }
-    ensures cause { IfErr result (λ f. (f ≡ Memory) ⊎ ((f ≡ Disk) × ¬ ShowIds rows.now)) }
-{
-    let mut ids = Vec::new(alloc);
-    for row in rows {
-        ids.push(read_id(row)?)?;
+/// The rowids that rows show.
+#[derive(Drop)]
+struct Rowids {
+    ids: Vec<i64>,
+}
+
+impl Sink for Rowids {
+    ghost is_of = { λ rows it. map (λ row. column row 0) rows ≡ map Int it.ids.items };
+
+    ghost is_amiss = { λ rows. ¬ ShowIds rows };
+
+    fn take(&mut self, row: &Row) -> Result<(), Failure> {
+        self.ids.push(read_id(row)?)?;
+        Ok(())
     }
-    Ok(ids)
 }
 
 fn rise(ids: &[i64]) -> bool
@@ -65,20 +73,22 @@ fn differ(mut ids: Vec<i64>) -> Result<bool, Failure>
 /// Succeeds if the query shows integers that differ, and fails with `Disk` if not.
 pub(crate) fn check<S: Alter>(
     alloc: Global,
-    tx: &mut Transaction<'_, S>,
+    conn: &mut Connection<S>,
     text: &str,
 ) -> Result<(), Failure>
-    requires { HasCleanDisk (state S.Store tx.old.conn.now) → (state S.Store tx.old.conn.now).in_transaction ≡ true }
-    ensures same_reference { tx.new.conn.ghost_name ≡ tx.old.conn.ghost_name }
-    ensures shown { HasCleanDisk (state S.Store tx.new.conn.now) → OnOk result ((rows : List Values) × Shown text.now [] (state S.Store tx.old.conn.now) (state S.Store tx.new.conn.now) rows × ShowIds rows) }
-    ensures cause { HasCleanDisk (state S.Store tx.new.conn.now) → IfErr result (λ f. IsQueryFailure text.now [] (state S.Store tx.old.conn.now) (state S.Store tx.new.conn.now) f
-        ⊎ ((rows : List Values) × Shown text.now [] (state S.Store tx.old.conn.now) (state S.Store tx.new.conn.now) rows × ((f ≡ Memory) ⊎ ((f ≡ Disk) × ¬ ShowIds rows)))) }
-    ensures kept { HasCleanDisk (state S.Store tx.new.conn.now) → KeepsCommit (state S.Store tx.old.conn.now) (state S.Store tx.new.conn.now) }
-    ensures survives { Survives (state S.Store tx.old.conn.now) (state S.Store tx.new.conn.now) (λ _. ⊥) }
+    requires { IsRead text.now }
+    ensures alone { conn.old.in_transaction ≡ false → conn.new.in_transaction ≡ false }
+    ensures shown { HasCleanDisk (state S.Store conn.new) → OnOk result ((rows : List Values) × Answers text.now [] (state S.Store conn.old) (state S.Store conn.new) rows × ShowIds rows) }
+    ensures cause { HasCleanDisk (state S.Store conn.new) → IfErr result (λ f. IsQueryFailure text.now [] (state S.Store conn.old) (state S.Store conn.new) f
+        ⊎ ((rows : List Values) × Gives text.now [] (state S.Store conn.old) (state S.Store conn.new) rows × ((f ≡ Memory) ⊎ ((f ≡ Disk) × ¬ ShowIds rows)))) }
+    ensures same { HasCleanDisk (state S.Store conn.new) → (IsTrue (state S.Store conn.old).is_open → (state S.Store conn.old).now ≡ (state S.Store conn.old).committed) → IsAsBefore (state S.Store conn.old) (state S.Store conn.new) }
+    ensures survives { Survives (state S.Store conn.old) (state S.Store conn.new) (λ _. ⊥) }
 {
-    let rows = statement::query(tx, text, &[])?;
-    let ids = read_ids(alloc, &rows)?;
-    if differ(ids)? {
+    let none = Rowids {
+        ids: Vec::new(alloc),
+    };
+    let read = read_into(conn, text, &[], none)?;
+    if differ(read.ids)? {
         Ok(())
     } else {
         Err(Failure::Disk)

@@ -1,59 +1,17 @@
 //! The ways to run a statement inside a transaction.
 
-ghost use Rattle.std.specs.Prelude.{◌≡◌, ◌≢◌, ◌⊎◌, IfOk, IfErr, OnOk, OnErr, Ok, List, ℕ, true, length};
-ghost use Rattle.std.specs.List.{AllZip, AllAdjacentBelow};
-ghost use Rattle.sqlite_value.specs.Order.{Row as Values};
-ghost use Rattle.sqlite.specs.State.{HasCleanDisk, IsUnchanged, KeepsCommit, Survives, Shown, ExecutesInside};
+ghost use Rattle.std.specs.Prelude.{◌≡◌, ◌≢◌, IfErr, OnOk, OnErr, Ok, ℕ, true};
+ghost use Rattle.sqlite.specs.State.{HasCleanDisk, IsUnchanged, KeepsCommit, Survives, ExecutesInside};
 ghost use Rattle.sqlite.specs.Held.{state};
 ghost use Rattle.sqlite.specs.Values.{bound};
-ghost use Rattle.rows.specs.declared.failure.Failure.TheVariants.{Memory, Disk};
 ghost use Rattle.sqlite.specs.declared.error.Error.TheVariants.{SqliteFailure};
 ghost use Rattle.sqlite.specs.declared.error.ErrorCode.TheVariants.{OperationInterrupted};
-ghost use Rattle.rows.specs.Failures.{failure_of, FailsWith, IsQueryFailure, IsWriteFailure, IsAdditionFailure, unsized};
-ghost use Rattle.rows.specs.Entries.{IsAmiss};
+ghost use Rattle.rows.specs.Failures.{failure_of, FailsWith, IsWriteFailure, IsAdditionFailure, without_size};
 ghost use Rattle.rows.specs.Calls.{IsUnderWay};
 
-use crate::entry::{self, Entry};
 use crate::failure::Failure;
 use sqlite::types::ValueRef;
-use sqlite::{Alter, Error, ErrorCode, Row, Transaction};
-use std::alloc::Global;
-
-/// The rows that a query shows.
-pub(crate) fn query<S: Alter>(
-    tx: &mut Transaction<'_, S>,
-    text: &str,
-    params: &[ValueRef<'_>],
-) -> Result<Vec<Row>, Failure>
-    requires { HasCleanDisk (state S.Store tx.old.conn.now) → (state S.Store tx.old.conn.now).in_transaction ≡ true }
-    ensures same_reference { tx.new.conn.ghost_name ≡ tx.old.conn.ghost_name }
-    ensures shown { HasCleanDisk (state S.Store tx.new.conn.now) → IfOk result (λ rows. Shown text.now (bound params.now) (state S.Store tx.old.conn.now) (state S.Store tx.new.conn.now) rows.items) }
-    ensures cause { HasCleanDisk (state S.Store tx.new.conn.now) → IfErr result (IsQueryFailure text.now (bound params.now) (state S.Store tx.old.conn.now) (state S.Store tx.new.conn.now)) }
-    ensures kept { HasCleanDisk (state S.Store tx.new.conn.now) → KeepsCommit (state S.Store tx.old.conn.now) (state S.Store tx.new.conn.now) }
-    ensures survives { Survives (state S.Store tx.old.conn.now) (state S.Store tx.new.conn.now) (λ _. ⊥) }
-{
-    let rows = tx.query_all(text, params)?;
-    Ok(rows)
-}
-
-/// The entries that a query shows.
-pub(crate) fn select<S: Alter, T: Entry>(
-    alloc: Global,
-    tx: &mut Transaction<'_, S>,
-    text: &str,
-    params: &[ValueRef<'_>],
-) -> Result<Vec<T>, Failure>
-    requires { HasCleanDisk (state S.Store tx.old.conn.now) → (state S.Store tx.old.conn.now).in_transaction ≡ true }
-    ensures same_reference { tx.new.conn.ghost_name ≡ tx.old.conn.ghost_name }
-    ensures shown { HasCleanDisk (state S.Store tx.new.conn.now) → IfOk result (λ all. (rows : List Values) × Shown text.now (bound params.now) (state S.Store tx.old.conn.now) (state S.Store tx.new.conn.now) rows × AllZip T.is_shown rows all.items) }
-    ensures rises { IfOk result (λ all. AllAdjacentBelow (λ x y. true ≡ T.is_below x y) all.items (length all.items)) }
-    ensures cause { HasCleanDisk (state S.Store tx.new.conn.now) → IfErr result (λ f. IsQueryFailure text.now (bound params.now) (state S.Store tx.old.conn.now) (state S.Store tx.new.conn.now) f ⊎ ((rows : List Values) × Shown text.now (bound params.now) (state S.Store tx.old.conn.now) (state S.Store tx.new.conn.now) rows × ((f ≡ Memory) ⊎ ((f ≡ Disk) × IsAmiss T.is_legible T.is_shown T.is_below rows)))) }
-    ensures failed { HasCleanDisk (state S.Store tx.new.conn.now) → OnErr result (KeepsCommit (state S.Store tx.old.conn.now) (state S.Store tx.new.conn.now)) }
-    ensures survives { Survives (state S.Store tx.old.conn.now) (state S.Store tx.new.conn.now) (λ _. ⊥) }
-{
-    let rows = query(tx, text, params)?;
-    entry::entries(alloc, &rows)
-}
+use sqlite::{Alter, Error, ErrorCode, Transaction};
 
 /// Runs a write.
 pub(crate) fn run<S: Alter>(
@@ -74,7 +32,7 @@ pub(crate) fn run<S: Alter>(
 
 /// The failure of a write whose row can't be too large: a shut connection alone may name a size, so that is the disk's.
 pub(crate) fn without_size(failure: Failure) -> Failure
-    ensures { result ≡ unsized failure }
+    ensures { result ≡ without_size failure }
 {
     match failure {
         Failure::Memory => Failure::Memory,
@@ -91,7 +49,7 @@ pub(crate) fn remove<S: Alter>(
     requires { HasCleanDisk (state S.Store tx.old.conn.now) → IsUnderWay (state S.Store tx.old.conn.now) }
     ensures same_reference { tx.new.conn.ghost_name ≡ tx.old.conn.ghost_name }
     ensures ran { HasCleanDisk (state S.Store tx.new.conn.now) → OnOk result ((count : ℕ) × ExecutesInside 0 text.now (bound params.now) (state S.Store tx.old.conn.now) (state S.Store tx.new.conn.now) (Ok count)) }
-    ensures cause { HasCleanDisk (state S.Store tx.new.conn.now) → IfErr result (λ f. (g : Failure) × (f ≡ unsized g) × IsWriteFailure text.now (bound params.now) (state S.Store tx.old.conn.now) (state S.Store tx.new.conn.now) g) }
+    ensures cause { HasCleanDisk (state S.Store tx.new.conn.now) → IfErr result (λ f. (g : Failure) × (f ≡ without_size g) × IsWriteFailure text.now (bound params.now) (state S.Store tx.old.conn.now) (state S.Store tx.new.conn.now) g) }
     ensures failed { HasCleanDisk (state S.Store tx.new.conn.now) → OnErr result (KeepsCommit (state S.Store tx.old.conn.now) (state S.Store tx.new.conn.now)) }
     ensures survives { Survives (state S.Store tx.old.conn.now) (state S.Store tx.new.conn.now) (λ _. ⊥) }
 {

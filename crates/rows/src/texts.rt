@@ -1,19 +1,22 @@
 //! That the texts of our tables are UTF-8.
 
-ghost use Rattle.std.specs.Prelude.{◌≡◌, ◌↔◌, [], List, IfOk, IfErr, IsTrue, true};
+ghost use Rattle.std.specs.Prelude.{◌≡◌, ◌↔◌, ◌⊎◌, [], List, IfOk, IfErr, IsTrue, true, false};
 ghost use Rattle.std.specs.List.{AllByRecursion};
 ghost use Rattle.sqlite_value.specs.declared.value.Value.{Value};
 ghost use Rattle.sqlite_value.specs.Value.{owned};
 ghost use Rattle.sqlite_value.specs.Order.{Row as Values};
-ghost use Rattle.sqlite.specs.State.{HasCleanDisk, KeepsCommit, Survives, Shown};
+ghost use Rattle.sqlite.specs.State.{HasCleanDisk, IsUnchanged, Survives};
 ghost use Rattle.sqlite.specs.Held.{state};
 ghost use Rattle.rows.specs.Texts.{IsReadable, IsReadableRow};
+ghost use Rattle.rows.specs.Calls.{IsAsBefore};
 ghost use Rattle.rows.specs.Failures.{IsQueryFailure};
+ghost use Rattle.rows.specs.Queries.{IsRead, Answers};
+ghost use Rattle.rows.specs.declared.failure.Failure.TheVariants.{Memory};
 
 use crate::failure::Failure;
-use crate::statement;
+use crate::reading::{Sink, read_into};
 use sqlite::types::ValueRef;
-use sqlite::{Alter, Row, Transaction};
+use sqlite::{Alter, Connection, Row};
 
 fn is_readable(value: ValueRef<'_>) -> bool
     ensures { IsTrue result ↔ IsReadable (owned value.entry) }
@@ -37,22 +40,34 @@ fn are_readable(row: &Row) -> bool
     true
 }
 
-fn all_readable(rows: &[Row]) -> bool
-    ensures { IsTrue result ↔ AllByRecursion IsReadableRow rows.now }
-{
-    rows.iter().all(are_readable)
+/// Whether each text that rows show is UTF-8.
+#[derive(Drop)]
+struct Texts {
+    are_readable: bool,
+}
+
+impl Sink for Texts {
+    ghost is_of = { λ rows it. IsTrue it.are_readable ↔ AllByRecursion IsReadableRow rows };
+
+    ghost is_amiss = { λ rows. ⊥ };
+
+    fn take(&mut self, row: &Row) -> Result<(), Failure> {
+        self.are_readable &= are_readable(row);
+        Ok(())
+    }
 }
 
 /// Whether each text that the query shows is UTF-8.
-pub(crate) fn check<S: Alter>(tx: &mut Transaction<'_, S>, text: &str) -> Result<bool, Failure>
-    requires { HasCleanDisk (state S.Store tx.old.conn.now) → (state S.Store tx.old.conn.now).in_transaction ≡ true }
-    ensures same_reference { tx.new.conn.ghost_name ≡ tx.old.conn.ghost_name }
-    ensures shown { HasCleanDisk (state S.Store tx.new.conn.now) → IfOk result (λ all. (rows : List Values) × Shown text.now [] (state S.Store tx.old.conn.now) (state S.Store tx.new.conn.now) rows
+pub(crate) fn check<S: Alter>(conn: &mut Connection<S>, text: &str) -> Result<bool, Failure>
+    requires { IsRead text.now }
+    ensures alone { conn.old.in_transaction ≡ false → conn.new.in_transaction ≡ false }
+    ensures shown { HasCleanDisk (state S.Store conn.new) → IfOk result (λ all. (rows : List Values) × Answers text.now [] (state S.Store conn.old) (state S.Store conn.new) rows
         × (IsTrue all ↔ AllByRecursion IsReadableRow rows)) }
-    ensures cause { HasCleanDisk (state S.Store tx.new.conn.now) → IfErr result (IsQueryFailure text.now [] (state S.Store tx.old.conn.now) (state S.Store tx.new.conn.now)) }
-    ensures kept { HasCleanDisk (state S.Store tx.new.conn.now) → KeepsCommit (state S.Store tx.old.conn.now) (state S.Store tx.new.conn.now) }
-    ensures survives { Survives (state S.Store tx.old.conn.now) (state S.Store tx.new.conn.now) (λ _. ⊥) }
+    ensures cause { HasCleanDisk (state S.Store conn.new) → IfErr result (λ f. IsQueryFailure text.now [] (state S.Store conn.old) (state S.Store conn.new) f
+        ⊎ ((f ≡ Memory) × IsUnchanged (state S.Store conn.old) (state S.Store conn.new))) }
+    ensures same { HasCleanDisk (state S.Store conn.new) → (IsTrue (state S.Store conn.old).is_open → (state S.Store conn.old).now ≡ (state S.Store conn.old).committed) → IsAsBefore (state S.Store conn.old) (state S.Store conn.new) }
+    ensures survives { Survives (state S.Store conn.old) (state S.Store conn.new) (λ _. ⊥) }
 {
-    let rows = statement::query(tx, text, &[])?;
-    Ok(all_readable(&rows))
+    let read = read_into(conn, text, &[], Texts { are_readable: true })?;
+    Ok(read.are_readable)
 }

@@ -1,6 +1,6 @@
 //! The roots of users.
 
-ghost use Rattle.std.specs.Prelude.{◌∷◌, [], ◌≡◌, ◌&&◌, IfOk, IfErr, OnOk, OnErr, IsTrue, None, map, not, pos};
+ghost use Rattle.std.specs.Prelude.{◌∷◌, [], ◌≡◌, ◌&&◌, IfOk, IfErr, OnOk, OnErr, IsTrue, None, map, not, pos, false};
 ghost use Rattle.sqlite_value.specs.declared.value.Value.TheVariants.{Text};
 ghost use Rattle.rows.specs.Forms.{user_root};
 ghost use Rattle.std.specs.Ordering.{eq_by_cmp, is_lt, int_cmp};
@@ -8,14 +8,14 @@ ghost use Rattle.std.specs.FinMap as finite;
 ghost use Rattle.sqlite.specs.State.{HasCleanDisk, KeepsCommit, Survives};
 ghost use Rattle.sqlite.specs.Held.{state};
 ghost use Rattle.rows.specs.Failures.{FailsFor, FailsToInsert};
-ghost use Rattle.rows.specs.Calls.{IsUnderWay, Changes, Stays};
+ghost use Rattle.rows.specs.Calls.{IsUnderWay, Changes, IsReady, IsAsBefore, Rests};
 ghost use Rattle.rows.specs.Contents.{texts_cmp, pair_cmp, contents_of};
 ghost use Rattle.rows.specs.Entries.{user_root_of, ShowsUserRoot, IsTripleRow};
 
 use crate::entry::Entry;
 use crate::failure::Failure;
-use crate::statement;
-use sqlite::{Alter, Row, Transaction, params};
+use crate::{reading, statement};
+use sqlite::{Alter, Connection, Row, Transaction, params};
 use std::alloc::Global;
 use std::cmp::Ordering;
 
@@ -52,18 +52,20 @@ impl Entry for UserRoot {
 }
 
 /// All user roots, in order.
-pub fn all<S: Alter>(alloc: Global, tx: &mut Transaction<'_, S>) -> Result<Vec<UserRoot>, Failure>
-    requires { HasCleanDisk (state S.Store tx.old.conn.now) → IsUnderWay (state S.Store tx.old.conn.now) }
-    ensures same_reference { tx.new.conn.ghost_name ≡ tx.old.conn.ghost_name }
-    ensures reads { HasCleanDisk (state S.Store tx.new.conn.now) → IfOk result (λ all. Stays (state S.Store tx.old.conn.now) (state S.Store tx.new.conn.now)
-        × (map user_root_of all.items ≡ finite.entries (contents_of (state S.Store tx.old.conn.now).now).user_roots)) }
-    ensures cause { HasCleanDisk (state S.Store tx.new.conn.now) → IfErr result (FailsFor (state S.Store tx.old.conn.now) (state S.Store tx.new.conn.now)) }
-    ensures failed { HasCleanDisk (state S.Store tx.new.conn.now) → OnErr result (KeepsCommit (state S.Store tx.old.conn.now) (state S.Store tx.new.conn.now)) }
-    ensures survives { Survives (state S.Store tx.old.conn.now) (state S.Store tx.new.conn.now) (λ _. ⊥) }
+pub fn all<S: Alter>(alloc: Global, conn: &mut Connection<S>) -> Result<Vec<UserRoot>, Failure>
+    requires alone { conn.old.in_transaction ≡ false }
+    requires ready { HasCleanDisk (state S.Store conn.old) → IsTrue (state S.Store conn.old).is_open → IsReady (state S.Store conn.old) }
+    ensures alone { conn.new.in_transaction ≡ false }
+    ensures reads { HasCleanDisk (state S.Store conn.new) → IfOk result (λ all. Rests (state S.Store conn.old) (state S.Store conn.new)
+        × (map user_root_of all.items ≡ finite.entries (contents_of (state S.Store conn.old).now).user_roots)) }
+    ensures cause { HasCleanDisk (state S.Store conn.new) → IfErr result (FailsFor (state S.Store conn.old) (state S.Store conn.new)) }
+    ensures same { HasCleanDisk (state S.Store conn.new) → IsAsBefore (state S.Store conn.old) (state S.Store conn.new) }
+    ensures ready { HasCleanDisk (state S.Store conn.new) → IsTrue (state S.Store conn.new).is_open → IsReady (state S.Store conn.new) }
+    ensures survives { Survives (state S.Store conn.old) (state S.Store conn.new) (λ _. ⊥) }
 {
-    statement::select(
+    reading::select(
         alloc,
-        tx,
+        conn,
         "SELECT owner, name, target FROM user_root ORDER BY owner, name",
         &[],
     )
@@ -72,20 +74,22 @@ pub fn all<S: Alter>(alloc: Global, tx: &mut Transaction<'_, S>) -> Result<Vec<U
 /// The user roots of this owner, in order.
 pub fn of<S: Alter>(
     alloc: Global,
-    tx: &mut Transaction<'_, S>,
+    conn: &mut Connection<S>,
     owner: &str,
 ) -> Result<Vec<UserRoot>, Failure>
-    requires { HasCleanDisk (state S.Store tx.old.conn.now) → IsUnderWay (state S.Store tx.old.conn.now) }
-    ensures same_reference { tx.new.conn.ghost_name ≡ tx.old.conn.ghost_name }
-    ensures reads { HasCleanDisk (state S.Store tx.new.conn.now) → IfOk result (λ all. Stays (state S.Store tx.old.conn.now) (state S.Store tx.new.conn.now)
-        × (map user_root_of all.items ≡ finite.entries (finite.retain_keys (contents_of (state S.Store tx.old.conn.now).now).user_roots (λ k. eq_by_cmp texts_cmp k.0 owner.now)))) }
-    ensures cause { HasCleanDisk (state S.Store tx.new.conn.now) → IfErr result (FailsFor (state S.Store tx.old.conn.now) (state S.Store tx.new.conn.now)) }
-    ensures failed { HasCleanDisk (state S.Store tx.new.conn.now) → OnErr result (KeepsCommit (state S.Store tx.old.conn.now) (state S.Store tx.new.conn.now)) }
-    ensures survives { Survives (state S.Store tx.old.conn.now) (state S.Store tx.new.conn.now) (λ _. ⊥) }
+    requires alone { conn.old.in_transaction ≡ false }
+    requires ready { HasCleanDisk (state S.Store conn.old) → IsTrue (state S.Store conn.old).is_open → IsReady (state S.Store conn.old) }
+    ensures alone { conn.new.in_transaction ≡ false }
+    ensures reads { HasCleanDisk (state S.Store conn.new) → IfOk result (λ all. Rests (state S.Store conn.old) (state S.Store conn.new)
+        × (map user_root_of all.items ≡ finite.entries (finite.retain_keys (contents_of (state S.Store conn.old).now).user_roots (λ k. eq_by_cmp texts_cmp k.0 owner.now)))) }
+    ensures cause { HasCleanDisk (state S.Store conn.new) → IfErr result (FailsFor (state S.Store conn.old) (state S.Store conn.new)) }
+    ensures same { HasCleanDisk (state S.Store conn.new) → IsAsBefore (state S.Store conn.old) (state S.Store conn.new) }
+    ensures ready { HasCleanDisk (state S.Store conn.new) → IsTrue (state S.Store conn.new).is_open → IsReady (state S.Store conn.new) }
+    ensures survives { Survives (state S.Store conn.old) (state S.Store conn.new) (λ _. ⊥) }
 {
-    statement::select(
+    reading::select(
         alloc,
-        tx,
+        conn,
         "SELECT owner, name, target FROM user_root WHERE owner = ?1 ORDER BY owner, name",
         params![owner],
     )
@@ -94,21 +98,23 @@ pub fn of<S: Alter>(
 /// The user root of this owner and this name, if there is one.
 pub fn at<S: Alter>(
     alloc: Global,
-    tx: &mut Transaction<'_, S>,
+    conn: &mut Connection<S>,
     owner: &str,
     name: &str,
 ) -> Result<Vec<UserRoot>, Failure>
-    requires { HasCleanDisk (state S.Store tx.old.conn.now) → IsUnderWay (state S.Store tx.old.conn.now) }
-    ensures same_reference { tx.new.conn.ghost_name ≡ tx.old.conn.ghost_name }
-    ensures reads { HasCleanDisk (state S.Store tx.new.conn.now) → IfOk result (λ all. Stays (state S.Store tx.old.conn.now) (state S.Store tx.new.conn.now)
-        × (map user_root_of all.items ≡ finite.entries (finite.retain_keys (contents_of (state S.Store tx.old.conn.now).now).user_roots (λ k. eq_by_cmp texts_cmp k.0 owner.now && eq_by_cmp texts_cmp k.1 name.now)))) }
-    ensures cause { HasCleanDisk (state S.Store tx.new.conn.now) → IfErr result (FailsFor (state S.Store tx.old.conn.now) (state S.Store tx.new.conn.now)) }
-    ensures failed { HasCleanDisk (state S.Store tx.new.conn.now) → OnErr result (KeepsCommit (state S.Store tx.old.conn.now) (state S.Store tx.new.conn.now)) }
-    ensures survives { Survives (state S.Store tx.old.conn.now) (state S.Store tx.new.conn.now) (λ _. ⊥) }
+    requires alone { conn.old.in_transaction ≡ false }
+    requires ready { HasCleanDisk (state S.Store conn.old) → IsTrue (state S.Store conn.old).is_open → IsReady (state S.Store conn.old) }
+    ensures alone { conn.new.in_transaction ≡ false }
+    ensures reads { HasCleanDisk (state S.Store conn.new) → IfOk result (λ all. Rests (state S.Store conn.old) (state S.Store conn.new)
+        × (map user_root_of all.items ≡ finite.entries (finite.retain_keys (contents_of (state S.Store conn.old).now).user_roots (λ k. eq_by_cmp texts_cmp k.0 owner.now && eq_by_cmp texts_cmp k.1 name.now)))) }
+    ensures cause { HasCleanDisk (state S.Store conn.new) → IfErr result (FailsFor (state S.Store conn.old) (state S.Store conn.new)) }
+    ensures same { HasCleanDisk (state S.Store conn.new) → IsAsBefore (state S.Store conn.old) (state S.Store conn.new) }
+    ensures ready { HasCleanDisk (state S.Store conn.new) → IsTrue (state S.Store conn.new).is_open → IsReady (state S.Store conn.new) }
+    ensures survives { Survives (state S.Store conn.old) (state S.Store conn.new) (λ _. ⊥) }
 {
-    statement::select(
+    reading::select(
         alloc,
-        tx,
+        conn,
         "SELECT owner, name, target FROM user_root WHERE owner = ?1 AND name = ?2 ORDER BY owner, name",
         params![owner, name],
     )

@@ -4,8 +4,7 @@ use crate::fault::Fault;
 use crate::taken;
 use rows::objects::Object;
 use rows::{
-    generations, meta, objects, outputs, permanent, profiles, references, runtime, transaction,
-    user_roots,
+    generations, meta, objects, outputs, permanent, profiles, references, runtime, user_roots,
 };
 use sqlite::{Alter, Connection};
 use std::alloc::{AllocError, Global};
@@ -28,8 +27,7 @@ fn settings<S: Alter>(
 ) -> Result<(), Fault> {
     let alloc = rt.alloc();
     taken::take(alloc, conn)?;
-    let mut tx = transaction::begin(conn);
-    for row in &meta::all(alloc, &mut tx)? {
+    for row in &meta::all(alloc, conn)? {
         let word = hex(alloc, &row.word)?;
         let value = hex(alloc, &row.value)?;
         println!(rt; "meta {word} {value}")?;
@@ -43,8 +41,7 @@ fn references<S: Alter>(
 ) -> Result<(), Fault> {
     let alloc = rt.alloc();
     taken::take(alloc, conn)?;
-    let mut tx = transaction::begin(conn);
-    for row in &references::all(alloc, &mut tx)? {
+    for row in &references::all(alloc, conn)? {
         let base = hex(alloc, &row.base)?;
         let target = hex(alloc, &row.target)?;
         println!(rt; "refs {base} {target}")?;
@@ -58,8 +55,7 @@ fn outputs<S: Alter>(
 ) -> Result<(), Fault> {
     let alloc = rt.alloc();
     taken::take(alloc, conn)?;
-    let mut tx = transaction::begin(conn);
-    for row in &outputs::all(alloc, &mut tx)? {
+    for row in &outputs::all(alloc, conn)? {
         let base = hex(alloc, &row.base)?;
         let name = hex(alloc, &row.name)?;
         let target = hex(alloc, &row.target)?;
@@ -74,8 +70,7 @@ fn permanent_roots<S: Alter>(
 ) -> Result<(), Fault> {
     let alloc = rt.alloc();
     taken::take(alloc, conn)?;
-    let mut tx = transaction::begin(conn);
-    for row in &permanent::all(alloc, &mut tx)? {
+    for row in &permanent::all(alloc, conn)? {
         let name = hex(alloc, &row.name)?;
         let target = hex(alloc, &row.target)?;
         println!(rt; "permanent {name} {target}")?;
@@ -89,8 +84,7 @@ fn roots_of_users<S: Alter>(
 ) -> Result<(), Fault> {
     let alloc = rt.alloc();
     taken::take(alloc, conn)?;
-    let mut tx = transaction::begin(conn);
-    for row in &user_roots::all(alloc, &mut tx)? {
+    for row in &user_roots::all(alloc, conn)? {
         let owner = hex(alloc, &row.owner)?;
         let name = hex(alloc, &row.name)?;
         let target = hex(alloc, &row.target)?;
@@ -105,8 +99,7 @@ fn profiles<S: Alter>(
 ) -> Result<(), Fault> {
     let alloc = rt.alloc();
     taken::take(alloc, conn)?;
-    let mut tx = transaction::begin(conn);
-    for row in &profiles::all(alloc, &mut tx)? {
+    for row in &profiles::all(alloc, conn)? {
         let owner = hex(alloc, &row.owner)?;
         let name = hex(alloc, &row.name)?;
         let current = row.current;
@@ -121,8 +114,7 @@ fn generations<S: Alter>(
 ) -> Result<(), Fault> {
     let alloc = rt.alloc();
     taken::take(alloc, conn)?;
-    let mut tx = transaction::begin(conn);
-    for row in &generations::all(alloc, &mut tx)? {
+    for row in &generations::all(alloc, conn)? {
         let owner = hex(alloc, &row.owner)?;
         let name = hex(alloc, &row.name)?;
         let number = row.number;
@@ -138,8 +130,7 @@ fn runtime_roots<S: Alter>(
 ) -> Result<(), Fault> {
     let alloc = rt.alloc();
     taken::take(alloc, conn)?;
-    let mut tx = transaction::begin(conn);
-    for row in &runtime::all(alloc, &mut tx)? {
+    for row in &runtime::all(alloc, conn)? {
         let label = hex(alloc, &row.label)?;
         let target = hex(alloc, &row.target)?;
         println!(rt; "runtime {label} {target}")?;
@@ -163,9 +154,8 @@ fn objects<S: Alter>(
 ) -> Result<(), Fault> {
     let alloc = rt.alloc();
     taken::take(alloc, conn)?;
-    let mut tx = transaction::begin(conn);
-    for base in &objects::keys(alloc, &mut tx)? {
-        let found = objects::get(alloc, &mut tx, base.as_str())?;
+    for base in &objects::keys(alloc, conn)? {
+        let found = objects::get(alloc, conn, base.as_str())?;
         if let Some(row) = &found {
             object(rt, row)?;
         }

@@ -110,9 +110,8 @@ fn references_in<S: Alter>(
 ) -> Result<(), Fault> {
     let alloc = rt.alloc();
     taken::take(alloc, conn)?;
-    let mut tx = transaction::begin(conn);
     let start = Instant::now(rt)?;
-    let _all = references::all(alloc, &mut tx)?;
+    let _all = references::all(alloc, conn)?;
     watch::told(rt, start)
 }
 
@@ -172,16 +171,16 @@ pub fn delete<S: Alter>(
 
 fn archive<S: Alter>(
     alloc: Global,
-    tx: &mut Transaction<'_, S>,
+    conn: &mut Connection<S>,
     number: u32,
 ) -> Result<usize, Failure>
-    requires { HasCleanDisk (state S.Store tx.old.conn.now) → IsUnderWay (state S.Store tx.old.conn.now) }
-    ensures same_reference { tx.new.conn.ghost_name ≡ tx.old.conn.ghost_name }
-    ensures goes_on { HasCleanDisk (state S.Store tx.new.conn.now) → OnOk result (IsUnderWay (state S.Store tx.new.conn.now)) }
-    ensures clean { HasCleanDisk (state S.Store tx.new.conn.now) → HasCleanDisk (state S.Store tx.old.conn.now) }
+    requires alone { conn.old.in_transaction ≡ false }
+    requires ready { HasCleanDisk (state S.Store conn.old) → IsTrue (state S.Store conn.old).is_open → IsReady (state S.Store conn.old) }
+    ensures alone { conn.new.in_transaction ≡ false }
+    ensures ready { HasCleanDisk (state S.Store conn.new) → IsTrue (state S.Store conn.new).is_open → IsReady (state S.Store conn.new) }
 {
     let name = base(alloc, number)?;
-    let found = objects::get(alloc, tx, name.as_str())?;
+    let found = objects::get(alloc, conn, name.as_str())?;
     Ok(match &found {
         Some(object) => object.nar.len(),
         None => 0,
@@ -190,17 +189,17 @@ fn archive<S: Alter>(
 
 fn read_all<S: Alter>(
     alloc: Global,
-    tx: &mut Transaction<'_, S>,
+    conn: &mut Connection<S>,
     count: u32,
 ) -> Result<usize, Failure>
-    requires { HasCleanDisk (state S.Store tx.old.conn.now) → IsUnderWay (state S.Store tx.old.conn.now) }
-    ensures same_reference { tx.new.conn.ghost_name ≡ tx.old.conn.ghost_name }
-    ensures goes_on { HasCleanDisk (state S.Store tx.new.conn.now) → OnOk result (IsUnderWay (state S.Store tx.new.conn.now)) }
-    ensures clean { HasCleanDisk (state S.Store tx.new.conn.now) → HasCleanDisk (state S.Store tx.old.conn.now) }
+    requires alone { conn.old.in_transaction ≡ false }
+    requires ready { HasCleanDisk (state S.Store conn.old) → IsTrue (state S.Store conn.old).is_open → IsReady (state S.Store conn.old) }
+    ensures alone { conn.new.in_transaction ≡ false }
+    ensures ready { HasCleanDisk (state S.Store conn.new) → IsTrue (state S.Store conn.new).is_open → IsReady (state S.Store conn.new) }
 {
     let mut bytes = 0usize;
     for number in 0..count {
-        bytes = bytes.saturating_add(archive(alloc, tx, number)?);
+        bytes = bytes.saturating_add(archive(alloc, conn, number)?);
     }
     Ok(bytes)
 }
@@ -213,8 +212,7 @@ fn archives_in<S: Alter>(
     let alloc = rt.alloc();
     taken::take(alloc, conn)?;
     let start = Instant::now(rt)?;
-    let mut tx = transaction::begin(conn);
-    let bytes = read_all(alloc, &mut tx, count)?;
+    let bytes = read_all(alloc, conn, count)?;
     watch::told(rt, start)?;
     println!(rt; "{bytes} bytes")?;
     Ok(())

@@ -1,15 +1,16 @@
-//! The rows of the tables as a text, each table in a transaction of its own.
+//! The rows of the tables as a text.
 
+ghost use Rattle.std.specs.Prelude.{◌≡◌, false, IsTrue};
 ghost use Rattle.sqlite.specs.State.{HasCleanDisk};
 ghost use Rattle.sqlite.specs.Held.{state};
-ghost use Rattle.rows.specs.Calls.{IsUnderWay};
+ghost use Rattle.rows.specs.Calls.{IsReady};
 
-use crate::tests::taken::begin;
+use crate::tests::taken::take;
 use rows::failure::Failure;
 use rows::{
     generations, meta, objects, outputs, permanent, profiles, references, runtime, user_roots,
 };
-use sqlite::{Alter, Connection, Transaction};
+use sqlite::{Alter, Connection};
 use std::alloc::Global;
 use std::fmt::{Debug, Write};
 
@@ -77,45 +78,47 @@ fn add<T: Debug + Drop>(text: &mut String, rows: Result<T, Failure>) -> Result<(
 
 fn show_whole<S: Alter>(
     alloc: Global,
-    tx: &mut Transaction<'_, S>,
+    conn: &mut Connection<S>,
     read: Whole,
     text: &mut String,
 ) -> Result<(), Failure>
-    requires { HasCleanDisk (state S.Store tx.old.conn.now) → IsUnderWay (state S.Store tx.old.conn.now) }
+    requires alone { conn.old.in_transaction ≡ false }
+    requires ready { HasCleanDisk (state S.Store conn.old) → IsTrue (state S.Store conn.old).is_open → IsReady (state S.Store conn.old) }
 {
     match read {
-        Whole::Settings => add(text, meta::all(alloc, tx)),
-        Whole::Paths => add(text, objects::keys(alloc, tx)),
-        Whole::Objects => add(text, objects::all(alloc, tx)),
-        Whole::References => add(text, references::all(alloc, tx)),
-        Whole::Outputs => add(text, outputs::all(alloc, tx)),
-        Whole::PermanentRoots => add(text, permanent::all(alloc, tx)),
-        Whole::UserRoots => add(text, user_roots::all(alloc, tx)),
-        Whole::Profiles => add(text, profiles::all(alloc, tx)),
-        Whole::Generations => add(text, generations::all(alloc, tx)),
-        Whole::RuntimeRoots => add(text, runtime::all(alloc, tx)),
+        Whole::Settings => add(text, meta::all(alloc, conn)),
+        Whole::Paths => add(text, objects::keys(alloc, conn)),
+        Whole::Objects => add(text, objects::all(alloc, conn)),
+        Whole::References => add(text, references::all(alloc, conn)),
+        Whole::Outputs => add(text, outputs::all(alloc, conn)),
+        Whole::PermanentRoots => add(text, permanent::all(alloc, conn)),
+        Whole::UserRoots => add(text, user_roots::all(alloc, conn)),
+        Whole::Profiles => add(text, profiles::all(alloc, conn)),
+        Whole::Generations => add(text, generations::all(alloc, conn)),
+        Whole::RuntimeRoots => add(text, runtime::all(alloc, conn)),
     }
 }
 
 fn show_part<S: Alter>(
     alloc: Global,
-    tx: &mut Transaction<'_, S>,
+    conn: &mut Connection<S>,
     read: Part,
     text: &mut String,
 ) -> Result<(), Failure>
-    requires { HasCleanDisk (state S.Store tx.old.conn.now) → IsUnderWay (state S.Store tx.old.conn.now) }
+    requires alone { conn.old.in_transaction ≡ false }
+    requires ready { HasCleanDisk (state S.Store conn.old) → IsTrue (state S.Store conn.old).is_open → IsReady (state S.Store conn.old) }
 {
     match read {
-        Part::Object => add(text, objects::get(alloc, tx, "b")),
-        Part::NoObject => add(text, objects::get(alloc, tx, "c")),
-        Part::References => add(text, references::of(alloc, tx, "b")),
-        Part::Outputs => add(text, outputs::of(alloc, tx, "a")),
-        Part::PermanentRoots => add(text, permanent::of(alloc, tx, "p")),
-        Part::UserRoots => add(text, user_roots::of(alloc, tx, "1000")),
-        Part::UserRoot => add(text, user_roots::at(alloc, tx, "1000", "x")),
-        Part::Profiles => add(text, profiles::of(alloc, tx, "1000")),
-        Part::Profile => add(text, profiles::at(alloc, tx, "1000", "q")),
-        Part::Generations => add(text, generations::of(alloc, tx, "1000", "q")),
+        Part::Object => add(text, objects::get(alloc, conn, "b")),
+        Part::NoObject => add(text, objects::get(alloc, conn, "c")),
+        Part::References => add(text, references::of(alloc, conn, "b")),
+        Part::Outputs => add(text, outputs::of(alloc, conn, "a")),
+        Part::PermanentRoots => add(text, permanent::of(alloc, conn, "p")),
+        Part::UserRoots => add(text, user_roots::of(alloc, conn, "1000")),
+        Part::UserRoot => add(text, user_roots::at(alloc, conn, "1000", "x")),
+        Part::Profiles => add(text, profiles::of(alloc, conn, "1000")),
+        Part::Profile => add(text, profiles::at(alloc, conn, "1000", "q")),
+        Part::Generations => add(text, generations::of(alloc, conn, "1000", "q")),
     }
 }
 
@@ -126,8 +129,8 @@ pub(crate) fn all<S: Alter>(
     text: &mut String,
 ) -> Result<(), Failure> {
     for read in WHOLES {
-        let mut tx = begin(alloc, conn)?;
-        show_whole(alloc, &mut tx, read, text)?;
+        take(alloc, conn)?;
+        show_whole(alloc, conn, read, text)?;
     }
     Ok(())
 }
@@ -139,8 +142,8 @@ pub(crate) fn parts<S: Alter>(
     text: &mut String,
 ) -> Result<(), Failure> {
     for read in PARTS {
-        let mut tx = begin(alloc, conn)?;
-        show_part(alloc, &mut tx, read, text)?;
+        take(alloc, conn)?;
+        show_part(alloc, conn, read, text)?;
     }
     Ok(())
 }

@@ -1,9 +1,9 @@
 //! How a connection is taken up.
 
-ghost use Rattle.std.specs.Prelude.{IfOk};
+ghost use Rattle.std.specs.Prelude.{◌≡◌, false, IsTrue, IfOk, OnOk};
 ghost use Rattle.sqlite.specs.State.{HasCleanDisk};
 ghost use Rattle.sqlite.specs.Held.{state};
-ghost use Rattle.rows.specs.Calls.{IsUnderWay};
+ghost use Rattle.rows.specs.Calls.{IsReady, IsUnderWay};
 
 use rows::failure::Failure;
 use rows::finding::Finding;
@@ -11,16 +11,25 @@ use rows::{making, opening, transaction};
 use sqlite::{Alter, Connection, Transaction};
 use std::alloc::Global;
 
-/// Begins a transaction over our tables; where the connection has none of them, or is inside a transaction, the answer is `Disk`.
+/// Succeeds where the connection has all nine of our tables; where it hasn't, or is inside a transaction, the answer is `Disk`.
+pub(crate) fn take<S: Alter>(alloc: Global, conn: &mut Connection<S>) -> Result<(), Failure>
+    ensures alone { OnOk result (conn.new.in_transaction ≡ false) }
+    ensures ready { HasCleanDisk (state S.Store conn.new) → IsTrue (state S.Store conn.new).is_open → OnOk result (IsReady (state S.Store conn.new)) }
+{
+    if !conn.is_autocommit() || opening::open(alloc, conn)? != Finding::Ours {
+        return Err(Failure::Disk);
+    }
+    Ok(())
+}
+
+/// Begins a transaction over our tables, under the same conditions.
 pub(crate) fn begin<S: Alter>(
     alloc: Global,
     conn: &mut Connection<S>,
 ) -> Result<Transaction<'_, S>, Failure>
     ensures { IfOk result (λ tx. HasCleanDisk (state S.Store tx.conn.now) → IsUnderWay (state S.Store tx.conn.now)) }
 {
-    if !conn.is_autocommit() || opening::open(alloc, conn)? != Finding::Ours {
-        return Err(Failure::Disk);
-    }
+    take(alloc, conn)?;
     Ok(transaction::begin(conn))
 }
 

@@ -6,8 +6,7 @@ use Rattle.sqlite.specs.Held.{state}
 use Rattle.rows.specs.Contents.{rows_named}
 use Rattle.rows.specs.Calls.{IsKeyed}
 use Rattle.rows.proofs.Scans.{err_with}
-use Rattle.rows.proofs.OpeningFailures.{passed_on, fails_for, passes_then, fails_after, not_before}
-use Rattle.sqlite.proofs.StateLemmas.{survives_then}
+use Rattle.rows.proofs.OpeningFailures.{passed_on, fails_for, passes_then, fails_after, not_before, survives_both}
 use Rattle.rows.proofs.keyed.all.Goals as goal
 
 abbrev First : Database → Type 0
@@ -24,31 +23,26 @@ Keyed d = AllByRecursion (λ t. IsKeyed (rows_named d t.name)) our_tables
 
 pub returns-in_err-first-clause-cause : goal.returns-in_err-first-clause-cause
 returns-in_err-first-clause-cause g c clean =
-    let one = state g.S.Store c.args.tx.now.conn.now in
-    let two = state g.S.Store c.first.new.tx.conn.now in
+    let one = state g.S.Store c.args.conn.now in
+    let two = state g.S.Store c.first.new.conn in
     passed_on c.from_residual.result c.in_err-first.field-0.0 _ c.from_residual.ensures.1 (fails_for one two _ _ (λ none all. none (all.0, all.1.0, all.1.1.0)) c.in_err-first.field-0.0 (c.in_err-first.ensures.cause clean))
 
 pub returns-in_err-next-clause-cause : goal.returns-in_err-next-clause-cause
 returns-in_err-next-clause-cause g c clean =
-    let one = state g.S.Store c.args.tx.now.conn.now in
-    let two = state g.S.Store c.first.new.tx.conn.now in
-    let three = state g.S.Store c.next.new.tx.conn.now in
+    let one = state g.S.Store c.args.conn.now in
+    let two = state g.S.Store c.first.new.conn in
+    let three = state g.S.Store c.next.new.conn in
     passed_on c.from_residual-in_err-next.result c.in_err-next.field-0.0 _ c.from_residual-in_err-next.ensures.1
     (fails_after one two three _ _ (λ clean. (c.in_ok-first.ensures.keyed clean).0, c.first.ensures.survives) c.next.ensures.survives clean (not_before Next Keyed (λ d all. (all.1.1.1.0, all.1.1.1.1.0, all.1.1.1.1.1.0)) one two) c.in_err-next.field-0.0 (c.in_err-next.ensures.cause clean))
 
 pub returns-clause-cause : goal.returns-clause-cause
 returns-clause-cause g c clean =
-    let one = state g.S.Store c.args.tx.now.conn.now in
-    let two = state g.S.Store c.first.new.tx.conn.now in
-    let three = state g.S.Store c.next.new.tx.conn.now in
-    let four = state g.S.Store c.last.new.tx.conn.now in
+    let one = state g.S.Store c.args.conn.now in
+    let two = state g.S.Store c.first.new.conn in
+    let three = state g.S.Store c.next.new.conn in
+    let four = state g.S.Store c.last.new.conn in
     let before = passes_then one two three (λ clean. (c.in_ok-first.ensures.keyed clean).0, c.first.ensures.survives) (λ clean. (c.in_ok-next.ensures.keyed clean).0, c.next.ensures.survives) in
     err_with c.last.result _ _ (fails_after one three four _ _ before c.last.ensures.survives clean (not_before Last Keyed (λ d all. (all.1.1.1.1.1.1.0, all.1.1.1.1.1.1.1.0, all.1.1.1.1.1.1.1.1.0)) one three)) (c.last.ensures.cause clean)
 
 pub returns-clause-survives : goal.returns-clause-survives
-returns-clause-survives g c =
-    let a = state g.S.Store c.args.tx.now.conn.now in
-    let b = state g.S.Store c.first.new.tx.conn.now in
-    let d = state g.S.Store c.next.new.tx.conn.now in
-    let e = state g.S.Store c.last.new.tx.conn.now in
-    survives_then a d e (λ _. ⊥) (λ _. ⊥) (λ _. ⊥) (λ clean db h. h) (λ clean db h. h) (survives_then a b d (λ _. ⊥) (λ _. ⊥) (λ _. ⊥) (λ clean db h. h) (λ clean db h. h) c.first.ensures.survives c.next.ensures.survives) c.last.ensures.survives
+returns-clause-survives g c = survives_both _ _ _ c.first.ensures.survives (survives_both _ _ _ c.next.ensures.survives c.last.ensures.survives)

@@ -4,7 +4,7 @@ use Rattle.sqlite.specs.Held.{state}
 use Rattle.rows.specs.Contents.{rows_named}
 use Rattle.rows.specs.Calls.{IsKeyed}
 use Rattle.rows.proofs.Scans.{err_with}
-use Rattle.rows.proofs.OpeningFailures.{passed_on, fails_for, passes_then, fails_after, not_before}
+use Rattle.rows.proofs.OpeningFailures.{passed_on, fails_for, passes_then, fails_after, not_before, survives_both}
 use Rattle.rows.proofs.keyed.next.Goals as goal
 
 abbrev Keyed : Database → Type 0
@@ -12,23 +12,26 @@ Keyed d = IsKeyed (rows_named d (codes "outs")) × IsKeyed (rows_named d (codes 
 
 pub returns-in_err-outs-clause-cause : goal.returns-in_err-outs-clause-cause
 returns-in_err-outs-clause-cause g c clean =
-    let one = state g.S.Store c.args.tx.now.conn.now in
-    let two = state g.S.Store c.outs.new.tx.conn.now in
+    let one = state g.S.Store c.args.conn.now in
+    let two = state g.S.Store c.outs.new.conn in
     passed_on c.from_residual.result c.in_err-outs.field-0.0 _ c.from_residual.ensures.1 (fails_for one two _ _ (λ none all. none all.0) c.in_err-outs.field-0.0 (c.in_err-outs.ensures.cause clean))
 
 pub returns-in_err-permanent-clause-cause : goal.returns-in_err-permanent-clause-cause
 returns-in_err-permanent-clause-cause g c clean =
-    let one = state g.S.Store c.args.tx.now.conn.now in
-    let two = state g.S.Store c.outs.new.tx.conn.now in
-    let three = state g.S.Store c.permanent.new.tx.conn.now in
+    let one = state g.S.Store c.args.conn.now in
+    let two = state g.S.Store c.outs.new.conn in
+    let three = state g.S.Store c.permanent.new.conn in
     passed_on c.from_residual-in_err-permanent.result c.in_err-permanent.field-0.0 _ c.from_residual-in_err-permanent.ensures.1
     (fails_after one two three _ _ (λ clean. (c.in_ok-outs.ensures.keyed clean).0, c.outs.ensures.survives) c.permanent.ensures.survives clean (not_before (λ (d : Database). IsKeyed (rows_named d (codes "permanent"))) Keyed (λ d all. all.1) one two) c.in_err-permanent.field-0.0 (c.in_err-permanent.ensures.cause clean))
 
 pub returns-clause-cause : goal.returns-clause-cause
 returns-clause-cause g c clean =
-    let one = state g.S.Store c.args.tx.now.conn.now in
-    let two = state g.S.Store c.outs.new.tx.conn.now in
-    let three = state g.S.Store c.permanent.new.tx.conn.now in
-    let four = state g.S.Store c.user_root.new.tx.conn.now in
+    let one = state g.S.Store c.args.conn.now in
+    let two = state g.S.Store c.outs.new.conn in
+    let three = state g.S.Store c.permanent.new.conn in
+    let four = state g.S.Store c.user_root.new.conn in
     let before = passes_then one two three (λ clean. (c.in_ok-outs.ensures.keyed clean).0, c.outs.ensures.survives) (λ clean. (c.in_ok-permanent.ensures.keyed clean).0, c.permanent.ensures.survives) in
     err_with c.user_root.result _ _ (fails_after one three four _ _ before c.user_root.ensures.survives clean (not_before (λ (d : Database). IsKeyed (rows_named d (codes "user_root"))) Keyed (λ d all. all.2) one three)) (c.user_root.ensures.cause clean)
+
+pub returns-clause-survives : goal.returns-clause-survives
+returns-clause-survives g c = survives_both _ _ _ c.outs.ensures.survives (survives_both _ _ _ c.permanent.ensures.survives c.user_root.ensures.survives)

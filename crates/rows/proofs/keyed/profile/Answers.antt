@@ -2,30 +2,29 @@ use Rattle.std.proofs.Common.{arith}
 use Rattle.sqlite.specs.State.{HasCleanDisk}
 use Rattle.sqlite.specs.Held.{state}
 use Rattle.rows.specs.Forms.{profile}
-use Rattle.rows.proofs.Scans.{on_ok, shown_open}
-use Rattle.rows.proofs.OwnRowids.{keyed_if, inside_after}
-use Rattle.rows.proofs.RowidTexts.{by_two, profile_text, profile_is}
+use Rattle.rows.proofs.Scans.{on_ok, err_with}
+use Rattle.rows.proofs.OpeningFailures.{rests_after}
+use Rattle.rows.proofs.OwnRowids.{keyed_if}
+use Rattle.rows.proofs.RowidTexts.{by_two, profile_text, profile_read, profile_is}
 use Rattle.rows.proofs.RowidFailures.{profile_fails}
-use Rattle.rows.proofs.Scans.{err_with}
 use Rattle.rows.proofs.keyed.profile.Goals as goal
 
-pub returns-clause-inside : goal.returns-clause-inside
-returns-clause-inside g c clean =
-    let old = state g.S.Store c.args.tx.now.conn.now in
-    let new = state g.S.Store c.check.new.tx.conn.now in
-    let early : HasCleanDisk old = omega (arith, c.check.ensures.survives.clean) in
-    on_ok c.check.result _ _ (λ shown. let has = (c.requires early).has (shown_open _ _ old new shown.0 shown.1) in inside_after old new (c.requires early) (keyed_if profile.name profile.columns profile.primary profile_text by_two old new has.1.1.1.1.1.1.0 profile_is shown).0) (c.check.ensures.shown clean)
+pub check-requires : goal.check-requires
+check-requires g c = profile_read
+
+pub returns-clause-rests : goal.returns-clause-rests
+returns-clause-rests g c clean =
+    let early : HasCleanDisk (state g.S.Store c.args.conn.now) = omega (arith, c.check.ensures.survives.clean) in
+    rests_after _ _ (c.requires.rests early) (c.check.ensures.same clean (c.requires.rests early).settled)
 
 pub returns-clause-keyed : goal.returns-clause-keyed
 returns-clause-keyed g c clean =
-    let old = state g.S.Store c.args.tx.now.conn.now in
-    let new = state g.S.Store c.check.new.tx.conn.now in
+    let old = state g.S.Store c.args.conn.now in
     let early : HasCleanDisk old = omega (arith, c.check.ensures.survives.clean) in
-    on_ok c.check.result _ _ (λ shown. let has = (c.requires early).has (shown_open _ _ old new shown.0 shown.1) in keyed_if profile.name profile.columns profile.primary profile_text by_two old new has.1.1.1.1.1.1.0 profile_is shown) (c.check.ensures.shown clean)
+    on_ok c.check.result _ _ (λ shown. let has = (c.requires.rests early).has shown.1.1.1.0.was_open in keyed_if profile.name profile.columns profile.primary profile_text by_two old (state g.S.Store c.check.new.conn) has.1.1.1.1.1.1.0 profile_is shown) (c.check.ensures.shown clean)
 
 pub returns-clause-cause : goal.returns-clause-cause
 returns-clause-cause g c clean =
-    let old = state g.S.Store c.args.tx.now.conn.now in
-    let new = state g.S.Store c.check.new.tx.conn.now in
+    let old = state g.S.Store c.args.conn.now in
     let early : HasCleanDisk old = omega (arith, c.check.ensures.survives.clean) in
-    err_with c.check.result _ _ (profile_fails old new (c.requires early)) (c.check.ensures.cause clean)
+    err_with c.check.result _ _ (profile_fails old (state g.S.Store c.check.new.conn) (c.requires.rests early)) (c.check.ensures.cause clean)

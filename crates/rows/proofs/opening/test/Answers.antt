@@ -1,38 +1,29 @@
 use Rattle.std.proofs.Common.{arith}
 use Rattle.sqlite.specs.State.{HasCleanDisk}
 use Rattle.sqlite.specs.Held.{state}
-use Rattle.sqlite.proofs.InsideLemmas.{keeps_then}
 use Rattle.rows.proofs.Opened.{any_ok, tested}
 use Rattle.rows.proofs.opening.test.Goals as goal
 
-pub returns-clause-ours : goal.returns-clause-ours
-returns-clause-ours g c clean =
-    let a = state g.S.Store c.args.tx.now.conn.now in
-    let m = state g.S.Store c.all.new.tx.conn.now in
-    let n = state g.S.Store c.all-2.new.tx.conn.now in
+pub returns-clause-ready : goal.returns-clause-ready
+returns-clause-ready g c clean =
+    let a = state g.S.Store c.args.conn.now in
+    let m = state g.S.Store c.all.new.conn in
+    let n = state g.S.Store c.all-2.new.conn in
     let clean2 : HasCleanDisk m = omega (arith, c.all-2.ensures.survives.clean) in
     let clean1 : HasCleanDisk a = omega (arith, c.all.ensures.survives.clean) in
-    (tested a m n c.all-2.result (c.requires.inside clean1) (c.requires.sound clean1) (c.requires.settled clean1) (c.in_ok-all.ensures.keyed clean2) (c.all-2.ensures.told clean)).0
+    (tested a m n c.all-2.result (c.requires.rests clean1) (c.requires.sound clean1) (c.in_ok-all.ensures.keyed clean2) (c.all-2.ensures.told clean)).0
 
 pub returns-clause-told : goal.returns-clause-told
 returns-clause-told g c clean =
-    let a = state g.S.Store c.args.tx.now.conn.now in
-    let m = state g.S.Store c.all.new.tx.conn.now in
-    let n = state g.S.Store c.all-2.new.tx.conn.now in
+    let a = state g.S.Store c.args.conn.now in
+    let m = state g.S.Store c.all.new.conn in
+    let n = state g.S.Store c.all-2.new.conn in
     let clean2 : HasCleanDisk m = omega (arith, c.all-2.ensures.survives.clean) in
     let clean1 : HasCleanDisk a = omega (arith, c.all.ensures.survives.clean) in
-    (tested a m n c.all-2.result (c.requires.inside clean1) (c.requires.sound clean1) (c.requires.settled clean1) (c.in_ok-all.ensures.keyed clean2) (c.all-2.ensures.told clean)).1
-
-pub returns-clause-kept : goal.returns-clause-kept
-returns-clause-kept g c clean =
-    let a = state g.S.Store c.args.tx.now.conn.now in
-    let m = state g.S.Store c.all.new.tx.conn.now in
-    let n = state g.S.Store c.all-2.new.tx.conn.now in
-    let clean2 : HasCleanDisk m = omega (arith, c.all-2.ensures.survives.clean) in
-    keeps_then a m n (c.all.ensures.kept clean2) (c.all-2.ensures.kept clean)
+    (tested a m n c.all-2.result (c.requires.rests clean1) (c.requires.sound clean1) (c.in_ok-all.ensures.keyed clean2) (c.all-2.ensures.told clean)).1
 
 pub returns-clause-open : goal.returns-clause-open
 returns-clause-open g c clean =
-    let m = state g.S.Store c.all.new.tx.conn.now in
+    let m = state g.S.Store c.all.new.conn in
     let clean2 : HasCleanDisk m = omega (arith, c.all-2.ensures.survives.clean) in
     any_ok c.all-2.result _ (c.in_ok-all.ensures.keyed clean2).0.was_open

@@ -2,57 +2,31 @@ use Rattle.std.proofs.Common.{codes, arith}
 use Rattle.sqlite.specs.Effect.{Database}
 use Rattle.sqlite.specs.State.{HasCleanDisk}
 use Rattle.sqlite.specs.Held.{state}
-use Rattle.sqlite.proofs.StateLemmas.{survives_then}
-use Rattle.sqlite.proofs.InsideLemmas.{keeps_then}
 use Rattle.rows.specs.Contents.{rows_named}
 use Rattle.rows.specs.Forms.{profile, generation, runtime}
 use Rattle.rows.specs.Texts.{AreReadableRows}
 use Rattle.rows.proofs.ReadableRows.{all_three}
-use Rattle.rows.proofs.OpeningFailures.{passed_on, passes_then, fails_after}
+use Rattle.rows.proofs.OpeningFailures.{passed_on, passes_then, fails_after, as_before_then, survives_both}
 use Rattle.rows.proofs.readable.last.Goals as goal
 
-pub returns-in_err-generation-clause-kept : goal.returns-in_err-generation-clause-kept
-returns-in_err-generation-clause-kept g c clean =
-    let one = state g.S.Store c.args.tx.now.conn.now in
-    let two = state g.S.Store c.profile.new.tx.conn.now in
-    let three = state g.S.Store c.generation.new.tx.conn.now in
-    let clean2 : HasCleanDisk two = omega (arith, c.generation.ensures.survives.clean) in
-    keeps_then one two three (c.profile.ensures.kept clean2) (c.generation.ensures.kept clean)
+pub returns-in_err-runtime-clause-same : goal.returns-in_err-runtime-clause-same
+returns-in_err-runtime-clause-same g c = as_before_then _ _ _ (as_before_then _ _ _ c.profile.ensures.same c.generation.ensures.same c.generation.ensures.survives) c.runtime.ensures.same c.runtime.ensures.survives
 
-pub returns-in_err-runtime-clause-kept : goal.returns-in_err-runtime-clause-kept
-returns-in_err-runtime-clause-kept g c clean =
-    let one = state g.S.Store c.args.tx.now.conn.now in
-    let two = state g.S.Store c.profile.new.tx.conn.now in
-    let three = state g.S.Store c.generation.new.tx.conn.now in
-    let four = state g.S.Store c.runtime.new.tx.conn.now in
-    let clean3 : HasCleanDisk three = omega (arith, c.runtime.ensures.survives.clean) in
-    let clean2 : HasCleanDisk two = omega (arith, c.generation.ensures.survives.clean) in
-    keeps_then one three four (keeps_then one two three (c.profile.ensures.kept clean2) (c.generation.ensures.kept clean3)) (c.runtime.ensures.kept clean)
+pub returns-in_err-runtime-clause-survives : goal.returns-in_err-runtime-clause-survives
+returns-in_err-runtime-clause-survives g c = survives_both _ _ _ c.profile.ensures.survives (survives_both _ _ _ c.generation.ensures.survives c.runtime.ensures.survives)
 
-pub returns-clause-kept : goal.returns-clause-kept
-returns-clause-kept g c clean =
-    let one = state g.S.Store c.args.tx.now.conn.now in
-    let two = state g.S.Store c.profile.new.tx.conn.now in
-    let three = state g.S.Store c.generation.new.tx.conn.now in
-    let four = state g.S.Store c.runtime.new.tx.conn.now in
-    let clean3 : HasCleanDisk three = omega (arith, c.runtime.ensures.survives.clean) in
-    let clean2 : HasCleanDisk two = omega (arith, c.generation.ensures.survives.clean) in
-    keeps_then one three four (keeps_then one two three (c.profile.ensures.kept clean2) (c.generation.ensures.kept clean3)) (c.runtime.ensures.kept clean)
+pub returns-clause-same : goal.returns-clause-same
+returns-clause-same g c = as_before_then _ _ _ (as_before_then _ _ _ c.profile.ensures.same c.generation.ensures.same c.generation.ensures.survives) c.runtime.ensures.same c.runtime.ensures.survives
 
 pub returns-clause-survives : goal.returns-clause-survives
-returns-clause-survives g c =
-    let one = state g.S.Store c.args.tx.now.conn.now in
-    let two = state g.S.Store c.profile.new.tx.conn.now in
-    let three = state g.S.Store c.generation.new.tx.conn.now in
-    let four = state g.S.Store c.runtime.new.tx.conn.now in
-    survives_then one three four (λ _. ⊥) (λ _. ⊥) (λ _. ⊥) (λ clean db h. h) (λ clean db h. h) (survives_then one two three (λ _. ⊥) (λ _. ⊥) (λ _. ⊥) (λ clean db h. h) (λ clean db h. h) c.profile.ensures.survives c.generation.ensures.survives) c.runtime.ensures.survives
+returns-clause-survives g c = survives_both _ _ _ c.profile.ensures.survives (survives_both _ _ _ c.generation.ensures.survives c.runtime.ensures.survives)
 
 pub returns-clause-told : goal.returns-clause-told
 returns-clause-told g c clean =
-    let one = state g.S.Store c.args.tx.now.conn.now in
-    let two = state g.S.Store c.profile.new.tx.conn.now in
-    let three = state g.S.Store c.generation.new.tx.conn.now in
-    let four = state g.S.Store c.runtime.new.tx.conn.now in
+    let one = state g.S.Store c.args.conn.now in
+    let two = state g.S.Store c.profile.new.conn in
+    let three = state g.S.Store c.generation.new.conn in
+    let four = state g.S.Store c.runtime.new.conn in
     let clean3 : HasCleanDisk three = omega (arith, c.runtime.ensures.survives.clean) in
     let clean2 : HasCleanDisk two = omega (arith, c.generation.ensures.survives.clean) in
     all_three (λ (d : Database). AreReadableRows profile (rows_named d (codes "profile"))) (λ (d : Database). AreReadableRows generation (rows_named d (codes "generation"))) (λ (d : Database). AreReadableRows runtime (rows_named d (codes "runtime")))
@@ -60,17 +34,17 @@ returns-clause-told g c clean =
 
 pub returns-in_err-generation-clause-cause : goal.returns-in_err-generation-clause-cause
 returns-in_err-generation-clause-cause g c clean =
-    let one = state g.S.Store c.args.tx.now.conn.now in
-    let two = state g.S.Store c.profile.new.tx.conn.now in
-    let three = state g.S.Store c.generation.new.tx.conn.now in
+    let one = state g.S.Store c.args.conn.now in
+    let two = state g.S.Store c.profile.new.conn in
+    let three = state g.S.Store c.generation.new.conn in
     passed_on c.from_residual-in_err-generation.result c.in_err-generation.field-0.0 _ c.from_residual-in_err-generation.ensures.1
     (fails_after one two three ⊥ ⊥ (λ clean. (c.in_ok-profile.ensures.told clean).0, c.profile.ensures.survives) c.generation.ensures.survives clean (λ same no. no) c.in_err-generation.field-0.0 (c.in_err-generation.ensures.cause clean))
 
 pub returns-in_err-runtime-clause-cause : goal.returns-in_err-runtime-clause-cause
 returns-in_err-runtime-clause-cause g c clean =
-    let one = state g.S.Store c.args.tx.now.conn.now in
-    let two = state g.S.Store c.profile.new.tx.conn.now in
-    let three = state g.S.Store c.generation.new.tx.conn.now in
-    let four = state g.S.Store c.runtime.new.tx.conn.now in
+    let one = state g.S.Store c.args.conn.now in
+    let two = state g.S.Store c.profile.new.conn in
+    let three = state g.S.Store c.generation.new.conn in
+    let four = state g.S.Store c.runtime.new.conn in
     let before = passes_then one two three (λ clean. (c.in_ok-profile.ensures.told clean).0, c.profile.ensures.survives) (λ clean. (c.in_ok-generation.ensures.told clean).0, c.generation.ensures.survives) in
     passed_on c.from_residual-in_err-runtime.result c.in_err-runtime.field-0.0 _ c.from_residual-in_err-runtime.ensures.1 (fails_after one three four ⊥ ⊥ before c.runtime.ensures.survives clean (λ same no. no) c.in_err-runtime.field-0.0 (c.in_err-runtime.ensures.cause clean))

@@ -1,24 +1,35 @@
 use Rattle.std.proofs.Common.{arith}
 use Rattle.sqlite.specs.State.{HasCleanDisk}
 use Rattle.sqlite.specs.Held.{state}
-use Rattle.std.specs.Prelude.{IsSome}
-use Rattle.rows.proofs.Under.{under_inside}
+use Rattle.rows.proofs.Under.{ready_rests}
+use Rattle.rows.proofs.Steps.{ready_after}
 use Rattle.rows.proofs.Rising.{select_fails}
 use Rattle.rows.proofs.InOrder.{user_roots_all}
-use Rattle.rows.proofs.UserRootLemmas.{reads_all, same_all, fails_all}
+use Rattle.rows.proofs.UserRootLemmas.{all_read, reads_all, fails_all}
 use Rattle.rows.proofs.user_roots.all.Goals as goal
 
 pub returns-clause-reads : goal.returns-clause-reads
 returns-clause-reads g c clean =
-    let old = state g.S.Store c.args.tx.now.conn.now in
-    let new = state g.S.Store c.select.new.tx.conn.now in
+    let old = state g.S.Store c.args.conn.now in
+    let new = state g.S.Store c.select.new.conn in
     let early : HasCleanDisk old = omega (arith, c.select.ensures.survives.clean) in
-    reads_all old new c.select.result (c.requires early) (c.select.ensures.shown clean) c.select.ensures.rises
+    reads_all old new c.select.result (c.requires.ready early) (c.select.ensures.shown clean) (c.select.ensures.rises clean)
 
 pub returns-clause-cause : goal.returns-clause-cause
 returns-clause-cause g c clean =
-    let old = state g.S.Store c.args.tx.now.conn.now in
-    let new = state g.S.Store c.select.new.tx.conn.now in
+    let old = state g.S.Store c.args.conn.now in
+    let new = state g.S.Store c.select.new.conn in
     let early : HasCleanDisk old = omega (arith, c.select.ensures.survives.clean) in
-    let under = c.requires early in
-    select_fails c.select.result old new _ _ _ _ ⊥ (IsSome old.step_limit) (fails_all old new (under_inside old under)) (same_all old new under _) (user_roots_all old new under _) (c.select.ensures.cause clean)
+    let ready = c.requires.ready early in
+    select_fails c.select.result old new _ _ _ (fails_all old new (ready_rests old ready)) (user_roots_all old new ready _) (c.select.ensures.cause clean)
+
+pub select-requires : goal.select-requires
+select-requires g c = all_read
+
+pub returns-clause-same : goal.returns-clause-same
+returns-clause-same g c clean = c.select.ensures.same clean (λ is_open. (c.requires.ready (omega (arith, c.select.ensures.survives.clean)) is_open).settled)
+
+pub returns-clause-ready : goal.returns-clause-ready
+returns-clause-ready g c clean =
+    let early : HasCleanDisk (state g.S.Store c.args.conn.now) = omega (arith, c.select.ensures.survives.clean) in
+    ready_after _ _ (c.requires.ready early) (c.select.ensures.same clean (λ is_open. (c.requires.ready early is_open).settled))

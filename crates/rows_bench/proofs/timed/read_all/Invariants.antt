@@ -1,9 +1,9 @@
-use Rattle.std.proofs.Common.{◌≡◌}
+use Rattle.std.proofs.Common.{◌≡◌, false, IsTrue}
 use Rattle.sqlite.specs.State.{HasCleanDisk}
 use Rattle.sqlite.specs.Held.{state}
-use Rattle.rows.specs.Calls.{IsUnderWay}
+use Rattle.rows.specs.Calls.{IsReady}
 use Rattle.rows_bench.proofs.timed.read_all.Given as goal
 
--- the transaction goes on
+-- the connection stays ready
 abbrev pub invariant-loop-number : goal.invariant-loop-number
-invariant-loop-number g l = (l.tx.conn.ghost_name ≡ l.fn.tx.conn.ghost_name) × (HasCleanDisk (state g.S.Store l.tx.conn.now) → IsUnderWay (state g.S.Store l.tx.conn.now)) × (HasCleanDisk (state g.S.Store l.tx.conn.now) → HasCleanDisk (state g.S.Store l.fn.tx.conn.now))
+invariant-loop-number g l = (l.conn.in_transaction ≡ false) × (HasCleanDisk (state g.S.Store l.conn) → IsTrue (state g.S.Store l.conn).is_open → IsReady (state g.S.Store l.conn))
