@@ -1,5 +1,5 @@
 -- That the rowids of a table differ, after a write too, so a row is known by its own.
-use Rattle.std.proofs.Common.{◌≡◌, List, [], ◌∷◌, map, filter, Bool, true, false, not, ◌||◌, cond, inl, inr, ℤ, sym, ap, ◌∙◌, Less, Equal, Greater, Ordering}
+use Rattle.std.proofs.Common.{◌≡◌, List, [], ◌∷◌, map, filter, Bool, true, false, not, cond, inl, inr, ℤ, sym, ap, ◌∙◌, Less, Equal, Greater, Ordering}
 use Rattle.std.specs.List.{AllByRecursion, IsDistinct}
 use Rattle.std.specs.Ordering.{is_eq, eq_by_cmp, match_ordering}
 use Rattle.std.specs.Cmp.{eq_by_cmp_equiv}

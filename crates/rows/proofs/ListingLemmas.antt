@@ -1,5 +1,5 @@
 -- What the statement that lists the objects without their archives means and reads.
-use Rattle.std.proofs.Common.{◌≡◌, ℕ, pos, negsuc, List, [], ◌∷◌, codes, Bool, true, false, ◌&&◌, Some, None, Ok, Result, Err, IfOk, Vec, Global, map, length, refl, subst, ◌∙◌, IsTrue}
+use Rattle.std.proofs.Common.{◌≡◌, ℕ, pos, negsuc, List, [], ◌∷◌, codes, Bool, true, false, ◌&&◌, Some, None, Ok, Result, Err, IfOk, Vec, Global, map, length, refl, ◌∙◌, IsTrue}
 use Rattle.std.specs.Ordering.{is_lt}
 use Rattle.std.specs.List.{AllAdjacentBelow}
 use Rattle.std.specs.FinMap as finite
@@ -27,7 +27,7 @@ use Rattle.rows.specs.Forms.{object}
 use Rattle.rows.specs.Standing.{IsKnown}
 use Rattle.rows.specs.Contents.{Bytes, Stored, Described, without_archive, map_of, rows_named, contents_of, texts_cmp, is_text, is_blob, is_text_or_null, text_if_any, is_object, object_of}
 use Rattle.rows.specs.Queries.{IsRead}
-use Rattle.rows.specs.Calls.{IsReady, IsAtRest, IsOurs, IsUnderWay, Rests}
+use Rattle.rows.specs.Calls.{IsReady, IsAtRest, IsOurs, Rests}
 use Rattle.rows.specs.Entries.{listed_of, ShowsListed}
 use Rattle.rows.proofs.Orders.{texts_total, texts_antisymmetric}
 use Rattle.rows.proofs.Truths.{and_so}
@@ -37,7 +37,7 @@ use Rattle.rows.proofs.Columns.{bounds_are, outputs_four_at, result_context, fro
 use Rattle.rows.proofs.Scans.{IsScan, shows}
 use Rattle.rows.specs.Failures.{failure_of, FailsWith}
 use Rattle.rows.proofs.ReadFailures.{read_fails}
-use Rattle.std.specs.Prelude.{◌⊎◌, IsSome}
+use Rattle.std.specs.Prelude.{IsSome}
 use Rattle.rows.proofs.Statements.{Compiles, Selects, reads_part, whole_map}
 use Rattle.rows.proofs.Typed.{objects_typed}
 use Rattle.rows.proofs.Alike.{map_made}

@@ -1,5 +1,5 @@
 -- Two lists as one, one more at the end of a list, and a number above each of a list.
-use Rattle.std.proofs.Common.{◌≡◌, ◌<◌, ◌≤◌, ◌+◌, ◌-◌, inl, inr, ℕ, List, [], ◌∷◌, ◌++◌, length, length-append, get_or, Some, sym, ap, subst, subst₂, ◌∙◌, arith}
+use Rattle.std.proofs.Common.{◌≡◌, ◌<◌, ◌≤◌, ◌+◌, ◌-◌, inl, inr, ℕ, List, [], ◌∷◌, ◌++◌, length, length-append, get_or, Some, sym, ap, subst₂, ◌∙◌, arith}
 use Rattle.std.specs.Prelude.{fold, max, slice_get}
 use Rattle.std.specs.List.{AllByRecursion, AllAdjacentBelow}
 use Rattle.std.proofs.Math.ListN.{get_or-append}
@@ -33,9 +33,9 @@ module _ {X : Type 0} (R : X → X → Type 0) (xs : List X) (y : X) where
       let here : get_or (xs ++ y ∷ []) k d ≡ get_or xs k d = get_or-append xs (y ∷ []) d k within in
       elim (eq-or-lt_of_le {n = k + 1} {m = length xs} (omega (arith, within))) [
         | inl end ↦
-          let next : get_or (xs ++ y ∷ []) (k + 1) d ≡ y = ap (λ n. get_or (xs ++ y ∷ []) n d) end ∙ get_or-append_seam xs y [] d in
-          let is : slice_get xs (length xs - 1) ≡ Some (get_or xs k d) = ap (λ n. slice_get xs n) (omega (arith, end)) ∙ slice_get-get_or xs k d within in
-          subst₂ R (sym here) (sym next) (last (get_or xs k d) is)
+            let next : get_or (xs ++ y ∷ []) (k + 1) d ≡ y = ap (λ n. get_or (xs ++ y ∷ []) n d) end ∙ get_or-append_seam xs y [] d in
+            let is : slice_get xs (length xs - 1) ≡ Some (get_or xs k d) = ap (λ n. slice_get xs n) (omega (arith, end)) ∙ slice_get-get_or xs k d within in
+            subst₂ R (sym here) (sym next) (last (get_or xs k d) is)
         | inr more ↦ subst₂ R (sym here) (sym (get_or-append xs (y ∷ []) d (k + 1) more)) (h k d more)
       ]
 

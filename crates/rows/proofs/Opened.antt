@@ -1,18 +1,27 @@
--- That a connection is ready, where the rowids and texts that it shows were tested; and what an open that failed is told as.
-use Rattle.std.proofs.Common.{◌≡◌, ◌↔◌, Bool, Option, Some, None, Result, Ok, Err, IfOk, IfErr, IfSome, OnOk, IsTrue, sym, ap, subst, ◌∙◌}
+-- That a connection is ready, where the rowids and texts that it shows were tested; and what is told of files that weren't taken up.
+use Rattle.std.proofs.Common.{◌≡◌, ◌↔◌, ◌⊎◌, Bool, true, false, Option, Some, None, Result, Ok, Err, IfOk, IfSome, OnOk, IsTrue, refl, sym, ap, subst, ◌∙◌}
 use Rattle.std.specs.List.{AllByRecursion}
+use Rattle.sqlite_disk.specs.declared.Disk as disk
+use Rattle.sqlite_disk.specs.declared.calls.Calls as calls
+use Rattle.sqlite_disk.specs.declared.modelled.Modelled.{Modelled}
+use Rattle.sqlite_disk.specs.declared.start.Start.{Ghosts}
+use Rattle.sqlite_std_file.specs.File.{IsFresh}
+use Rattle.sqlite_std_file.specs.declared.host.Host.{Host}
 use Rattle.sqlite_wal.specs.Recovery.{Image}
-use Rattle.sqlite.specs.State.{State}
-use Rattle.sqlite.specs.Files.{AreFoundIn}
-use Rattle.sqlite.specs.Start.{FindsIn}
+use Rattle.sqlite.specs.Opening.{is_open_error}
+use Rattle.sqlite.specs.declared.file.Leftover.{Leftover}
 use Rattle.sqlite.specs.declared.error.Error.{Error}
+use Rattle.sqlite.specs.declared.error.Error.TheVariants.{SqliteFailure}
+use Rattle.sqlite.specs.declared.error.ErrorCode.TheVariants.{CannotOpen, OutOfMemory, DatabaseBusy}
+use Rattle.sqlite.specs.State.{State}
+use Rattle.sqlite.specs.Files.{AreFoundIn, IsCleanLeft, FailsToOpenFiles, LeavesFiles}
+use Rattle.sqlite.specs.Start.{FindsIn}
 use Rattle.rows.specs.declared.finding.Finding.{Finding}
 use Rattle.rows.specs.declared.finding.Finding.TheVariants.{Ours, Nothing}
 use Rattle.rows.specs.Standing.{HasTables}
 use Rattle.rows.specs.Finding.{HasNone}
 use Rattle.rows.specs.Texts.{AreReadable, HasReadableRows}
-use Rattle.rows.specs.Failures.{opening_failure}
-use Rattle.rows.specs.Opened.{IsFound, answer_of}
+use Rattle.rows.specs.Opened.{IsFound, Refuses}
 use Rattle.sqlite.specs.Effect.{Database, IsDatabase}
 use Rattle.rows.specs.declared.failure.Failure.{Failure}
 use Rattle.rows.specs.Forms.{our_tables}
@@ -46,28 +55,17 @@ found_by f old new ours nothing ready same settled = record {
   settled = settled;
 }
 
-none_told : {A : Type 0} (P : A → Type 0) (f : Option Failure) → IfOk (answer_of f) (λ o. IfSome o P)
-none_told P (Some f) = tt
-none_told P None = tt
-
--- what holds of a connection that was opened carries over to what it is taken up as
-pub carried : {C A : Type 0} (G : C → Type 0) (Q : C → A → Type 0) (P : A → Type 0) → ((c : C) (it : A) → G c → Q c it → P it)
-    → (opened : Result C Error) (r : Result (Option A) Failure) → IfErr opened (λ e. r ≡ answer_of (opening_failure e)) → IfOk opened G → IfOk opened (λ c. IfOk r (λ o. IfSome o (Q c))) → IfOk r (λ o. IfSome o P)
-carried {A = A} G Q P step (Err e) r refused given taken = subst (λ (r : Result (Option A) Failure). IfOk r (λ o. IfSome o P)) (sym refused) (none_told P (opening_failure e))
-carried G Q P step (Ok c) (Err f) refused given taken = tt
-carried G Q P step (Ok c) (Ok None) refused given taken = tt
-carried G Q P step (Ok c) (Ok (Some it)) refused given taken = step c it given taken
-
--- and so do two such things
-pub carried_both : {C A : Type 0} (Q R : C → A → Type 0) (opened : Result C Error) (r : Result (Option A) Failure) → IfOk opened (λ c. IfOk r (λ o. IfSome o (Q c))) → IfOk opened (λ c. IfOk r (λ o. IfSome o (R c))) → IfOk opened (λ c. IfOk r (λ o. IfSome o (λ it. Q c it × R c it)))
-carried_both Q R (Err e) r h k = tt
-carried_both Q R (Ok c) (Err f) h k = tt
-carried_both Q R (Ok c) (Ok None) h k = tt
-carried_both Q R (Ok c) (Ok (Some it)) h k = (h, k)
-
 -- what the file held is what the last commit still is
 pub held_still : (image : Image) (old new : State) → new.committed ≡ old.committed → FindsIn image old → FindsIn image new
 held_still image old new same h = record { holds = λ db held. ap (λ (d : Database). d.trees) same ∙ h.holds db held; reads = subst (λ (d : Database). AreFoundIn image d.trees) (sym same) h.reads }
+
+-- what is said of an error of an open, with nothing left of the files or something
+module _ {S : Type 0} {c : calls.Ghosts Host} {start : Ghosts S} {g : disk.Ghosts (Modelled Host S c start)} where
+  pub refuses : (e : Error) (left : Option (Leftover (Modelled Host S c start) g)) → IsTrue (is_open_error e)
+      → (left ≡ None → (e ≡ SqliteFailure CannotOpen) ⊎ ((e ≡ SqliteFailure OutOfMemory) ⊎ (e ≡ SqliteFailure DatabaseBusy)))
+      → IfSome left (λ left. (files : _) × IsFresh true files.log × IsFresh false files.db × (IsCleanLeft left → FailsToOpenFiles files left e × LeavesFiles files left)) → Refuses e left
+  refuses e None named unopened cause = unopened refl
+  refuses e (Some left) named unopened cause = (named, cause)
 
 pub any_ok : {T E : Type 0} (r : Result T E) (P : Type 0) → P → OnOk r P
 any_ok (Ok x) P h = h

@@ -48,7 +48,7 @@ use Rattle.rows.proofs.Places.{changed}
 use Rattle.rows.proofs.ContentsLemmas.{permanent_set}
 use Rattle.rows.specs.Failures.{failure_of, FailsWith}
 use Rattle.rows.proofs.ReadFailures.{read_fails}
-use Rattle.std.specs.Prelude.{◌⊎◌, IsSome}
+use Rattle.std.specs.Prelude.{IsSome}
 use Rattle.rows.proofs.Statements.{Compiles, Selects, reads_part, deletes_part, whole_map}
 
 -- ---- one more

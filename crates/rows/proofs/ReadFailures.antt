@@ -10,8 +10,6 @@ use Rattle.sqlite_sql.specs.Query.{Query, matches, FoldOverflows}
 use Rattle.sqlite_sql.specs.Program.{QueryOverflows, overlay}
 use Rattle.sqlite_typing.specs.Types.{accepts_program}
 use Rattle.sqlite_ast.specs.declared.Select.{Select as Read}
-use Rattle.sqlite_ast.specs.declared.Statement.TheVariants as written
-use Rattle.sqlite_syntax.specs.declared.statement.Parsed.{Parsed}
 use Rattle.sqlite_schema.specs.declared.schema.Column.{Column}
 use Rattle.sqlite_schema.specs.declared.schema.Schema.{Schema}
 use Rattle.sqlite_schema.specs.declared.command.Command.{Command}

@@ -2,7 +2,7 @@
 use Rattle.std.proofs.Common.{◌≡◌, ℕ, pos, negsuc, List, [], ◌∷◌, codes, true, false, not, ◌&&◌, Some, None, Ok, Result, IfOk, Vec, Global, map, length, refl, ◌∙◌, IsTrue}
 use Rattle.std.specs.Prelude.{IsUtf8}
 use Rattle.std.specs.Ordering.{eq_by_cmp, is_lt}
-use Rattle.std.specs.Prelude.{◌⊎◌, IsSome}
+use Rattle.std.specs.Prelude.{IsSome}
 use Rattle.std.specs.List.{list_all, AllAdjacentBelow}
 use Rattle.std.specs.FinMap as finite
 use Rattle.sqlite_value.specs.declared.value.Value.TheVariants.{Null, Int, Text}

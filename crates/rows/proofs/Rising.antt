@@ -1,5 +1,5 @@
 -- That what a query shows in the order of a key can be read, and rises.
-use Rattle.std.proofs.Common.{◌≡◌, ◌⊎◌, inl, inr, ℕ, zero, suc, ◌+◌, ◌<◌, List, [], ◌∷◌, ◌++◌, length, map, flat_map, get_or, Bool, true, false, cond, Result, Ok, Err, IsTrue, IfOk, refl, sym, ap, ap₂, subst, subst₂, ◌∙◌, length-append, arith}
+use Rattle.std.proofs.Common.{◌≡◌, ◌⊎◌, inl, inr, ℕ, zero, suc, ◌+◌, ◌<◌, List, [], ◌∷◌, ◌++◌, length, map, flat_map, get_or, Bool, true, false, cond, Result, Ok, Err, IsTrue, refl, sym, ap, ap₂, subst, subst₂, ◌∙◌, length-append, arith}
 use Rattle.std.specs.Prelude.{IsSome, IsSorted, IfErr}
 use Rattle.std.specs.declared.cmp.Ordering.{Ordering}
 use Rattle.std.specs.declared.cmp.Ordering.TheVariants.{Less, Equal, Greater}

@@ -1,12 +1,31 @@
--- What taking up a connection says of it, and what is answered where there is none.
-use Rattle.std.specs.Prelude.{◌≡◌, ◌↔◌, ◌⊎◌, ⊤, ℤ, List, map, Option, Some, None, IsSome, Result, Ok, Err}
+-- What taking up a connection says of it, and why a file isn't taken up.
+use Rattle.std.specs.Prelude.{◌≡◌, ◌↔◌, ◌⊎◌, ⊤, true, false, ℤ, List, map, Option, Some, None, IsSome, IsTrue}
 use Rattle.std.specs.List.{AllByRecursion, IsDistinct}
 use Rattle.std.specs.Ordering.{eq_by_cmp, int_cmp}
 use Rattle.sqlite_value.specs.declared.value.Value.TheVariants.{Int}
 use Rattle.sqlite_value.specs.Order.{Row, column}
-use Rattle.sqlite.specs.State.{State}
+use Rattle.sqlite_disk.specs.declared.Disk as disk
+use Rattle.sqlite_disk.specs.declared.calls.Calls as calls
+use Rattle.sqlite_disk.specs.declared.modelled.Modelled.{Modelled}
+use Rattle.sqlite_disk.specs.declared.start.Start.{Ghosts}
+use Rattle.sqlite_std_file.specs.File.{IsFresh}
+use Rattle.sqlite_std_file.specs.declared.host.Host.{Host}
+use Rattle.sqlite_wal.specs.Recovery.{Image}
+use Rattle.sqlite_store.specs.FileStore.{view}
+use Rattle.sqlite_store.specs.declared.store.FileStore.{FileStore}
+use Rattle.sqlite.specs.State.{State, HasCleanDisk, Survives}
+use Rattle.sqlite.specs.Held.{Held, IsNew}
+use Rattle.sqlite.specs.Start.{FindsIn}
+use Rattle.sqlite.specs.Opening.{is_open_error}
+use Rattle.sqlite.specs.Files.{file_state, IsOpened, IsBlankAs, IsCleanLeft, FailsToOpenFiles, LeavesFiles}
+use Rattle.sqlite.specs.declared.file.Leftover.{Leftover}
+use Rattle.sqlite.specs.declared.error.Error.{Error}
+use Rattle.sqlite.specs.declared.error.Error.TheVariants.{SqliteFailure}
+use Rattle.sqlite.specs.declared.error.ErrorCode.TheVariants.{CannotOpen, OutOfMemory, DatabaseBusy}
 use Rattle.rows.specs.declared.failure.Failure.{Failure}
 use Rattle.rows.specs.declared.failure.Failure.TheVariants.{Memory, Size, Disk}
+use Rattle.rows.specs.declared.file.Unopened.{Unopened}
+use Rattle.rows.specs.declared.file.Unopened.TheVariants.{Refused, Untold}
 use Rattle.rows.specs.declared.finding.Finding.{Finding}
 use Rattle.rows.specs.declared.finding.Finding.TheVariants.{Ours, Nothing}
 use Rattle.rows.specs.Standing.{HasTables}
@@ -14,8 +33,8 @@ use Rattle.rows.specs.Finding.{HasNone}
 use Rattle.rows.specs.Forms.{our_tables}
 use Rattle.rows.specs.Contents.{contents_of, rows_named}
 use Rattle.rows.specs.Texts.{AreReadable}
-use Rattle.rows.specs.Calls.{IsKeyed, IsReady}
-use Rattle.rows.specs.Failures.{HasDiskCause}
+use Rattle.rows.specs.Calls.{IsKeyed, IsReady, IsAsBefore}
+use Rattle.rows.specs.Failures.{opening_failure, HasDiskCause}
 
 -- this is what the database holds of ours; and if it holds all, it is ready
 pub record IsFound (f : Finding) (s : State) : Type 0 where
@@ -38,7 +57,30 @@ FailsToTest old new found Disk = HasDiskCause old new ⊎ (IsSome old.step_limit
 abbrev pub FailsToOpen : State → State → Failure → Type 0
 FailsToOpen old new = FailsToTest old new (HasTables old.now.schema × ¬ AllByRecursion (λ t. IsKeyed (rows_named old.now t.name)) our_tables)
 
--- a file is not opened for this failure, or it is something else than a database
-abbrev pub answer_of : {A : Type 0} → Option Failure → Result (Option A) Failure
-answer_of (Some f) = Err f
-answer_of None = Ok None
+module _ {D : Type 0} {g : disk.Ghosts D} where
+  -- all that `sqlite` says of a connection that it opened over files which held this
+  pub record IsOpenedOver (held : Image) (conn : Held (FileStore D g)) : Type 0 where
+    pub fresh : IsNew conn
+    pub opened : HasCleanDisk (file_state conn) → IsOpened conn
+    pub found : HasCleanDisk (file_state conn) → FindsIn held (file_state conn)
+    pub sums : HasCleanDisk (file_state conn) → IsBlankAs false held → (view conn.store).has_sums ≡ false
+    pub guarded : HasCleanDisk (file_state conn) → (file_state conn).IsShielded
+
+  -- `sqlite` opened it over files which held this, and it is as it was
+  pub record IsAsOpened (held : Image) (was now : Held (FileStore D g)) : Type 0 where
+    pub opened : IsOpenedOver held was
+    pub alone : now.in_transaction ≡ false
+    pub same : HasCleanDisk (file_state now) → IsAsBefore (file_state was) (file_state now)
+    pub survives : Survives (file_state was) (file_state now) (λ _. ⊥)
+
+module _ {S : Type 0} {c : calls.Ghosts Host} {start : Ghosts S} {g : disk.Ghosts (Modelled Host S c start)} where
+  -- all that `sqlite` says of an error of an open, and of what is left of the files
+  abbrev pub Refuses : Error → Option (Leftover (Modelled Host S c start) g) → Type 0
+  Refuses e None = (e ≡ SqliteFailure CannotOpen) ⊎ ((e ≡ SqliteFailure OutOfMemory) ⊎ (e ≡ SqliteFailure DatabaseBusy))
+  Refuses e (Some left) =
+      IsTrue (is_open_error e) × ((files : _) × IsFresh true files.log × IsFresh false files.db × (IsCleanLeft left → FailsToOpenFiles files left e × LeavesFiles files left))
+
+  -- Why files that held this weren't taken up: `sqlite` refused them for an error, of which this is the failure; or it opened them, and what they hold of ours can't be told.
+  abbrev pub FailsToTakeUp : Image → Unopened (FileStore (Modelled Host S c start) g) (Modelled Host S c start) g → Type 0
+  FailsToTakeUp held (Refused failure left) = (e : Error) × (failure ≡ opening_failure e) × Refuses e left
+  FailsToTakeUp held (Untold it) = (was : _) × IsAsOpened held was it.conn × (HasCleanDisk (file_state it.conn) → FailsToOpen (file_state was) (file_state it.conn) it.failure)

@@ -136,11 +136,7 @@ pub fn get<S: Alter>(
 }
 
 /// The object of this base, if there is one, as a list of at most one.
-fn of<S: Alter>(
-    alloc: Global,
-    conn: &mut Connection<S>,
-    base: &str,
-) -> Result<Vec<Object>, Failure>
+fn of<S: Alter>(alloc: Global, conn: &mut Connection<S>, base: &str) -> Result<Vec<Object>, Failure>
     requires alone { conn.old.in_transaction ≡ false }
     requires ready { HasCleanDisk (state S.Store conn.old) → IsTrue (state S.Store conn.old).is_open → IsReady (state S.Store conn.old) }
     ensures alone { conn.new.in_transaction ≡ false }

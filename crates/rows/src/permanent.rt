@@ -45,10 +45,7 @@ impl Entry for PermanentRoot {
 }
 
 /// All permanent roots, in order.
-pub fn all<S: Alter>(
-    alloc: Global,
-    conn: &mut Connection<S>,
-) -> Result<Vec<PermanentRoot>, Failure>
+pub fn all<S: Alter>(alloc: Global, conn: &mut Connection<S>) -> Result<Vec<PermanentRoot>, Failure>
     requires alone { conn.old.in_transaction ≡ false }
     requires ready { HasCleanDisk (state S.Store conn.old) → IsTrue (state S.Store conn.old).is_open → IsReady (state S.Store conn.old) }
     ensures alone { conn.new.in_transaction ≡ false }

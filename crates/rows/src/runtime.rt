@@ -50,10 +50,7 @@ impl Entry for RuntimeRoot {
 }
 
 /// All runtime roots, in order.
-pub fn all<S: Alter>(
-    alloc: Global,
-    conn: &mut Connection<S>,
-) -> Result<Vec<RuntimeRoot>, Failure>
+pub fn all<S: Alter>(alloc: Global, conn: &mut Connection<S>) -> Result<Vec<RuntimeRoot>, Failure>
     requires alone { conn.old.in_transaction ≡ false }
     requires ready { HasCleanDisk (state S.Store conn.old) → IsTrue (state S.Store conn.old).is_open → IsReady (state S.Store conn.old) }
     ensures alone { conn.new.in_transaction ≡ false }

@@ -169,11 +169,7 @@ pub fn delete<S: Alter>(
     watch::told(rt, start)
 }
 
-fn archive<S: Alter>(
-    alloc: Global,
-    conn: &mut Connection<S>,
-    number: u32,
-) -> Result<usize, Failure>
+fn archive<S: Alter>(alloc: Global, conn: &mut Connection<S>, number: u32) -> Result<usize, Failure>
     requires alone { conn.old.in_transaction ≡ false }
     requires ready { HasCleanDisk (state S.Store conn.old) → IsTrue (state S.Store conn.old).is_open → IsReady (state S.Store conn.old) }
     ensures alone { conn.new.in_transaction ≡ false }
@@ -187,11 +183,7 @@ fn archive<S: Alter>(
     })
 }
 
-fn read_all<S: Alter>(
-    alloc: Global,
-    conn: &mut Connection<S>,
-    count: u32,
-) -> Result<usize, Failure>
+fn read_all<S: Alter>(alloc: Global, conn: &mut Connection<S>, count: u32) -> Result<usize, Failure>
     requires alone { conn.old.in_transaction ≡ false }
     requires ready { HasCleanDisk (state S.Store conn.old) → IsTrue (state S.Store conn.old).is_open → IsReady (state S.Store conn.old) }
     ensures alone { conn.new.in_transaction ≡ false }

@@ -1,19 +1,33 @@
-//! Files opened: one that is new, ours, somebody else's, and what isn't opened.
+//! Files opened: one that is new, ours, somebody else's, and what isn't opened; and a connection that is handed back.
 
 use crate::tests::steps::{Step, on_file};
+use crate::tests::taken;
 use rows::failure::Failure;
-use rows::file::{self, Opened};
+use rows::file::{self, Opened, Unopened, Untold};
 use rows::finding::Finding;
-use sqlite::{Connection, Unknown};
+use sqlite::{Alter, Connection, Unknown};
+use std::alloc::Global;
 use std::fs;
 use std::rt::HostRuntime;
 use std::test::Fail;
 
-/// What the file at the path holds of ours.
+/// What the file at the path holds of ours, or nothing where it is something else than a database.
 fn told(rt: &HostRuntime, path: &str) -> Result<Option<Finding>, Failure> {
-    match file::open(rt, path, Unknown)? {
-        Some(Opened { conn: _, found }) => Ok(Some(found)),
-        None => Ok(None),
+    match file::open(rt, path, Unknown) {
+        Ok(Opened { conn: _, found }) => Ok(Some(found)),
+        Err(
+            Unopened::Refused {
+                failure: None,
+                left: _,
+            },
+        ) => Ok(None),
+        Err(
+            Unopened::Refused {
+                failure: Some(failure),
+                left: _,
+            },
+        ) => Err(failure),
+        Err(Unopened::Untold(Untold { conn: _, failure })) => Err(failure),
     }
 }
 
@@ -58,5 +72,35 @@ fn what_is_not_opened(rt: HostRuntime) -> Result<(), Fail> {
     assert_eq!(rt; told(&rt, ":memory:"), Ok(None));
     assert_eq!(rt; told_beside(&rt, "rows_no_file/a.db")?, None);
     fs::remove_dir_all(&rt, "rows_no_file")?;
+    Ok(())
+}
+
+/// What a connection to our tables is taken up as, or why it isn't, once with a limit of no step and once without.
+fn taken_up<S: Alter + Drop>(
+    alloc: Global,
+    mut conn: Connection<S>,
+) -> Result<(Result<Finding, Failure>, Result<Finding, Failure>), Failure> {
+    taken::make(&mut conn)?;
+    if !conn.is_autocommit() {
+        return Err(Failure::Disk);
+    }
+    conn.set_step_limit(Some(0));
+    let (mut conn, limited) = match file::take_up(alloc, conn) {
+        Ok(Opened { conn, found }) => (conn, Ok(found)),
+        Err(Untold { conn, failure }) => (conn, Err(failure)),
+    };
+    conn.set_step_limit(None);
+    match file::take_up(alloc, conn) {
+        Ok(Opened { conn: _, found }) => Ok((limited, Ok(found))),
+        Err(Untold { conn: _, failure }) => Ok((limited, Err(failure))),
+    }
+}
+
+#[test]
+fn handed_back_at_a_limit(rt: HostRuntime) -> Result<(), Fail> {
+    let conn = Connection::open_in_memory(rt.alloc())?;
+    let (limited, free) = taken_up(rt.alloc(), conn)?;
+    assert_eq!(rt; limited, Err(Failure::Disk));
+    assert_eq!(rt; free, Ok(Finding::Ours));
     Ok(())
 }

@@ -1,13 +1,32 @@
 use Rattle.std.proofs.Common.{arith}
 use Rattle.sqlite_wal.specs.Files.{image_at}
-use Rattle.rows.proofs.Opened.{carried, carried_both, held_still}
+use Rattle.sqlite.specs.Files.{file_state}
+use Rattle.rows.proofs.Opened.{held_still, refuses}
 use Rattle.rows.proofs.file.open.Goals as goal
 
-pub returns-clause-held : goal.returns-clause-held
-returns-clause-held g c =
-    carried _ _ _ (λ h it held q clean is_open. held_still (image_at g.S.Start) _ _ ((q.0) clean is_open).1 (held (omega (arith, q.1.clean)))) c.connect-opened.result c.take_up.result c.take_up.ensures.refused c.connect-opened.ensures.held
-    (carried_both _ _ c.connect-opened.result c.take_up.result c.take_up.ensures.same c.take_up.ensures.survives)
+pub returns-in-Ok-take_up-clause-opened : goal.returns-in-Ok-take_up-clause-opened
+returns-in-Ok-take_up-clause-opened g c =
+    let here = c.in-Ok.ensures in
+    let now = c.in-Ok-take_up.ensures in
+    (c.in-Ok.conn, record { opened = record { fresh = here.fresh; opened = here.opened; found = here.found; sums = here.sums; guarded = here.guarded }; alone = now.alone; same = now.same; survives = now.survives })
 
-pub returns-clause-guarded : goal.returns-clause-guarded
-returns-clause-guarded g c =
-    carried _ _ _ (λ h it guarded survives clean. survives.shield (guarded (omega (arith, survives.clean)))) c.connect-opened.result c.take_up.result c.take_up.ensures.refused c.connect-opened.ensures.guarded c.take_up.ensures.survives
+pub returns-in-Ok-take_up-clause-held : goal.returns-in-Ok-take_up-clause-held
+returns-in-Ok-take_up-clause-held g c clean is_open =
+    let now = c.in-Ok-take_up.ensures in
+    held_still (image_at g.S.Start) (file_state c.in-Ok.conn) (file_state c.in-Ok-take_up.opened.conn) ((now.same clean).committed is_open) (c.in-Ok.ensures.found (omega (arith, now.survives.clean)))
+
+pub returns-in-Ok-take_up-clause-guarded : goal.returns-in-Ok-take_up-clause-guarded
+returns-in-Ok-take_up-clause-guarded g c clean =
+    let now = c.in-Ok-take_up.ensures in
+    now.survives.shield (c.in-Ok.ensures.guarded (omega (arith, now.survives.clean)))
+
+pub returns-in-Err-take_up-clause-cause : goal.returns-in-Err-take_up-clause-cause
+returns-in-Err-take_up-clause-cause g c =
+    let here = c.in-Ok.ensures in
+    let now = c.in-Err-take_up.ensures in
+    (c.in-Ok.conn, record { opened = record { fresh = here.fresh; opened = here.opened; found = here.found; sums = here.sums; guarded = here.guarded }; alone = now.alone; same = now.same; survives = now.survives }, now.cause)
+
+pub returns-in-Err-clause-cause : goal.returns-in-Err-clause-cause
+returns-in-Err-clause-cause g c =
+    let here = c.in-Err.ensures in
+    (c.in-Err.error, c.failure-failure.ensures, refuses c.in-Err.error c.in-Err.left here.named here.unopened here.cause)
