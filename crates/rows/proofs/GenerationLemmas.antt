@@ -26,14 +26,14 @@ use Rattle.sqlite_resolve.specs.Write.{over}
 use Rattle.sqlite_rules.specs.Edit.{next_rowid, is_taken, id_in}
 use Rattle.sqlite_tied.specs.Compute.{everything}
 use Rattle.sqlite.specs.declared.error.Error.{Error}
-use Rattle.sqlite.specs.State.{State, ExecutesInside, FailsToQuery}
+use Rattle.sqlite.specs.State.{State, ExecutesInside, FailsToQuery, IsUnchanged}
 use Rattle.rows.specs.declared.failure.Failure.{Failure}
 use Rattle.rows.specs.declared.generations.Generation.{Generation}
 use Rattle.rows.specs.Forms.{generation}
 use Rattle.rows.specs.Standing.{IsNamed, IsKnown, tree_named}
 use Rattle.rows.specs.Contents.{contents_of, texts_cmp, triple_cmp, is_text, is_generation, generation_of}
-use Rattle.rows.specs.Queries.{IsRead}
-use Rattle.rows.specs.Calls.{IsReady, IsAtRest, IsUnderWay, Changes, Rests}
+use Rattle.rows.specs.Queries.{IsSelect}
+use Rattle.rows.specs.Calls.{IsReady, HasSettledTables, IsUnderWay, Changes}
 use Rattle.rows.specs.Entries.{generation_in, ShowsGeneration}
 use Rattle.rows.proofs.Orders.{triple_total, triple_antisymmetric}
 use Rattle.rows.proofs.Truths.{cast_null, cast_int, free_of, and_so, text_test, int_test, both_tests, all_tests}
@@ -167,9 +167,9 @@ all_is s at tree known =
     )
 
 pub reads_all : (old new : State) (r : Result (Vec Generation Global) Failure) → (IsTrue old.is_open → IsReady old) → Selects ShowsGeneration old new all_text [] r → IfOk r (λ all. AllAdjacentBelow (λ x y. true ≡ is_lt (triple_cmp (generation_in x).0 (generation_in y).0)) all.items (length all.items))
-    → IfOk r (λ all. Rests old new × (map generation_in all.items ≡ finite.entries (contents_of old.now).generations))
+    → IfOk r (λ all. IsUnchanged old new × (map generation_in all.items ≡ finite.entries (contents_of old.now).generations))
 reads_all old new r ready selects up =
-    whole_map triple_total triple_antisymmetric generation_in r (Rests old new) (contents_of old.now).generations
+    whole_map triple_total triple_antisymmetric generation_in r (IsUnchanged old new) (contents_of old.now).generations
     (reads_part generation.name generation.columns generation.primary triple_total triple_antisymmetric is_generation generation_of old new (λ has. has.1.1.1.1.1.1.1.0) ready all_text [] names (query []) (λ tree. record { from = refl; group = refl; distinct = refl; whole = λ params rows. refl }) (λ _. true) (λ tree r kind. refl) ShowsGeneration generation_in (fits [] []) all_is r selects up)
 
 abbrev pub of_text : List ℕ
@@ -196,7 +196,7 @@ of_is s at tree known =
     )
 
 pub reads_of : (old new : State) (owner : List ℕ) (name : List ℕ) (r : Result (Vec Generation Global) Failure) → (IsTrue old.is_open → IsReady old) → Selects ShowsGeneration old new of_text (Text owner ∷ Text name ∷ []) r → IfOk r (λ all. AllAdjacentBelow (λ x y. true ≡ is_lt (triple_cmp (generation_in x).0 (generation_in y).0)) all.items (length all.items))
-    → IfOk r (λ all. Rests old new × (map generation_in all.items ≡ finite.entries (finite.retain_keys (contents_of old.now).generations (λ k. eq_by_cmp texts_cmp k.0 owner && eq_by_cmp texts_cmp k.1 name))))
+    → IfOk r (λ all. IsUnchanged old new × (map generation_in all.items ≡ finite.entries (finite.retain_keys (contents_of old.now).generations (λ k. eq_by_cmp texts_cmp k.0 owner && eq_by_cmp texts_cmp k.1 name))))
 reads_of old new owner name r ready selects up =
     reads_part generation.name generation.columns generation.primary triple_total triple_antisymmetric is_generation generation_of old new (λ has. has.1.1.1.1.1.1.1.0) ready of_text (Text owner ∷ Text name ∷ []) names (query of_two) (λ tree. record { from = refl; group = refl; distinct = refl; whole = λ params rows. refl }) (λ k. eq_by_cmp texts_cmp k.0 owner && eq_by_cmp texts_cmp k.1 name) (λ tree. said_two owner name) ShowsGeneration generation_in (fits (Text owner ∷ Text name ∷ []) of_two) of_is r selects up
 
@@ -205,18 +205,18 @@ reads_of old new owner name r ready selects up =
 pub scan : (filter : List Term) (tree : ℕ) → IsScan (query filter tree) tree
 scan filter tree = record { from = refl; group = refl; distinct = refl; whole = λ params rows. refl }
 
-pub all_read : IsRead all_text
+pub all_read : IsSelect all_text
 unfolding everything
 all_read = (_, _, _, _, _, refl)
 
-pub fails_all : (old new : State) → IsAtRest old → (e : Error) → FailsToQuery all_text [] old new e → FailsWith old new ⊥ (IsSome old.step_limit) (failure_of e)
+pub fails_all : (old new : State) → HasSettledTables old → (e : Error) → FailsToQuery all_text [] old new e → FailsWith old new ⊥ (IsSome old.step_limit) (failure_of e)
 unfolding everything
 fails_all old new rests = read_fails generation.name generation.columns generation.primary old new rests (λ has. has.1.1.1.1.1.1.1.0) all_text [] names (query []) (scan []) all_is all_read (λ s at tree known. rw (known.low, known.by_tree) refl)
 
-pub of_read : IsRead of_text
+pub of_read : IsSelect of_text
 unfolding everything
 of_read = (_, _, _, _, _, refl)
 
-pub fails_of : (old new : State) (owner : List ℕ) (name : List ℕ) → IsAtRest old → (e : Error) → FailsToQuery of_text (Text owner ∷ Text name ∷ []) old new e → FailsWith old new ⊥ (IsSome old.step_limit) (failure_of e)
+pub fails_of : (old new : State) (owner : List ℕ) (name : List ℕ) → HasSettledTables old → (e : Error) → FailsToQuery of_text (Text owner ∷ Text name ∷ []) old new e → FailsWith old new ⊥ (IsSome old.step_limit) (failure_of e)
 unfolding everything
 fails_of old new owner name rests = read_fails generation.name generation.columns generation.primary old new rests (λ has. has.1.1.1.1.1.1.1.0) of_text (Text owner ∷ Text name ∷ []) names (query of_two) (scan of_two) of_is of_read (λ s at tree known. rw (known.low, known.by_tree) refl)

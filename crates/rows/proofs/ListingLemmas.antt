@@ -20,14 +20,14 @@ use Rattle.sqlite_resolve.specs.Lowering.{max_budget}
 use Rattle.sqlite_resolve.specs.Program.{program}
 use Rattle.sqlite_tied.specs.Compute.{everything}
 use Rattle.sqlite.specs.declared.error.Error.{Error}
-use Rattle.sqlite.specs.State.{State, FailsToQuery}
+use Rattle.sqlite.specs.State.{State, FailsToQuery, IsUnchanged}
 use Rattle.rows.specs.declared.failure.Failure.{Failure}
 use Rattle.rows.specs.declared.objects.Listed.{Listed}
 use Rattle.rows.specs.Forms.{object}
 use Rattle.rows.specs.Standing.{IsKnown}
 use Rattle.rows.specs.Contents.{Bytes, Stored, Described, without_archive, map_of, rows_named, contents_of, texts_cmp, is_text, is_blob, is_text_or_null, text_if_any, is_object, object_of}
-use Rattle.rows.specs.Queries.{IsRead}
-use Rattle.rows.specs.Calls.{IsReady, IsAtRest, IsOurs, Rests}
+use Rattle.rows.specs.Queries.{IsSelect}
+use Rattle.rows.specs.Calls.{IsReady, HasSettledTables, IsOurs}
 use Rattle.rows.specs.Entries.{listed_of, ShowsListed}
 use Rattle.rows.proofs.Orders.{texts_total, texts_antisymmetric}
 use Rattle.rows.proofs.Truths.{and_so}
@@ -120,22 +120,22 @@ objects_listed old ours = map_made texts_cmp described is_object object_of is_li
     let kind = objects_typed old.now ours.sound ours.has.1.0 r there in (kind, all_but_second (is_text (column r 1)) (is_blob (column r 2)) (is_blob (column r 3)) (is_text_or_null (column r 4)) (is_text_or_null (column r 5)) kind, refl))
 
 pub reads_all : (old new : State) (r : Result (Vec Listed Global) Failure) → (IsTrue old.is_open → IsReady old) → Selects ShowsListed old new all_text [] r → IfOk r (λ all. AllAdjacentBelow (λ x y. true ≡ is_lt (texts_cmp (listed_of x).0 (listed_of y).0)) all.items (length all.items))
-    → IfOk r (λ all. Rests old new × (map listed_of all.items ≡ map without_archive (finite.entries (contents_of old.now).objects)))
+    → IfOk r (λ all. IsUnchanged old new × (map listed_of all.items ≡ map without_archive (finite.entries (contents_of old.now).objects)))
 reads_all old new (Err e) ready selects up = tt
 reads_all old new (Ok all) ready selects up =
-    let got = whole_map texts_total texts_antisymmetric listed_of (Ok all) (Rests old new) (map_of texts_cmp is_listed listed_in (rows_named old.now object.name))
+    let got = whole_map texts_total texts_antisymmetric listed_of (Ok all) (IsUnchanged old new) (map_of texts_cmp is_listed listed_in (rows_named old.now object.name))
     (reads_part object.name object.columns object.primary texts_total texts_antisymmetric is_listed listed_in old new (λ has. has.1.0) ready all_text [] names query (λ tree. record { from = refl; group = refl; distinct = refl; whole = λ params rows. refl }) (λ _. true) (λ tree r kind. refl) ShowsListed listed_of fits all_is (Ok all) selects up) in
-    (got.0, got.1 ∙ objects_listed old (ready got.0.was_open).ours)
+    (got.0, got.1 ∙ objects_listed old (ready got.0.0.was_open).ours)
 
 -- ---- why a read fails
 
 pub scan : (tree : ℕ) → IsScan (query tree) tree
 scan tree = record { from = refl; group = refl; distinct = refl; whole = λ params rows. refl }
 
-pub all_read : IsRead all_text
+pub all_read : IsSelect all_text
 unfolding everything
 all_read = (_, _, _, _, _, refl)
 
-pub fails_all : (old new : State) → IsAtRest old → (e : Error) → FailsToQuery all_text [] old new e → FailsWith old new ⊥ (IsSome old.step_limit) (failure_of e)
+pub fails_all : (old new : State) → HasSettledTables old → (e : Error) → FailsToQuery all_text [] old new e → FailsWith old new ⊥ (IsSome old.step_limit) (failure_of e)
 unfolding everything
 fails_all old new rests = read_fails object.name object.columns object.primary old new rests (λ has. has.1.0) all_text [] names query scan all_is all_read (λ s at tree known. rw (known.low, known.by_tree) refl)

@@ -30,14 +30,14 @@ use Rattle.sqlite_resolve.specs.Write.{over}
 use Rattle.sqlite_rules.specs.Edit.{next_rowid, is_taken}
 use Rattle.sqlite_tied.specs.Compute.{everything}
 use Rattle.sqlite.specs.declared.error.Error.{Error}
-use Rattle.sqlite.specs.State.{State, ExecutesInside, FailsToQuery}
+use Rattle.sqlite.specs.State.{State, ExecutesInside, FailsToQuery, IsUnchanged}
 use Rattle.rows.specs.declared.failure.Failure.{Failure}
 use Rattle.rows.specs.declared.objects.Object.{Object}
 use Rattle.rows.specs.Forms.{object}
 use Rattle.rows.specs.Standing.{IsNamed, IsKnown, tree_named}
 use Rattle.rows.specs.Contents.{Bytes, Stored, map_of, rows_named, contents_of, texts_cmp, is_text, is_blob, is_object, object_of, text_if_any}
-use Rattle.rows.specs.Queries.{IsRead}
-use Rattle.rows.specs.Calls.{IsReady, IsAtRest, IsOurs, IsUnderWay, Changes, Rests}
+use Rattle.rows.specs.Queries.{IsSelect}
+use Rattle.rows.specs.Calls.{IsReady, HasSettledTables, IsOurs, IsUnderWay, Changes}
 use Rattle.rows.specs.Entries.{stored_of, ShowsObject, ShowsText, IsStored, stored}
 use Rattle.rows.proofs.Orders.{texts_total, texts_antisymmetric}
 use Rattle.rows.proofs.Truths.{cast_null, free_of, and_so, and_one, text_test}
@@ -175,7 +175,7 @@ of_is s at tree known =
     )
 
 pub reads_of : (old new : State) (base : List ℕ) (r : Result (Vec Object Global) Failure) → (IsTrue old.is_open → IsReady old) → Selects ShowsObject old new of_text (Text base ∷ []) r → IfOk r (λ all. AllAdjacentBelow (λ x y. true ≡ is_lt (texts_cmp (stored_of x).0 (stored_of y).0)) all.items (length all.items))
-    → IfOk r (λ all. Rests old new × (map stored_of all.items ≡ finite.entries (finite.retain_keys (contents_of old.now).objects (λ k. eq_by_cmp texts_cmp k base))))
+    → IfOk r (λ all. IsUnchanged old new × (map stored_of all.items ≡ finite.entries (finite.retain_keys (contents_of old.now).objects (λ k. eq_by_cmp texts_cmp k base))))
 reads_of old new base r ready selects up =
     reads_part object.name object.columns object.primary texts_total texts_antisymmetric is_object object_of old new (λ has. has.1.0) ready of_text (Text base ∷ []) names (query of_one) (λ tree. record { from = refl; group = refl; distinct = refl; whole = λ params rows. refl }) (λ k. eq_by_cmp texts_cmp k base) (λ tree. said_one base) ShowsObject stored_of (fits (Text base ∷ []) of_one) of_is r selects up
 
@@ -242,12 +242,12 @@ module _ (old : State) (ours : IsOurs old.now) where
       let kind = objects_typed old.now ours.sound ours.has.1.0 r there in (kind, (and_so _ _ (and_so _ _ (and_so _ _ (and_so _ _ kind).0).0).0).0, refl))
 
 pub reads_keys : (old new : State) (r : Result (Vec (String Global) Global) Failure) → (IsTrue old.is_open → IsReady old) → Selects ShowsText old new keys_text [] r → IfOk r (λ all. AllAdjacentBelow (λ x y. true ≡ is_lt (texts_cmp (string_bytes x) (string_bytes y))) all.items (length all.items))
-    → IfOk r (λ all. Rests old new × (map string_bytes all.items ≡ finite.keys (contents_of old.now).objects))
+    → IfOk r (λ all. IsUnchanged old new × (map string_bytes all.items ≡ finite.keys (contents_of old.now).objects))
 reads_keys old new (Err e) ready selects up = tt
 reads_keys old new (Ok all) ready selects up =
-    let got = whole_map texts_total texts_antisymmetric key_of (Ok all) (Rests old new) (map_of texts_cmp has_key key_in (rows_named old.now object.name))
+    let got = whole_map texts_total texts_antisymmetric key_of (Ok all) (IsUnchanged old new) (map_of texts_cmp has_key key_in (rows_named old.now object.name))
     (reads_part object.name object.columns object.primary texts_total texts_antisymmetric has_key key_in old new (λ has. has.1.0) ready keys_text [] (codes "base" ∷ []) keys_query (λ tree. record { from = refl; group = refl; distinct = refl; whole = λ params rows. refl }) (λ _. true) (λ tree r kind. refl) ShowsText key_of key_fits keys_is (Ok all) selects up) in
-    let ours = (ready got.0.was_open).ours in
+    let ours = (ready got.0.0.was_open).ours in
     let same : map key_of all.items ≡ map (λ e. (e.0, tt)) (finite.entries (contents_of old.now).objects) = got.1 ∙ paths old ours in
     (got.0, sym (map-map (λ (e : Bytes × Unit {0}). e.0) key_of all.items) ∙ ap (map (λ (e : Bytes × Unit {0}). e.0)) same ∙ map-map (λ (e : Bytes × Unit {0}). e.0) (λ (e : Bytes × Stored). (e.0, tt)) (finite.entries (contents_of old.now).objects))
 
@@ -270,21 +270,21 @@ last_is objects base all rest None read is some = none_of objects base all.items
 pub scan : (filter : List Term) (tree : ℕ) → IsScan (query filter tree) tree
 scan filter tree = record { from = refl; group = refl; distinct = refl; whole = λ params rows. refl }
 
-pub of_read : IsRead of_text
+pub of_read : IsSelect of_text
 unfolding everything
 of_read = (_, _, _, _, _, refl)
 
-pub fails_of : (old new : State) (base : List ℕ) → IsAtRest old → (e : Error) → FailsToQuery of_text (Text base ∷ []) old new e → FailsWith old new ⊥ (IsSome old.step_limit) (failure_of e)
+pub fails_of : (old new : State) (base : List ℕ) → HasSettledTables old → (e : Error) → FailsToQuery of_text (Text base ∷ []) old new e → FailsWith old new ⊥ (IsSome old.step_limit) (failure_of e)
 unfolding everything
 fails_of old new base rests = read_fails object.name object.columns object.primary old new rests (λ has. has.1.0) of_text (Text base ∷ []) names (query of_one) (scan of_one) of_is of_read (λ s at tree known. rw (known.low, known.by_tree) refl)
 
 pub keys_scan : (tree : ℕ) → IsScan (keys_query tree) tree
 keys_scan tree = record { from = refl; group = refl; distinct = refl; whole = λ params rows. refl }
 
-pub keys_read : IsRead keys_text
+pub keys_read : IsSelect keys_text
 unfolding everything
 keys_read = (_, _, _, _, _, refl)
 
-pub fails_keys : (old new : State) → IsAtRest old → (e : Error) → FailsToQuery keys_text [] old new e → FailsWith old new ⊥ (IsSome old.step_limit) (failure_of e)
+pub fails_keys : (old new : State) → HasSettledTables old → (e : Error) → FailsToQuery keys_text [] old new e → FailsWith old new ⊥ (IsSome old.step_limit) (failure_of e)
 unfolding everything
 fails_keys old new rests = read_fails object.name object.columns object.primary old new rests (λ has. has.1.0) keys_text [] (codes "base" ∷ []) keys_query keys_scan keys_is keys_read (λ s at tree known. rw (known.low, known.by_tree) refl)

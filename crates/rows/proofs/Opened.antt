@@ -13,7 +13,7 @@ use Rattle.sqlite.specs.declared.file.Leftover.{Leftover}
 use Rattle.sqlite.specs.declared.error.Error.{Error}
 use Rattle.sqlite.specs.declared.error.Error.TheVariants.{SqliteFailure}
 use Rattle.sqlite.specs.declared.error.ErrorCode.TheVariants.{CannotOpen, OutOfMemory, DatabaseBusy}
-use Rattle.sqlite.specs.State.{State}
+use Rattle.sqlite.specs.State.{State, IsUnchanged}
 use Rattle.sqlite.specs.Files.{AreFoundIn, IsCleanLeft, FailsToOpenFiles, LeavesFiles}
 use Rattle.sqlite.specs.Start.{FindsIn}
 use Rattle.rows.specs.declared.finding.Finding.{Finding}
@@ -26,24 +26,26 @@ use Rattle.sqlite.specs.Effect.{Database, IsDatabase}
 use Rattle.rows.specs.declared.failure.Failure.{Failure}
 use Rattle.rows.specs.Forms.{our_tables}
 use Rattle.rows.specs.Contents.{contents_of, rows_named}
-use Rattle.rows.specs.Calls.{IsAtRest, IsKeyed, IsOurs, IsReady, Rests}
+use Rattle.rows.specs.Calls.{HasSettledTables, IsKeyed, IsOurs, IsReady}
+use Rattle.sqlite.proofs.Callers.{unchanged_then}
 use Rattle.rows.proofs.ReadableMaps.{readable_by_maps}
 
 then : {A B C : Type 0} → A ↔ B → B ↔ C → A ↔ C
 then h k = (λ a. k.0 (h.0 a), λ c. h.1 (k.1 c))
 
 -- whether the texts are UTF-8 was told of what the connection showed at first, and where they are it is ready
-pub tested : (a m n : State) (r : Result Bool Failure) → IsAtRest a → (IsTrue a.is_open → IsDatabase a.now) → Rests a m × AllByRecursion (λ t. IsKeyed (rows_named a.now t.name)) our_tables → IfOk r (λ b. Rests m n × (IsTrue b ↔ HasReadableRows m.now))
-    → IfOk r (λ b. IsTrue b → IsReady n) × IfOk r (λ b. IsTrue b ↔ AreReadable (contents_of a.now))
-tested a m n (Err e) rests sound keyed told = (tt, tt)
+pub tested : (a m n : State) (r : Result Bool Failure) → HasSettledTables a → (IsTrue a.is_open → IsDatabase a.now) → IsUnchanged a m × AllByRecursion (λ t. IsKeyed (rows_named a.now t.name)) our_tables → IfOk r (λ b. IsUnchanged m n × (IsTrue b ↔ HasReadableRows m.now))
+    → IfOk r (λ b. IsTrue b → IsReady n) × IfOk r (λ b. IsTrue b ↔ AreReadable (contents_of a.now)) × OnOk r (IsUnchanged a n)
+tested a m n (Err e) rests sound keyed told = (tt, tt, tt)
 tested a m n (Ok b) rests sound keyed told =
-    let is_sound = sound keyed.0.was_open in
-    let has = rests.has keyed.0.was_open in
-    let by_rows : IsTrue b ↔ HasReadableRows a.now = subst (λ (d : Database). IsTrue b ↔ HasReadableRows d) keyed.0.now told.1 in
-    let same : n.now ≡ a.now = told.0.now ∙ keyed.0.now in
+    let is_sound = sound keyed.0.0.was_open in
+    let has = rests.has keyed.0.0.was_open in
+    let by_rows : IsTrue b ↔ HasReadableRows a.now = subst (λ (d : Database). IsTrue b ↔ HasReadableRows d) keyed.0.0.now_is told.1 in
+    let same : n.now ≡ a.now = told.0.0.now_is ∙ keyed.0.0.now_is in
     let ours : IsTrue b → IsOurs a.now = λ yes. record { sound = is_sound; has = has; keyed = keyed.1; readable = by_rows.0 yes } in (
-      λ yes. record { ours = subst IsOurs (sym same) (ours yes); settled = same ∙ rests.settled keyed.0.was_open ∙ sym keyed.0.committed ∙ sym told.0.committed },
+      λ yes. record { ours = subst IsOurs (sym same) (ours yes); settled = same ∙ rests.settled keyed.0.0.was_open ∙ sym keyed.0.0.committed_is ∙ sym told.0.0.committed_is },
       then by_rows (readable_by_maps a.now is_sound has keyed.1),
+      unchanged_then a m n keyed.0 told.0,
     )
 
 -- what was found before the test is found after it, since nothing changed
@@ -66,7 +68,3 @@ module _ {S : Type 0} {c : calls.Ghosts Host} {start : Ghosts S} {g : disk.Ghost
       → IfSome left (λ left. (files : _) × IsFresh true files.log × IsFresh false files.db × (IsCleanLeft left → FailsToOpenFiles files left e × LeavesFiles files left)) → Refuses e left
   refuses e None named unopened cause = unopened refl
   refuses e (Some left) named unopened cause = (named, cause)
-
-pub any_ok : {T E : Type 0} (r : Result T E) (P : Type 0) → P → OnOk r P
-any_ok (Ok x) P h = h
-any_ok (Err e) P h = tt

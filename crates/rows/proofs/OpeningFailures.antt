@@ -5,10 +5,12 @@ use Rattle.sqlite.specs.declared.error.Error.{Error}
 use Rattle.sqlite.specs.Effect.{Database}
 use Rattle.sqlite.specs.State.{State, HasCleanDisk, Survives, IsUnchanged, FailsToQuery}
 use Rattle.sqlite.proofs.StateLemmas.{survives_then}
+use Rattle.sqlite.proofs.Callers.{unchanged_then}
+use Rattle.rows.proofs.Steps.{shown_then}
 use Rattle.rows.specs.declared.failure.Failure.{Failure}
 use Rattle.rows.specs.declared.failure.Failure.TheVariants.{Memory, Size, Disk}
 use Rattle.rows.specs.Standing.{HasTables}
-use Rattle.rows.specs.Calls.{IsAtRest, IsAsBefore, Rests}
+use Rattle.rows.specs.Calls.{HasSettledTables, KeepsShown}
 use Rattle.rows.specs.Failures.{failure_of, FailsWith, IsQueryFailure}
 use Rattle.rows.specs.Opened.{FailsToTest}
 
@@ -44,20 +46,14 @@ fails_for old new P Q so Disk (inr (inr h)) = inr (inr (so h))
 
 -- ---- what stays
 
-pub as_before_then : (a b c : State) → (HasCleanDisk b → IsAsBefore a b) → (HasCleanDisk c → IsAsBefore b c) → Survives b c (λ _. ⊥) → HasCleanDisk c → IsAsBefore a c
-as_before_then a b c first next survives clean =
-    let h = first (omega (arith, survives.clean, clean)) in
-    let k = next clean in
-    record { was_open = λ is_open. h.was_open (k.was_open is_open); now = λ is_open. k.now is_open ∙ h.now (k.was_open is_open); committed = λ is_open. k.committed is_open ∙ h.committed (k.was_open is_open) }
+pub both_keep : (a b c : State) → (HasCleanDisk b → KeepsShown a b) → (HasCleanDisk c → KeepsShown b c) → Survives b c (λ _. ⊥) → HasCleanDisk c → KeepsShown a c
+both_keep a b c first next survives clean = shown_then a b c (first (omega (arith, survives.clean, clean))) (next clean)
 
-pub rests_after : (a b : State) → IsAtRest a → IsAsBefore a b → IsAtRest b
-rests_after a b rests h = record {
+pub settled_after : (a b : State) → HasSettledTables a → KeepsShown a b → HasSettledTables b
+settled_after a b rests h = record {
   has = λ is_open. subst (λ (d : Database). HasTables d.schema) (sym (h.now is_open)) (rests.has (h.was_open is_open));
   settled = λ is_open. h.now is_open ∙ rests.settled (h.was_open is_open) ∙ sym (h.committed is_open);
 }
-
-pub rests_then : (a b c : State) → Rests a b → Rests b c → Rests a c
-rests_then a b c h k = record { was_open = h.was_open; is_open = k.is_open; now = k.now ∙ h.now; committed = k.committed ∙ h.committed; mode = k.mode ∙ h.mode; marks = k.marks ∙ h.marks }
 
 -- neither of two calls leaves anything to a crash
 pub survives_both : (a b c : State) → Survives a b (λ _. ⊥) → Survives b c (λ _. ⊥) → Survives a c (λ _. ⊥)
@@ -67,26 +63,26 @@ survives_both a b c h k = survives_then a b c (λ _. ⊥) (λ _. ⊥) (λ _. ⊥
 
 -- it was passed, and nothing changed
 abbrev Passes : State → State → Type 0
-Passes a b = (HasCleanDisk b → Rests a b) × Survives a b (λ _. ⊥)
+Passes a b = (HasCleanDisk b → IsUnchanged a b) × Survives a b (λ _. ⊥)
 
 pub passes_then : (a b c : State) → Passes a b → Passes b c → Passes a c
 passes_then a b c h k = (
-  λ clean. rests_then a b c (h.0 (omega (arith, k.1.clean, clean))) (k.0 clean),
+  λ clean. unchanged_then a b c (h.0 (omega (arith, k.1.clean, clean))) (k.0 clean),
   survives_both a b c h.1 k.1,
 )
 
-after : (a b c : State) (P Q : Type 0) → Rests a b → Survives a b (λ _. ⊥) → (P → Q) → (f : Failure) → FailsToTest b c P f → FailsToTest a c Q f
+after : (a b c : State) (P Q : Type 0) → IsUnchanged a b → Survives a b (λ _. ⊥) → (P → Q) → (f : Failure) → FailsToTest b c P f → FailsToTest a c Q f
 after a b c P Q same before so Memory h = tt
 after a b c P Q same before so Size h = h
 after a b c P Q same before so Disk (inl (inl more)) = inl (inl (omega (arith, more, before.counts)))
-after a b c P Q same before so Disk (inl (inr shut)) = absurd (let no = sym same.is_open ∙ shut in cc)
+after a b c P Q same before so Disk (inl (inr shut)) = absurd (let no = sym same.0.is_open ∙ shut in cc)
 after a b c P Q same before so Disk (inr (inl limit)) = inr (inl (subst IsSome before.limit limit))
 after a b c P Q same before so Disk (inr (inr h)) = inr (inr (so h))
 
 -- a failure after a test that was passed is one of both
-pub fails_after : (a b c : State) (P Q : Type 0) → Passes a b → Survives b c (λ _. ⊥) → HasCleanDisk c → (Rests a b → P → Q) → (f : Failure) → FailsToTest b c P f → FailsToTest a c Q f
+pub fails_after : (a b c : State) (P Q : Type 0) → Passes a b → Survives b c (λ _. ⊥) → HasCleanDisk c → (IsUnchanged a b → P → Q) → (f : Failure) → FailsToTest b c P f → FailsToTest a c Q f
 fails_after a b c P Q passes later clean so = let same = passes.0 (omega (arith, later.clean, clean)) in after a b c P Q same passes.1 (so same)
 
 -- what isn't so of what the second test saw, isn't so of what the first saw
-pub not_before : (P Q : Database → Type 0) → ((d : Database) → Q d → P d) → (a b : State) → Rests a b → ¬ P b.now → ¬ Q a.now
-not_before P Q of a b same none h = none (subst P (sym same.now) (of a.now h))
+pub not_before : (P Q : Database → Type 0) → ((d : Database) → Q d → P d) → (a b : State) → IsUnchanged a b → ¬ P b.now → ¬ Q a.now
+not_before P Q of a b same none h = none (subst P (sym same.0.now_is) (of a.now h))

@@ -25,14 +25,14 @@ use Rattle.sqlite_resolve.specs.Write.{over}
 use Rattle.sqlite_rules.specs.Edit.{next_rowid, is_taken}
 use Rattle.sqlite_tied.specs.Compute.{everything}
 use Rattle.sqlite.specs.declared.error.Error.{Error}
-use Rattle.sqlite.specs.State.{State, ExecutesInside, FailsToQuery}
+use Rattle.sqlite.specs.State.{State, ExecutesInside, FailsToQuery, IsUnchanged}
 use Rattle.rows.specs.declared.failure.Failure.{Failure}
 use Rattle.rows.specs.declared.outputs.Output.{Output}
 use Rattle.rows.specs.Forms.{outs}
 use Rattle.rows.specs.Standing.{IsNamed, IsKnown, tree_named}
 use Rattle.rows.specs.Contents.{contents_of, texts_cmp, pair_cmp, is_text, is_triple, target_of}
-use Rattle.rows.specs.Queries.{IsRead}
-use Rattle.rows.specs.Calls.{IsReady, IsAtRest, IsUnderWay, Changes, Rests}
+use Rattle.rows.specs.Queries.{IsSelect}
+use Rattle.rows.specs.Calls.{IsReady, HasSettledTables, IsUnderWay, Changes}
 use Rattle.rows.specs.Entries.{output_of, ShowsOutput}
 use Rattle.rows.proofs.Orders.{pair_total, pair_antisymmetric}
 use Rattle.rows.proofs.Truths.{cast_null, free_of, and_so, and_one, text_test}
@@ -158,9 +158,9 @@ all_is s at tree known =
     )
 
 pub reads_all : (old new : State) (r : Result (Vec Output Global) Failure) → (IsTrue old.is_open → IsReady old) → Selects ShowsOutput old new all_text [] r → IfOk r (λ all. AllAdjacentBelow (λ x y. true ≡ is_lt (pair_cmp (output_of x).0 (output_of y).0)) all.items (length all.items))
-    → IfOk r (λ all. Rests old new × (map output_of all.items ≡ finite.entries (contents_of old.now).outs))
+    → IfOk r (λ all. IsUnchanged old new × (map output_of all.items ≡ finite.entries (contents_of old.now).outs))
 reads_all old new r ready selects up =
-    whole_map pair_total pair_antisymmetric output_of r (Rests old new) (contents_of old.now).outs
+    whole_map pair_total pair_antisymmetric output_of r (IsUnchanged old new) (contents_of old.now).outs
     (reads_part outs.name outs.columns outs.primary pair_total pair_antisymmetric is_triple target_of old new (λ has. has.1.1.1.0) ready all_text [] names (query []) (λ tree. record { from = refl; group = refl; distinct = refl; whole = λ params rows. refl }) (λ _. true) (λ tree r kind. refl) ShowsOutput output_of (fits [] []) all_is r selects up)
 
 abbrev pub of_text : List ℕ
@@ -187,7 +187,7 @@ of_is s at tree known =
     )
 
 pub reads_of : (old new : State) (base : List ℕ) (r : Result (Vec Output Global) Failure) → (IsTrue old.is_open → IsReady old) → Selects ShowsOutput old new of_text (Text base ∷ []) r → IfOk r (λ all. AllAdjacentBelow (λ x y. true ≡ is_lt (pair_cmp (output_of x).0 (output_of y).0)) all.items (length all.items))
-    → IfOk r (λ all. Rests old new × (map output_of all.items ≡ finite.entries (finite.retain_keys (contents_of old.now).outs (λ k. eq_by_cmp texts_cmp k.0 base))))
+    → IfOk r (λ all. IsUnchanged old new × (map output_of all.items ≡ finite.entries (finite.retain_keys (contents_of old.now).outs (λ k. eq_by_cmp texts_cmp k.0 base))))
 reads_of old new base r ready selects up =
     reads_part outs.name outs.columns outs.primary pair_total pair_antisymmetric is_triple target_of old new (λ has. has.1.1.1.0) ready of_text (Text base ∷ []) names (query of_one) (λ tree. record { from = refl; group = refl; distinct = refl; whole = λ params rows. refl }) (λ k. eq_by_cmp texts_cmp k.0 base) (λ tree. said_one base) ShowsOutput output_of (fits (Text base ∷ []) of_one) of_is r selects up
 
@@ -196,18 +196,18 @@ reads_of old new base r ready selects up =
 pub scan : (filter : List Term) (tree : ℕ) → IsScan (query filter tree) tree
 scan filter tree = record { from = refl; group = refl; distinct = refl; whole = λ params rows. refl }
 
-pub all_read : IsRead all_text
+pub all_read : IsSelect all_text
 unfolding everything
 all_read = (_, _, _, _, _, refl)
 
-pub fails_all : (old new : State) → IsAtRest old → (e : Error) → FailsToQuery all_text [] old new e → FailsWith old new ⊥ (IsSome old.step_limit) (failure_of e)
+pub fails_all : (old new : State) → HasSettledTables old → (e : Error) → FailsToQuery all_text [] old new e → FailsWith old new ⊥ (IsSome old.step_limit) (failure_of e)
 unfolding everything
 fails_all old new rests = read_fails outs.name outs.columns outs.primary old new rests (λ has. has.1.1.1.0) all_text [] names (query []) (scan []) all_is all_read (λ s at tree known. rw (known.low, known.by_tree) refl)
 
-pub of_read : IsRead of_text
+pub of_read : IsSelect of_text
 unfolding everything
 of_read = (_, _, _, _, _, refl)
 
-pub fails_of : (old new : State) (base : List ℕ) → IsAtRest old → (e : Error) → FailsToQuery of_text (Text base ∷ []) old new e → FailsWith old new ⊥ (IsSome old.step_limit) (failure_of e)
+pub fails_of : (old new : State) (base : List ℕ) → HasSettledTables old → (e : Error) → FailsToQuery of_text (Text base ∷ []) old new e → FailsWith old new ⊥ (IsSome old.step_limit) (failure_of e)
 unfolding everything
 fails_of old new base rests = read_fails outs.name outs.columns outs.primary old new rests (λ has. has.1.1.1.0) of_text (Text base ∷ []) names (query of_one) (scan of_one) of_is of_read (λ s at tree known. rw (known.low, known.by_tree) refl)

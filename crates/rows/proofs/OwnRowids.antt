@@ -37,17 +37,17 @@ use Rattle.sqlite_resolve.specs.Expr.{lower, lower_to, node, opened, passes}
 use Rattle.sqlite_resolve.specs.Lowering.{spend, begin, finish}
 use Rattle.sqlite_resolve.specs.Scope.{Name, Context, find as found_in, column as named_column, term_of}
 use Rattle.sqlite_rules.specs.Lists.{Has}
-use Rattle.sqlite.specs.State.{State}
+use Rattle.sqlite.specs.State.{State, IsUnchanged}
 use Rattle.sqlite.specs.Values.{IsInt}
 use Rattle.sqlite.proofs.Callers.{reads_as}
 use Rattle.rows.specs.Forms.{strict}
 use Rattle.rows.specs.Standing.{Stands, tree_named}
 use Rattle.rows.specs.Contents.{rows_named}
-use Rattle.rows.specs.Calls.{IsKeyed, Rests}
-use Rattle.rows.specs.Queries.{Answers}
+use Rattle.rows.specs.Calls.{IsKeyed}
+use Rattle.rows.specs.Queries.{IsAnswered}
 use Rattle.rows.specs.Opened.{ShowIds}
 use Rattle.rows.proofs.Means.{means_command, plain_state}
-use Rattle.rows.proofs.Scans.{IsScan, scan_complete, kept, listed, unchanged_rests}
+use Rattle.rows.proofs.Scans.{IsScan, scan_complete, kept, listed}
 use Rattle.rows.proofs.Apart.{tie, turned}
 use Rattle.rows.proofs.Statements.{Compiles}
 use Rattle.rows.proofs.Writes.{overlay_low}
@@ -153,17 +153,17 @@ keyed_from order tree db rows answer ids =
 
 -- the rows that were shown, whose first values are integers that differ
 abbrev pub ShowsApart : List ℕ → State → State → Type 0
-ShowsApart text old new = (rows : List Row) × Answers text [] old new rows × ShowIds rows
+ShowsApart text old new = (rows : List Row) × IsAnswered text [] old new rows × ShowIds rows
 
 -- each row of the table has a rowid of its own, and nothing changes
 pub keyed_if : (name : List ℕ) (columns : List Column) (key : List ℕ) (text : List ℕ) (order : List (Term × Key)) (old new : State) → Stands old.now.schema (strict name columns key)
-    → {count : ℕ} → Compiles name columns key text count (λ at tree. Select (whole order tree) (codes "rowid" ∷ [])) → ShowsApart text old new → Rests old new × IsKeyed (rows_named old.now name)
+    → {count : ℕ} → Compiles name columns key text count (λ at tree. Select (whole order tree) (codes "rowid" ∷ [])) → ShowsApart text old new → IsUnchanged old new × IsKeyed (rows_named old.now name)
 keyed_if name columns key text order old new stands is h =
     let tree = tree_named old.now.schema name in
     let m = means_command old.now.schema text _ (is old.now.schema stands.at tree stands.known) in
     let got = reads_as text [] old new old.now.schema refl _ m.0 m.1 m.2 h.0 h.1.0 in
     let answer : IsAnswer (query order tree) (overlay old.now.trees []) [] h.0 = got.answer Null in
-    (unchanged_rests old new h.1.1.1, subst IsKeyed (overlay_low old.now.trees tree stands.known.low) (keyed_from order tree (overlay old.now.trees []) h.0 answer h.2))
+    (h.1.1.1, subst IsKeyed (overlay_low old.now.trees tree stands.known.low) (keyed_from order tree (overlay old.now.trees []) h.0 answer h.2))
 
 -- ---- what a sort and a test of neighbours say of integers
 

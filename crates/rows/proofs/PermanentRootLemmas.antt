@@ -25,14 +25,14 @@ use Rattle.sqlite_resolve.specs.Write.{over}
 use Rattle.sqlite_rules.specs.Edit.{next_rowid, is_taken}
 use Rattle.sqlite_tied.specs.Compute.{everything}
 use Rattle.sqlite.specs.declared.error.Error.{Error}
-use Rattle.sqlite.specs.State.{State, ExecutesInside, FailsToQuery}
+use Rattle.sqlite.specs.State.{State, ExecutesInside, FailsToQuery, IsUnchanged}
 use Rattle.rows.specs.declared.failure.Failure.{Failure}
 use Rattle.rows.specs.declared.permanent.PermanentRoot.{PermanentRoot}
 use Rattle.rows.specs.Forms.{permanent}
 use Rattle.rows.specs.Standing.{IsNamed, IsKnown, tree_named}
 use Rattle.rows.specs.Contents.{contents_of, texts_cmp, is_text, is_pair, pair_of}
-use Rattle.rows.specs.Queries.{IsRead}
-use Rattle.rows.specs.Calls.{IsReady, IsAtRest, IsUnderWay, Changes, Rests}
+use Rattle.rows.specs.Queries.{IsSelect}
+use Rattle.rows.specs.Calls.{IsReady, HasSettledTables, IsUnderWay, Changes}
 use Rattle.rows.specs.Entries.{permanent_of, ShowsPermanentRoot}
 use Rattle.rows.proofs.Orders.{texts_total, texts_antisymmetric}
 use Rattle.rows.proofs.Truths.{cast_null, free_of, and_so, and_one, text_test}
@@ -158,9 +158,9 @@ all_is s at tree known =
     )
 
 pub reads_all : (old new : State) (r : Result (Vec PermanentRoot Global) Failure) → (IsTrue old.is_open → IsReady old) → Selects ShowsPermanentRoot old new all_text [] r → IfOk r (λ all. AllAdjacentBelow (λ x y. true ≡ is_lt (texts_cmp (permanent_of x).0 (permanent_of y).0)) all.items (length all.items))
-    → IfOk r (λ all. Rests old new × (map permanent_of all.items ≡ finite.entries (contents_of old.now).permanent))
+    → IfOk r (λ all. IsUnchanged old new × (map permanent_of all.items ≡ finite.entries (contents_of old.now).permanent))
 reads_all old new r ready selects up =
-    whole_map texts_total texts_antisymmetric permanent_of r (Rests old new) (contents_of old.now).permanent
+    whole_map texts_total texts_antisymmetric permanent_of r (IsUnchanged old new) (contents_of old.now).permanent
     (reads_part permanent.name permanent.columns permanent.primary texts_total texts_antisymmetric is_pair pair_of old new (λ has. has.1.1.1.1.0) ready all_text [] names (query []) (λ tree. record { from = refl; group = refl; distinct = refl; whole = λ params rows. refl }) (λ _. true) (λ tree r kind. refl) ShowsPermanentRoot permanent_of (fits [] []) all_is r selects up)
 
 abbrev pub of_text : List ℕ
@@ -187,7 +187,7 @@ of_is s at tree known =
     )
 
 pub reads_of : (old new : State) (name : List ℕ) (r : Result (Vec PermanentRoot Global) Failure) → (IsTrue old.is_open → IsReady old) → Selects ShowsPermanentRoot old new of_text (Text name ∷ []) r → IfOk r (λ all. AllAdjacentBelow (λ x y. true ≡ is_lt (texts_cmp (permanent_of x).0 (permanent_of y).0)) all.items (length all.items))
-    → IfOk r (λ all. Rests old new × (map permanent_of all.items ≡ finite.entries (finite.retain_keys (contents_of old.now).permanent (λ k. eq_by_cmp texts_cmp k name))))
+    → IfOk r (λ all. IsUnchanged old new × (map permanent_of all.items ≡ finite.entries (finite.retain_keys (contents_of old.now).permanent (λ k. eq_by_cmp texts_cmp k name))))
 reads_of old new name r ready selects up =
     reads_part permanent.name permanent.columns permanent.primary texts_total texts_antisymmetric is_pair pair_of old new (λ has. has.1.1.1.1.0) ready of_text (Text name ∷ []) names (query of_one) (λ tree. record { from = refl; group = refl; distinct = refl; whole = λ params rows. refl }) (λ k. eq_by_cmp texts_cmp k name) (λ tree. said_one name) ShowsPermanentRoot permanent_of (fits (Text name ∷ []) of_one) of_is r selects up
 
@@ -196,18 +196,18 @@ reads_of old new name r ready selects up =
 pub scan : (filter : List Term) (tree : ℕ) → IsScan (query filter tree) tree
 scan filter tree = record { from = refl; group = refl; distinct = refl; whole = λ params rows. refl }
 
-pub all_read : IsRead all_text
+pub all_read : IsSelect all_text
 unfolding everything
 all_read = (_, _, _, _, _, refl)
 
-pub fails_all : (old new : State) → IsAtRest old → (e : Error) → FailsToQuery all_text [] old new e → FailsWith old new ⊥ (IsSome old.step_limit) (failure_of e)
+pub fails_all : (old new : State) → HasSettledTables old → (e : Error) → FailsToQuery all_text [] old new e → FailsWith old new ⊥ (IsSome old.step_limit) (failure_of e)
 unfolding everything
 fails_all old new rests = read_fails permanent.name permanent.columns permanent.primary old new rests (λ has. has.1.1.1.1.0) all_text [] names (query []) (scan []) all_is all_read (λ s at tree known. rw (known.low, known.by_tree) refl)
 
-pub of_read : IsRead of_text
+pub of_read : IsSelect of_text
 unfolding everything
 of_read = (_, _, _, _, _, refl)
 
-pub fails_of : (old new : State) (name : List ℕ) → IsAtRest old → (e : Error) → FailsToQuery of_text (Text name ∷ []) old new e → FailsWith old new ⊥ (IsSome old.step_limit) (failure_of e)
+pub fails_of : (old new : State) (name : List ℕ) → HasSettledTables old → (e : Error) → FailsToQuery of_text (Text name ∷ []) old new e → FailsWith old new ⊥ (IsSome old.step_limit) (failure_of e)
 unfolding everything
 fails_of old new name rests = read_fails permanent.name permanent.columns permanent.primary old new rests (λ has. has.1.1.1.1.0) of_text (Text name ∷ []) names (query of_one) (scan of_one) of_is of_read (λ s at tree known. rw (known.low, known.by_tree) refl)

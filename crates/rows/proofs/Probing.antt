@@ -20,7 +20,7 @@ use Rattle.sqlite.specs.Listing.{understood}
 use Rattle.sqlite.specs.State.{State, store_error, Fails, IsUnchanged, Shown, FailsToQuery, IsTooLate}
 use Rattle.rows.specs.declared.failure.Failure.{Failure}
 use Rattle.rows.specs.Failures.{failure_of, FailsWith, IsQueryFailure}
-use Rattle.rows.specs.Queries.{IsRead}
+use Rattle.rows.specs.Queries.{IsSelect}
 use Rattle.rows.specs.Opened.{FailsToTest}
 use Rattle.rows.proofs.Means.{IsMeant, means_command}
 use Rattle.rows.proofs.Scans.{shown_same}
@@ -55,7 +55,7 @@ sums_nothing : (db : Trees) → QueryOverflows query db [] → ⊥
 sums_nothing db (inl h) = h
 sums_nothing db (inr h) = h
 
-pub reads : IsRead text
+pub reads : IsSelect text
 unfolding everything
 reads = (_, _, _, _, _, refl)
 

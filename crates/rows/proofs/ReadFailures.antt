@@ -30,8 +30,8 @@ use Rattle.sqlite.specs.Listing.{understood, reads_listing, listing_schema, is_s
 use Rattle.sqlite.specs.State.{State, Fails, IsUnchanged, IsStatement, IsNoStatement, IsNotRun, FailsToQuery, FailsToShow, IsTooLate}
 use Rattle.rows.specs.Forms.{strict}
 use Rattle.rows.specs.Standing.{IsKnown, Stands, HasTables, tree_named}
-use Rattle.rows.specs.Calls.{IsAtRest}
-use Rattle.rows.specs.Queries.{parsed, IsRead}
+use Rattle.rows.specs.Calls.{HasSettledTables}
+use Rattle.rows.specs.Queries.{parsed, IsSelect}
 use Rattle.rows.specs.Failures.{failure_of, FailsWith}
 use Rattle.rows.proofs.Means.{IsMeant}
 use Rattle.rows.proofs.Scans.{IsScan}
@@ -88,7 +88,7 @@ module _ (names : List Name) (start end tail : ℕ) (select : Read) where
 
 -- ---- a query
 
-module _ (old new : State) (text : List ℕ) (params : Row) (names : List (List ℕ)) (query : Query) (meant : IsUnchanged old new → IsMeant old.now.schema text (length params) (Select (record { lets = []; body = query }) names)) (reads : IsRead text)
+module _ (old new : State) (text : List ℕ) (params : Row) (names : List (List ℕ)) (query : Query) (meant : IsUnchanged old new → IsMeant old.now.schema text (length params) (Select (record { lets = []; body = query }) names)) (reads : IsSelect text)
     (typed : IsUnchanged old new → accepts_program old.now.schema [] query params ≡ true) (sums_nothing : (db : Trees) → QueryOverflows query db params → ⊥) where
   -- a limit on steps stopped it, and nothing changed
   abbrev IsStopped : Error → Type 0
@@ -135,8 +135,8 @@ sums_nothing q tree scan params db (inl h) = subst (λ g. Overflows g (matches d
 sums_nothing q tree scan params db (inr h) = (subst (λ j. FoldOverflows db j (params ∷ [])) scan.from h).4
 
 -- an error of a query over one table of ours
-pub read_fails : (name : List ℕ) (columns : List Column) (key : List ℕ) (old new : State) → IsAtRest old → (HasTables old.now.schema → Stands old.now.schema (strict name columns key)) → (text : List ℕ) (params : Row) (names : List (List ℕ)) (query : ℕ → Query) → ((tree : ℕ) → IsScan (query tree) tree)
-    → Compiles name columns key text (length params) (λ at tree. Select (record { lets = []; body = query tree }) names) → IsRead text
+pub read_fails : (name : List ℕ) (columns : List Column) (key : List ℕ) (old new : State) → HasSettledTables old → (HasTables old.now.schema → Stands old.now.schema (strict name columns key)) → (text : List ℕ) (params : Row) (names : List (List ℕ)) (query : ℕ → Query) → ((tree : ℕ) → IsScan (query tree) tree)
+    → Compiles name columns key text (length params) (λ at tree. Select (record { lets = []; body = query tree }) names) → IsSelect text
     → ((s : Schema) (at tree : ℕ) → IsKnown s name at (record (strict name columns key) { tree = tree }) → accepts_program s [] (query tree) params ≡ true)
     → (e : Error) → FailsToQuery text params old new e → FailsWith old new ⊥ (IsSome old.step_limit) (failure_of e)
 read_fails name columns key old new rests at text params names query scan is reads typed =

@@ -10,19 +10,18 @@ use Rattle.sqlite_sql.specs.Program.{overlay}
 use Rattle.sqlite_schema.specs.declared.schema.Column.{Column}
 use Rattle.sqlite_schema.specs.declared.command.Command.TheVariants.{Select}
 use Rattle.sqlite.specs.Effect.{Database}
-use Rattle.sqlite.specs.State.{State}
+use Rattle.sqlite.specs.State.{State, IsUnchanged}
 use Rattle.sqlite.proofs.Callers.{reads_as}
 use Rattle.rows.specs.Forms.{strict, meta, object, refs, outs, permanent, user_root, profile, generation, runtime}
 use Rattle.rows.specs.Standing.{Stands, tree_named}
 use Rattle.rows.specs.Contents.{rows_named}
 use Rattle.rows.specs.Texts.{IsReadable, IsReadableRow, AreReadableRows, HasReadableRows}
-use Rattle.rows.specs.Queries.{Answers}
-use Rattle.rows.specs.Calls.{Rests}
+use Rattle.rows.specs.Queries.{IsAnswered}
 use Rattle.rows.proofs.Means.{means_command}
-use Rattle.rows.proofs.Scans.{IsScan, shows, scan_sound, scan_complete, unchanged_rests}
+use Rattle.rows.proofs.Scans.{IsScan, shows, scan_sound, scan_complete}
 use Rattle.rows.proofs.Statements.{Compiles}
 use Rattle.rows.proofs.Writes.{overlay_low}
-use Rattle.rows.proofs.OpeningFailures.{rests_then}
+use Rattle.sqlite.proofs.Callers.{unchanged_then}
 
 -- so many columns of a row, from this one on
 abbrev pub cells : ℕ → ℕ → Row → Row
@@ -50,13 +49,13 @@ all_cells n row = (
 
 -- the rows that were shown, and whether their texts are UTF-8
 abbrev pub Tells : List ℕ → State → State → Bool → Type 0
-Tells text old new b = (rows : List Row) × Answers text [] old new rows × (IsTrue b ↔ AllByRecursion IsReadableRow rows)
+Tells text old new b = (rows : List Row) × IsAnswered text [] old new rows × (IsTrue b ↔ AllByRecursion IsReadableRow rows)
 
 module _ (name : List ℕ) (columns : List Column) (key : List ℕ) (text : List ℕ) (names : List (List ℕ)) (query : ℕ → Query) (scan : (tree : ℕ) → IsScan (query tree) tree) (whole : (tree : ℕ) → (query tree).filter ≡ [])
     {count : ℕ} (is : Compiles name columns key text count (λ at tree. Select (record { lets = []; body = query tree }) names)) where
   -- nothing changes, and the texts of the table are UTF-8 exactly where those are that were shown
   pub told_if : (old new : State) → Stands old.now.schema (strict name columns key) → ((tree : ℕ) (r : Row) → Has (rows_named old.now name) r → IsReadableRow (shows (query tree) [] r) ↔ AreOfUtf8 (length columns) r)
-      → (b : Bool) → Tells text old new b → Rests old new × (IsTrue b ↔ AreReadableRows (strict name columns key) (rows_named old.now name))
+      → (b : Bool) → Tells text old new b → IsUnchanged old new × (IsTrue b ↔ AreReadableRows (strict name columns key) (rows_named old.now name))
   told_if old new stands each b h =
       let tree = tree_named old.now.schema name in
       let db = overlay old.now.trees [] in
@@ -64,7 +63,7 @@ module _ (name : List ℕ) (columns : List Column) (key : List ℕ) (text : List
       let m = means_command old.now.schema text _ (is old.now.schema stands.at tree stands.known) in
       let got = reads_as text [] old new old.now.schema refl _ m.0 m.1 m.2 h.0 h.1.0 in
       let answer : IsAnswer (query tree) db [] h.0 = got.answer Null in (
-        unchanged_rests old new h.1.1.1,
+        h.1.1.1,
         (
           λ yes row at there low.
               (each tree row there).0 (all_has IsReadableRow h.0 _ (h.2.0 yes) (scan_complete (query tree) tree (scan tree) db [] h.0 answer row (subst (λ rows. Has rows row) (sym same_rows) there) (rw (whole tree) refl))) at low,
@@ -83,8 +82,8 @@ if_ok (Err e) P Q f h = tt
 
 -- ---- three tables in a row
 
-rests_three : (a b d e : State) → Rests a b → Rests b d → Rests d e → Rests a e
-rests_three a b d e h k l = rests_then a b e h (rests_then b d e k l)
+rests_three : (a b d e : State) → IsUnchanged a b → IsUnchanged b d → IsUnchanged d e → IsUnchanged a e
+rests_three a b d e h k l = unchanged_then a b e h (unchanged_then b d e k l)
 
 both_true : (p q r : Bool) → IsTrue (p && q && r) → IsTrue p × IsTrue q × IsTrue r
 both_true true true true h = (refl, refl, refl)
@@ -99,10 +98,10 @@ true_both true false r h = let no = h.1 in absurd cc
 true_both false q r h = let no = h.0 in absurd cc
 
 -- what three tests say, one after another, and nothing changes
-pub all_three : (A B D : Database → Type 0) (a b d e : State) (p q r : Bool) → Rests a b × (IsTrue p ↔ A a.now) → Rests b d × (IsTrue q ↔ B b.now) → Rests d e × (IsTrue r ↔ D d.now) → Rests a e × (IsTrue (p && q && r) ↔ A a.now × B a.now × D a.now)
+pub all_three : (A B D : Database → Type 0) (a b d e : State) (p q r : Bool) → IsUnchanged a b × (IsTrue p ↔ A a.now) → IsUnchanged b d × (IsTrue q ↔ B b.now) → IsUnchanged d e × (IsTrue r ↔ D d.now) → IsUnchanged a e × (IsTrue (p && q && r) ↔ A a.now × B a.now × D a.now)
 all_three A B D a b d e p q r h k l =
-    let second : b.now ≡ a.now = h.0.now in
-    let third : d.now ≡ a.now = k.0.now ∙ second in
+    let second : b.now ≡ a.now = h.0.0.now_is in
+    let third : d.now ≡ a.now = k.0.0.now_is ∙ second in
     let q_is = subst (λ (x : Database). IsTrue q ↔ B x) second k.1 in
     let r_is = subst (λ (x : Database). IsTrue r ↔ D x) third l.1 in (
       rests_three a b d e h.0 k.0 l.0,
@@ -113,10 +112,10 @@ all_three A B D a b d e p q r h k l =
     )
 
 -- what the tests of all nine say
-pub all_nine : (a b d e : State) (p q r : Bool) → Rests a b × (IsTrue p ↔ AreReadableRows meta (rows_named a.now meta.name) × AreReadableRows object (rows_named a.now object.name) × AreReadableRows refs (rows_named a.now refs.name))
-    → Rests b d × (IsTrue q ↔ AreReadableRows outs (rows_named b.now outs.name) × AreReadableRows permanent (rows_named b.now permanent.name) × AreReadableRows user_root (rows_named b.now user_root.name))
-    → Rests d e × (IsTrue r ↔ AreReadableRows profile (rows_named d.now profile.name) × AreReadableRows generation (rows_named d.now generation.name) × AreReadableRows runtime (rows_named d.now runtime.name))
-    → Rests a e × (IsTrue (p && q && r) ↔ HasReadableRows a.now)
+pub all_nine : (a b d e : State) (p q r : Bool) → IsUnchanged a b × (IsTrue p ↔ AreReadableRows meta (rows_named a.now meta.name) × AreReadableRows object (rows_named a.now object.name) × AreReadableRows refs (rows_named a.now refs.name))
+    → IsUnchanged b d × (IsTrue q ↔ AreReadableRows outs (rows_named b.now outs.name) × AreReadableRows permanent (rows_named b.now permanent.name) × AreReadableRows user_root (rows_named b.now user_root.name))
+    → IsUnchanged d e × (IsTrue r ↔ AreReadableRows profile (rows_named d.now profile.name) × AreReadableRows generation (rows_named d.now generation.name) × AreReadableRows runtime (rows_named d.now runtime.name))
+    → IsUnchanged a e × (IsTrue (p && q && r) ↔ HasReadableRows a.now)
 unfolding HasReadableRows
 all_nine a b d e p q r h k l =
     let both = all_three (λ (x : Database). AreReadableRows meta (rows_named x meta.name) × AreReadableRows object (rows_named x object.name) × AreReadableRows refs (rows_named x refs.name))

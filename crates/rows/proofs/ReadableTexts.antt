@@ -3,12 +3,11 @@ use Rattle.std.proofs.Common.{◌↔◌, zero, suc, [], ◌∷◌, Bool, IsTrue,
 use Rattle.sqlite_value.specs.Order.{Row, column}
 use Rattle.sqlite_schema.specs.declared.schema.Table.{Table}
 use Rattle.sqlite.specs.Effect.{IsDatabase}
-use Rattle.sqlite.specs.State.{State}
+use Rattle.sqlite.specs.State.{State, IsUnchanged}
 use Rattle.rows.specs.Forms.{meta, object, refs, outs, permanent, user_root, profile, generation, runtime}
 use Rattle.rows.specs.Standing.{Stands}
 use Rattle.rows.specs.Contents.{rows_named}
 use Rattle.rows.specs.Texts.{IsReadable, IsReadableRow, AreReadableRows}
-use Rattle.rows.specs.Calls.{Rests}
 use Rattle.rows.proofs.SettingLemmas as settings
 use Rattle.rows.proofs.ListingLemmas as objects
 use Rattle.rows.proofs.ReferenceLemmas as references
@@ -25,7 +24,7 @@ use Rattle.rows.proofs.ReadableRows.{Tells, AreOfUtf8, told_if, all_cells}
 
 -- whether the texts of a table are UTF-8, and nothing changes
 abbrev pub Told : Table → State → State → Bool → Type 0
-Told t old new b = Rests old new × (IsTrue b ↔ AreReadableRows t (rows_named old.now t.name))
+Told t old new b = IsUnchanged old new × (IsTrue b ↔ AreReadableRows t (rows_named old.now t.name))
 
 pub meta_told : (old new : State) → Stands old.now.schema meta → (b : Bool) → Tells settings.all_text old new b → Told meta old new b
 meta_told old new stands = told_if meta.name meta.columns meta.primary settings.all_text settings.names (settings.query []) (λ tree. record { from = refl; group = refl; distinct = refl; whole = λ params rows. refl }) (λ tree. refl) settings.all_is old new stands (λ tree r there. all_cells 2 r)

@@ -32,7 +32,7 @@ use Rattle.rows.specs.Forms.{strict}
 use Rattle.rows.specs.Standing.{Stands, HasTables, tree_named}
 use Rattle.rows.specs.Contents.{rows_named}
 use Rattle.rows.specs.Texts.{IsReadable}
-use Rattle.rows.specs.Queries.{Gives}
+use Rattle.rows.specs.Queries.{HasBegunWith}
 use Rattle.rows.specs.Calls.{IsOurs, IsReady}
 use Rattle.rows.specs.Failures.{failure_of, IsQueryFailure, FailsWith, FailsFor}
 use Rattle.rows.specs.Entries.{IsAmiss}
@@ -194,7 +194,7 @@ module _ (name : List ℕ) (columns : List Column) (primary : List ℕ) {K : Typ
     (orders : (tree : ℕ) (a b : Row) → kind a ≡ true → kind b ≡ true → output_cmp (query tree) (output (query tree) (params ∷ a ∷ [])) (output (query tree) (params ∷ b ∷ [])) ≡ R (key a) (key b)) where
   pub shown_well : {T : Type 0} (ShowsItem : Row → T → Type 0) (item : T → K) → ((tree : ℕ) (r : Row) (t : T) → ShowsItem (shows (query tree) params r) t → key r ≡ item t)
       → (IsLegible : Row → Type 0) → ((tree : ℕ) (r : Row) → kind r ≡ true → ((at : ℕ) → at < width → IsReadable (column r (at + 1))) → IsLegible (shows (query tree) params r))
-      → (rows : List Row) → Gives text params old new rows → ¬ IsAmiss IsLegible ShowsItem (λ x y. is_lt (R (item x) (item y))) rows
+      → (rows : List Row) → HasBegunWith text params old new rows → ¬ IsAmiss IsLegible ShowsItem (λ x y. is_lt (R (item x) (item y))) rows
   shown_well ShowsItem item fits IsLegible legible rows given =
       let ours = (ready given.1.0.was_open).ours in
       let stands = at ours.has in
@@ -210,8 +210,8 @@ module _ (name : List ℕ) (columns : List Column) (primary : List ℕ) {K : Typ
 -- ---- so a read fails only for want of memory, once its query was answered
 
 pub select_fails : {T : Type 0} (r : Result T Failure) (old new : State) (text : List ℕ) (params : Row) (Amiss : List Row → Type 0)
-    → ((e : Error) → FailsToQuery text params old new e → FailsWith old new ⊥ (IsSome old.step_limit) (failure_of e)) → ((rows : List Row) → Gives text params old new rows → ¬ Amiss rows)
-    → IfErr r (λ f. IsQueryFailure text params old new f ⊎ ((rows : List Row) × Gives text params old new rows × ((f ≡ Memory) ⊎ ((f ≡ Disk) × Amiss rows)))) → IfErr r (FailsFor old new)
+    → ((e : Error) → FailsToQuery text params old new e → FailsWith old new ⊥ (IsSome old.step_limit) (failure_of e)) → ((rows : List Row) → HasBegunWith text params old new rows → ¬ Amiss rows)
+    → IfErr r (λ f. IsQueryFailure text params old new f ⊎ ((rows : List Row) × HasBegunWith text params old new rows × ((f ≡ Memory) ⊎ ((f ≡ Disk) × Amiss rows)))) → IfErr r (FailsFor old new)
 select_fails (Ok x) old new text params A why well h = tt
 select_fails (Err f) old new text params A why well (inl h) = subst (FailsFor old new) (sym h.1) (why h.0 h.2)
 select_fails (Err f) old new text params A why well (inr (rows, given, inl memory)) = subst (FailsFor old new) (sym memory) (inr given.1)

@@ -20,8 +20,8 @@ use Rattle.sqlite.proofs.Callers.{unchanged_then, begins_shown, EndsIn}
 use Rattle.sqlite.proofs.StateLemmas.{survives_weaker}
 use Rattle.sqlite_sql.specs.Query.{Query}
 use Rattle.sqlite_schema.specs.declared.command.Command.TheVariants.{Select}
-use Rattle.rows.specs.Queries.{IsRead, Gives, Answers}
-use Rattle.rows.specs.Calls.{IsAsBefore}
+use Rattle.rows.specs.Queries.{IsSelect, HasBegunWith, IsAnswered}
+use Rattle.rows.specs.Calls.{KeepsShown}
 use Rattle.rows.specs.Failures.{IsQueryFailure}
 use Rattle.rows.specs.declared.failure.Failure.{Failure}
 use Rattle.rows.proofs.Means.{IsMeant}
@@ -29,15 +29,15 @@ use Rattle.rows.proofs.ReadFailures.{understood_read, one}
 
 -- ---- a SELECT shows no rows of a write
 
-silent : (text : List ℕ) → IsRead text → (s : State) (c : Compiled) → understood s.now.schema text ≡ Ok c → c.returning ≡ None
+silent : (text : List ℕ) → IsSelect text → (s : State) (c : Compiled) → understood s.now.schema text ≡ Ok c → c.returning ≡ None
 silent text reads s c is = understood_read reads.0 reads.1 reads.2 reads.3 reads.4 text reads.5 s.now.schema c is
 
-never : (text : List ℕ) (params : Row) → IsRead text → (s : State) (db : Trees) → CommitsShowing text params s db → ⊥
+never : (text : List ℕ) (params : Row) → IsSelect text → (s : State) (db : Trees) → CommitsShowing text params s db → ⊥
 unfolding CommitsShowing
 never text params reads s db h = absurd (let none : IsSome {T = Returning} None = subst IsSome (silent text reads s h.0 h.1.is) h.2 in cc)
 
 -- so it commits nothing
-pub commits_nothing : (text : List ℕ) (params : Row) → IsRead text → (old new : State) → Survives old new (CommitsShowing text params old) → Survives old new (λ _. ⊥)
+pub commits_nothing : (text : List ℕ) (params : Row) → IsSelect text → (old new : State) → Survives old new (CommitsShowing text params old) → Survives old new (λ _. ⊥)
 commits_nothing text params reads old new h = survives_weaker old new _ _ (λ _ db. never text params reads old db) h
 
 returned : (r : Result Compiled CompileError) → Returns r → (c : Compiled) × (r ≡ Ok c) × IsSome c.returning
@@ -45,14 +45,14 @@ returned (Ok c) h = (c, refl, h)
 returned (Err e) h = absurd h
 
 -- and it begins at its first row
-pub begun : {S : Type 0} (g : store.Ghosts S) (text : List ℕ) (params : Row) → IsRead text → (old new : Held S) → HasBegun g text params old new → HasGiven g text params new [] × IsUnchanged (state g old) (state g new)
+pub begun : {S : Type 0} (g : store.Ghosts S) (text : List ℕ) (params : Row) → IsSelect text → (old new : Held S) → HasBegun g text params old new → HasGiven g text params new [] × IsUnchanged (state g old) (state g new)
 begun g text params reads old new (inl h) = h
 begun g text params reads old new (inr h) =
     let it = returned _ h.0 in absurd (let none : IsSome {T = Returning} None = subst IsSome (silent text reads (state g old) it.0 it.1) it.2 in cc)
 
 -- ---- what is so of a later moment, while nothing changed
 
-module _ (text : List ℕ) (params : Row) (reads : IsRead text) (first old : State) (same : IsUnchanged first old) where
+module _ (text : List ℕ) (params : Row) (reads : IsSelect text) (first old : State) (same : IsUnchanged first old) where
   statement : (c : Compiled) → IsStatement old text params c → IsStatement first text params c
   statement c it = record { is = subst (λ (d : Database). understood d.schema text ≡ Ok c) same.0.now_is it.is; whole = it.whole; given = it.given; now = it.now }
 
@@ -106,31 +106,31 @@ module _ (text : List ℕ) (params : Row) (reads : IsRead text) (first old : Sta
         inr (c, statement c it, subst (FailsToShow first new text c full e) (sym none) kept)
 
 -- what a text that is meant as a query begins with, a whole answer begins with
-pub whole : (text : List ℕ) (params : Row) (old new : State) (names : List (List ℕ)) (query : Query) {count : ℕ} → IsMeant old.now.schema text count (Select (record { lets = []; body = query }) names) → (rows : List Row) → Gives text params old new rows → (tail : List Row) × Shown text params old new (rows ++ tail)
+pub whole : (text : List ℕ) (params : Row) (old new : State) (names : List (List ℕ)) (query : Query) {count : ℕ} → IsMeant old.now.schema text count (Select (record { lets = []; body = query }) names) → (rows : List Row) → HasBegunWith text params old new rows → (tail : List Row) × Shown text params old new (rows ++ tail)
 whole text params old new names query meant rows h = begins_shown text params old new rows h.0 h.1 (λ c db it from.
     let same : meant.0 ≡ c = one meant.1.0 it.is in
     subst (λ k. EndsIn k db (timed params c.formats it.now)) (sym meant.2 ∙ ap (λ (x : Compiled). x.command) same) tt)
 
 -- ---- done or failed, a query leaves what is shown as it was
 
-undone_before : (old new : State) → (IsTrue old.is_open → old.now ≡ old.committed) → IsRolledBack old new → IsAsBefore old new
+undone_before : (old new : State) → (IsTrue old.is_open → old.now ≡ old.committed) → IsRolledBack old new → KeepsShown old new
 undone_before old new settled h = record {
   was_open = h.was_open;
   now = λ is_open. (h.undone is_open).0 ∙ sym (settled (h.was_open is_open));
   committed = λ is_open. (h.undone is_open).1;
 }
 
-pub unchanged_before : (old new : State) → IsUnchanged old new → IsAsBefore old new
+pub unchanged_before : (old new : State) → IsUnchanged old new → KeepsShown old new
 unchanged_before old new h = record { was_open = λ _. h.0.was_open; now = λ _. h.0.now_is; committed = λ _. h.0.committed_is }
 
-pub failed_before : (text : List ℕ) (params : Row) → IsRead text → (old new : State) → (IsTrue old.is_open → old.now ≡ old.committed) → (e : Error) → FailsToQuery text params old new e → IsAsBefore old new
+pub failed_before : (text : List ℕ) (params : Row) → IsSelect text → (old new : State) → (IsTrue old.is_open → old.now ≡ old.committed) → (e : Error) → FailsToQuery text params old new e → KeepsShown old new
 unfolding FailsToQuery IsNotRun
 failed_before text params reads old new settled e (inl (inl h)) = unchanged_before old new h.1
 failed_before text params reads old new settled e (inl (inr h)) = undone_before old new settled h.3
 failed_before text params reads old new settled e (inr (c, it, h)) = unchanged_before old new (subst (FailsToShow old new text c (timed params c.formats it.now) e) (silent text reads old c it.is) h).3
 
-pub answered_before : {T : Type 0} (r : Result T Failure) (text : List ℕ) (params : Row) → IsRead text → (old new : State) → (IsTrue old.is_open → old.now ≡ old.committed) → (Of : List Row → T → Type 0) (Why : List Row → Failure → Type 0)
-    → IfOk r (λ it. (rows : List Row) × Answers text params old new rows × Of rows it) → IfErr r (λ f. IsQueryFailure text params old new f ⊎ ((rows : List Row) × Gives text params old new rows × Why rows f)) → IsAsBefore old new
+pub answered_before : {T : Type 0} (r : Result T Failure) (text : List ℕ) (params : Row) → IsSelect text → (old new : State) → (IsTrue old.is_open → old.now ≡ old.committed) → (Of : List Row → T → Type 0) (Why : List Row → Failure → Type 0)
+    → IfOk r (λ it. (rows : List Row) × IsAnswered text params old new rows × Of rows it) → IfErr r (λ f. IsQueryFailure text params old new f ⊎ ((rows : List Row) × HasBegunWith text params old new rows × Why rows f)) → KeepsShown old new
 answered_before (Ok x) text params reads old new settled Of Why h k = unchanged_before old new h.1.1.1
 answered_before (Err f) text params reads old new settled Of Why h (inl k) = failed_before text params reads old new settled k.0 k.2
 answered_before (Err f) text params reads old new settled Of Why h (inr k) = unchanged_before old new k.1.1

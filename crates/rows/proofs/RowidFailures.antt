@@ -24,11 +24,11 @@ use Rattle.sqlite_tied.specs.Compute.{everything}
 use Rattle.rows.specs.Forms.{strict, meta, object, refs, outs, permanent, user_root, profile, generation, runtime}
 use Rattle.rows.specs.Standing.{Stands, HasTables, tree_named}
 use Rattle.rows.specs.Contents.{rows_named}
-use Rattle.rows.specs.Calls.{IsAtRest, IsKeyed}
+use Rattle.rows.specs.Calls.{HasSettledTables, IsKeyed}
 use Rattle.rows.specs.declared.failure.Failure.{Failure}
 use Rattle.rows.specs.declared.failure.Failure.TheVariants.{Memory, Disk}
 use Rattle.rows.specs.Failures.{failure_of, FailsWith, IsQueryFailure}
-use Rattle.rows.specs.Queries.{Gives}
+use Rattle.rows.specs.Queries.{HasBegunWith}
 use Rattle.rows.specs.Opened.{ShowIds, FailsToTest}
 use Rattle.rows.proofs.Means.{means_command}
 use Rattle.rows.proofs.Scans.{scan_sound}
@@ -80,13 +80,13 @@ ids_if name columns key text order old new stands is rows shown keyed =
 
 -- the query failed, or it was answered with what isn't integers that differ
 abbrev pub FailsToCheck : List ℕ → State → State → Failure → Type 0
-FailsToCheck text old new f = IsQueryFailure text [] old new f ⊎ ((rows : List Row) × Gives text [] old new rows × ((f ≡ Memory) ⊎ ((f ≡ Disk) × ¬ ShowIds rows)))
+FailsToCheck text old new f = IsQueryFailure text [] old new f ⊎ ((rows : List Row) × HasBegunWith text [] old new rows × ((f ≡ Memory) ⊎ ((f ≡ Disk) × ¬ ShowIds rows)))
 
 -- an error of the query
 abbrev QueryFails : List ℕ → State → State → Type 0
 QueryFails text old new = (e : Error) → FailsToQuery text [] old new e → FailsWith old new ⊥ (IsSome old.step_limit) (failure_of e)
 
-check_fails : (name : List ℕ) (columns : List Column) (key : List ℕ) (text : List ℕ) (order : List (Term × Key)) (old new : State) → IsAtRest old → (HasTables old.now.schema → Stands old.now.schema (strict name columns key))
+check_fails : (name : List ℕ) (columns : List Column) (key : List ℕ) (text : List ℕ) (order : List (Term × Key)) (old new : State) → HasSettledTables old → (HasTables old.now.schema → Stands old.now.schema (strict name columns key))
     → Compiles name columns key text 0 (λ at tree. Select (whole order tree) names) → QueryFails text old new → (f : Failure) → FailsToCheck text old new f → FailsToTest old new (¬ IsKeyed (rows_named old.now name)) f
 check_fails name columns key text order old new rests at is fails f (inl h) = test_fails old new text _ fails f h
 check_fails name columns key text order old new rests at is fails f (inr (rows, given, inl memory)) = subst (FailsToTest old new (¬ IsKeyed (rows_named old.now name))) (sym memory) tt
@@ -96,47 +96,47 @@ check_fails name columns key text order old new rests at is fails f (inr (rows, 
     let all = all_rows text [] old new names (query order tree) (is old.now.schema stands.at tree stands.known) rows given in
     subst (FailsToTest old new (¬ IsKeyed (rows_named old.now name))) (sym h.0) (inr (inr (λ keyed. h.1 (front rows all.0 (ids_if name columns key text order old new stands is (rows ++ all.0) all.1 keyed)))))
 
-pub meta_fails : (old new : State) → IsAtRest old → (f : Failure) → FailsToCheck meta_text old new f → FailsToTest old new (¬ IsKeyed (rows_named old.now meta.name)) f
+pub meta_fails : (old new : State) → HasSettledTables old → (f : Failure) → FailsToCheck meta_text old new f → FailsToTest old new (¬ IsKeyed (rows_named old.now meta.name)) f
 unfolding everything
 meta_fails old new rests = check_fails meta.name meta.columns meta.primary meta_text by_one old new rests (λ has. has.0) meta_is
     (read_fails meta.name meta.columns meta.primary old new rests (λ has. has.0) meta_text [] names (query by_one) (scan by_one) meta_is meta_read (λ s at tree known. rw (known.low, known.by_tree) refl))
 
-pub object_fails : (old new : State) → IsAtRest old → (f : Failure) → FailsToCheck object_text old new f → FailsToTest old new (¬ IsKeyed (rows_named old.now object.name)) f
+pub object_fails : (old new : State) → HasSettledTables old → (f : Failure) → FailsToCheck object_text old new f → FailsToTest old new (¬ IsKeyed (rows_named old.now object.name)) f
 unfolding everything
 object_fails old new rests = check_fails object.name object.columns object.primary object_text by_one old new rests (λ has. has.1.0) object_is
     (read_fails object.name object.columns object.primary old new rests (λ has. has.1.0) object_text [] names (query by_one) (scan by_one) object_is object_read (λ s at tree known. rw (known.low, known.by_tree) refl))
 
-pub refs_fails : (old new : State) → IsAtRest old → (f : Failure) → FailsToCheck refs_text old new f → FailsToTest old new (¬ IsKeyed (rows_named old.now refs.name)) f
+pub refs_fails : (old new : State) → HasSettledTables old → (f : Failure) → FailsToCheck refs_text old new f → FailsToTest old new (¬ IsKeyed (rows_named old.now refs.name)) f
 unfolding everything
 refs_fails old new rests = check_fails refs.name refs.columns refs.primary refs_text by_two old new rests (λ has. has.1.1.0) refs_is
     (read_fails refs.name refs.columns refs.primary old new rests (λ has. has.1.1.0) refs_text [] names (query by_two) (scan by_two) refs_is refs_read (λ s at tree known. rw (known.low, known.by_tree) refl))
 
-pub outs_fails : (old new : State) → IsAtRest old → (f : Failure) → FailsToCheck outs_text old new f → FailsToTest old new (¬ IsKeyed (rows_named old.now outs.name)) f
+pub outs_fails : (old new : State) → HasSettledTables old → (f : Failure) → FailsToCheck outs_text old new f → FailsToTest old new (¬ IsKeyed (rows_named old.now outs.name)) f
 unfolding everything
 outs_fails old new rests = check_fails outs.name outs.columns outs.primary outs_text by_two old new rests (λ has. has.1.1.1.0) outs_is
     (read_fails outs.name outs.columns outs.primary old new rests (λ has. has.1.1.1.0) outs_text [] names (query by_two) (scan by_two) outs_is outs_read (λ s at tree known. rw (known.low, known.by_tree) refl))
 
-pub permanent_fails : (old new : State) → IsAtRest old → (f : Failure) → FailsToCheck permanent_text old new f → FailsToTest old new (¬ IsKeyed (rows_named old.now permanent.name)) f
+pub permanent_fails : (old new : State) → HasSettledTables old → (f : Failure) → FailsToCheck permanent_text old new f → FailsToTest old new (¬ IsKeyed (rows_named old.now permanent.name)) f
 unfolding everything
 permanent_fails old new rests = check_fails permanent.name permanent.columns permanent.primary permanent_text by_one old new rests (λ has. has.1.1.1.1.0) permanent_is
     (read_fails permanent.name permanent.columns permanent.primary old new rests (λ has. has.1.1.1.1.0) permanent_text [] names (query by_one) (scan by_one) permanent_is permanent_read (λ s at tree known. rw (known.low, known.by_tree) refl))
 
-pub user_root_fails : (old new : State) → IsAtRest old → (f : Failure) → FailsToCheck user_root_text old new f → FailsToTest old new (¬ IsKeyed (rows_named old.now user_root.name)) f
+pub user_root_fails : (old new : State) → HasSettledTables old → (f : Failure) → FailsToCheck user_root_text old new f → FailsToTest old new (¬ IsKeyed (rows_named old.now user_root.name)) f
 unfolding everything
 user_root_fails old new rests = check_fails user_root.name user_root.columns user_root.primary user_root_text by_two old new rests (λ has. has.1.1.1.1.1.0) user_root_is
     (read_fails user_root.name user_root.columns user_root.primary old new rests (λ has. has.1.1.1.1.1.0) user_root_text [] names (query by_two) (scan by_two) user_root_is user_root_read (λ s at tree known. rw (known.low, known.by_tree) refl))
 
-pub profile_fails : (old new : State) → IsAtRest old → (f : Failure) → FailsToCheck profile_text old new f → FailsToTest old new (¬ IsKeyed (rows_named old.now profile.name)) f
+pub profile_fails : (old new : State) → HasSettledTables old → (f : Failure) → FailsToCheck profile_text old new f → FailsToTest old new (¬ IsKeyed (rows_named old.now profile.name)) f
 unfolding everything
 profile_fails old new rests = check_fails profile.name profile.columns profile.primary profile_text by_two old new rests (λ has. has.1.1.1.1.1.1.0) profile_is
     (read_fails profile.name profile.columns profile.primary old new rests (λ has. has.1.1.1.1.1.1.0) profile_text [] names (query by_two) (scan by_two) profile_is profile_read (λ s at tree known. rw (known.low, known.by_tree) refl))
 
-pub generation_fails : (old new : State) → IsAtRest old → (f : Failure) → FailsToCheck generation_text old new f → FailsToTest old new (¬ IsKeyed (rows_named old.now generation.name)) f
+pub generation_fails : (old new : State) → HasSettledTables old → (f : Failure) → FailsToCheck generation_text old new f → FailsToTest old new (¬ IsKeyed (rows_named old.now generation.name)) f
 unfolding everything
 generation_fails old new rests = check_fails generation.name generation.columns generation.primary generation_text by_three old new rests (λ has. has.1.1.1.1.1.1.1.0) generation_is
     (read_fails generation.name generation.columns generation.primary old new rests (λ has. has.1.1.1.1.1.1.1.0) generation_text [] names (query by_three) (scan by_three) generation_is generation_read (λ s at tree known. rw (known.low, known.by_tree) refl))
 
-pub runtime_fails : (old new : State) → IsAtRest old → (f : Failure) → FailsToCheck runtime_text old new f → FailsToTest old new (¬ IsKeyed (rows_named old.now runtime.name)) f
+pub runtime_fails : (old new : State) → HasSettledTables old → (f : Failure) → FailsToCheck runtime_text old new f → FailsToTest old new (¬ IsKeyed (rows_named old.now runtime.name)) f
 unfolding everything
 runtime_fails old new rests = check_fails runtime.name runtime.columns runtime.primary runtime_text by_two old new rests (λ has. has.1.1.1.1.1.1.1.1.0) runtime_is
     (read_fails runtime.name runtime.columns runtime.primary old new rests (λ has. has.1.1.1.1.1.1.1.1.0) runtime_text [] names (query by_two) (scan by_two) runtime_is runtime_read (λ s at tree known. rw (known.low, known.by_tree) refl))

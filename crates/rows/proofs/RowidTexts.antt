@@ -12,7 +12,7 @@ use Rattle.sqlite_resolve.specs.Program.{program}
 use Rattle.sqlite_tied.specs.Compute.{everything}
 use Rattle.rows.specs.Forms.{meta, object, refs, outs, permanent, user_root, profile, generation, runtime}
 use Rattle.rows.specs.Standing.{IsKnown}
-use Rattle.rows.specs.Queries.{IsRead}
+use Rattle.rows.specs.Queries.{IsSelect}
 use Rattle.rows.proofs.Means.{ordered_by_one, ordered_by_two, ordered_by_three, plain_state}
 use Rattle.rows.proofs.Columns.{bounds_are, result_context, from_in, shown_in}
 use Rattle.rows.proofs.OwnRowids.{draft, whole, rowid_column, outputs_rowid, below}
@@ -35,7 +35,7 @@ by_three = (col 1 1, ascending Binary) ∷ (col 1 2, ascending Binary) ∷ (col 
 abbrev pub meta_text : List ℕ
 meta_text = codes "SELECT rowid FROM meta ORDER BY word"
 
-pub meta_read : IsRead meta_text
+pub meta_read : IsSelect meta_text
 unfolding everything
 meta_read = (_, _, _, _, _, refl)
 
@@ -66,7 +66,7 @@ meta_is s at tree known =
 abbrev pub object_text : List ℕ
 object_text = codes "SELECT rowid FROM object ORDER BY base"
 
-pub object_read : IsRead object_text
+pub object_read : IsSelect object_text
 unfolding everything
 object_read = (_, _, _, _, _, refl)
 
@@ -97,7 +97,7 @@ object_is s at tree known =
 abbrev pub refs_text : List ℕ
 refs_text = codes "SELECT rowid FROM refs ORDER BY base, target"
 
-pub refs_read : IsRead refs_text
+pub refs_read : IsSelect refs_text
 unfolding everything
 refs_read = (_, _, _, _, _, refl)
 
@@ -128,7 +128,7 @@ refs_is s at tree known =
 abbrev pub outs_text : List ℕ
 outs_text = codes "SELECT rowid FROM outs ORDER BY base, name"
 
-pub outs_read : IsRead outs_text
+pub outs_read : IsSelect outs_text
 unfolding everything
 outs_read = (_, _, _, _, _, refl)
 
@@ -159,7 +159,7 @@ outs_is s at tree known =
 abbrev pub permanent_text : List ℕ
 permanent_text = codes "SELECT rowid FROM permanent ORDER BY name"
 
-pub permanent_read : IsRead permanent_text
+pub permanent_read : IsSelect permanent_text
 unfolding everything
 permanent_read = (_, _, _, _, _, refl)
 
@@ -190,7 +190,7 @@ permanent_is s at tree known =
 abbrev pub user_root_text : List ℕ
 user_root_text = codes "SELECT rowid FROM user_root ORDER BY owner, name"
 
-pub user_root_read : IsRead user_root_text
+pub user_root_read : IsSelect user_root_text
 unfolding everything
 user_root_read = (_, _, _, _, _, refl)
 
@@ -221,7 +221,7 @@ user_root_is s at tree known =
 abbrev pub profile_text : List ℕ
 profile_text = codes "SELECT rowid FROM profile ORDER BY owner, name"
 
-pub profile_read : IsRead profile_text
+pub profile_read : IsSelect profile_text
 unfolding everything
 profile_read = (_, _, _, _, _, refl)
 
@@ -252,7 +252,7 @@ profile_is s at tree known =
 abbrev pub generation_text : List ℕ
 generation_text = codes "SELECT rowid FROM generation ORDER BY owner, name, num"
 
-pub generation_read : IsRead generation_text
+pub generation_read : IsSelect generation_text
 unfolding everything
 generation_read = (_, _, _, _, _, refl)
 
@@ -283,7 +283,7 @@ generation_is s at tree known =
 abbrev pub runtime_text : List ℕ
 runtime_text = codes "SELECT rowid FROM runtime ORDER BY label, target"
 
-pub runtime_read : IsRead runtime_text
+pub runtime_read : IsSelect runtime_text
 unfolding everything
 runtime_read = (_, _, _, _, _, refl)
 

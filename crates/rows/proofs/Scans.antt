@@ -1,5 +1,5 @@
 -- What a query over one table shows, and how it leaves the tables.
-use Rattle.std.proofs.Common.{◌≡◌, ◌⊎◌, inl, inr, ℕ, List, [], ◌∷◌, ◌++◌, map, flat_map, Bool, true, false, cond, Some, None, Option, IsTrue, refl, sym, ap, subst, ◌∙◌, IsPermutation, Result, Ok, Err, OnErr, OnOk}
+use Rattle.std.proofs.Common.{◌≡◌, ◌⊎◌, inl, inr, ℕ, List, [], ◌∷◌, ◌++◌, map, flat_map, Bool, true, false, cond, Some, None, Option, refl, sym, ap, subst, ◌∙◌, IsPermutation, Result, Ok, Err, OnOk}
 use Rattle.std.specs.Prelude.{IfErr}
 use Rattle.std.specs.List.{list_all}
 use Rattle.std.proofs.lemmas.List.Sorted.{IsPermutation-sym}
@@ -18,7 +18,6 @@ use Rattle.sqlite.specs.declared.error.Error.{Error}
 use Rattle.sqlite.specs.Listing.{understood}
 use Rattle.sqlite.specs.State.{State, Shown, ShowsRows, IsUnchanged, IsRolledBack, FailsToQuery, FailsToShow, IsNotRun, IsTooLate, KeepsCommit}
 use Rattle.sqlite.proofs.Callers.{IsPlain}
-use Rattle.rows.specs.Calls.{Rests}
 
 -- ---- a query over one table: each row of its answer shows a row that passes, and each such row is shown
 
@@ -81,15 +80,6 @@ module _ (q : Query) (tree : ℕ) (scan : IsScan q tree) (db : Trees) (params : 
 
 -- ---- how a query leaves the tables
 
-opened : (old new : State) (sql : List ℕ) (c : Compiled) (params : Row) (rows : List Row) (what : Option Returning) → ShowsRows old new sql c params rows what → IsTrue old.is_open
-opened old new sql c params rows None h = h.3.0.was_open
-opened old new sql c params rows (Some what) h = h.1.shown.was_open
-
--- who was answered was open
-pub shown_open : (sql : List ℕ) (params : Row) (old new : State) (rows : List Row) → Shown sql params old new rows → IsTrue old.is_open
-unfolding Shown
-shown_open sql params old new rows h = opened old new sql h.0 _ rows h.0.returning h.2
-
 -- a plain query changes nothing
 pub shown_same : (sql : List ℕ) (params : Row) (old new : State) (rows : List Row) → IsPlain (understood old.now.schema sql) → Shown sql params old new rows → IsUnchanged old new
 unfolding Shown
@@ -116,14 +106,6 @@ failed_keeps sql params old new e (inl (inl (inl h))) = unchanged_keeps old new 
 failed_keeps sql params old new e (inl (inl (inr h))) = undone_keeps old new h.3
 failed_keeps sql params old new e (inl (inr h)) = shows_failed old new sql h.0 _ e h.0.returning h.2
 failed_keeps sql params old new e (inr h) = unchanged_keeps old new h.5
-
-pub unchanged_rests : (old new : State) → IsUnchanged old new → Rests old new
-unchanged_rests old new h = record { was_open = h.0.was_open; is_open = h.0.is_open; now = h.0.now_is; committed = h.0.committed_is; mode = h.0.mode; marks = h.2 }
-
--- what an error says, whatever the result
-pub any_err : {T E : Type 0} (r : Result T E) (P : Type 0) → P → OnErr r P
-any_err (Ok x) P h = tt
-any_err (Err e) P h = h
 
 pub on_ok : {T E : Type 0} (r : Result T E) (P Q : Type 0) → (P → Q) → OnOk r P → OnOk r Q
 on_ok (Ok x) P Q f h = f h

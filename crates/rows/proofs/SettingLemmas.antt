@@ -25,14 +25,14 @@ use Rattle.sqlite_resolve.specs.Write.{over}
 use Rattle.sqlite_rules.specs.Edit.{next_rowid, is_taken}
 use Rattle.sqlite_tied.specs.Compute.{everything}
 use Rattle.sqlite.specs.declared.error.Error.{Error}
-use Rattle.sqlite.specs.State.{State, ExecutesInside, FailsToQuery}
+use Rattle.sqlite.specs.State.{State, ExecutesInside, FailsToQuery, IsUnchanged}
 use Rattle.rows.specs.declared.failure.Failure.{Failure}
 use Rattle.rows.specs.declared.meta.Setting.{Setting}
 use Rattle.rows.specs.Forms.{meta}
 use Rattle.rows.specs.Standing.{IsNamed, IsKnown, tree_named}
 use Rattle.rows.specs.Contents.{contents_of, texts_cmp, is_text, is_pair, pair_of}
-use Rattle.rows.specs.Queries.{IsRead}
-use Rattle.rows.specs.Calls.{IsReady, IsAtRest, IsUnderWay, Changes, Rests}
+use Rattle.rows.specs.Queries.{IsSelect}
+use Rattle.rows.specs.Calls.{IsReady, HasSettledTables, IsUnderWay, Changes}
 use Rattle.rows.specs.Entries.{setting_of, ShowsSetting}
 use Rattle.rows.proofs.Orders.{texts_total, texts_antisymmetric}
 use Rattle.rows.proofs.Truths.{cast_null, free_of, and_so, and_one, text_test}
@@ -158,9 +158,9 @@ all_is s at tree known =
     )
 
 pub reads_all : (old new : State) (r : Result (Vec Setting Global) Failure) → (IsTrue old.is_open → IsReady old) → Selects ShowsSetting old new all_text [] r → IfOk r (λ all. AllAdjacentBelow (λ x y. true ≡ is_lt (texts_cmp (setting_of x).0 (setting_of y).0)) all.items (length all.items))
-    → IfOk r (λ all. Rests old new × (map setting_of all.items ≡ finite.entries (contents_of old.now).meta))
+    → IfOk r (λ all. IsUnchanged old new × (map setting_of all.items ≡ finite.entries (contents_of old.now).meta))
 reads_all old new r ready selects up =
-    whole_map texts_total texts_antisymmetric setting_of r (Rests old new) (contents_of old.now).meta
+    whole_map texts_total texts_antisymmetric setting_of r (IsUnchanged old new) (contents_of old.now).meta
     (reads_part meta.name meta.columns meta.primary texts_total texts_antisymmetric is_pair pair_of old new (λ has. has.0) ready all_text [] names (query []) (λ tree. record { from = refl; group = refl; distinct = refl; whole = λ params rows. refl }) (λ _. true) (λ tree r kind. refl) ShowsSetting setting_of (fits [] []) all_is r selects up)
 
 -- ---- why a read fails
@@ -168,10 +168,10 @@ reads_all old new r ready selects up =
 pub scan : (filter : List Term) (tree : ℕ) → IsScan (query filter tree) tree
 scan filter tree = record { from = refl; group = refl; distinct = refl; whole = λ params rows. refl }
 
-pub all_read : IsRead all_text
+pub all_read : IsSelect all_text
 unfolding everything
 all_read = (_, _, _, _, _, refl)
 
-pub fails_all : (old new : State) → IsAtRest old → (e : Error) → FailsToQuery all_text [] old new e → FailsWith old new ⊥ (IsSome old.step_limit) (failure_of e)
+pub fails_all : (old new : State) → HasSettledTables old → (e : Error) → FailsToQuery all_text [] old new e → FailsWith old new ⊥ (IsSome old.step_limit) (failure_of e)
 unfolding everything
 fails_all old new rests = read_fails meta.name meta.columns meta.primary old new rests (λ has. has.0) all_text [] names (query []) (scan []) all_is all_read (λ s at tree known. rw (known.low, known.by_tree) refl)

@@ -16,19 +16,19 @@ use Rattle.sqlite_schema.specs.declared.command.Command.{Command}
 use Rattle.sqlite_schema.specs.declared.command.Command.TheVariants.{Delete, Select}
 use Rattle.sqlite_rules.specs.Edit.{without_all}
 use Rattle.sqlite_rules.specs.Calls.{ids_of}
-use Rattle.sqlite.specs.State.{State, ExecutesInside}
+use Rattle.sqlite.specs.State.{State, ExecutesInside, IsUnchanged}
 use Rattle.sqlite.proofs.Callers.{reads_as}
 use Rattle.rows.specs.declared.failure.Failure.{Failure}
 use Rattle.rows.specs.Forms.{strict}
 use Rattle.rows.specs.Standing.{IsKnown, Stands, HasTables, tree_named}
 use Rattle.rows.specs.Contents.{map_of, rows_named}
 use Rattle.rows.specs.Texts.{AreReadableRows}
-use Rattle.rows.specs.Queries.{Answers}
-use Rattle.rows.specs.Calls.{IsKeyed, IsReady, IsUnderWay, Rests}
+use Rattle.rows.specs.Queries.{IsAnswered}
+use Rattle.rows.specs.Calls.{IsKeyed, IsReady, IsUnderWay}
 use Rattle.rows.proofs.Orders.{rises_by}
 use Rattle.rows.proofs.Means.{IsMeant, means_command}
 use Rattle.rows.proofs.Writes.{SetsRows, deletes_in, rowids_where, overlay_low}
-use Rattle.rows.proofs.Scans.{IsScan, shows, unchanged_rests}
+use Rattle.rows.proofs.Scans.{IsScan, shows}
 use Rattle.rows.proofs.Entries.{part_listed, all_kept, left_map}
 use Rattle.rows.proofs.Members.{keyed_left}
 use Rattle.rows.proofs.ReadableWrites.{left_readable}
@@ -39,7 +39,7 @@ Compiles name columns key text count command = (s : Schema) (at tree : ℕ) → 
 
 -- the entries that were read, with the rows that show them
 abbrev pub Selects : {T : Type 0} → (Row → T → Type 0) → State → State → List ℕ → Row → Result (Vec T Global) Failure → Type 0
-Selects ShowsItem old new text params r = IfOk r (λ all. (rows : List Row) × Answers text params old new rows × AllZip ShowsItem rows all.items)
+Selects ShowsItem old new text params r = IfOk r (λ all. (rows : List Row) × IsAnswered text params old new rows × AllZip ShowsItem rows all.items)
 
 -- where no key is left out
 pub whole_map : {K X T : Type 0} {R : K → K → Ordering} (o : IsTotalOrder R) (same : finite.IsAntisymmetric R) (item : T → K × X) (r : Result (Vec T Global) Failure) (P : Type 0) (m : finite.FinMap R X)
@@ -56,8 +56,8 @@ module _ (name : List ℕ) (columns : List Column) (key : List ℕ) {K X : Type 
       (said : (tree : ℕ) (r : Row) → kind r ≡ true → list_all (holds (params ∷ r ∷ [])) (query tree).filter ≡ test (entry r).0)
       (ShowsItem : Row → T → Type 0) (item : T → K × X) (fits : (tree : ℕ) (r : Row) (t : T) → ShowsItem (shows (query tree) params r) t → (kind r ≡ true) × (entry r ≡ item t))
       {count : ℕ} (is : Compiles name columns key text count (λ at tree. Select (record { lets = []; body = query tree }) names)) where
-    listed : (all : List T) (rows : List Row) → Answers text params old new rows → AllZip ShowsItem rows all → AllAdjacentBelow (λ x y. true ≡ is_lt (R (item x).0 (item y).0)) all (length all)
-        → Rests old new × (map item all ≡ finite.entries (finite.retain_keys rows_are test))
+    listed : (all : List T) (rows : List Row) → IsAnswered text params old new rows → AllZip ShowsItem rows all → AllAdjacentBelow (λ x y. true ≡ is_lt (R (item x).0 (item y).0)) all (length all)
+        → IsUnchanged old new × (map item all ≡ finite.entries (finite.retain_keys rows_are test))
     listed all rows shown texts up =
         let same_all = shown.1.1 in
         let stands = at (ready same_all.0.was_open).ours.has in
@@ -68,11 +68,11 @@ module _ (name : List ℕ) (columns : List Column) (key : List ℕ) {K X : Type 
         let got = reads_as text params old new old.now.schema refl _ m.0 m.1 m.2 rows shown.0 in
         let answer : IsAnswer (query tree) db params rows = got.answer Null in
         let part = part_listed o same kind entry tree (query tree) (scan tree) db params rows answer test (said tree) ShowsItem item (fits tree) all texts (rises_by o (λ t. (item t).0) all up) in
-        (unchanged_rests old new same_all, part ∙ ap (λ rs. finite.entries (finite.retain_keys (map_of R kind entry rs) test)) same_rows)
+        (same_all, part ∙ ap (λ rs. finite.entries (finite.retain_keys (map_of R kind entry rs) test)) same_rows)
 
     -- the entries of a part of the keys, in order, and nothing changes
     pub reads_part : (r : Result (Vec T Global) Failure) → Selects ShowsItem old new text params r → IfOk r (λ all. AllAdjacentBelow (λ x y. true ≡ is_lt (R (item x).0 (item y).0)) all.items (length all.items))
-        → IfOk r (λ all. Rests old new × (map item all.items ≡ finite.entries (finite.retain_keys rows_are test)))
+        → IfOk r (λ all. IsUnchanged old new × (map item all.items ≡ finite.entries (finite.retain_keys rows_are test)))
     reads_part (Err e) selects up = tt
     reads_part (Ok all) selects up = listed all.items selects.0 selects.1 selects.2 up
 

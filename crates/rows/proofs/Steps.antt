@@ -11,7 +11,7 @@ use Rattle.sqlite.proofs.StateLemmas.{survives_then}
 use Rattle.rows.specs.Forms.{is_our_name}
 use Rattle.rows.specs.Contents.{Contents, contents_of}
 use Rattle.rows.specs.Frozen.{IsUnshown, KeepsUnshown}
-use Rattle.rows.specs.Calls.{IsOurs, IsReady, IsUnderWay, IsCommitted, KeepsTheirs, Leaves, Changes, IsAsBefore}
+use Rattle.rows.specs.Calls.{IsOurs, IsReady, IsUnderWay, IsCommitted, KeepsTheirs, Leaves, Changes, KeepsShown}
 use Rattle.rows.proofs.Frozen.{frozen_of, frozen_then}
 
 theirs_walk : (a b c : Database) (ts : List Table) → AllByRecursion (λ t. is_our_name t.name ≡ false → b.trees t.tree ≡ a.trees t.tree) ts → AllByRecursion (λ t. is_our_name t.name ≡ false → c.trees t.tree ≡ b.trees t.tree) ts
@@ -53,14 +53,14 @@ committed_is old new under h none = record {
 }
 
 -- after a read, whether it was done or failed, a connection that was ready is
-pub ready_after : (a b : State) → (IsTrue a.is_open → IsReady a) → IsAsBefore a b → IsTrue b.is_open → IsReady b
+pub ready_after : (a b : State) → (IsTrue a.is_open → IsReady a) → KeepsShown a b → IsTrue b.is_open → IsReady b
 ready_after a b ready h is_open =
     let was = ready (h.was_open is_open) in
     record { ours = subst IsOurs (sym (h.now is_open)) was.ours; settled = h.now is_open ∙ was.settled ∙ sym (h.committed is_open) }
 
 -- two reads in a row
-pub before_then : (a b c : State) → IsAsBefore a b → IsAsBefore b c → IsAsBefore a c
-before_then a b c h k = record {
+pub shown_then : (a b c : State) → KeepsShown a b → KeepsShown b c → KeepsShown a c
+shown_then a b c h k = record {
   was_open = λ is_open. h.was_open (k.was_open is_open);
   now = λ is_open. k.now is_open ∙ h.now (k.was_open is_open);
   committed = λ is_open. k.committed is_open ∙ h.committed (k.was_open is_open);

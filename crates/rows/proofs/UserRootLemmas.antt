@@ -25,14 +25,14 @@ use Rattle.sqlite_resolve.specs.Write.{over}
 use Rattle.sqlite_rules.specs.Edit.{next_rowid, is_taken}
 use Rattle.sqlite_tied.specs.Compute.{everything}
 use Rattle.sqlite.specs.declared.error.Error.{Error}
-use Rattle.sqlite.specs.State.{State, ExecutesInside, FailsToQuery}
+use Rattle.sqlite.specs.State.{State, ExecutesInside, FailsToQuery, IsUnchanged}
 use Rattle.rows.specs.declared.failure.Failure.{Failure}
 use Rattle.rows.specs.declared.user_roots.UserRoot.{UserRoot}
 use Rattle.rows.specs.Forms.{user_root}
 use Rattle.rows.specs.Standing.{IsNamed, IsKnown, tree_named}
 use Rattle.rows.specs.Contents.{contents_of, texts_cmp, pair_cmp, is_text, is_triple, target_of}
-use Rattle.rows.specs.Queries.{IsRead}
-use Rattle.rows.specs.Calls.{IsReady, IsAtRest, IsUnderWay, Changes, Rests}
+use Rattle.rows.specs.Queries.{IsSelect}
+use Rattle.rows.specs.Calls.{IsReady, HasSettledTables, IsUnderWay, Changes}
 use Rattle.rows.specs.Entries.{user_root_of, ShowsUserRoot}
 use Rattle.rows.proofs.Orders.{pair_total, pair_antisymmetric}
 use Rattle.rows.proofs.Truths.{cast_null, free_of, and_so, and_one, text_test, both_tests}
@@ -166,9 +166,9 @@ all_is s at tree known =
     )
 
 pub reads_all : (old new : State) (r : Result (Vec UserRoot Global) Failure) → (IsTrue old.is_open → IsReady old) → Selects ShowsUserRoot old new all_text [] r → IfOk r (λ all. AllAdjacentBelow (λ x y. true ≡ is_lt (pair_cmp (user_root_of x).0 (user_root_of y).0)) all.items (length all.items))
-    → IfOk r (λ all. Rests old new × (map user_root_of all.items ≡ finite.entries (contents_of old.now).user_roots))
+    → IfOk r (λ all. IsUnchanged old new × (map user_root_of all.items ≡ finite.entries (contents_of old.now).user_roots))
 reads_all old new r ready selects up =
-    whole_map pair_total pair_antisymmetric user_root_of r (Rests old new) (contents_of old.now).user_roots
+    whole_map pair_total pair_antisymmetric user_root_of r (IsUnchanged old new) (contents_of old.now).user_roots
     (reads_part user_root.name user_root.columns user_root.primary pair_total pair_antisymmetric is_triple target_of old new (λ has. has.1.1.1.1.1.0) ready all_text [] names (query []) (λ tree. record { from = refl; group = refl; distinct = refl; whole = λ params rows. refl }) (λ _. true) (λ tree r kind. refl) ShowsUserRoot user_root_of (fits [] []) all_is r selects up)
 
 abbrev pub of_text : List ℕ
@@ -195,7 +195,7 @@ of_is s at tree known =
     )
 
 pub reads_of : (old new : State) (owner : List ℕ) (r : Result (Vec UserRoot Global) Failure) → (IsTrue old.is_open → IsReady old) → Selects ShowsUserRoot old new of_text (Text owner ∷ []) r → IfOk r (λ all. AllAdjacentBelow (λ x y. true ≡ is_lt (pair_cmp (user_root_of x).0 (user_root_of y).0)) all.items (length all.items))
-    → IfOk r (λ all. Rests old new × (map user_root_of all.items ≡ finite.entries (finite.retain_keys (contents_of old.now).user_roots (λ k. eq_by_cmp texts_cmp k.0 owner))))
+    → IfOk r (λ all. IsUnchanged old new × (map user_root_of all.items ≡ finite.entries (finite.retain_keys (contents_of old.now).user_roots (λ k. eq_by_cmp texts_cmp k.0 owner))))
 reads_of old new owner r ready selects up =
     reads_part user_root.name user_root.columns user_root.primary pair_total pair_antisymmetric is_triple target_of old new (λ has. has.1.1.1.1.1.0) ready of_text (Text owner ∷ []) names (query of_one) (λ tree. record { from = refl; group = refl; distinct = refl; whole = λ params rows. refl }) (λ k. eq_by_cmp texts_cmp k.0 owner) (λ tree. said_one owner) ShowsUserRoot user_root_of (fits (Text owner ∷ []) of_one) of_is r selects up
 
@@ -223,7 +223,7 @@ at_is s at tree known =
     )
 
 pub reads_at : (old new : State) (owner : List ℕ) (name : List ℕ) (r : Result (Vec UserRoot Global) Failure) → (IsTrue old.is_open → IsReady old) → Selects ShowsUserRoot old new at_text (Text owner ∷ Text name ∷ []) r → IfOk r (λ all. AllAdjacentBelow (λ x y. true ≡ is_lt (pair_cmp (user_root_of x).0 (user_root_of y).0)) all.items (length all.items))
-    → IfOk r (λ all. Rests old new × (map user_root_of all.items ≡ finite.entries (finite.retain_keys (contents_of old.now).user_roots (λ k. eq_by_cmp texts_cmp k.0 owner && eq_by_cmp texts_cmp k.1 name))))
+    → IfOk r (λ all. IsUnchanged old new × (map user_root_of all.items ≡ finite.entries (finite.retain_keys (contents_of old.now).user_roots (λ k. eq_by_cmp texts_cmp k.0 owner && eq_by_cmp texts_cmp k.1 name))))
 reads_at old new owner name r ready selects up =
     reads_part user_root.name user_root.columns user_root.primary pair_total pair_antisymmetric is_triple target_of old new (λ has. has.1.1.1.1.1.0) ready at_text (Text owner ∷ Text name ∷ []) names (query of_two) (λ tree. record { from = refl; group = refl; distinct = refl; whole = λ params rows. refl }) (λ k. eq_by_cmp texts_cmp k.0 owner && eq_by_cmp texts_cmp k.1 name) (λ tree. said_two owner name) ShowsUserRoot user_root_of (fits (Text owner ∷ Text name ∷ []) of_two) at_is r selects up
 
@@ -232,26 +232,26 @@ reads_at old new owner name r ready selects up =
 pub scan : (filter : List Term) (tree : ℕ) → IsScan (query filter tree) tree
 scan filter tree = record { from = refl; group = refl; distinct = refl; whole = λ params rows. refl }
 
-pub all_read : IsRead all_text
+pub all_read : IsSelect all_text
 unfolding everything
 all_read = (_, _, _, _, _, refl)
 
-pub fails_all : (old new : State) → IsAtRest old → (e : Error) → FailsToQuery all_text [] old new e → FailsWith old new ⊥ (IsSome old.step_limit) (failure_of e)
+pub fails_all : (old new : State) → HasSettledTables old → (e : Error) → FailsToQuery all_text [] old new e → FailsWith old new ⊥ (IsSome old.step_limit) (failure_of e)
 unfolding everything
 fails_all old new rests = read_fails user_root.name user_root.columns user_root.primary old new rests (λ has. has.1.1.1.1.1.0) all_text [] names (query []) (scan []) all_is all_read (λ s at tree known. rw (known.low, known.by_tree) refl)
 
-pub of_read : IsRead of_text
+pub of_read : IsSelect of_text
 unfolding everything
 of_read = (_, _, _, _, _, refl)
 
-pub fails_of : (old new : State) (owner : List ℕ) → IsAtRest old → (e : Error) → FailsToQuery of_text (Text owner ∷ []) old new e → FailsWith old new ⊥ (IsSome old.step_limit) (failure_of e)
+pub fails_of : (old new : State) (owner : List ℕ) → HasSettledTables old → (e : Error) → FailsToQuery of_text (Text owner ∷ []) old new e → FailsWith old new ⊥ (IsSome old.step_limit) (failure_of e)
 unfolding everything
 fails_of old new owner rests = read_fails user_root.name user_root.columns user_root.primary old new rests (λ has. has.1.1.1.1.1.0) of_text (Text owner ∷ []) names (query of_one) (scan of_one) of_is of_read (λ s at tree known. rw (known.low, known.by_tree) refl)
 
-pub at_read : IsRead at_text
+pub at_read : IsSelect at_text
 unfolding everything
 at_read = (_, _, _, _, _, refl)
 
-pub fails_at : (old new : State) (owner : List ℕ) (name : List ℕ) → IsAtRest old → (e : Error) → FailsToQuery at_text (Text owner ∷ Text name ∷ []) old new e → FailsWith old new ⊥ (IsSome old.step_limit) (failure_of e)
+pub fails_at : (old new : State) (owner : List ℕ) (name : List ℕ) → HasSettledTables old → (e : Error) → FailsToQuery at_text (Text owner ∷ Text name ∷ []) old new e → FailsWith old new ⊥ (IsSome old.step_limit) (failure_of e)
 unfolding everything
 fails_at old new owner name rests = read_fails user_root.name user_root.columns user_root.primary old new rests (λ has. has.1.1.1.1.1.0) at_text (Text owner ∷ Text name ∷ []) names (query of_two) (scan of_two) at_is at_read (λ s at tree known. rw (known.low, known.by_tree) refl)

@@ -59,22 +59,13 @@ pub record Changes (old new : State) (change : Contents → Contents) : Type 0 w
   pub mode : new.in_transaction ≡ true
   pub marks : new.marks ≡ old.marks
 
--- A schema in which our tables stand, and what is shown is what the last commit left, unless a fault has shut the connection. It isn't known yet that the tables are ours.
-pub record IsAtRest (s : State) : Type 0 where
+-- All nine tables stand and nothing is uncommitted, unless a fault has shut the connection. Rowids and texts aren't tested yet.
+pub record HasSettledTables (s : State) : Type 0 where
   pub has : IsTrue s.is_open → HasTables s.now.schema
   pub settled : IsTrue s.is_open → s.now ≡ s.committed
 
--- Nothing changes.
-pub record Rests (old new : State) : Type 0 where
-  pub was_open : IsTrue old.is_open
-  pub is_open : IsTrue new.is_open
-  pub now : new.now ≡ old.now
-  pub committed : new.committed ≡ old.committed
-  pub mode : new.in_transaction ≡ old.in_transaction
-  pub marks : new.marks ≡ old.marks
-
--- Nothing that is shown changes, at an error too: where the connection is still open it was open, and it shows what it showed, with the same last commit.
-pub record IsAsBefore (old new : State) : Type 0 where
+-- Where the connection is still open it was open, and it shows what it showed, with the same last commit.
+pub record KeepsShown (old new : State) : Type 0 where
   pub was_open : IsTrue new.is_open → IsTrue old.is_open
   pub now : IsTrue new.is_open → new.now ≡ old.now
   pub committed : IsTrue new.is_open → new.committed ≡ old.committed
@@ -87,3 +78,7 @@ pub record IsCommitted (old new : State) : Type 0 where
   pub ready : IsReady new
   pub mode : new.in_transaction ≡ false
   pub unmarked : new.marks ≡ []
+
+-- What a crash leaves is what the last commit left, and nothing else.
+abbrev pub IsDurable : State → Type 0
+IsDurable s = (db : Trees) → s.may_leave db → db ≡ s.committed.trees

@@ -33,7 +33,7 @@ use Rattle.rows.specs.Finding.{HasNone}
 use Rattle.rows.specs.Forms.{our_tables}
 use Rattle.rows.specs.Contents.{contents_of, rows_named}
 use Rattle.rows.specs.Texts.{AreReadable}
-use Rattle.rows.specs.Calls.{IsKeyed, IsReady, IsAsBefore}
+use Rattle.rows.specs.Calls.{IsKeyed, IsReady, KeepsShown}
 use Rattle.rows.specs.Failures.{opening_failure, HasDiskCause}
 
 -- this is what the database holds of ours; and if it holds all, it is ready
@@ -70,7 +70,7 @@ module _ {D : Type 0} {g : disk.Ghosts D} where
   pub record IsAsOpened (held : Image) (was now : Held (FileStore D g)) : Type 0 where
     pub opened : IsOpenedOver held was
     pub alone : now.in_transaction ≡ false
-    pub same : HasCleanDisk (file_state now) → IsAsBefore (file_state was) (file_state now)
+    pub same : HasCleanDisk (file_state now) → KeepsShown (file_state was) (file_state now)
     pub survives : Survives (file_state was) (file_state now) (λ _. ⊥)
 
 module _ {S : Type 0} {c : calls.Ghosts Host} {start : Ghosts S} {g : disk.Ghosts (Modelled Host S c start)} where
@@ -81,6 +81,6 @@ module _ {S : Type 0} {c : calls.Ghosts Host} {start : Ghosts S} {g : disk.Ghost
       IsTrue (is_open_error e) × ((files : _) × IsFresh true files.log × IsFresh false files.db × (IsCleanLeft left → FailsToOpenFiles files left e × LeavesFiles files left))
 
   -- Why files that held this weren't taken up: `sqlite` refused them for an error, of which this is the failure; or it opened them, and what they hold of ours can't be told.
-  abbrev pub FailsToTakeUp : Image → Unopened (FileStore (Modelled Host S c start) g) (Modelled Host S c start) g → Type 0
-  FailsToTakeUp held (Refused failure left) = (e : Error) × (failure ≡ opening_failure e) × Refuses e left
-  FailsToTakeUp held (Untold it) = (was : _) × IsAsOpened held was it.conn × (HasCleanDisk (file_state it.conn) → FailsToOpen (file_state was) (file_state it.conn) it.failure)
+  abbrev pub FailsToOpenFile : Image → Unopened (FileStore (Modelled Host S c start) g) (Modelled Host S c start) g → Type 0
+  FailsToOpenFile held (Refused failure left) = (e : Error) × (failure ≡ opening_failure e) × Refuses e left
+  FailsToOpenFile held (Untold it) = (was : _) × IsAsOpened held was it.conn × (HasCleanDisk (file_state it.conn) → FailsToOpen (file_state was) (file_state it.conn) it.failure)

@@ -12,13 +12,13 @@ abbrev pub parsed : List Name → (start end tail : ℕ) → Select → Parsed
 parsed names start end tail select = record { statement = written.Select select; names = names; formats = []; start = start; end = end; tail = tail }
 
 -- the text is a SELECT, whatever the schema
-abbrev pub IsRead : List ℕ → Type 0
-IsRead text = (names : List Name) × (start : ℕ) × (end : ℕ) × (tail : ℕ) × (select : Select) × (first text ≡ Ok (parsed names start end tail select))
+abbrev pub IsSelect : List ℕ → Type 0
+IsSelect text = (names : List Name) × (start : ℕ) × (end : ℕ) × (tail : ℕ) × (select : Select) × (first text ≡ Ok (parsed names start end tail select))
 
--- the answer begins with these rows, and nothing changed
-abbrev pub Gives : List ℕ → Row → State → State → List Row → Type 0
-Gives text params old new rows = Begins text params old rows × IsUnchanged old new
+-- The answer begins with these rows, and nothing changed: so far a query went that was then given up.
+abbrev pub HasBegunWith : List ℕ → Row → State → State → List Row → Type 0
+HasBegunWith text params old new rows = Begins text params old rows × IsUnchanged old new
 
--- the answer is these rows
-abbrev pub Answers : List ℕ → Row → State → State → List Row → Type 0
-Answers text params old new rows = Shown text params old new rows × Gives text params old new rows
+-- The answer is these rows, and nothing changed; a failure after it is one after a query that has begun with them.
+abbrev pub IsAnswered : List ℕ → Row → State → State → List Row → Type 0
+IsAnswered text params old new rows = Shown text params old new rows × HasBegunWith text params old new rows

@@ -1,14 +1,14 @@
 //! Opening a file: a database with what it holds of ours, or why it isn't taken up.
 
 ghost use Rattle.std.specs.Prelude.{◌≡◌, false, None, IsTrue, IsErrAnd, IfOk, IfErr, MatchResult, codes};
-ghost use Rattle.sqlite.specs.State.{HasCleanDisk, Survives};
+ghost use Rattle.sqlite.specs.State.{HasCleanDisk, IsUnchanged, Survives};
 ghost use Rattle.sqlite.specs.Held.{state};
 ghost use Rattle.sqlite_wal.specs.Files.{image_at};
 ghost use Rattle.sqlite.specs.Files.{file_state};
 ghost use Rattle.sqlite.specs.Start.{FindsIn};
 ghost use Rattle.rows.specs.Failures.{opening_failure};
-ghost use Rattle.rows.specs.Opened.{IsFound, FailsToOpen, IsAsOpened, FailsToTakeUp};
-ghost use Rattle.rows.specs.Calls.{IsAsBefore};
+ghost use Rattle.rows.specs.Opened.{IsFound, FailsToOpen, IsAsOpened, FailsToOpenFile};
+ghost use Rattle.rows.specs.Calls.{KeepsShown};
 
 use crate::failure::Failure;
 use crate::finding::Finding;
@@ -48,7 +48,7 @@ pub enum Unopened<S: Alter, D: Disk> {
 }
 
 /// Which failure kept a file from being opened; none, where it is something else than a database.
-fn failure(error: Error) -> Option<Failure>
+fn opening_failure(error: Error) -> Option<Failure>
     ensures { result ≡ opening_failure error }
 {
     match error {
@@ -66,16 +66,17 @@ fn failure(error: Error) -> Option<Failure>
 pub fn take_up<S: Alter>(alloc: Global, mut conn: Connection<S>) -> Result<Opened<S>, Untold<S>>
     requires alone { conn.in_transaction ≡ false }
     ensures alone { MatchResult result (λ it. it.conn.in_transaction ≡ false) (λ e. e.conn.in_transaction ≡ false) }
-    ensures found { IfOk result (λ it. HasCleanDisk (state S.Store it.conn) → IsTrue (state S.Store it.conn).is_open → IsFound it.found (state S.Store it.conn)) }
-    ensures open { IfOk result (λ it. HasCleanDisk (state S.Store it.conn) → IsTrue (state S.Store conn).is_open) }
+    ensures found { IfOk result (λ it. HasCleanDisk (state S.Store it.conn) → IsFound it.found (state S.Store it.conn)) }
+    ensures unchanged { IfOk result (λ it. HasCleanDisk (state S.Store it.conn) → IsUnchanged (state S.Store conn) (state S.Store it.conn)) }
     ensures cause { IfErr result (λ e. HasCleanDisk (state S.Store e.conn) → FailsToOpen (state S.Store conn) (state S.Store e.conn) e.failure) }
-    ensures same { MatchResult result (λ it. HasCleanDisk (state S.Store it.conn) → IsAsBefore (state S.Store conn) (state S.Store it.conn)) (λ e. HasCleanDisk (state S.Store e.conn) → IsAsBefore (state S.Store conn) (state S.Store e.conn)) }
+    ensures same { MatchResult result (λ it. HasCleanDisk (state S.Store it.conn) → KeepsShown (state S.Store conn) (state S.Store it.conn)) (λ e. HasCleanDisk (state S.Store e.conn) → KeepsShown (state S.Store conn) (state S.Store e.conn)) }
     ensures survives { MatchResult result (λ it. Survives (state S.Store conn) (state S.Store it.conn) (λ _. ⊥)) (λ e. Survives (state S.Store conn) (state S.Store e.conn) (λ _. ⊥)) }
 {
     let found = match opening::open(alloc, &mut conn) {
         Ok(found) => found,
         Err(failure) => return Err(Untold { conn, failure }),
     };
+    // Outside a transaction, what is shown is what the last commit left.
     let settled = conn.is_autocommit();
     prove!(settled);
     Ok(Opened { conn, found })
@@ -92,20 +93,21 @@ pub fn open<S: Start>(
 ) -> Result<Opened<FileStore<FileFrom<S>>>, Unopened<FileStore<FileFrom<S>>, FileFrom<S>>>
     ensures memory { path.now ≡ codes ":memory:" → IsErrAnd result (λ e. (left : _) × (e ≡ Unopened.Refused None left)) }
     ensures alone { IfOk result (λ it. it.conn.in_transaction ≡ false) }
-    ensures found { IfOk result (λ it. HasCleanDisk (file_state it.conn) → IsTrue (file_state it.conn).is_open → IsFound it.found (file_state it.conn)) }
+    ensures found { IfOk result (λ it. HasCleanDisk (file_state it.conn) → IsFound it.found (file_state it.conn)) }
     ensures opened { IfOk result (λ it. (was : _) × IsAsOpened (image_at S.Start) was it.conn) }
-    ensures held { IfOk result (λ it. HasCleanDisk (file_state it.conn) → IsTrue (file_state it.conn).is_open → FindsIn (image_at S.Start) (file_state it.conn)) }
+    ensures held { IfOk result (λ it. HasCleanDisk (file_state it.conn) → FindsIn (image_at S.Start) (file_state it.conn)) }
     ensures guarded { IfOk result (λ it. HasCleanDisk (file_state it.conn) → (file_state it.conn).IsShielded) }
-    ensures cause { IfErr result (FailsToTakeUp (image_at S.Start)) }
+    ensures cause { IfErr result (FailsToOpenFile (image_at S.Start)) }
 {
-    match Connection::open_from(rt, path, false, start) {
+    let new_has_sums = false;
+    match Connection::open_from(rt, path, new_has_sums, start) {
         Ok(conn) => match take_up(rt.alloc(), conn) {
             Ok(opened) => Ok(opened),
             Err(untold) => Err(Unopened::Untold(untold)),
         },
-        Err((error, left)) => {
-            let failure = failure(error);
-            Err(Unopened::Refused { failure, left })
-        }
+        Err((error, left)) => Err(Unopened::Refused {
+            failure: opening_failure(error),
+            left,
+        }),
     }
 }

@@ -2,11 +2,11 @@
 
 ghost use Rattle.std.specs.Prelude.{◌≡◌, IfErr, OnOk, codes, false};
 ghost use Rattle.std.specs.List.{AllByRecursion};
-ghost use Rattle.sqlite.specs.State.{HasCleanDisk, Survives};
+ghost use Rattle.sqlite.specs.State.{HasCleanDisk, Survives, IsUnchanged};
 ghost use Rattle.sqlite.specs.Held.{state};
 ghost use Rattle.rows.specs.Forms.{our_tables};
 ghost use Rattle.rows.specs.Contents.{rows_named};
-ghost use Rattle.rows.specs.Calls.{IsAtRest, IsAsBefore, IsKeyed, Rests};
+ghost use Rattle.rows.specs.Calls.{HasSettledTables, KeepsShown, IsKeyed};
 ghost use Rattle.rows.specs.Opened.{FailsToTest};
 
 use crate::failure::Failure;
@@ -16,14 +16,14 @@ use std::alloc::Global;
 
 fn meta<S: Alter>(alloc: Global, conn: &mut Connection<S>) -> Result<(), Failure>
     requires alone { conn.old.in_transaction ≡ false }
-    requires rests { HasCleanDisk (state S.Store conn.old) → IsAtRest (state S.Store conn.old) }
+    requires settled { HasCleanDisk (state S.Store conn.old) → HasSettledTables (state S.Store conn.old) }
     ensures alone { conn.new.in_transaction ≡ false }
-    ensures rests { HasCleanDisk (state S.Store conn.new) → IsAtRest (state S.Store conn.new) }
-    ensures keyed { HasCleanDisk (state S.Store conn.new) → OnOk result (Rests (state S.Store conn.old) (state S.Store conn.new)
+    ensures settled { HasCleanDisk (state S.Store conn.new) → HasSettledTables (state S.Store conn.new) }
+    ensures keyed { HasCleanDisk (state S.Store conn.new) → OnOk result (IsUnchanged (state S.Store conn.old) (state S.Store conn.new)
         × IsKeyed (rows_named (state S.Store conn.old).now (codes "meta"))) }
     ensures cause { HasCleanDisk (state S.Store conn.new) → IfErr result (FailsToTest (state S.Store conn.old) (state S.Store conn.new)
         (¬ IsKeyed (rows_named (state S.Store conn.old).now (codes "meta")))) }
-    ensures same { HasCleanDisk (state S.Store conn.new) → IsAsBefore (state S.Store conn.old) (state S.Store conn.new) }
+    ensures same { HasCleanDisk (state S.Store conn.new) → KeepsShown (state S.Store conn.old) (state S.Store conn.new) }
     ensures survives { Survives (state S.Store conn.old) (state S.Store conn.new) (λ _. ⊥) }
 {
     check(alloc, conn, "SELECT rowid FROM meta ORDER BY word")
@@ -31,14 +31,14 @@ fn meta<S: Alter>(alloc: Global, conn: &mut Connection<S>) -> Result<(), Failure
 
 fn object<S: Alter>(alloc: Global, conn: &mut Connection<S>) -> Result<(), Failure>
     requires alone { conn.old.in_transaction ≡ false }
-    requires rests { HasCleanDisk (state S.Store conn.old) → IsAtRest (state S.Store conn.old) }
+    requires settled { HasCleanDisk (state S.Store conn.old) → HasSettledTables (state S.Store conn.old) }
     ensures alone { conn.new.in_transaction ≡ false }
-    ensures rests { HasCleanDisk (state S.Store conn.new) → IsAtRest (state S.Store conn.new) }
-    ensures keyed { HasCleanDisk (state S.Store conn.new) → OnOk result (Rests (state S.Store conn.old) (state S.Store conn.new)
+    ensures settled { HasCleanDisk (state S.Store conn.new) → HasSettledTables (state S.Store conn.new) }
+    ensures keyed { HasCleanDisk (state S.Store conn.new) → OnOk result (IsUnchanged (state S.Store conn.old) (state S.Store conn.new)
         × IsKeyed (rows_named (state S.Store conn.old).now (codes "object"))) }
     ensures cause { HasCleanDisk (state S.Store conn.new) → IfErr result (FailsToTest (state S.Store conn.old) (state S.Store conn.new)
         (¬ IsKeyed (rows_named (state S.Store conn.old).now (codes "object")))) }
-    ensures same { HasCleanDisk (state S.Store conn.new) → IsAsBefore (state S.Store conn.old) (state S.Store conn.new) }
+    ensures same { HasCleanDisk (state S.Store conn.new) → KeepsShown (state S.Store conn.old) (state S.Store conn.new) }
     ensures survives { Survives (state S.Store conn.old) (state S.Store conn.new) (λ _. ⊥) }
 {
     check(alloc, conn, "SELECT rowid FROM object ORDER BY base")
@@ -46,14 +46,14 @@ fn object<S: Alter>(alloc: Global, conn: &mut Connection<S>) -> Result<(), Failu
 
 fn refs<S: Alter>(alloc: Global, conn: &mut Connection<S>) -> Result<(), Failure>
     requires alone { conn.old.in_transaction ≡ false }
-    requires rests { HasCleanDisk (state S.Store conn.old) → IsAtRest (state S.Store conn.old) }
+    requires settled { HasCleanDisk (state S.Store conn.old) → HasSettledTables (state S.Store conn.old) }
     ensures alone { conn.new.in_transaction ≡ false }
-    ensures rests { HasCleanDisk (state S.Store conn.new) → IsAtRest (state S.Store conn.new) }
-    ensures keyed { HasCleanDisk (state S.Store conn.new) → OnOk result (Rests (state S.Store conn.old) (state S.Store conn.new)
+    ensures settled { HasCleanDisk (state S.Store conn.new) → HasSettledTables (state S.Store conn.new) }
+    ensures keyed { HasCleanDisk (state S.Store conn.new) → OnOk result (IsUnchanged (state S.Store conn.old) (state S.Store conn.new)
         × IsKeyed (rows_named (state S.Store conn.old).now (codes "refs"))) }
     ensures cause { HasCleanDisk (state S.Store conn.new) → IfErr result (FailsToTest (state S.Store conn.old) (state S.Store conn.new)
         (¬ IsKeyed (rows_named (state S.Store conn.old).now (codes "refs")))) }
-    ensures same { HasCleanDisk (state S.Store conn.new) → IsAsBefore (state S.Store conn.old) (state S.Store conn.new) }
+    ensures same { HasCleanDisk (state S.Store conn.new) → KeepsShown (state S.Store conn.old) (state S.Store conn.new) }
     ensures survives { Survives (state S.Store conn.old) (state S.Store conn.new) (λ _. ⊥) }
 {
     check(alloc, conn, "SELECT rowid FROM refs ORDER BY base, target")
@@ -61,14 +61,14 @@ fn refs<S: Alter>(alloc: Global, conn: &mut Connection<S>) -> Result<(), Failure
 
 fn outs<S: Alter>(alloc: Global, conn: &mut Connection<S>) -> Result<(), Failure>
     requires alone { conn.old.in_transaction ≡ false }
-    requires rests { HasCleanDisk (state S.Store conn.old) → IsAtRest (state S.Store conn.old) }
+    requires settled { HasCleanDisk (state S.Store conn.old) → HasSettledTables (state S.Store conn.old) }
     ensures alone { conn.new.in_transaction ≡ false }
-    ensures rests { HasCleanDisk (state S.Store conn.new) → IsAtRest (state S.Store conn.new) }
-    ensures keyed { HasCleanDisk (state S.Store conn.new) → OnOk result (Rests (state S.Store conn.old) (state S.Store conn.new)
+    ensures settled { HasCleanDisk (state S.Store conn.new) → HasSettledTables (state S.Store conn.new) }
+    ensures keyed { HasCleanDisk (state S.Store conn.new) → OnOk result (IsUnchanged (state S.Store conn.old) (state S.Store conn.new)
         × IsKeyed (rows_named (state S.Store conn.old).now (codes "outs"))) }
     ensures cause { HasCleanDisk (state S.Store conn.new) → IfErr result (FailsToTest (state S.Store conn.old) (state S.Store conn.new)
         (¬ IsKeyed (rows_named (state S.Store conn.old).now (codes "outs")))) }
-    ensures same { HasCleanDisk (state S.Store conn.new) → IsAsBefore (state S.Store conn.old) (state S.Store conn.new) }
+    ensures same { HasCleanDisk (state S.Store conn.new) → KeepsShown (state S.Store conn.old) (state S.Store conn.new) }
     ensures survives { Survives (state S.Store conn.old) (state S.Store conn.new) (λ _. ⊥) }
 {
     check(alloc, conn, "SELECT rowid FROM outs ORDER BY base, name")
@@ -76,14 +76,14 @@ fn outs<S: Alter>(alloc: Global, conn: &mut Connection<S>) -> Result<(), Failure
 
 fn permanent<S: Alter>(alloc: Global, conn: &mut Connection<S>) -> Result<(), Failure>
     requires alone { conn.old.in_transaction ≡ false }
-    requires rests { HasCleanDisk (state S.Store conn.old) → IsAtRest (state S.Store conn.old) }
+    requires settled { HasCleanDisk (state S.Store conn.old) → HasSettledTables (state S.Store conn.old) }
     ensures alone { conn.new.in_transaction ≡ false }
-    ensures rests { HasCleanDisk (state S.Store conn.new) → IsAtRest (state S.Store conn.new) }
-    ensures keyed { HasCleanDisk (state S.Store conn.new) → OnOk result (Rests (state S.Store conn.old) (state S.Store conn.new)
+    ensures settled { HasCleanDisk (state S.Store conn.new) → HasSettledTables (state S.Store conn.new) }
+    ensures keyed { HasCleanDisk (state S.Store conn.new) → OnOk result (IsUnchanged (state S.Store conn.old) (state S.Store conn.new)
         × IsKeyed (rows_named (state S.Store conn.old).now (codes "permanent"))) }
     ensures cause { HasCleanDisk (state S.Store conn.new) → IfErr result (FailsToTest (state S.Store conn.old) (state S.Store conn.new)
         (¬ IsKeyed (rows_named (state S.Store conn.old).now (codes "permanent")))) }
-    ensures same { HasCleanDisk (state S.Store conn.new) → IsAsBefore (state S.Store conn.old) (state S.Store conn.new) }
+    ensures same { HasCleanDisk (state S.Store conn.new) → KeepsShown (state S.Store conn.old) (state S.Store conn.new) }
     ensures survives { Survives (state S.Store conn.old) (state S.Store conn.new) (λ _. ⊥) }
 {
     check(alloc, conn, "SELECT rowid FROM permanent ORDER BY name")
@@ -91,14 +91,14 @@ fn permanent<S: Alter>(alloc: Global, conn: &mut Connection<S>) -> Result<(), Fa
 
 fn user_root<S: Alter>(alloc: Global, conn: &mut Connection<S>) -> Result<(), Failure>
     requires alone { conn.old.in_transaction ≡ false }
-    requires rests { HasCleanDisk (state S.Store conn.old) → IsAtRest (state S.Store conn.old) }
+    requires settled { HasCleanDisk (state S.Store conn.old) → HasSettledTables (state S.Store conn.old) }
     ensures alone { conn.new.in_transaction ≡ false }
-    ensures rests { HasCleanDisk (state S.Store conn.new) → IsAtRest (state S.Store conn.new) }
-    ensures keyed { HasCleanDisk (state S.Store conn.new) → OnOk result (Rests (state S.Store conn.old) (state S.Store conn.new)
+    ensures settled { HasCleanDisk (state S.Store conn.new) → HasSettledTables (state S.Store conn.new) }
+    ensures keyed { HasCleanDisk (state S.Store conn.new) → OnOk result (IsUnchanged (state S.Store conn.old) (state S.Store conn.new)
         × IsKeyed (rows_named (state S.Store conn.old).now (codes "user_root"))) }
     ensures cause { HasCleanDisk (state S.Store conn.new) → IfErr result (FailsToTest (state S.Store conn.old) (state S.Store conn.new)
         (¬ IsKeyed (rows_named (state S.Store conn.old).now (codes "user_root")))) }
-    ensures same { HasCleanDisk (state S.Store conn.new) → IsAsBefore (state S.Store conn.old) (state S.Store conn.new) }
+    ensures same { HasCleanDisk (state S.Store conn.new) → KeepsShown (state S.Store conn.old) (state S.Store conn.new) }
     ensures survives { Survives (state S.Store conn.old) (state S.Store conn.new) (λ _. ⊥) }
 {
     check(
@@ -110,14 +110,14 @@ fn user_root<S: Alter>(alloc: Global, conn: &mut Connection<S>) -> Result<(), Fa
 
 fn profile<S: Alter>(alloc: Global, conn: &mut Connection<S>) -> Result<(), Failure>
     requires alone { conn.old.in_transaction ≡ false }
-    requires rests { HasCleanDisk (state S.Store conn.old) → IsAtRest (state S.Store conn.old) }
+    requires settled { HasCleanDisk (state S.Store conn.old) → HasSettledTables (state S.Store conn.old) }
     ensures alone { conn.new.in_transaction ≡ false }
-    ensures rests { HasCleanDisk (state S.Store conn.new) → IsAtRest (state S.Store conn.new) }
-    ensures keyed { HasCleanDisk (state S.Store conn.new) → OnOk result (Rests (state S.Store conn.old) (state S.Store conn.new)
+    ensures settled { HasCleanDisk (state S.Store conn.new) → HasSettledTables (state S.Store conn.new) }
+    ensures keyed { HasCleanDisk (state S.Store conn.new) → OnOk result (IsUnchanged (state S.Store conn.old) (state S.Store conn.new)
         × IsKeyed (rows_named (state S.Store conn.old).now (codes "profile"))) }
     ensures cause { HasCleanDisk (state S.Store conn.new) → IfErr result (FailsToTest (state S.Store conn.old) (state S.Store conn.new)
         (¬ IsKeyed (rows_named (state S.Store conn.old).now (codes "profile")))) }
-    ensures same { HasCleanDisk (state S.Store conn.new) → IsAsBefore (state S.Store conn.old) (state S.Store conn.new) }
+    ensures same { HasCleanDisk (state S.Store conn.new) → KeepsShown (state S.Store conn.old) (state S.Store conn.new) }
     ensures survives { Survives (state S.Store conn.old) (state S.Store conn.new) (λ _. ⊥) }
 {
     check(
@@ -129,14 +129,14 @@ fn profile<S: Alter>(alloc: Global, conn: &mut Connection<S>) -> Result<(), Fail
 
 fn generation<S: Alter>(alloc: Global, conn: &mut Connection<S>) -> Result<(), Failure>
     requires alone { conn.old.in_transaction ≡ false }
-    requires rests { HasCleanDisk (state S.Store conn.old) → IsAtRest (state S.Store conn.old) }
+    requires settled { HasCleanDisk (state S.Store conn.old) → HasSettledTables (state S.Store conn.old) }
     ensures alone { conn.new.in_transaction ≡ false }
-    ensures rests { HasCleanDisk (state S.Store conn.new) → IsAtRest (state S.Store conn.new) }
-    ensures keyed { HasCleanDisk (state S.Store conn.new) → OnOk result (Rests (state S.Store conn.old) (state S.Store conn.new)
+    ensures settled { HasCleanDisk (state S.Store conn.new) → HasSettledTables (state S.Store conn.new) }
+    ensures keyed { HasCleanDisk (state S.Store conn.new) → OnOk result (IsUnchanged (state S.Store conn.old) (state S.Store conn.new)
         × IsKeyed (rows_named (state S.Store conn.old).now (codes "generation"))) }
     ensures cause { HasCleanDisk (state S.Store conn.new) → IfErr result (FailsToTest (state S.Store conn.old) (state S.Store conn.new)
         (¬ IsKeyed (rows_named (state S.Store conn.old).now (codes "generation")))) }
-    ensures same { HasCleanDisk (state S.Store conn.new) → IsAsBefore (state S.Store conn.old) (state S.Store conn.new) }
+    ensures same { HasCleanDisk (state S.Store conn.new) → KeepsShown (state S.Store conn.old) (state S.Store conn.new) }
     ensures survives { Survives (state S.Store conn.old) (state S.Store conn.new) (λ _. ⊥) }
 {
     check(
@@ -148,14 +148,14 @@ fn generation<S: Alter>(alloc: Global, conn: &mut Connection<S>) -> Result<(), F
 
 fn runtime<S: Alter>(alloc: Global, conn: &mut Connection<S>) -> Result<(), Failure>
     requires alone { conn.old.in_transaction ≡ false }
-    requires rests { HasCleanDisk (state S.Store conn.old) → IsAtRest (state S.Store conn.old) }
+    requires settled { HasCleanDisk (state S.Store conn.old) → HasSettledTables (state S.Store conn.old) }
     ensures alone { conn.new.in_transaction ≡ false }
-    ensures rests { HasCleanDisk (state S.Store conn.new) → IsAtRest (state S.Store conn.new) }
-    ensures keyed { HasCleanDisk (state S.Store conn.new) → OnOk result (Rests (state S.Store conn.old) (state S.Store conn.new)
+    ensures settled { HasCleanDisk (state S.Store conn.new) → HasSettledTables (state S.Store conn.new) }
+    ensures keyed { HasCleanDisk (state S.Store conn.new) → OnOk result (IsUnchanged (state S.Store conn.old) (state S.Store conn.new)
         × IsKeyed (rows_named (state S.Store conn.old).now (codes "runtime"))) }
     ensures cause { HasCleanDisk (state S.Store conn.new) → IfErr result (FailsToTest (state S.Store conn.old) (state S.Store conn.new)
         (¬ IsKeyed (rows_named (state S.Store conn.old).now (codes "runtime")))) }
-    ensures same { HasCleanDisk (state S.Store conn.new) → IsAsBefore (state S.Store conn.old) (state S.Store conn.new) }
+    ensures same { HasCleanDisk (state S.Store conn.new) → KeepsShown (state S.Store conn.old) (state S.Store conn.new) }
     ensures survives { Survives (state S.Store conn.old) (state S.Store conn.new) (λ _. ⊥) }
 {
     check(
@@ -167,14 +167,14 @@ fn runtime<S: Alter>(alloc: Global, conn: &mut Connection<S>) -> Result<(), Fail
 
 fn first<S: Alter>(alloc: Global, conn: &mut Connection<S>) -> Result<(), Failure>
     requires alone { conn.old.in_transaction ≡ false }
-    requires rests { HasCleanDisk (state S.Store conn.old) → IsAtRest (state S.Store conn.old) }
+    requires settled { HasCleanDisk (state S.Store conn.old) → HasSettledTables (state S.Store conn.old) }
     ensures alone { conn.new.in_transaction ≡ false }
-    ensures rests { HasCleanDisk (state S.Store conn.new) → IsAtRest (state S.Store conn.new) }
-    ensures keyed { HasCleanDisk (state S.Store conn.new) → OnOk result (Rests (state S.Store conn.old) (state S.Store conn.new)
+    ensures settled { HasCleanDisk (state S.Store conn.new) → HasSettledTables (state S.Store conn.new) }
+    ensures keyed { HasCleanDisk (state S.Store conn.new) → OnOk result (IsUnchanged (state S.Store conn.old) (state S.Store conn.new)
         × IsKeyed (rows_named (state S.Store conn.old).now (codes "meta")) × IsKeyed (rows_named (state S.Store conn.old).now (codes "object")) × IsKeyed (rows_named (state S.Store conn.old).now (codes "refs"))) }
     ensures cause { HasCleanDisk (state S.Store conn.new) → IfErr result (FailsToTest (state S.Store conn.old) (state S.Store conn.new)
         (¬ (IsKeyed (rows_named (state S.Store conn.old).now (codes "meta")) × IsKeyed (rows_named (state S.Store conn.old).now (codes "object")) × IsKeyed (rows_named (state S.Store conn.old).now (codes "refs"))))) }
-    ensures same { HasCleanDisk (state S.Store conn.new) → IsAsBefore (state S.Store conn.old) (state S.Store conn.new) }
+    ensures same { HasCleanDisk (state S.Store conn.new) → KeepsShown (state S.Store conn.old) (state S.Store conn.new) }
     ensures survives { Survives (state S.Store conn.old) (state S.Store conn.new) (λ _. ⊥) }
 {
     meta(alloc, conn)?;
@@ -184,14 +184,14 @@ fn first<S: Alter>(alloc: Global, conn: &mut Connection<S>) -> Result<(), Failur
 
 fn next<S: Alter>(alloc: Global, conn: &mut Connection<S>) -> Result<(), Failure>
     requires alone { conn.old.in_transaction ≡ false }
-    requires rests { HasCleanDisk (state S.Store conn.old) → IsAtRest (state S.Store conn.old) }
+    requires settled { HasCleanDisk (state S.Store conn.old) → HasSettledTables (state S.Store conn.old) }
     ensures alone { conn.new.in_transaction ≡ false }
-    ensures rests { HasCleanDisk (state S.Store conn.new) → IsAtRest (state S.Store conn.new) }
-    ensures keyed { HasCleanDisk (state S.Store conn.new) → OnOk result (Rests (state S.Store conn.old) (state S.Store conn.new)
+    ensures settled { HasCleanDisk (state S.Store conn.new) → HasSettledTables (state S.Store conn.new) }
+    ensures keyed { HasCleanDisk (state S.Store conn.new) → OnOk result (IsUnchanged (state S.Store conn.old) (state S.Store conn.new)
         × IsKeyed (rows_named (state S.Store conn.old).now (codes "outs")) × IsKeyed (rows_named (state S.Store conn.old).now (codes "permanent")) × IsKeyed (rows_named (state S.Store conn.old).now (codes "user_root"))) }
     ensures cause { HasCleanDisk (state S.Store conn.new) → IfErr result (FailsToTest (state S.Store conn.old) (state S.Store conn.new)
         (¬ (IsKeyed (rows_named (state S.Store conn.old).now (codes "outs")) × IsKeyed (rows_named (state S.Store conn.old).now (codes "permanent")) × IsKeyed (rows_named (state S.Store conn.old).now (codes "user_root"))))) }
-    ensures same { HasCleanDisk (state S.Store conn.new) → IsAsBefore (state S.Store conn.old) (state S.Store conn.new) }
+    ensures same { HasCleanDisk (state S.Store conn.new) → KeepsShown (state S.Store conn.old) (state S.Store conn.new) }
     ensures survives { Survives (state S.Store conn.old) (state S.Store conn.new) (λ _. ⊥) }
 {
     outs(alloc, conn)?;
@@ -201,14 +201,14 @@ fn next<S: Alter>(alloc: Global, conn: &mut Connection<S>) -> Result<(), Failure
 
 fn last<S: Alter>(alloc: Global, conn: &mut Connection<S>) -> Result<(), Failure>
     requires alone { conn.old.in_transaction ≡ false }
-    requires rests { HasCleanDisk (state S.Store conn.old) → IsAtRest (state S.Store conn.old) }
+    requires settled { HasCleanDisk (state S.Store conn.old) → HasSettledTables (state S.Store conn.old) }
     ensures alone { conn.new.in_transaction ≡ false }
-    ensures rests { HasCleanDisk (state S.Store conn.new) → IsAtRest (state S.Store conn.new) }
-    ensures keyed { HasCleanDisk (state S.Store conn.new) → OnOk result (Rests (state S.Store conn.old) (state S.Store conn.new)
+    ensures settled { HasCleanDisk (state S.Store conn.new) → HasSettledTables (state S.Store conn.new) }
+    ensures keyed { HasCleanDisk (state S.Store conn.new) → OnOk result (IsUnchanged (state S.Store conn.old) (state S.Store conn.new)
         × IsKeyed (rows_named (state S.Store conn.old).now (codes "profile")) × IsKeyed (rows_named (state S.Store conn.old).now (codes "generation")) × IsKeyed (rows_named (state S.Store conn.old).now (codes "runtime"))) }
     ensures cause { HasCleanDisk (state S.Store conn.new) → IfErr result (FailsToTest (state S.Store conn.old) (state S.Store conn.new)
         (¬ (IsKeyed (rows_named (state S.Store conn.old).now (codes "profile")) × IsKeyed (rows_named (state S.Store conn.old).now (codes "generation")) × IsKeyed (rows_named (state S.Store conn.old).now (codes "runtime"))))) }
-    ensures same { HasCleanDisk (state S.Store conn.new) → IsAsBefore (state S.Store conn.old) (state S.Store conn.new) }
+    ensures same { HasCleanDisk (state S.Store conn.new) → KeepsShown (state S.Store conn.old) (state S.Store conn.new) }
     ensures survives { Survives (state S.Store conn.old) (state S.Store conn.new) (λ _. ⊥) }
 {
     profile(alloc, conn)?;
@@ -216,17 +216,17 @@ fn last<S: Alter>(alloc: Global, conn: &mut Connection<S>) -> Result<(), Failure
     runtime(alloc, conn)
 }
 
-/// Succeeds if each row of our tables has a rowid of its own, and fails with `Disk` if not.
+/// Succeeds only if each row of our tables has a rowid of its own, and fails with `Disk` if not.
 pub(crate) fn all<S: Alter>(alloc: Global, conn: &mut Connection<S>) -> Result<(), Failure>
     requires alone { conn.old.in_transaction ≡ false }
-    requires rests { HasCleanDisk (state S.Store conn.old) → IsAtRest (state S.Store conn.old) }
+    requires settled { HasCleanDisk (state S.Store conn.old) → HasSettledTables (state S.Store conn.old) }
     ensures alone { conn.new.in_transaction ≡ false }
-    ensures rests { HasCleanDisk (state S.Store conn.new) → IsAtRest (state S.Store conn.new) }
-    ensures keyed { HasCleanDisk (state S.Store conn.new) → OnOk result (Rests (state S.Store conn.old) (state S.Store conn.new)
+    ensures settled { HasCleanDisk (state S.Store conn.new) → HasSettledTables (state S.Store conn.new) }
+    ensures keyed { HasCleanDisk (state S.Store conn.new) → OnOk result (IsUnchanged (state S.Store conn.old) (state S.Store conn.new)
         × AllByRecursion (λ t. IsKeyed (rows_named (state S.Store conn.old).now t.name)) our_tables) }
     ensures cause { HasCleanDisk (state S.Store conn.new) → IfErr result (FailsToTest (state S.Store conn.old) (state S.Store conn.new)
         (¬ AllByRecursion (λ t. IsKeyed (rows_named (state S.Store conn.old).now t.name)) our_tables)) }
-    ensures same { HasCleanDisk (state S.Store conn.new) → IsAsBefore (state S.Store conn.old) (state S.Store conn.new) }
+    ensures same { HasCleanDisk (state S.Store conn.new) → KeepsShown (state S.Store conn.old) (state S.Store conn.new) }
     ensures survives { Survives (state S.Store conn.old) (state S.Store conn.new) (λ _. ⊥) }
 {
     first(alloc, conn)?;

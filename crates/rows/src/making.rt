@@ -9,6 +9,7 @@ ghost use Rattle.rows.specs.Forms.{meta};
 ghost use Rattle.rows.specs.Finding.{HasNone};
 ghost use Rattle.rows.specs.Failures.{IsWriteFailure};
 ghost use Rattle.rows.specs.Making.{IsMaking, HasMeta, Puts, MakesMeta, MakesAll, IsMade, IsMadeIn, IsMadeOf, LeavesMade, IsTooLong, FailsToMakeThese, FailsToMake, other_tables};
+ghost use Rattle.rows.specs.Calls.{IsDurable};
 
 use crate::creating;
 use crate::failure::Failure;
@@ -85,6 +86,7 @@ pub fn make<S: Alter>(conn: &mut Connection<S>, store_dir: &str) -> Result<(), F
     ensures cause { HasCleanDisk (state S.Store conn.new) → IfErr result (FailsToMake store_dir.now (state S.Store conn.old) (state S.Store conn.new)) }
     ensures was_open { HasCleanDisk (state S.Store conn.new) → IsTrue (state S.Store conn.new).is_open → IsTrue (state S.Store conn.old).is_open }
     ensures failed { HasCleanDisk (state S.Store conn.new) → IsTrue (state S.Store conn.new).is_open → OnErr result (((state S.Store conn.new).now ≡ (state S.Store conn.old).committed) × ((state S.Store conn.new).committed ≡ (state S.Store conn.old).committed)) }
+    ensures durable { IsTrue (state S.Store conn.new).is_open → IsDurable (state S.Store conn.new) }
     ensures survives { Survives (state S.Store conn.old) (state S.Store conn.new) (LeavesMade store_dir.now (state S.Store conn.old).now) }
 {
     // What an open connection shows lists its schema.

@@ -5,10 +5,10 @@ ghost use Rattle.sqlite_value.specs.declared.value.Value.TheVariants.{Text, Blob
 ghost use Rattle.rows.specs.Forms.{object};
 ghost use Rattle.std.specs.Ordering.{eq_by_cmp, is_lt, int_cmp};
 ghost use Rattle.std.specs.FinMap as finite;
-ghost use Rattle.sqlite.specs.State.{HasCleanDisk, KeepsCommit, Survives};
+ghost use Rattle.sqlite.specs.State.{HasCleanDisk, KeepsCommit, Survives, IsUnchanged};
 ghost use Rattle.sqlite.specs.Held.{state};
 ghost use Rattle.rows.specs.Failures.{FailsFor, FailsToInsert};
-ghost use Rattle.rows.specs.Calls.{IsUnderWay, Changes, IsReady, IsAsBefore, Rests};
+ghost use Rattle.rows.specs.Calls.{IsUnderWay, Changes, IsReady, KeepsShown};
 ghost use Rattle.rows.specs.Contents.{texts_cmp, contents_of, without_archive};
 ghost use Rattle.rows.specs.Entries.{text_or_null, stored_of, ShowsObject, listed_of, ShowsListed, IsStored, stored, IsObjectRow, IsListedRow};
 
@@ -85,10 +85,10 @@ pub fn all<S: Alter>(alloc: Global, conn: &mut Connection<S>) -> Result<Vec<List
     requires alone { conn.old.in_transaction ≡ false }
     requires ready { HasCleanDisk (state S.Store conn.old) → IsTrue (state S.Store conn.old).is_open → IsReady (state S.Store conn.old) }
     ensures alone { conn.new.in_transaction ≡ false }
-    ensures reads { HasCleanDisk (state S.Store conn.new) → IfOk result (λ all. Rests (state S.Store conn.old) (state S.Store conn.new)
+    ensures reads { HasCleanDisk (state S.Store conn.new) → IfOk result (λ all. IsUnchanged (state S.Store conn.old) (state S.Store conn.new)
         × (map listed_of all.items ≡ map without_archive (finite.entries (contents_of (state S.Store conn.old).now).objects))) }
     ensures cause { HasCleanDisk (state S.Store conn.new) → IfErr result (FailsFor (state S.Store conn.old) (state S.Store conn.new)) }
-    ensures same { HasCleanDisk (state S.Store conn.new) → IsAsBefore (state S.Store conn.old) (state S.Store conn.new) }
+    ensures same { HasCleanDisk (state S.Store conn.new) → KeepsShown (state S.Store conn.old) (state S.Store conn.new) }
     ensures ready { HasCleanDisk (state S.Store conn.new) → IsTrue (state S.Store conn.new).is_open → IsReady (state S.Store conn.new) }
     ensures survives { Survives (state S.Store conn.old) (state S.Store conn.new) (λ _. ⊥) }
 {
@@ -105,10 +105,10 @@ pub fn keys<S: Alter>(alloc: Global, conn: &mut Connection<S>) -> Result<Vec<Str
     requires alone { conn.old.in_transaction ≡ false }
     requires ready { HasCleanDisk (state S.Store conn.old) → IsTrue (state S.Store conn.old).is_open → IsReady (state S.Store conn.old) }
     ensures alone { conn.new.in_transaction ≡ false }
-    ensures reads { HasCleanDisk (state S.Store conn.new) → IfOk result (λ all. Rests (state S.Store conn.old) (state S.Store conn.new)
+    ensures reads { HasCleanDisk (state S.Store conn.new) → IfOk result (λ all. IsUnchanged (state S.Store conn.old) (state S.Store conn.new)
         × (map string_bytes all.items ≡ finite.keys (contents_of (state S.Store conn.old).now).objects)) }
     ensures cause { HasCleanDisk (state S.Store conn.new) → IfErr result (FailsFor (state S.Store conn.old) (state S.Store conn.new)) }
-    ensures same { HasCleanDisk (state S.Store conn.new) → IsAsBefore (state S.Store conn.old) (state S.Store conn.new) }
+    ensures same { HasCleanDisk (state S.Store conn.new) → KeepsShown (state S.Store conn.old) (state S.Store conn.new) }
     ensures ready { HasCleanDisk (state S.Store conn.new) → IsTrue (state S.Store conn.new).is_open → IsReady (state S.Store conn.new) }
     ensures survives { Survives (state S.Store conn.old) (state S.Store conn.new) (λ _. ⊥) }
 {
@@ -124,10 +124,10 @@ pub fn get<S: Alter>(
     requires alone { conn.old.in_transaction ≡ false }
     requires ready { HasCleanDisk (state S.Store conn.old) → IsTrue (state S.Store conn.old).is_open → IsReady (state S.Store conn.old) }
     ensures alone { conn.new.in_transaction ≡ false }
-    ensures reads { HasCleanDisk (state S.Store conn.new) → IfOk result (λ o. Rests (state S.Store conn.old) (state S.Store conn.new)
+    ensures reads { HasCleanDisk (state S.Store conn.new) → IfOk result (λ o. IsUnchanged (state S.Store conn.old) (state S.Store conn.new)
         × IsStored (contents_of (state S.Store conn.old).now).objects base.now o) }
     ensures cause { HasCleanDisk (state S.Store conn.new) → IfErr result (FailsFor (state S.Store conn.old) (state S.Store conn.new)) }
-    ensures same { HasCleanDisk (state S.Store conn.new) → IsAsBefore (state S.Store conn.old) (state S.Store conn.new) }
+    ensures same { HasCleanDisk (state S.Store conn.new) → KeepsShown (state S.Store conn.old) (state S.Store conn.new) }
     ensures ready { HasCleanDisk (state S.Store conn.new) → IsTrue (state S.Store conn.new).is_open → IsReady (state S.Store conn.new) }
     ensures survives { Survives (state S.Store conn.old) (state S.Store conn.new) (λ _. ⊥) }
 {
@@ -140,10 +140,10 @@ fn of<S: Alter>(alloc: Global, conn: &mut Connection<S>, base: &str) -> Result<V
     requires alone { conn.old.in_transaction ≡ false }
     requires ready { HasCleanDisk (state S.Store conn.old) → IsTrue (state S.Store conn.old).is_open → IsReady (state S.Store conn.old) }
     ensures alone { conn.new.in_transaction ≡ false }
-    ensures reads { HasCleanDisk (state S.Store conn.new) → IfOk result (λ all. Rests (state S.Store conn.old) (state S.Store conn.new)
+    ensures reads { HasCleanDisk (state S.Store conn.new) → IfOk result (λ all. IsUnchanged (state S.Store conn.old) (state S.Store conn.new)
         × (map stored_of all.items ≡ finite.entries (finite.retain_keys (contents_of (state S.Store conn.old).now).objects (λ k. eq_by_cmp texts_cmp k base.now)))) }
     ensures cause { HasCleanDisk (state S.Store conn.new) → IfErr result (FailsFor (state S.Store conn.old) (state S.Store conn.new)) }
-    ensures same { HasCleanDisk (state S.Store conn.new) → IsAsBefore (state S.Store conn.old) (state S.Store conn.new) }
+    ensures same { HasCleanDisk (state S.Store conn.new) → KeepsShown (state S.Store conn.old) (state S.Store conn.new) }
     ensures ready { HasCleanDisk (state S.Store conn.new) → IsTrue (state S.Store conn.new).is_open → IsReady (state S.Store conn.new) }
     ensures survives { Survives (state S.Store conn.old) (state S.Store conn.new) (λ _. ⊥) }
 {

@@ -2,12 +2,12 @@
 
 ghost use Rattle.std.specs.Prelude.{◌≡◌, ◌↔◌, IfOk, IfErr, OnOk, IsTrue, codes, false};
 ghost use Rattle.sqlite.specs.Effect.{IsDatabase};
-ghost use Rattle.sqlite.specs.State.{HasCleanDisk, Survives};
+ghost use Rattle.sqlite.specs.State.{HasCleanDisk, Survives, IsUnchanged};
 ghost use Rattle.sqlite.specs.Held.{state};
 ghost use Rattle.rows.specs.Contents.{rows_named};
 ghost use Rattle.rows.specs.Forms.{meta, object, refs, outs, permanent, user_root, profile, generation, runtime};
 ghost use Rattle.rows.specs.Texts.{AreReadableRows, HasReadableRows};
-ghost use Rattle.rows.specs.Calls.{IsAtRest, IsAsBefore, Rests};
+ghost use Rattle.rows.specs.Calls.{HasSettledTables, KeepsShown};
 ghost use Rattle.rows.specs.Opened.{FailsToTest};
 
 use crate::failure::Failure;
@@ -16,13 +16,13 @@ use sqlite::{Alter, Connection};
 
 fn meta<S: Alter>(conn: &mut Connection<S>) -> Result<bool, Failure>
     requires alone { conn.old.in_transaction ≡ false }
-    requires rests { HasCleanDisk (state S.Store conn.old) → IsAtRest (state S.Store conn.old) }
+    requires settled { HasCleanDisk (state S.Store conn.old) → HasSettledTables (state S.Store conn.old) }
     ensures alone { conn.new.in_transaction ≡ false }
-    ensures rests { HasCleanDisk (state S.Store conn.new) → IsAtRest (state S.Store conn.new) }
-    ensures told { HasCleanDisk (state S.Store conn.new) → IfOk result (λ all. Rests (state S.Store conn.old) (state S.Store conn.new)
+    ensures settled { HasCleanDisk (state S.Store conn.new) → HasSettledTables (state S.Store conn.new) }
+    ensures told { HasCleanDisk (state S.Store conn.new) → IfOk result (λ all. IsUnchanged (state S.Store conn.old) (state S.Store conn.new)
         × (IsTrue all ↔ AreReadableRows meta (rows_named (state S.Store conn.old).now (codes "meta")))) }
     ensures cause { HasCleanDisk (state S.Store conn.new) → IfErr result (FailsToTest (state S.Store conn.old) (state S.Store conn.new) ⊥) }
-    ensures same { HasCleanDisk (state S.Store conn.new) → IsAsBefore (state S.Store conn.old) (state S.Store conn.new) }
+    ensures same { HasCleanDisk (state S.Store conn.new) → KeepsShown (state S.Store conn.old) (state S.Store conn.new) }
     ensures survives { Survives (state S.Store conn.old) (state S.Store conn.new) (λ _. ⊥) }
 {
     check(conn, "SELECT word, val FROM meta ORDER BY word")
@@ -30,14 +30,14 @@ fn meta<S: Alter>(conn: &mut Connection<S>) -> Result<bool, Failure>
 
 fn object<S: Alter>(conn: &mut Connection<S>) -> Result<bool, Failure>
     requires alone { conn.old.in_transaction ≡ false }
-    requires rests { HasCleanDisk (state S.Store conn.old) → IsAtRest (state S.Store conn.old) }
+    requires settled { HasCleanDisk (state S.Store conn.old) → HasSettledTables (state S.Store conn.old) }
     requires sound { HasCleanDisk (state S.Store conn.old) → IsTrue (state S.Store conn.old).is_open → IsDatabase (state S.Store conn.old).now }
     ensures alone { conn.new.in_transaction ≡ false }
-    ensures rests { HasCleanDisk (state S.Store conn.new) → IsAtRest (state S.Store conn.new) }
-    ensures told { HasCleanDisk (state S.Store conn.new) → IfOk result (λ all. Rests (state S.Store conn.old) (state S.Store conn.new)
+    ensures settled { HasCleanDisk (state S.Store conn.new) → HasSettledTables (state S.Store conn.new) }
+    ensures told { HasCleanDisk (state S.Store conn.new) → IfOk result (λ all. IsUnchanged (state S.Store conn.old) (state S.Store conn.new)
         × (IsTrue all ↔ AreReadableRows object (rows_named (state S.Store conn.old).now (codes "object")))) }
     ensures cause { HasCleanDisk (state S.Store conn.new) → IfErr result (FailsToTest (state S.Store conn.old) (state S.Store conn.new) ⊥) }
-    ensures same { HasCleanDisk (state S.Store conn.new) → IsAsBefore (state S.Store conn.old) (state S.Store conn.new) }
+    ensures same { HasCleanDisk (state S.Store conn.new) → KeepsShown (state S.Store conn.old) (state S.Store conn.new) }
     ensures survives { Survives (state S.Store conn.old) (state S.Store conn.new) (λ _. ⊥) }
 {
     check(
@@ -48,13 +48,13 @@ fn object<S: Alter>(conn: &mut Connection<S>) -> Result<bool, Failure>
 
 fn refs<S: Alter>(conn: &mut Connection<S>) -> Result<bool, Failure>
     requires alone { conn.old.in_transaction ≡ false }
-    requires rests { HasCleanDisk (state S.Store conn.old) → IsAtRest (state S.Store conn.old) }
+    requires settled { HasCleanDisk (state S.Store conn.old) → HasSettledTables (state S.Store conn.old) }
     ensures alone { conn.new.in_transaction ≡ false }
-    ensures rests { HasCleanDisk (state S.Store conn.new) → IsAtRest (state S.Store conn.new) }
-    ensures told { HasCleanDisk (state S.Store conn.new) → IfOk result (λ all. Rests (state S.Store conn.old) (state S.Store conn.new)
+    ensures settled { HasCleanDisk (state S.Store conn.new) → HasSettledTables (state S.Store conn.new) }
+    ensures told { HasCleanDisk (state S.Store conn.new) → IfOk result (λ all. IsUnchanged (state S.Store conn.old) (state S.Store conn.new)
         × (IsTrue all ↔ AreReadableRows refs (rows_named (state S.Store conn.old).now (codes "refs")))) }
     ensures cause { HasCleanDisk (state S.Store conn.new) → IfErr result (FailsToTest (state S.Store conn.old) (state S.Store conn.new) ⊥) }
-    ensures same { HasCleanDisk (state S.Store conn.new) → IsAsBefore (state S.Store conn.old) (state S.Store conn.new) }
+    ensures same { HasCleanDisk (state S.Store conn.new) → KeepsShown (state S.Store conn.old) (state S.Store conn.new) }
     ensures survives { Survives (state S.Store conn.old) (state S.Store conn.new) (λ _. ⊥) }
 {
     check(conn, "SELECT base, target FROM refs ORDER BY base, target")
@@ -62,13 +62,13 @@ fn refs<S: Alter>(conn: &mut Connection<S>) -> Result<bool, Failure>
 
 fn outs<S: Alter>(conn: &mut Connection<S>) -> Result<bool, Failure>
     requires alone { conn.old.in_transaction ≡ false }
-    requires rests { HasCleanDisk (state S.Store conn.old) → IsAtRest (state S.Store conn.old) }
+    requires settled { HasCleanDisk (state S.Store conn.old) → HasSettledTables (state S.Store conn.old) }
     ensures alone { conn.new.in_transaction ≡ false }
-    ensures rests { HasCleanDisk (state S.Store conn.new) → IsAtRest (state S.Store conn.new) }
-    ensures told { HasCleanDisk (state S.Store conn.new) → IfOk result (λ all. Rests (state S.Store conn.old) (state S.Store conn.new)
+    ensures settled { HasCleanDisk (state S.Store conn.new) → HasSettledTables (state S.Store conn.new) }
+    ensures told { HasCleanDisk (state S.Store conn.new) → IfOk result (λ all. IsUnchanged (state S.Store conn.old) (state S.Store conn.new)
         × (IsTrue all ↔ AreReadableRows outs (rows_named (state S.Store conn.old).now (codes "outs")))) }
     ensures cause { HasCleanDisk (state S.Store conn.new) → IfErr result (FailsToTest (state S.Store conn.old) (state S.Store conn.new) ⊥) }
-    ensures same { HasCleanDisk (state S.Store conn.new) → IsAsBefore (state S.Store conn.old) (state S.Store conn.new) }
+    ensures same { HasCleanDisk (state S.Store conn.new) → KeepsShown (state S.Store conn.old) (state S.Store conn.new) }
     ensures survives { Survives (state S.Store conn.old) (state S.Store conn.new) (λ _. ⊥) }
 {
     check(
@@ -79,13 +79,13 @@ fn outs<S: Alter>(conn: &mut Connection<S>) -> Result<bool, Failure>
 
 fn permanent<S: Alter>(conn: &mut Connection<S>) -> Result<bool, Failure>
     requires alone { conn.old.in_transaction ≡ false }
-    requires rests { HasCleanDisk (state S.Store conn.old) → IsAtRest (state S.Store conn.old) }
+    requires settled { HasCleanDisk (state S.Store conn.old) → HasSettledTables (state S.Store conn.old) }
     ensures alone { conn.new.in_transaction ≡ false }
-    ensures rests { HasCleanDisk (state S.Store conn.new) → IsAtRest (state S.Store conn.new) }
-    ensures told { HasCleanDisk (state S.Store conn.new) → IfOk result (λ all. Rests (state S.Store conn.old) (state S.Store conn.new)
+    ensures settled { HasCleanDisk (state S.Store conn.new) → HasSettledTables (state S.Store conn.new) }
+    ensures told { HasCleanDisk (state S.Store conn.new) → IfOk result (λ all. IsUnchanged (state S.Store conn.old) (state S.Store conn.new)
         × (IsTrue all ↔ AreReadableRows permanent (rows_named (state S.Store conn.old).now (codes "permanent")))) }
     ensures cause { HasCleanDisk (state S.Store conn.new) → IfErr result (FailsToTest (state S.Store conn.old) (state S.Store conn.new) ⊥) }
-    ensures same { HasCleanDisk (state S.Store conn.new) → IsAsBefore (state S.Store conn.old) (state S.Store conn.new) }
+    ensures same { HasCleanDisk (state S.Store conn.new) → KeepsShown (state S.Store conn.old) (state S.Store conn.new) }
     ensures survives { Survives (state S.Store conn.old) (state S.Store conn.new) (λ _. ⊥) }
 {
     check(conn, "SELECT name, target FROM permanent ORDER BY name")
@@ -93,13 +93,13 @@ fn permanent<S: Alter>(conn: &mut Connection<S>) -> Result<bool, Failure>
 
 fn user_root<S: Alter>(conn: &mut Connection<S>) -> Result<bool, Failure>
     requires alone { conn.old.in_transaction ≡ false }
-    requires rests { HasCleanDisk (state S.Store conn.old) → IsAtRest (state S.Store conn.old) }
+    requires settled { HasCleanDisk (state S.Store conn.old) → HasSettledTables (state S.Store conn.old) }
     ensures alone { conn.new.in_transaction ≡ false }
-    ensures rests { HasCleanDisk (state S.Store conn.new) → IsAtRest (state S.Store conn.new) }
-    ensures told { HasCleanDisk (state S.Store conn.new) → IfOk result (λ all. Rests (state S.Store conn.old) (state S.Store conn.new)
+    ensures settled { HasCleanDisk (state S.Store conn.new) → HasSettledTables (state S.Store conn.new) }
+    ensures told { HasCleanDisk (state S.Store conn.new) → IfOk result (λ all. IsUnchanged (state S.Store conn.old) (state S.Store conn.new)
         × (IsTrue all ↔ AreReadableRows user_root (rows_named (state S.Store conn.old).now (codes "user_root")))) }
     ensures cause { HasCleanDisk (state S.Store conn.new) → IfErr result (FailsToTest (state S.Store conn.old) (state S.Store conn.new) ⊥) }
-    ensures same { HasCleanDisk (state S.Store conn.new) → IsAsBefore (state S.Store conn.old) (state S.Store conn.new) }
+    ensures same { HasCleanDisk (state S.Store conn.new) → KeepsShown (state S.Store conn.old) (state S.Store conn.new) }
     ensures survives { Survives (state S.Store conn.old) (state S.Store conn.new) (λ _. ⊥) }
 {
     check(
@@ -110,13 +110,13 @@ fn user_root<S: Alter>(conn: &mut Connection<S>) -> Result<bool, Failure>
 
 fn profile<S: Alter>(conn: &mut Connection<S>) -> Result<bool, Failure>
     requires alone { conn.old.in_transaction ≡ false }
-    requires rests { HasCleanDisk (state S.Store conn.old) → IsAtRest (state S.Store conn.old) }
+    requires settled { HasCleanDisk (state S.Store conn.old) → HasSettledTables (state S.Store conn.old) }
     ensures alone { conn.new.in_transaction ≡ false }
-    ensures rests { HasCleanDisk (state S.Store conn.new) → IsAtRest (state S.Store conn.new) }
-    ensures told { HasCleanDisk (state S.Store conn.new) → IfOk result (λ all. Rests (state S.Store conn.old) (state S.Store conn.new)
+    ensures settled { HasCleanDisk (state S.Store conn.new) → HasSettledTables (state S.Store conn.new) }
+    ensures told { HasCleanDisk (state S.Store conn.new) → IfOk result (λ all. IsUnchanged (state S.Store conn.old) (state S.Store conn.new)
         × (IsTrue all ↔ AreReadableRows profile (rows_named (state S.Store conn.old).now (codes "profile")))) }
     ensures cause { HasCleanDisk (state S.Store conn.new) → IfErr result (FailsToTest (state S.Store conn.old) (state S.Store conn.new) ⊥) }
-    ensures same { HasCleanDisk (state S.Store conn.new) → IsAsBefore (state S.Store conn.old) (state S.Store conn.new) }
+    ensures same { HasCleanDisk (state S.Store conn.new) → KeepsShown (state S.Store conn.old) (state S.Store conn.new) }
     ensures survives { Survives (state S.Store conn.old) (state S.Store conn.new) (λ _. ⊥) }
 {
     check(
@@ -127,13 +127,13 @@ fn profile<S: Alter>(conn: &mut Connection<S>) -> Result<bool, Failure>
 
 fn generation<S: Alter>(conn: &mut Connection<S>) -> Result<bool, Failure>
     requires alone { conn.old.in_transaction ≡ false }
-    requires rests { HasCleanDisk (state S.Store conn.old) → IsAtRest (state S.Store conn.old) }
+    requires settled { HasCleanDisk (state S.Store conn.old) → HasSettledTables (state S.Store conn.old) }
     ensures alone { conn.new.in_transaction ≡ false }
-    ensures rests { HasCleanDisk (state S.Store conn.new) → IsAtRest (state S.Store conn.new) }
-    ensures told { HasCleanDisk (state S.Store conn.new) → IfOk result (λ all. Rests (state S.Store conn.old) (state S.Store conn.new)
+    ensures settled { HasCleanDisk (state S.Store conn.new) → HasSettledTables (state S.Store conn.new) }
+    ensures told { HasCleanDisk (state S.Store conn.new) → IfOk result (λ all. IsUnchanged (state S.Store conn.old) (state S.Store conn.new)
         × (IsTrue all ↔ AreReadableRows generation (rows_named (state S.Store conn.old).now (codes "generation")))) }
     ensures cause { HasCleanDisk (state S.Store conn.new) → IfErr result (FailsToTest (state S.Store conn.old) (state S.Store conn.new) ⊥) }
-    ensures same { HasCleanDisk (state S.Store conn.new) → IsAsBefore (state S.Store conn.old) (state S.Store conn.new) }
+    ensures same { HasCleanDisk (state S.Store conn.new) → KeepsShown (state S.Store conn.old) (state S.Store conn.new) }
     ensures survives { Survives (state S.Store conn.old) (state S.Store conn.new) (λ _. ⊥) }
 {
     check(
@@ -144,13 +144,13 @@ fn generation<S: Alter>(conn: &mut Connection<S>) -> Result<bool, Failure>
 
 fn runtime<S: Alter>(conn: &mut Connection<S>) -> Result<bool, Failure>
     requires alone { conn.old.in_transaction ≡ false }
-    requires rests { HasCleanDisk (state S.Store conn.old) → IsAtRest (state S.Store conn.old) }
+    requires settled { HasCleanDisk (state S.Store conn.old) → HasSettledTables (state S.Store conn.old) }
     ensures alone { conn.new.in_transaction ≡ false }
-    ensures rests { HasCleanDisk (state S.Store conn.new) → IsAtRest (state S.Store conn.new) }
-    ensures told { HasCleanDisk (state S.Store conn.new) → IfOk result (λ all. Rests (state S.Store conn.old) (state S.Store conn.new)
+    ensures settled { HasCleanDisk (state S.Store conn.new) → HasSettledTables (state S.Store conn.new) }
+    ensures told { HasCleanDisk (state S.Store conn.new) → IfOk result (λ all. IsUnchanged (state S.Store conn.old) (state S.Store conn.new)
         × (IsTrue all ↔ AreReadableRows runtime (rows_named (state S.Store conn.old).now (codes "runtime")))) }
     ensures cause { HasCleanDisk (state S.Store conn.new) → IfErr result (FailsToTest (state S.Store conn.old) (state S.Store conn.new) ⊥) }
-    ensures same { HasCleanDisk (state S.Store conn.new) → IsAsBefore (state S.Store conn.old) (state S.Store conn.new) }
+    ensures same { HasCleanDisk (state S.Store conn.new) → KeepsShown (state S.Store conn.old) (state S.Store conn.new) }
     ensures survives { Survives (state S.Store conn.old) (state S.Store conn.new) (λ _. ⊥) }
 {
     check(
@@ -161,14 +161,14 @@ fn runtime<S: Alter>(conn: &mut Connection<S>) -> Result<bool, Failure>
 
 fn first<S: Alter>(conn: &mut Connection<S>) -> Result<bool, Failure>
     requires alone { conn.old.in_transaction ≡ false }
-    requires rests { HasCleanDisk (state S.Store conn.old) → IsAtRest (state S.Store conn.old) }
+    requires settled { HasCleanDisk (state S.Store conn.old) → HasSettledTables (state S.Store conn.old) }
     requires sound { HasCleanDisk (state S.Store conn.old) → IsTrue (state S.Store conn.old).is_open → IsDatabase (state S.Store conn.old).now }
     ensures alone { conn.new.in_transaction ≡ false }
-    ensures rests { HasCleanDisk (state S.Store conn.new) → IsAtRest (state S.Store conn.new) }
-    ensures told { HasCleanDisk (state S.Store conn.new) → IfOk result (λ all. Rests (state S.Store conn.old) (state S.Store conn.new)
+    ensures settled { HasCleanDisk (state S.Store conn.new) → HasSettledTables (state S.Store conn.new) }
+    ensures told { HasCleanDisk (state S.Store conn.new) → IfOk result (λ all. IsUnchanged (state S.Store conn.old) (state S.Store conn.new)
         × (IsTrue all ↔ AreReadableRows meta (rows_named (state S.Store conn.old).now (codes "meta")) × AreReadableRows object (rows_named (state S.Store conn.old).now (codes "object")) × AreReadableRows refs (rows_named (state S.Store conn.old).now (codes "refs")))) }
     ensures cause { HasCleanDisk (state S.Store conn.new) → IfErr result (FailsToTest (state S.Store conn.old) (state S.Store conn.new) ⊥) }
-    ensures same { HasCleanDisk (state S.Store conn.new) → IsAsBefore (state S.Store conn.old) (state S.Store conn.new) }
+    ensures same { HasCleanDisk (state S.Store conn.new) → KeepsShown (state S.Store conn.old) (state S.Store conn.new) }
     ensures survives { Survives (state S.Store conn.old) (state S.Store conn.new) (λ _. ⊥) }
 {
     let meta = meta(conn)?;
@@ -179,13 +179,13 @@ fn first<S: Alter>(conn: &mut Connection<S>) -> Result<bool, Failure>
 
 fn next<S: Alter>(conn: &mut Connection<S>) -> Result<bool, Failure>
     requires alone { conn.old.in_transaction ≡ false }
-    requires rests { HasCleanDisk (state S.Store conn.old) → IsAtRest (state S.Store conn.old) }
+    requires settled { HasCleanDisk (state S.Store conn.old) → HasSettledTables (state S.Store conn.old) }
     ensures alone { conn.new.in_transaction ≡ false }
-    ensures rests { HasCleanDisk (state S.Store conn.new) → IsAtRest (state S.Store conn.new) }
-    ensures told { HasCleanDisk (state S.Store conn.new) → IfOk result (λ all. Rests (state S.Store conn.old) (state S.Store conn.new)
+    ensures settled { HasCleanDisk (state S.Store conn.new) → HasSettledTables (state S.Store conn.new) }
+    ensures told { HasCleanDisk (state S.Store conn.new) → IfOk result (λ all. IsUnchanged (state S.Store conn.old) (state S.Store conn.new)
         × (IsTrue all ↔ AreReadableRows outs (rows_named (state S.Store conn.old).now (codes "outs")) × AreReadableRows permanent (rows_named (state S.Store conn.old).now (codes "permanent")) × AreReadableRows user_root (rows_named (state S.Store conn.old).now (codes "user_root")))) }
     ensures cause { HasCleanDisk (state S.Store conn.new) → IfErr result (FailsToTest (state S.Store conn.old) (state S.Store conn.new) ⊥) }
-    ensures same { HasCleanDisk (state S.Store conn.new) → IsAsBefore (state S.Store conn.old) (state S.Store conn.new) }
+    ensures same { HasCleanDisk (state S.Store conn.new) → KeepsShown (state S.Store conn.old) (state S.Store conn.new) }
     ensures survives { Survives (state S.Store conn.old) (state S.Store conn.new) (λ _. ⊥) }
 {
     let outs = outs(conn)?;
@@ -196,13 +196,13 @@ fn next<S: Alter>(conn: &mut Connection<S>) -> Result<bool, Failure>
 
 fn last<S: Alter>(conn: &mut Connection<S>) -> Result<bool, Failure>
     requires alone { conn.old.in_transaction ≡ false }
-    requires rests { HasCleanDisk (state S.Store conn.old) → IsAtRest (state S.Store conn.old) }
+    requires settled { HasCleanDisk (state S.Store conn.old) → HasSettledTables (state S.Store conn.old) }
     ensures alone { conn.new.in_transaction ≡ false }
-    ensures rests { HasCleanDisk (state S.Store conn.new) → IsAtRest (state S.Store conn.new) }
-    ensures told { HasCleanDisk (state S.Store conn.new) → IfOk result (λ all. Rests (state S.Store conn.old) (state S.Store conn.new)
+    ensures settled { HasCleanDisk (state S.Store conn.new) → HasSettledTables (state S.Store conn.new) }
+    ensures told { HasCleanDisk (state S.Store conn.new) → IfOk result (λ all. IsUnchanged (state S.Store conn.old) (state S.Store conn.new)
         × (IsTrue all ↔ AreReadableRows profile (rows_named (state S.Store conn.old).now (codes "profile")) × AreReadableRows generation (rows_named (state S.Store conn.old).now (codes "generation")) × AreReadableRows runtime (rows_named (state S.Store conn.old).now (codes "runtime")))) }
     ensures cause { HasCleanDisk (state S.Store conn.new) → IfErr result (FailsToTest (state S.Store conn.old) (state S.Store conn.new) ⊥) }
-    ensures same { HasCleanDisk (state S.Store conn.new) → IsAsBefore (state S.Store conn.old) (state S.Store conn.new) }
+    ensures same { HasCleanDisk (state S.Store conn.new) → KeepsShown (state S.Store conn.old) (state S.Store conn.new) }
     ensures survives { Survives (state S.Store conn.old) (state S.Store conn.new) (λ _. ⊥) }
 {
     let profile = profile(conn)?;
@@ -214,14 +214,14 @@ fn last<S: Alter>(conn: &mut Connection<S>) -> Result<bool, Failure>
 /// Whether each text of our tables is UTF-8. Nothing changes.
 pub(crate) fn all<S: Alter>(conn: &mut Connection<S>) -> Result<bool, Failure>
     requires alone { conn.old.in_transaction ≡ false }
-    requires rests { HasCleanDisk (state S.Store conn.old) → IsAtRest (state S.Store conn.old) }
+    requires settled { HasCleanDisk (state S.Store conn.old) → HasSettledTables (state S.Store conn.old) }
     requires sound { HasCleanDisk (state S.Store conn.old) → IsTrue (state S.Store conn.old).is_open → IsDatabase (state S.Store conn.old).now }
     ensures alone { conn.new.in_transaction ≡ false }
-    ensures rests { HasCleanDisk (state S.Store conn.new) → IsAtRest (state S.Store conn.new) }
-    ensures told { HasCleanDisk (state S.Store conn.new) → IfOk result (λ all. Rests (state S.Store conn.old) (state S.Store conn.new)
+    ensures settled { HasCleanDisk (state S.Store conn.new) → HasSettledTables (state S.Store conn.new) }
+    ensures told { HasCleanDisk (state S.Store conn.new) → IfOk result (λ all. IsUnchanged (state S.Store conn.old) (state S.Store conn.new)
         × (IsTrue all ↔ HasReadableRows (state S.Store conn.old).now)) }
     ensures cause { HasCleanDisk (state S.Store conn.new) → IfErr result (FailsToTest (state S.Store conn.old) (state S.Store conn.new) ⊥) }
-    ensures same { HasCleanDisk (state S.Store conn.new) → IsAsBefore (state S.Store conn.old) (state S.Store conn.new) }
+    ensures same { HasCleanDisk (state S.Store conn.new) → KeepsShown (state S.Store conn.old) (state S.Store conn.new) }
     ensures survives { Survives (state S.Store conn.old) (state S.Store conn.new) (λ _. ⊥) }
 {
     let first = first(conn)?;

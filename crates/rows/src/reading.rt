@@ -10,8 +10,8 @@ ghost use Rattle.sqlite.specs.Values.{bound};
 ghost use Rattle.rows.specs.declared.failure.Failure.TheVariants.{Memory, Disk};
 ghost use Rattle.rows.specs.Entries.{IsAmiss};
 ghost use Rattle.rows.specs.Failures.{IsQueryFailure};
-ghost use Rattle.rows.specs.Calls.{IsAsBefore};
-ghost use Rattle.rows.specs.Queries.{IsRead, Gives, Answers};
+ghost use Rattle.rows.specs.Calls.{KeepsShown};
+ghost use Rattle.rows.specs.Queries.{IsSelect, HasBegunWith, IsAnswered};
 
 use crate::entry::Entry;
 use crate::failure::Failure;
@@ -32,22 +32,21 @@ pub(crate) trait Sink: Sized + Drop {
         ensures refused { IfErr result (λ f. (f ≡ Memory) ⊎ ((f ≡ Disk) × ((rows : List (List Value)) → is_of rows self.old → is_amiss (rows ++ row.now ∷ [])))) };
 }
 
-/// Gives the rows that a query shows to `sink`, one at a time, up to the first that it doesn't take. Nothing changes.
+/// HasBegunWith the rows that a query shows to `sink`, one at a time, up to the first that it doesn't take. Nothing changes.
 pub(crate) fn read_into<S: Alter, T: Sink>(
     conn: &mut Connection<S>,
     text: &str,
     params: &[ValueRef<'_>],
-    sink: T,
+    mut sink: T,
 ) -> Result<T, Failure>
-    requires reads { IsRead text.now }
+    requires reads { IsSelect text.now }
     requires empty { T.is_of [] sink }
     ensures alone { conn.old.in_transaction ≡ false → conn.new.in_transaction ≡ false }
-    ensures shown { HasCleanDisk (state S.Store conn.new) → IfOk result (λ it. (rows : List Values) × Answers text.now (bound params.now) (state S.Store conn.old) (state S.Store conn.new) rows × T.is_of rows it) }
+    ensures shown { HasCleanDisk (state S.Store conn.new) → IfOk result (λ it. (rows : List Values) × IsAnswered text.now (bound params.now) (state S.Store conn.old) (state S.Store conn.new) rows × T.is_of rows it) }
     ensures cause { HasCleanDisk (state S.Store conn.new) → IfErr result (λ f. IsQueryFailure text.now (bound params.now) (state S.Store conn.old) (state S.Store conn.new) f
-        ⊎ ((rows : List Values) × Gives text.now (bound params.now) (state S.Store conn.old) (state S.Store conn.new) rows × ((f ≡ Memory) ⊎ ((f ≡ Disk) × T.is_amiss rows)))) }
+        ⊎ ((rows : List Values) × HasBegunWith text.now (bound params.now) (state S.Store conn.old) (state S.Store conn.new) rows × ((f ≡ Memory) ⊎ ((f ≡ Disk) × T.is_amiss rows)))) }
     ensures survives { Survives (state S.Store conn.old) (state S.Store conn.new) (λ _. ⊥) }
 {
-    let mut sink = sink;
     let mut rows = conn.query(text, params)?;
     'rows: for _ in 0..u64::MAX {
         let Some(row) = rows.next()? else {
@@ -66,13 +65,13 @@ pub(crate) fn select<S: Alter, T: Entry>(
     text: &str,
     params: &[ValueRef<'_>],
 ) -> Result<Vec<T>, Failure>
-    requires { IsRead text.now }
+    requires { IsSelect text.now }
     ensures alone { conn.old.in_transaction ≡ false → conn.new.in_transaction ≡ false }
-    ensures shown { HasCleanDisk (state S.Store conn.new) → IfOk result (λ all. (rows : List Values) × Answers text.now (bound params.now) (state S.Store conn.old) (state S.Store conn.new) rows × AllZip T.is_shown rows all.items) }
+    ensures shown { HasCleanDisk (state S.Store conn.new) → IfOk result (λ all. (rows : List Values) × IsAnswered text.now (bound params.now) (state S.Store conn.old) (state S.Store conn.new) rows × AllZip T.is_shown rows all.items) }
     ensures rises { HasCleanDisk (state S.Store conn.new) → IfOk result (λ all. AllAdjacentBelow (λ x y. true ≡ T.is_below x y) all.items (length all.items)) }
     ensures cause { HasCleanDisk (state S.Store conn.new) → IfErr result (λ f. IsQueryFailure text.now (bound params.now) (state S.Store conn.old) (state S.Store conn.new) f
-        ⊎ ((rows : List Values) × Gives text.now (bound params.now) (state S.Store conn.old) (state S.Store conn.new) rows × ((f ≡ Memory) ⊎ ((f ≡ Disk) × IsAmiss T.is_legible T.is_shown T.is_below rows)))) }
-    ensures same { HasCleanDisk (state S.Store conn.new) → (IsTrue (state S.Store conn.old).is_open → (state S.Store conn.old).now ≡ (state S.Store conn.old).committed) → IsAsBefore (state S.Store conn.old) (state S.Store conn.new) }
+        ⊎ ((rows : List Values) × HasBegunWith text.now (bound params.now) (state S.Store conn.old) (state S.Store conn.new) rows × ((f ≡ Memory) ⊎ ((f ≡ Disk) × IsAmiss T.is_legible T.is_shown T.is_below rows)))) }
+    ensures same { HasCleanDisk (state S.Store conn.new) → (IsTrue (state S.Store conn.old).is_open → (state S.Store conn.old).now ≡ (state S.Store conn.old).committed) → KeepsShown (state S.Store conn.old) (state S.Store conn.new) }
     ensures survives { Survives (state S.Store conn.old) (state S.Store conn.new) (λ _. ⊥) }
 {
     read_into(conn, text, params, Vec::new(alloc))

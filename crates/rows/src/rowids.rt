@@ -10,9 +10,9 @@ ghost use Rattle.sqlite.specs.State.{HasCleanDisk, Survives};
 ghost use Rattle.sqlite.specs.Held.{state};
 ghost use Rattle.sqlite.specs.Values.{IsInt};
 ghost use Rattle.rows.specs.declared.failure.Failure.TheVariants.{Memory, Disk};
-ghost use Rattle.rows.specs.Calls.{IsAsBefore};
+ghost use Rattle.rows.specs.Calls.{KeepsShown};
 ghost use Rattle.rows.specs.Failures.{IsQueryFailure};
-ghost use Rattle.rows.specs.Queries.{IsRead, Gives, Answers};
+ghost use Rattle.rows.specs.Queries.{IsSelect, HasBegunWith, IsAnswered};
 ghost use Rattle.rows.specs.Opened.{ShowIds};
 
 use crate::failure::Failure;
@@ -51,6 +51,7 @@ impl Sink for Rowids {
     }
 }
 
+/// Whether each is above the one before it.
 fn rise(ids: &[i64]) -> bool
     ensures { IsTrue result ↔ AllAdjacentBelow (λ x y. int_cmp x y ≡ Less) ids.now (length ids.now) }
 {
@@ -62,6 +63,7 @@ fn rise(ids: &[i64]) -> bool
     true
 }
 
+/// Whether no two are equal.
 fn differ(mut ids: Vec<i64>) -> Result<bool, Failure>
     ensures differ { IfOk result (λ all. IsTrue all ↔ IsDistinct (eq_by_cmp int_cmp) ids.items) }
     ensures cause { IfErr result (λ f. f ≡ Memory) }
@@ -70,24 +72,24 @@ fn differ(mut ids: Vec<i64>) -> Result<bool, Failure>
     Ok(rise(&ids))
 }
 
-/// Succeeds if the query shows integers that differ, and fails with `Disk` if not.
+/// Succeeds only if the query shows integers that differ; where it doesn't, the answer is `Disk`.
 pub(crate) fn check<S: Alter>(
     alloc: Global,
     conn: &mut Connection<S>,
     text: &str,
 ) -> Result<(), Failure>
-    requires { IsRead text.now }
+    requires { IsSelect text.now }
     ensures alone { conn.old.in_transaction ≡ false → conn.new.in_transaction ≡ false }
-    ensures shown { HasCleanDisk (state S.Store conn.new) → OnOk result ((rows : List Values) × Answers text.now [] (state S.Store conn.old) (state S.Store conn.new) rows × ShowIds rows) }
+    ensures shown { HasCleanDisk (state S.Store conn.new) → OnOk result ((rows : List Values) × IsAnswered text.now [] (state S.Store conn.old) (state S.Store conn.new) rows × ShowIds rows) }
     ensures cause { HasCleanDisk (state S.Store conn.new) → IfErr result (λ f. IsQueryFailure text.now [] (state S.Store conn.old) (state S.Store conn.new) f
-        ⊎ ((rows : List Values) × Gives text.now [] (state S.Store conn.old) (state S.Store conn.new) rows × ((f ≡ Memory) ⊎ ((f ≡ Disk) × ¬ ShowIds rows)))) }
-    ensures same { HasCleanDisk (state S.Store conn.new) → (IsTrue (state S.Store conn.old).is_open → (state S.Store conn.old).now ≡ (state S.Store conn.old).committed) → IsAsBefore (state S.Store conn.old) (state S.Store conn.new) }
+        ⊎ ((rows : List Values) × HasBegunWith text.now [] (state S.Store conn.old) (state S.Store conn.new) rows × ((f ≡ Memory) ⊎ ((f ≡ Disk) × ¬ ShowIds rows)))) }
+    ensures same { HasCleanDisk (state S.Store conn.new) → (IsTrue (state S.Store conn.old).is_open → (state S.Store conn.old).now ≡ (state S.Store conn.old).committed) → KeepsShown (state S.Store conn.old) (state S.Store conn.new) }
     ensures survives { Survives (state S.Store conn.old) (state S.Store conn.new) (λ _. ⊥) }
 {
-    let none = Rowids {
+    let empty = Rowids {
         ids: Vec::new(alloc),
     };
-    let read = read_into(conn, text, &[], none)?;
+    let read = read_into(conn, text, &[], empty)?;
     if differ(read.ids)? {
         Ok(())
     } else {

@@ -70,7 +70,7 @@ fn unless_stopped(error: Error) -> Result<(), Failure>
     }
 }
 
-/// Succeeds if no fault has shut the connection, also where the transaction is undone. Nothing changes.
+/// Succeeds only if no fault has shut the connection, also where the transaction is undone. Nothing changes.
 fn ask<S: Alter>(tx: &mut Transaction<'_, S>) -> Result<(), Failure>
     ensures same_reference { tx.new.conn.ghost_name ≡ tx.old.conn.ghost_name }
     ensures same { HasCleanDisk (state S.Store tx.new.conn.now) → OnOk result (IsUnchanged (state S.Store tx.old.conn.now) (state S.Store tx.new.conn.now)) }

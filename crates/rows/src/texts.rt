@@ -8,9 +8,9 @@ ghost use Rattle.sqlite_value.specs.Order.{Row as Values};
 ghost use Rattle.sqlite.specs.State.{HasCleanDisk, IsUnchanged, Survives};
 ghost use Rattle.sqlite.specs.Held.{state};
 ghost use Rattle.rows.specs.Texts.{IsReadable, IsReadableRow};
-ghost use Rattle.rows.specs.Calls.{IsAsBefore};
+ghost use Rattle.rows.specs.Calls.{KeepsShown};
 ghost use Rattle.rows.specs.Failures.{IsQueryFailure};
-ghost use Rattle.rows.specs.Queries.{IsRead, Answers};
+ghost use Rattle.rows.specs.Queries.{IsSelect, IsAnswered};
 ghost use Rattle.rows.specs.declared.failure.Failure.TheVariants.{Memory};
 
 use crate::failure::Failure;
@@ -59,13 +59,13 @@ impl Sink for Texts {
 
 /// Whether each text that the query shows is UTF-8.
 pub(crate) fn check<S: Alter>(conn: &mut Connection<S>, text: &str) -> Result<bool, Failure>
-    requires { IsRead text.now }
+    requires { IsSelect text.now }
     ensures alone { conn.old.in_transaction ≡ false → conn.new.in_transaction ≡ false }
-    ensures shown { HasCleanDisk (state S.Store conn.new) → IfOk result (λ all. (rows : List Values) × Answers text.now [] (state S.Store conn.old) (state S.Store conn.new) rows
+    ensures shown { HasCleanDisk (state S.Store conn.new) → IfOk result (λ all. (rows : List Values) × IsAnswered text.now [] (state S.Store conn.old) (state S.Store conn.new) rows
         × (IsTrue all ↔ AllByRecursion IsReadableRow rows)) }
     ensures cause { HasCleanDisk (state S.Store conn.new) → IfErr result (λ f. IsQueryFailure text.now [] (state S.Store conn.old) (state S.Store conn.new) f
         ⊎ ((f ≡ Memory) × IsUnchanged (state S.Store conn.old) (state S.Store conn.new))) }
-    ensures same { HasCleanDisk (state S.Store conn.new) → (IsTrue (state S.Store conn.old).is_open → (state S.Store conn.old).now ≡ (state S.Store conn.old).committed) → IsAsBefore (state S.Store conn.old) (state S.Store conn.new) }
+    ensures same { HasCleanDisk (state S.Store conn.new) → (IsTrue (state S.Store conn.old).is_open → (state S.Store conn.old).now ≡ (state S.Store conn.old).committed) → KeepsShown (state S.Store conn.old) (state S.Store conn.new) }
     ensures survives { Survives (state S.Store conn.old) (state S.Store conn.new) (λ _. ⊥) }
 {
     let read = read_into(conn, text, &[], Texts { are_readable: true })?;

@@ -5,7 +5,7 @@ ghost use Rattle.sqlite.specs.State.{HasCleanDisk, IsRolledBack, Survives};
 ghost use Rattle.sqlite.specs.Held.{state};
 ghost use Rattle.rows.specs.Contents.{contents_of};
 ghost use Rattle.rows.specs.Failures.{FailsToCommit};
-ghost use Rattle.rows.specs.Calls.{IsUnderWay, IsReady, IsCommitted, Leaves};
+ghost use Rattle.rows.specs.Calls.{IsUnderWay, IsReady, IsCommitted, IsDurable, Leaves};
 
 use crate::failure::Failure;
 use sqlite::{Alter, Connection, Transaction};
@@ -29,6 +29,7 @@ pub fn commit<S: Alter>(tx: Transaction<'_, S>) -> Result<(), Failure>
     ensures cause { HasCleanDisk (state S.Store tx.exit.0.now) → IfErr result (FailsToCommit (state S.Store tx.entry.conn.now) (state S.Store tx.exit.0.now)) }
     ensures failed { HasCleanDisk (state S.Store tx.exit.0.now) → OnErr result (IsRolledBack (state S.Store tx.entry.conn.now) (state S.Store tx.exit.0.now)) }
     ensures survives { Survives (state S.Store tx.entry.conn.now) (state S.Store tx.exit.0.now) (λ db. db ≡ (state S.Store tx.entry.conn.now).now.trees) }
+    ensures durable { IsTrue (state S.Store tx.exit.0.now).is_open → IsDurable (state S.Store tx.exit.0.now) }
     ensures leaves { Survives (state S.Store tx.entry.conn.now) (state S.Store tx.exit.0.now) (λ db. Leaves (state S.Store tx.entry.conn.now).now db (contents_of (state S.Store tx.entry.conn.now).now)) }
 {
     tx.commit()?;

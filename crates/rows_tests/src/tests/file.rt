@@ -39,6 +39,22 @@ fn told_beside(rt: &HostRuntime, path: &str) -> Result<Option<Finding>, Fail> {
     Ok(found)
 }
 
+/// Whether files are left where `sqlite` didn't open one.
+fn leaves_files(rt: &HostRuntime, path: &str) -> Option<bool> {
+    match file::open(rt, path, Unknown) {
+        Ok(Opened { conn: _, found: _ }) => None,
+        Err(Unopened::Refused { failure: _, left }) => Some(left.is_some()),
+        Err(
+            Unopened::Untold(
+                Untold {
+                    conn: _,
+                    failure: _,
+                },
+            ),
+        ) => None,
+    }
+}
+
 #[test]
 fn a_new_file_and_ours(rt: HostRuntime) -> Result<(), Fail> {
     let _ = fs::remove_dir_all(&rt, "rows_file");
@@ -70,6 +86,8 @@ fn what_is_not_opened(rt: HostRuntime) -> Result<(), Fail> {
     assert_eq!(rt; told(&rt, "rows_no_file"), Ok(None));
     assert_eq!(rt; told(&rt, "rows_no_file/none/a.db"), Ok(None));
     assert_eq!(rt; told(&rt, ":memory:"), Ok(None));
+    assert_eq!(rt; leaves_files(&rt, path), Some(true));
+    assert_eq!(rt; leaves_files(&rt, ":memory:"), Some(false));
     assert_eq!(rt; told_beside(&rt, "rows_no_file/a.db")?, None);
     fs::remove_dir_all(&rt, "rows_no_file")?;
     Ok(())

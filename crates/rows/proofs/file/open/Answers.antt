@@ -11,9 +11,9 @@ returns-in-Ok-take_up-clause-opened g c =
     (c.in-Ok.conn, record { opened = record { fresh = here.fresh; opened = here.opened; found = here.found; sums = here.sums; guarded = here.guarded }; alone = now.alone; same = now.same; survives = now.survives })
 
 pub returns-in-Ok-take_up-clause-held : goal.returns-in-Ok-take_up-clause-held
-returns-in-Ok-take_up-clause-held g c clean is_open =
+returns-in-Ok-take_up-clause-held g c clean =
     let now = c.in-Ok-take_up.ensures in
-    held_still (image_at g.S.Start) (file_state c.in-Ok.conn) (file_state c.in-Ok-take_up.opened.conn) ((now.same clean).committed is_open) (c.in-Ok.ensures.found (omega (arith, now.survives.clean)))
+    held_still (image_at g.S.Start) (file_state c.in-Ok.conn) (file_state c.in-Ok-take_up.opened.conn) (now.unchanged clean).0.committed_is (c.in-Ok.ensures.found (omega (arith, now.survives.clean)))
 
 pub returns-in-Ok-take_up-clause-guarded : goal.returns-in-Ok-take_up-clause-guarded
 returns-in-Ok-take_up-clause-guarded g c clean =
@@ -29,4 +29,4 @@ returns-in-Err-take_up-clause-cause g c =
 pub returns-in-Err-clause-cause : goal.returns-in-Err-clause-cause
 returns-in-Err-clause-cause g c =
     let here = c.in-Err.ensures in
-    (c.in-Err.error, c.failure-failure.ensures, refuses c.in-Err.error c.in-Err.left here.named here.unopened here.cause)
+    (c.in-Err.error, c.opening_failure.ensures, refuses c.in-Err.error c.in-Err.left here.named here.unopened here.cause)

@@ -3,7 +3,7 @@ use Rattle.sqlite.specs.State.{HasCleanDisk}
 use Rattle.sqlite.specs.Held.{state}
 use Rattle.rows.specs.Forms.{meta}
 use Rattle.rows.proofs.Scans.{on_ok, err_with}
-use Rattle.rows.proofs.OpeningFailures.{rests_after}
+use Rattle.rows.proofs.OpeningFailures.{settled_after}
 use Rattle.rows.proofs.OwnRowids.{keyed_if}
 use Rattle.rows.proofs.RowidTexts.{by_one, meta_text, meta_read, meta_is}
 use Rattle.rows.proofs.RowidFailures.{meta_fails}
@@ -12,19 +12,19 @@ use Rattle.rows.proofs.keyed.meta.Goals as goal
 pub check-requires : goal.check-requires
 check-requires g c = meta_read
 
-pub returns-clause-rests : goal.returns-clause-rests
-returns-clause-rests g c clean =
+pub returns-clause-settled : goal.returns-clause-settled
+returns-clause-settled g c clean =
     let early : HasCleanDisk (state g.S.Store c.args.conn.now) = omega (arith, c.check.ensures.survives.clean) in
-    rests_after _ _ (c.requires.rests early) (c.check.ensures.same clean (c.requires.rests early).settled)
+    settled_after _ _ (c.requires.settled early) (c.check.ensures.same clean (c.requires.settled early).settled)
 
 pub returns-clause-keyed : goal.returns-clause-keyed
 returns-clause-keyed g c clean =
     let old = state g.S.Store c.args.conn.now in
     let early : HasCleanDisk old = omega (arith, c.check.ensures.survives.clean) in
-    on_ok c.check.result _ _ (λ shown. let has = (c.requires.rests early).has shown.1.1.1.0.was_open in keyed_if meta.name meta.columns meta.primary meta_text by_one old (state g.S.Store c.check.new.conn) has.0 meta_is shown) (c.check.ensures.shown clean)
+    on_ok c.check.result _ _ (λ shown. let has = (c.requires.settled early).has shown.1.1.1.0.was_open in keyed_if meta.name meta.columns meta.primary meta_text by_one old (state g.S.Store c.check.new.conn) has.0 meta_is shown) (c.check.ensures.shown clean)
 
 pub returns-clause-cause : goal.returns-clause-cause
 returns-clause-cause g c clean =
     let old = state g.S.Store c.args.conn.now in
     let early : HasCleanDisk old = omega (arith, c.check.ensures.survives.clean) in
-    err_with c.check.result _ _ (meta_fails old (state g.S.Store c.check.new.conn) (c.requires.rests early)) (c.check.ensures.cause clean)
+    err_with c.check.result _ _ (meta_fails old (state g.S.Store c.check.new.conn) (c.requires.settled early)) (c.check.ensures.cause clean)

@@ -29,3 +29,6 @@ returns-clause-survives g c =
         | inr made ↦ inr (leaves_made c.args.store_dir.now old.now db (c.schema-listed.ensures.live made.0).0 (c.requires.none early made.0) (subst IsUtf8 c.as_bytes-text.ensures.value c.as_bytes-text.ensures.utf8) made.1)
       ];
     }
+
+pub returns-clause-durable : goal.returns-clause-durable
+returns-clause-durable g c is_open db may = g.met.S.Store.settled c.make_and_commit.new.conn.store db is_open may

@@ -1,7 +1,7 @@
 use Rattle.std.proofs.Common.{arith}
 use Rattle.sqlite.specs.State.{HasCleanDisk}
 use Rattle.sqlite.specs.Held.{state}
-use Rattle.rows.proofs.Under.{ready_rests}
+use Rattle.rows.proofs.Under.{ready_settled}
 use Rattle.rows.proofs.Steps.{ready_after}
 use Rattle.rows.proofs.Rising.{select_fails}
 use Rattle.rows.proofs.InOrder.{objects_of}
@@ -21,7 +21,7 @@ returns-clause-cause g c clean =
     let new = state g.S.Store c.select.new.conn in
     let early : HasCleanDisk old = omega (arith, c.select.ensures.survives.clean) in
     let ready = c.requires.ready early in
-    select_fails c.select.result old new _ _ _ (fails_of old new c.args.base.now (ready_rests old ready)) (objects_of old new ready _) (rw c.params-to_sql.ensures at (c.select.ensures.cause clean))
+    select_fails c.select.result old new _ _ _ (fails_of old new c.args.base.now (ready_settled old ready)) (objects_of old new ready _) (rw c.params-to_sql.ensures at (c.select.ensures.cause clean))
 
 pub select-requires : goal.select-requires
 select-requires g c = of_read

@@ -21,8 +21,8 @@ returns-in_err-query_all-clause-same g c clean =
 pub returns-in_err-query_all-clause-survives : goal.returns-in_err-query_all-clause-survives
 returns-in_err-query_all-clause-survives g c = commits_nothing text [] reads _ _ c.query_all.ensures.survives
 
-pub returns-clause-open : goal.returns-clause-open
-returns-clause-open g c clean = (ask_same _ _ _ (c.in_ok-query_all.ensures.ok clean)).0.was_open
+pub returns-clause-unchanged : goal.returns-clause-unchanged
+returns-clause-unchanged g c clean = ask_same _ _ _ (c.in_ok-query_all.ensures.ok clean)
 
 pub returns-clause-same : goal.returns-clause-same
 returns-clause-same g c clean = unchanged_before _ _ (ask_same _ _ _ (c.in_ok-query_all.ensures.ok clean))

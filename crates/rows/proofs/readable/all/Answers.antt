@@ -2,17 +2,17 @@ use Rattle.std.proofs.Common.{arith}
 use Rattle.sqlite.specs.State.{HasCleanDisk}
 use Rattle.sqlite.specs.Held.{state}
 use Rattle.rows.proofs.ReadableRows.{all_nine}
-use Rattle.rows.proofs.OpeningFailures.{passed_on, passes_then, fails_after, as_before_then, survives_both}
+use Rattle.rows.proofs.OpeningFailures.{passed_on, passes_then, fails_after, both_keep, survives_both}
 use Rattle.rows.proofs.readable.all.Goals as goal
 
 pub returns-in_err-last-clause-same : goal.returns-in_err-last-clause-same
-returns-in_err-last-clause-same g c = as_before_then _ _ _ (as_before_then _ _ _ c.first.ensures.same c.next.ensures.same c.next.ensures.survives) c.last.ensures.same c.last.ensures.survives
+returns-in_err-last-clause-same g c = both_keep _ _ _ (both_keep _ _ _ c.first.ensures.same c.next.ensures.same c.next.ensures.survives) c.last.ensures.same c.last.ensures.survives
 
 pub returns-in_err-last-clause-survives : goal.returns-in_err-last-clause-survives
 returns-in_err-last-clause-survives g c = survives_both _ _ _ c.first.ensures.survives (survives_both _ _ _ c.next.ensures.survives c.last.ensures.survives)
 
 pub returns-clause-same : goal.returns-clause-same
-returns-clause-same g c = as_before_then _ _ _ (as_before_then _ _ _ c.first.ensures.same c.next.ensures.same c.next.ensures.survives) c.last.ensures.same c.last.ensures.survives
+returns-clause-same g c = both_keep _ _ _ (both_keep _ _ _ c.first.ensures.same c.next.ensures.same c.next.ensures.survives) c.last.ensures.same c.last.ensures.survives
 
 pub returns-clause-survives : goal.returns-clause-survives
 returns-clause-survives g c = survives_both _ _ _ c.first.ensures.survives (survives_both _ _ _ c.next.ensures.survives c.last.ensures.survives)

@@ -6,17 +6,17 @@ use Rattle.rows.specs.Contents.{rows_named}
 use Rattle.rows.specs.Forms.{profile, generation, runtime}
 use Rattle.rows.specs.Texts.{AreReadableRows}
 use Rattle.rows.proofs.ReadableRows.{all_three}
-use Rattle.rows.proofs.OpeningFailures.{passed_on, passes_then, fails_after, as_before_then, survives_both}
+use Rattle.rows.proofs.OpeningFailures.{passed_on, passes_then, fails_after, both_keep, survives_both}
 use Rattle.rows.proofs.readable.last.Goals as goal
 
 pub returns-in_err-runtime-clause-same : goal.returns-in_err-runtime-clause-same
-returns-in_err-runtime-clause-same g c = as_before_then _ _ _ (as_before_then _ _ _ c.profile.ensures.same c.generation.ensures.same c.generation.ensures.survives) c.runtime.ensures.same c.runtime.ensures.survives
+returns-in_err-runtime-clause-same g c = both_keep _ _ _ (both_keep _ _ _ c.profile.ensures.same c.generation.ensures.same c.generation.ensures.survives) c.runtime.ensures.same c.runtime.ensures.survives
 
 pub returns-in_err-runtime-clause-survives : goal.returns-in_err-runtime-clause-survives
 returns-in_err-runtime-clause-survives g c = survives_both _ _ _ c.profile.ensures.survives (survives_both _ _ _ c.generation.ensures.survives c.runtime.ensures.survives)
 
 pub returns-clause-same : goal.returns-clause-same
-returns-clause-same g c = as_before_then _ _ _ (as_before_then _ _ _ c.profile.ensures.same c.generation.ensures.same c.generation.ensures.survives) c.runtime.ensures.same c.runtime.ensures.survives
+returns-clause-same g c = both_keep _ _ _ (both_keep _ _ _ c.profile.ensures.same c.generation.ensures.same c.generation.ensures.survives) c.runtime.ensures.same c.runtime.ensures.survives
 
 pub returns-clause-survives : goal.returns-clause-survives
 returns-clause-survives g c = survives_both _ _ _ c.profile.ensures.survives (survives_both _ _ _ c.generation.ensures.survives c.runtime.ensures.survives)

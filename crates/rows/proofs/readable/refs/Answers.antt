@@ -2,7 +2,7 @@ use Rattle.std.proofs.Common.{arith}
 use Rattle.sqlite.specs.State.{HasCleanDisk}
 use Rattle.sqlite.specs.Held.{state}
 use Rattle.rows.proofs.Scans.{err_with}
-use Rattle.rows.proofs.OpeningFailures.{rests_after, texts_fail}
+use Rattle.rows.proofs.OpeningFailures.{settled_after, texts_fail}
 use Rattle.rows.proofs.ReadableRows.{if_ok}
 use Rattle.rows.proofs.ReferenceLemmas.{all_read, fails_all}
 use Rattle.rows.proofs.ReadableTexts.{refs_told}
@@ -11,20 +11,20 @@ use Rattle.rows.proofs.readable.refs.Goals as goal
 pub check-requires : goal.check-requires
 check-requires g c = all_read
 
-pub returns-clause-rests : goal.returns-clause-rests
-returns-clause-rests g c clean =
+pub returns-clause-settled : goal.returns-clause-settled
+returns-clause-settled g c clean =
     let early : HasCleanDisk (state g.S.Store c.args.conn.now) = omega (arith, c.check.ensures.survives.clean) in
-    rests_after _ _ (c.requires.rests early) (c.check.ensures.same clean (c.requires.rests early).settled)
+    settled_after _ _ (c.requires.settled early) (c.check.ensures.same clean (c.requires.settled early).settled)
 
 pub returns-clause-told : goal.returns-clause-told
 returns-clause-told g c clean =
     let old = state g.S.Store c.args.conn.now in
     let early : HasCleanDisk old = omega (arith, c.check.ensures.survives.clean) in
-    if_ok c.check.result _ _ (λ b h. refs_told old (state g.S.Store c.check.new.conn) ((c.requires.rests early).has h.1.1.1.0.was_open).1.1.0 b h) (c.check.ensures.shown clean)
+    if_ok c.check.result _ _ (λ b h. refs_told old (state g.S.Store c.check.new.conn) ((c.requires.settled early).has h.1.1.1.0.was_open).1.1.0 b h) (c.check.ensures.shown clean)
 
 pub returns-clause-cause : goal.returns-clause-cause
 returns-clause-cause g c clean =
     let old = state g.S.Store c.args.conn.now in
     let new = state g.S.Store c.check.new.conn in
     let early : HasCleanDisk old = omega (arith, c.check.ensures.survives.clean) in
-    err_with c.check.result _ _ (texts_fail old new _ (fails_all old new (c.requires.rests early))) (c.check.ensures.cause clean)
+    err_with c.check.result _ _ (texts_fail old new _ (fails_all old new (c.requires.settled early))) (c.check.ensures.cause clean)

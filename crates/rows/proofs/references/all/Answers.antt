@@ -1,7 +1,7 @@
 use Rattle.std.proofs.Common.{arith}
 use Rattle.sqlite.specs.State.{HasCleanDisk}
 use Rattle.sqlite.specs.Held.{state}
-use Rattle.rows.proofs.Under.{ready_rests}
+use Rattle.rows.proofs.Under.{ready_settled}
 use Rattle.rows.proofs.Steps.{ready_after}
 use Rattle.rows.proofs.Rising.{select_fails}
 use Rattle.rows.proofs.InOrder.{references_all}
@@ -21,7 +21,7 @@ returns-clause-cause g c clean =
     let new = state g.S.Store c.select.new.conn in
     let early : HasCleanDisk old = omega (arith, c.select.ensures.survives.clean) in
     let ready = c.requires.ready early in
-    select_fails c.select.result old new _ _ _ (fails_all old new (ready_rests old ready)) (references_all old new ready _) (c.select.ensures.cause clean)
+    select_fails c.select.result old new _ _ _ (fails_all old new (ready_settled old ready)) (references_all old new ready _) (c.select.ensures.cause clean)
 
 pub select-requires : goal.select-requires
 select-requires g c = all_read
