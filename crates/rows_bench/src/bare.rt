@@ -74,9 +74,13 @@ fn references_in<S: Alter>(
     if !conn.is_autocommit() {
         return Err(Fault::Tables);
     }
-    let mut tx = conn.transaction();
     let start = Instant::now(rt)?;
-    let _all = tx.query_all("SELECT base, target FROM refs ORDER BY base, target", &[])?;
+    let mut rows = conn.query("SELECT base, target FROM refs ORDER BY base, target", &[])?;
+    'rows: for _ in 0..u64::MAX {
+        if rows.next()?.is_none() {
+            break 'rows;
+        }
+    }
     watch::told(rt, start)
 }
 
@@ -117,13 +121,9 @@ pub fn delete<S: Alter>(
     watch::told(rt, start)
 }
 
-fn archive<S: Alter>(
-    alloc: Global,
-    tx: &mut Transaction<'_, S>,
-    number: u32,
-) -> Result<usize, Fault> {
+fn archive<S: Alter>(alloc: Global, conn: &mut Connection<S>, number: u32) -> Result<usize, Fault> {
     let name = base(alloc, number)?;
-    let row = tx.query_row(
+    let row = conn.query_row(
         "SELECT base, nar, hash, deriver, ca FROM object WHERE base = ?1 ORDER BY base",
         params![name.as_str()],
     )?;
@@ -143,9 +143,8 @@ fn archives_in<S: Alter>(
     }
     let mut bytes = 0usize;
     let start = Instant::now(rt)?;
-    let mut tx = conn.transaction();
     for number in 0..count {
-        bytes = bytes.saturating_add(archive(rt.alloc(), &mut tx, number)?);
+        bytes = bytes.saturating_add(archive(rt.alloc(), conn, number)?);
     }
     watch::told(rt, start)?;
     println!(rt; "{bytes} bytes")?;
