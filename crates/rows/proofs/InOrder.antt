@@ -78,10 +78,16 @@ module _ (old new : State) (ready : IsTrue old.is_open → IsReady old) (params 
   abbrev pub AmissSettings : Type 0
   AmissSettings = IsAmiss IsPairRow ShowsSetting (λ x y. is_lt (texts_cmp (setting_of x).0 (setting_of y).0)) rows
 
-  pub settings_all : HasBegunWith settings.all_text params old new rows → ¬ AmissSettings
-  settings_all =
-      shown_well meta.name meta.columns meta.primary texts_antisymmetric is_pair (λ r. bytes (column r 1)) 2 old new ready (λ has. has.0) (meta_kept old.now) settings.all_text params settings.names (settings.query []) (settings.scan []) settings.all_is (λ tree a b h k. by_text a b (and_so _ _ h).0 (and_so _ _ k).0)
+  settings_read : (filter : List Term) (text : List ℕ) {count : ℕ} → Compiles meta.name meta.columns meta.primary text count (λ at tree. Select (record { lets = []; body = settings.query filter tree }) settings.names) → HasBegunWith text params old new rows → ¬ AmissSettings
+  settings_read filter text is =
+      shown_well meta.name meta.columns meta.primary texts_antisymmetric is_pair (λ r. bytes (column r 1)) 2 old new ready (λ has. has.0) (meta_kept old.now) text params settings.names (settings.query filter) (settings.scan filter) is (λ tree a b h k. by_text a b (and_so _ _ h).0 (and_so _ _ k).0)
       ShowsSetting (λ e. (setting_of e).0) (λ tree r t h i. bytes (h.0 i)) IsPairRow (λ tree. pair_row) rows
+
+  pub settings_all : HasBegunWith settings.all_text params old new rows → ¬ AmissSettings
+  settings_all = settings_read [] settings.all_text settings.all_is
+
+  pub settings_of : HasBegunWith settings.of_text params old new rows → ¬ AmissSettings
+  settings_of = settings_read settings.of_one settings.of_text settings.of_is
 
   abbrev pub AmissObjects : Type 0
   AmissObjects = IsAmiss IsObjectRow ShowsObject (λ x y. is_lt (texts_cmp (stored_of x).0 (stored_of y).0)) rows
@@ -200,7 +206,13 @@ module _ (old new : State) (ready : IsTrue old.is_open → IsReady old) (params 
   abbrev pub AmissRuntimeRoots : Type 0
   AmissRuntimeRoots = IsAmiss IsPairRow ShowsRuntimeRoot (λ x y. is_lt (pair_cmp (runtime_of x).0 (runtime_of y).0)) rows
 
-  pub runtime_roots_all : HasBegunWith runtime_roots.all_text params old new rows → ¬ AmissRuntimeRoots
-  runtime_roots_all =
-      shown_well runtime.name runtime.columns runtime.primary pair_antisymmetric is_pair pair_of 2 old new ready (λ has. has.1.1.1.1.1.1.1.1.0) (runtime_kept old.now) runtime_roots.all_text params runtime_roots.names (runtime_roots.query []) (runtime_roots.scan []) runtime_roots.all_is (λ tree. by_pair)
+  runtime_read : (filter : List Term) (text : List ℕ) {count : ℕ} → Compiles runtime.name runtime.columns runtime.primary text count (λ at tree. Select (record { lets = []; body = runtime_roots.query filter tree }) runtime_roots.names) → HasBegunWith text params old new rows → ¬ AmissRuntimeRoots
+  runtime_read filter text is =
+      shown_well runtime.name runtime.columns runtime.primary pair_antisymmetric is_pair pair_of 2 old new ready (λ has. has.1.1.1.1.1.1.1.1.0) (runtime_kept old.now) text params runtime_roots.names (runtime_roots.query filter) (runtime_roots.scan filter) is (λ tree. by_pair)
       ShowsRuntimeRoot (λ e. (runtime_of e).0) (λ tree r t h i. (bytes (h.0 i), bytes (h.1 i))) IsPairRow (λ tree. pair_row) rows
+
+  pub runtime_roots_all : HasBegunWith runtime_roots.all_text params old new rows → ¬ AmissRuntimeRoots
+  runtime_roots_all = runtime_read [] runtime_roots.all_text runtime_roots.all_is
+
+  pub runtime_roots_of : HasBegunWith runtime_roots.of_text params old new rows → ¬ AmissRuntimeRoots
+  runtime_roots_of = runtime_read runtime_roots.of_one runtime_roots.of_text runtime_roots.of_is

@@ -38,7 +38,7 @@ use Rattle.rows.specs.Entries.{runtime_of, ShowsRuntimeRoot}
 use Rattle.rows.proofs.Orders.{pair_total, pair_antisymmetric}
 use Rattle.rows.proofs.Truths.{cast_null, free_of, and_so, and_one, text_test}
 use Rattle.rows.proofs.Means.{IsMeant, insert_means, delete_means, ordered_by_two, means_command, plain_state, shown_column}
-use Rattle.rows.proofs.Conditions.{where_one, equals, filter_in}
+use Rattle.rows.proofs.Conditions.{where_one, equals, filter_in, select_context}
 use Rattle.rows.proofs.Columns.{bounds_are, outputs_two, result_context, from_in, shown_in}
 use Rattle.rows.proofs.Writes.{SetsRows, inserts_in, rowids_where}
 use Rattle.rows.proofs.Scans.{IsScan, shows}
@@ -175,6 +175,34 @@ reads_all old new r ready selects up =
     whole_map pair_total pair_antisymmetric runtime_of r (IsUnchanged old new) (contents_of old.now).runtime
     (reads_part runtime.name runtime.columns runtime.primary pair_total pair_antisymmetric is_pair member_of old new (λ has. has.1.1.1.1.1.1.1.1.0) ready all_text [] names (query []) (λ tree. record { from = refl; group = refl; distinct = refl; whole = λ params rows. refl }) (λ _. true) (λ tree r kind. refl) ShowsRuntimeRoot runtime_of (fits [] []) all_is r selects up)
 
+abbrev pub of_text : List ℕ
+of_text = codes "SELECT label, target FROM runtime WHERE label = ?1 ORDER BY label, target"
+
+of_typed : (s : Schema) (at tree : ℕ) → IsKnown s (codes "runtime") at (record runtime { tree = tree }) → program s [] (draft of_one tree) ≡ Ok (whole of_one tree)
+unfolding everything
+of_typed s at tree known = rw (known.low, known.by_tree)
+
+pub of_is : Compiles runtime.name runtime.columns runtime.primary of_text 1 (λ at tree. Select (whole of_one tree) names)
+unfolding everything
+of_is s at tree known =
+    let there = known.named.1 in (
+      _,
+      ordered_by_two of_text refl refl refl s (codes "runtime") at (record runtime { tree = tree }) outputs of_one (codes "label") (codes "target") 0 1 (col 1 1) (col 1 2) None (Some Binary) (Some Binary) (lit (Int (negsuc 0)), lit (Int (pos 0)))
+          (plain_state 100000 None) (plain_state 99998 (Some Binary)) 99995 (whole of_one tree)
+          known.named refl refl refl refl refl refl refl refl refl refl (bounds_are s (from_in of_text) refl (codes "runtime") at refl refl refl known.named.0) (outputs_two (result_context s (codes "runtime") at) (record { name = codes "runtime"; table = at; slot = 1; shared = [] } ∷ []) (shown_in of_text) refl refl refl at (codes "label") (codes "target") (record { names = refl; found = rw there; term = rw there; heading = rw there }) (record { names = refl; found = rw there; term = rw there; heading = rw there }) None max_budget (refl, (refl, tt))) (where_one (select_context s (codes "runtime") at outputs) (filter_in of_text) refl refl (codes "label") at 0 1 (col 1 1) (equals (col 1 1) (col 0 0)) (Some Binary) 99998 (record { left_is = refl; right_is = refl; found = rw there; column = rw there; compare = rw there }) refl refl refl)
+          (refl, refl, refl, refl) (refl, refl, refl, refl) refl refl refl refl (rw there) (rw there) (rw there) (rw there) refl refl (of_typed s at tree known),
+      refl,
+      refl,
+      refl,
+      refl,
+      refl,
+    )
+
+pub reads_of : (old new : State) (label : List ℕ) (r : Result (Vec RuntimeRoot Global) Failure) → (IsTrue old.is_open → IsReady old) → Selects ShowsRuntimeRoot old new of_text (Text label ∷ []) r → IfOk r (λ all. AllAdjacentBelow (λ x y. true ≡ is_lt (pair_cmp (runtime_of x).0 (runtime_of y).0)) all.items (length all.items))
+    → IfOk r (λ all. IsUnchanged old new × (map runtime_of all.items ≡ finite.entries (finite.retain_keys (contents_of old.now).runtime (λ k. eq_by_cmp texts_cmp k.0 label))))
+reads_of old new label r ready selects up =
+    reads_part runtime.name runtime.columns runtime.primary pair_total pair_antisymmetric is_pair member_of old new (λ has. has.1.1.1.1.1.1.1.1.0) ready of_text (Text label ∷ []) names (query of_one) (λ tree. record { from = refl; group = refl; distinct = refl; whole = λ params rows. refl }) (λ k. eq_by_cmp texts_cmp k.0 label) (λ tree. said_one label) ShowsRuntimeRoot runtime_of (fits (Text label ∷ []) of_one) of_is r selects up
+
 -- ---- why a read fails
 
 pub scan : (filter : List Term) (tree : ℕ) → IsScan (query filter tree) tree
@@ -187,3 +215,11 @@ all_read = (_, _, _, _, _, refl)
 pub fails_all : (old new : State) → HasSettledTables old → (e : Error) → FailsToQuery all_text [] old new e → FailsWith old new ⊥ (IsSome old.step_limit) (failure_of e)
 unfolding everything
 fails_all old new rests = read_fails runtime.name runtime.columns runtime.primary old new rests (λ has. has.1.1.1.1.1.1.1.1.0) all_text [] names (query []) (scan []) all_is all_read (λ s at tree known. rw (known.low, known.by_tree) refl)
+
+pub of_read : IsSelect of_text
+unfolding everything
+of_read = (_, _, _, _, _, refl)
+
+pub fails_of : (old new : State) (label : List ℕ) → HasSettledTables old → (e : Error) → FailsToQuery of_text (Text label ∷ []) old new e → FailsWith old new ⊥ (IsSome old.step_limit) (failure_of e)
+unfolding everything
+fails_of old new label rests = read_fails runtime.name runtime.columns runtime.primary old new rests (λ has. has.1.1.1.1.1.1.1.1.0) of_text (Text label ∷ []) names (query of_one) (scan of_one) of_is of_read (λ s at tree known. rw (known.low, known.by_tree) refl)

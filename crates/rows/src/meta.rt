@@ -59,6 +59,30 @@ pub fn all<S: Alter>(alloc: Global, conn: &mut Connection<S>) -> Result<Vec<Sett
     reading::select(alloc, conn, "SELECT word, val FROM meta ORDER BY word", &[])
 }
 
+/// The setting of this word, if there is one.
+pub fn of<S: Alter>(
+    alloc: Global,
+    conn: &mut Connection<S>,
+    word: &str,
+) -> Result<Vec<Setting>, Failure>
+    requires alone { conn.old.in_transaction ≡ false }
+    requires ready { HasCleanDisk (state S.Store conn.old) → IsTrue (state S.Store conn.old).is_open → IsReady (state S.Store conn.old) }
+    ensures alone { conn.new.in_transaction ≡ false }
+    ensures reads { HasCleanDisk (state S.Store conn.new) → IfOk result (λ all. IsUnchanged (state S.Store conn.old) (state S.Store conn.new)
+        × (map setting_of all.items ≡ finite.entries (finite.retain_keys (contents_of (state S.Store conn.old).now).meta (λ k. eq_by_cmp texts_cmp k word.now)))) }
+    ensures cause { HasCleanDisk (state S.Store conn.new) → IfErr result (FailsFor (state S.Store conn.old) (state S.Store conn.new)) }
+    ensures same { HasCleanDisk (state S.Store conn.new) → KeepsShown (state S.Store conn.old) (state S.Store conn.new) }
+    ensures ready { HasCleanDisk (state S.Store conn.new) → IsTrue (state S.Store conn.new).is_open → IsReady (state S.Store conn.new) }
+    ensures survives { Survives (state S.Store conn.old) (state S.Store conn.new) (λ _. ⊥) }
+{
+    reading::select(
+        alloc,
+        conn,
+        "SELECT word, val FROM meta WHERE word = ?1 ORDER BY word",
+        params![word],
+    )
+}
+
 /// Adds one setting, under a key that is new.
 pub fn insert<S: Alter>(tx: &mut Transaction<'_, S>, word: &str, value: &str) -> Result<(), Failure>
     requires under_way { HasCleanDisk (state S.Store tx.old.conn.now) → IsUnderWay (state S.Store tx.old.conn.now) }

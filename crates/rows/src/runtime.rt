@@ -69,6 +69,30 @@ pub fn all<S: Alter>(alloc: Global, conn: &mut Connection<S>) -> Result<Vec<Runt
     )
 }
 
+/// The runtime roots of this label, in order.
+pub fn of<S: Alter>(
+    alloc: Global,
+    conn: &mut Connection<S>,
+    label: &str,
+) -> Result<Vec<RuntimeRoot>, Failure>
+    requires alone { conn.old.in_transaction ≡ false }
+    requires ready { HasCleanDisk (state S.Store conn.old) → IsTrue (state S.Store conn.old).is_open → IsReady (state S.Store conn.old) }
+    ensures alone { conn.new.in_transaction ≡ false }
+    ensures reads { HasCleanDisk (state S.Store conn.new) → IfOk result (λ all. IsUnchanged (state S.Store conn.old) (state S.Store conn.new)
+        × (map runtime_of all.items ≡ finite.entries (finite.retain_keys (contents_of (state S.Store conn.old).now).runtime (λ k. eq_by_cmp texts_cmp k.0 label.now)))) }
+    ensures cause { HasCleanDisk (state S.Store conn.new) → IfErr result (FailsFor (state S.Store conn.old) (state S.Store conn.new)) }
+    ensures same { HasCleanDisk (state S.Store conn.new) → KeepsShown (state S.Store conn.old) (state S.Store conn.new) }
+    ensures ready { HasCleanDisk (state S.Store conn.new) → IsTrue (state S.Store conn.new).is_open → IsReady (state S.Store conn.new) }
+    ensures survives { Survives (state S.Store conn.old) (state S.Store conn.new) (λ _. ⊥) }
+{
+    reading::select(
+        alloc,
+        conn,
+        "SELECT label, target FROM runtime WHERE label = ?1 ORDER BY label, target",
+        params![label],
+    )
+}
+
 /// Adds one runtime root. If it is there already, the answer is `Disk` and nothing changes, unless the call fails otherwise.
 pub fn insert<S: Alter>(
     tx: &mut Transaction<'_, S>,

@@ -45,6 +45,7 @@ const WHOLES: [Whole; 10] = [
 /// A read of one key, or of one front of a key.
 #[derive(Clone, Copy)]
 enum Part {
+    Setting,
     Object,
     NoObject,
     References,
@@ -55,9 +56,11 @@ enum Part {
     Profiles,
     Profile,
     Generations,
+    RuntimeRoots,
 }
 
-const PARTS: [Part; 10] = [
+const PARTS: [Part; 12] = [
+    Part::Setting,
     Part::Object,
     Part::NoObject,
     Part::References,
@@ -68,6 +71,7 @@ const PARTS: [Part; 10] = [
     Part::Profiles,
     Part::Profile,
     Part::Generations,
+    Part::RuntimeRoots,
 ];
 
 fn add<T: Debug + Drop>(text: &mut String, rows: Result<T, Failure>) -> Result<(), Failure> {
@@ -109,6 +113,7 @@ fn show_part<S: Alter>(
     requires ready { HasCleanDisk (state S.Store conn.old) → IsTrue (state S.Store conn.old).is_open → IsReady (state S.Store conn.old) }
 {
     match read {
+        Part::Setting => add(text, meta::of(alloc, conn, "schema")),
         Part::Object => add(text, objects::get(alloc, conn, "b")),
         Part::NoObject => add(text, objects::get(alloc, conn, "c")),
         Part::References => add(text, references::of(alloc, conn, "b")),
@@ -119,6 +124,7 @@ fn show_part<S: Alter>(
         Part::Profiles => add(text, profiles::of(alloc, conn, "1000")),
         Part::Profile => add(text, profiles::at(alloc, conn, "1000", "q")),
         Part::Generations => add(text, generations::of(alloc, conn, "1000", "q")),
+        Part::RuntimeRoots => add(text, runtime::of(alloc, conn, "r")),
     }
 }
 

@@ -17,8 +17,8 @@ const FILLED: &str = "[Setting { word: \"schema\", value: \"1\" }]\
     [Generation { owner: \"1000\", name: \"q\", number: 1, target: \"a\" }, Generation { owner: \"1000\", name: \"q\", number: 2, target: \"b\" }]\
     [RuntimeRoot { label: \"r\", target: \"a\" }]";
 
-const PARTS: &str =
-    "Some(Object { base: \"b\", nar: [], hash: [104], deriver: Some(\"a\"), ca: None })\
+const PARTS: &str = "[Setting { word: \"schema\", value: \"1\" }]\
+    Some(Object { base: \"b\", nar: [], hash: [104], deriver: Some(\"a\"), ca: None })\
     None\
     [Reference { base: \"b\", target: \"a\" }, Reference { base: \"b\", target: \"b\" }]\
     [Output { base: \"a\", name: \"out\", target: \"b\" }]\
@@ -27,7 +27,8 @@ const PARTS: &str =
     [UserRoot { owner: \"1000\", name: \"x\", target: \"a\" }]\
     [Profile { owner: \"1000\", name: \"q\", current: 2 }]\
     [Profile { owner: \"1000\", name: \"q\", current: 2 }]\
-    [Generation { owner: \"1000\", name: \"q\", number: 1, target: \"a\" }, Generation { owner: \"1000\", name: \"q\", number: 2, target: \"b\" }]";
+    [Generation { owner: \"1000\", name: \"q\", number: 1, target: \"a\" }, Generation { owner: \"1000\", name: \"q\", number: 2, target: \"b\" }]\
+    [RuntimeRoot { label: \"r\", target: \"a\" }]";
 
 const CLEARED: &str =
     "[][\"a\"][Listed { base: \"a\", hash: [104], deriver: None, ca: Some(\"c\") }]\

@@ -1,0 +1,35 @@
+use Rattle.std.proofs.Common.{arith}
+use Rattle.sqlite.specs.State.{HasCleanDisk}
+use Rattle.sqlite.specs.Held.{state}
+use Rattle.rows.proofs.Under.{ready_settled}
+use Rattle.rows.proofs.Steps.{ready_after}
+use Rattle.rows.proofs.Rising.{select_fails}
+use Rattle.rows.proofs.InOrder.{runtime_roots_of}
+use Rattle.rows.proofs.RuntimeRootLemmas.{of_read, reads_of, fails_of}
+use Rattle.rows.proofs.runtime.of.Goals as goal
+
+pub returns-clause-reads : goal.returns-clause-reads
+returns-clause-reads g c clean =
+    let old = state g.S.Store c.args.conn.now in
+    let new = state g.S.Store c.select.new.conn in
+    let early : HasCleanDisk old = omega (arith, c.select.ensures.survives.clean) in
+    reads_of old new c.args.label.now c.select.result (c.requires.ready early) (rw c.params-to_sql.ensures at (c.select.ensures.shown clean)) (c.select.ensures.rises clean)
+
+pub returns-clause-cause : goal.returns-clause-cause
+returns-clause-cause g c clean =
+    let old = state g.S.Store c.args.conn.now in
+    let new = state g.S.Store c.select.new.conn in
+    let early : HasCleanDisk old = omega (arith, c.select.ensures.survives.clean) in
+    let ready = c.requires.ready early in
+    select_fails c.select.result old new _ _ _ (fails_of old new c.args.label.now (ready_settled old ready)) (runtime_roots_of old new ready _) (rw c.params-to_sql.ensures at (c.select.ensures.cause clean))
+
+pub select-requires : goal.select-requires
+select-requires g c = of_read
+
+pub returns-clause-same : goal.returns-clause-same
+returns-clause-same g c clean = c.select.ensures.same clean (λ is_open. (c.requires.ready (omega (arith, c.select.ensures.survives.clean)) is_open).settled)
+
+pub returns-clause-ready : goal.returns-clause-ready
+returns-clause-ready g c clean =
+    let early : HasCleanDisk (state g.S.Store c.args.conn.now) = omega (arith, c.select.ensures.survives.clean) in
+    ready_after _ _ (c.requires.ready early) (c.select.ensures.same clean (λ is_open. (c.requires.ready early is_open).settled))
