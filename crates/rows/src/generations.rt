@@ -1,61 +1,22 @@
 //! The generations of profiles.
 
-ghost use Rattle.std.specs.Prelude.{◌∷◌, [], ◌≡◌, ◌&&◌, IfOk, IfErr, OnOk, OnErr, IsTrue, None, map, not, pos, false};
+ghost use Rattle.std.specs.Prelude.{IsSome, ◌∷◌, [], ◌≡◌, ◌&&◌, IfOk, IfErr, OnOk, OnErr, IsTrue, None, map, not, pos, false};
 ghost use Rattle.sqlite_value.specs.declared.value.Value.TheVariants.{Int, Text};
-ghost use Rattle.rows.specs.Forms.{generation};
-ghost use Rattle.std.specs.Ordering.{eq_by_cmp, is_lt, int_cmp};
+ghost use Rattle.table_forms.specs.Forms.{generation};
+ghost use Rattle.std.specs.Ordering.{eq_by_cmp, int_cmp};
 ghost use Rattle.std.specs.FinMap as finite;
 ghost use Rattle.sqlite.specs.State.{HasCleanDisk, KeepsCommit, Survives, IsUnchanged};
 ghost use Rattle.sqlite.specs.Held.{state};
-ghost use Rattle.rows.specs.Failures.{FailsFor, FailsToInsert};
-ghost use Rattle.rows.specs.Calls.{IsUnderWay, Changes, IsReady, KeepsShown};
-ghost use Rattle.rows.specs.Contents.{texts_cmp, triple_cmp, contents_of};
-ghost use Rattle.rows.specs.Entries.{generation_in, ShowsGeneration, IsGenerationRow};
+ghost use Rattle.table_statements.specs.Failures.{FailsFor, FailsToInsert};
+ghost use Rattle.table_statements.specs.Calls.{IsUnderWay, Changes, IsReady, KeepsShown};
+ghost use Rattle.table_statements.specs.Contents.{texts_cmp, contents_of};
+ghost use Rattle.table_entries.specs.Entries.{generation_in};
 
-use crate::entry::Entry;
-use crate::failure::Failure;
-use crate::{reading, statement};
-use sqlite::{Alter, Connection, Row, Transaction, params};
+use sqlite::{Alter, Connection, Transaction, params};
 use std::alloc::Global;
-use std::cmp::Ordering;
-
-/// One generation: its profile's owner and name, its number, and the base name of its target.
-#[derive(Debug, Drop)]
-pub struct Generation {
-    pub owner: String,
-    pub name: String,
-    pub number: i64,
-    pub target: String,
-}
-
-impl Entry for Generation {
-    ghost is_shown = { ShowsGeneration };
-
-    ghost is_legible = { IsGenerationRow };
-
-    ghost is_below = { λ a b. is_lt (triple_cmp (generation_in a).0 (generation_in b).0) };
-
-    fn read(row: &Row) -> Result<Generation, Failure> {
-        Ok(Generation {
-            owner: row.get(0)?,
-            name: row.get(1)?,
-            number: row.get(2)?,
-            target: row.get(3)?,
-        })
-    }
-
-    fn is_below(&self, other: &Generation) -> bool {
-        match self.owner.cmp(&other.owner) {
-            Ordering::Less => true,
-            Ordering::Equal => match self.name.cmp(&other.name) {
-                Ordering::Less => true,
-                Ordering::Equal => self.number < other.number,
-                Ordering::Greater => false,
-            },
-            Ordering::Greater => false,
-        }
-    }
-}
+pub use table_entries::generations::Generation;
+use table_statements::failure::Failure;
+use table_statements::{reading, statement};
 
 /// All generations, in order.
 pub fn all<S: Alter>(alloc: Global, conn: &mut Connection<S>) -> Result<Vec<Generation>, Failure>
@@ -102,7 +63,7 @@ pub fn of<S: Alter>(
     )
 }
 
-/// Adds one generation, under a key that is new.
+/// Adds one generation. If its key is there already, the answer is `Disk` and nothing changes, unless the call fails otherwise.
 pub fn insert<S: Alter>(
     tx: &mut Transaction<'_, S>,
     owner: &str,
@@ -110,12 +71,12 @@ pub fn insert<S: Alter>(
     number: u32,
     target: &str,
 ) -> Result<(), Failure>
-    requires under_way { HasCleanDisk (state S.Store tx.old.conn.now) → IsUnderWay (state S.Store tx.old.conn.now) }
-    requires new { HasCleanDisk (state S.Store tx.old.conn.now) → IsTrue (state S.Store tx.old.conn.now).is_open → finite.get (contents_of (state S.Store tx.old.conn.now).now).generations (owner.now, name.now, (pos number)) ≡ None }
+    requires { HasCleanDisk (state S.Store tx.old.conn.now) → IsUnderWay (state S.Store tx.old.conn.now) }
     ensures same_reference { tx.new.conn.ghost_name ≡ tx.old.conn.ghost_name }
     ensures done { HasCleanDisk (state S.Store tx.new.conn.now) → OnOk result (Changes (state S.Store tx.old.conn.now) (state S.Store tx.new.conn.now)
         (λ c. record c { generations = finite.insert c.generations (owner.now, name.now, (pos number)) target.now })) }
-    ensures cause { HasCleanDisk (state S.Store tx.new.conn.now) → IfErr result (FailsToInsert generation (Text owner.now ∷ Text name.now ∷ Int (pos number) ∷ Text target.now ∷ []) ⊥ (state S.Store tx.old.conn.now) (state S.Store tx.new.conn.now)) }
+    ensures new { HasCleanDisk (state S.Store tx.new.conn.now) → OnOk result (finite.get (contents_of (state S.Store tx.old.conn.now).now).generations (owner.now, name.now, (pos number)) ≡ None) }
+    ensures cause { HasCleanDisk (state S.Store tx.new.conn.now) → IfErr result (FailsToInsert generation (Text owner.now ∷ Text name.now ∷ Int (pos number) ∷ Text target.now ∷ []) (IsSome (finite.get (contents_of (state S.Store tx.old.conn.now).now).generations (owner.now, name.now, (pos number)))) (state S.Store tx.old.conn.now) (state S.Store tx.new.conn.now)) }
     ensures failed { HasCleanDisk (state S.Store tx.new.conn.now) → OnErr result (KeepsCommit (state S.Store tx.old.conn.now) (state S.Store tx.new.conn.now)) }
     ensures survives { Survives (state S.Store tx.old.conn.now) (state S.Store tx.new.conn.now) (λ _. ⊥) }
 {

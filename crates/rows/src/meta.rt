@@ -1,48 +1,22 @@
 //! The settings of the database: each a word and its value.
 
-ghost use Rattle.std.specs.Prelude.{◌∷◌, [], ◌≡◌, ◌&&◌, IfOk, IfErr, OnOk, OnErr, IsTrue, None, map, not, pos, false};
+ghost use Rattle.std.specs.Prelude.{IsSome, ◌∷◌, [], ◌≡◌, IfOk, IfErr, OnOk, OnErr, IsTrue, None, map, not, false};
 ghost use Rattle.sqlite_value.specs.declared.value.Value.TheVariants.{Text};
-ghost use Rattle.rows.specs.Forms.{meta};
-ghost use Rattle.std.specs.Ordering.{eq_by_cmp, is_lt, int_cmp};
+ghost use Rattle.table_forms.specs.Forms.{meta};
+ghost use Rattle.std.specs.Ordering.{eq_by_cmp};
 ghost use Rattle.std.specs.FinMap as finite;
 ghost use Rattle.sqlite.specs.State.{HasCleanDisk, KeepsCommit, Survives, IsUnchanged};
 ghost use Rattle.sqlite.specs.Held.{state};
-ghost use Rattle.rows.specs.Failures.{FailsFor, FailsToInsert};
-ghost use Rattle.rows.specs.Calls.{IsUnderWay, Changes, IsReady, KeepsShown};
-ghost use Rattle.rows.specs.Contents.{texts_cmp, contents_of};
-ghost use Rattle.rows.specs.Entries.{setting_of, ShowsSetting, IsPairRow};
+ghost use Rattle.table_statements.specs.Failures.{FailsFor, FailsToInsert};
+ghost use Rattle.table_statements.specs.Calls.{IsUnderWay, Changes, IsReady, KeepsShown};
+ghost use Rattle.table_statements.specs.Contents.{texts_cmp, contents_of};
+ghost use Rattle.table_entries.specs.Entries.{setting_of};
 
-use crate::entry::Entry;
-use crate::failure::Failure;
-use crate::{reading, statement};
-use sqlite::{Alter, Connection, Row, Transaction, params};
+use sqlite::{Alter, Connection, Transaction, params};
 use std::alloc::Global;
-
-/// One setting: a word, and its value.
-#[derive(Debug, Drop)]
-pub struct Setting {
-    pub word: String,
-    pub value: String,
-}
-
-impl Entry for Setting {
-    ghost is_shown = { ShowsSetting };
-
-    ghost is_legible = { IsPairRow };
-
-    ghost is_below = { λ a b. is_lt (texts_cmp (setting_of a).0 (setting_of b).0) };
-
-    fn read(row: &Row) -> Result<Setting, Failure> {
-        Ok(Setting {
-            word: row.get(0)?,
-            value: row.get(1)?,
-        })
-    }
-
-    fn is_below(&self, other: &Setting) -> bool {
-        self.word < other.word
-    }
-}
+pub use table_entries::meta::Setting;
+use table_statements::failure::Failure;
+use table_statements::{reading, statement};
 
 /// All settings, in order.
 pub fn all<S: Alter>(alloc: Global, conn: &mut Connection<S>) -> Result<Vec<Setting>, Failure>
@@ -83,14 +57,14 @@ pub fn of<S: Alter>(
     )
 }
 
-/// Adds one setting, under a key that is new.
+/// Adds one setting. If its key is there already, the answer is `Disk` and nothing changes, unless the call fails otherwise.
 pub fn insert<S: Alter>(tx: &mut Transaction<'_, S>, word: &str, value: &str) -> Result<(), Failure>
-    requires under_way { HasCleanDisk (state S.Store tx.old.conn.now) → IsUnderWay (state S.Store tx.old.conn.now) }
-    requires new { HasCleanDisk (state S.Store tx.old.conn.now) → IsTrue (state S.Store tx.old.conn.now).is_open → finite.get (contents_of (state S.Store tx.old.conn.now).now).meta word.now ≡ None }
+    requires { HasCleanDisk (state S.Store tx.old.conn.now) → IsUnderWay (state S.Store tx.old.conn.now) }
     ensures same_reference { tx.new.conn.ghost_name ≡ tx.old.conn.ghost_name }
     ensures done { HasCleanDisk (state S.Store tx.new.conn.now) → OnOk result (Changes (state S.Store tx.old.conn.now) (state S.Store tx.new.conn.now)
         (λ c. record c { meta = finite.insert c.meta word.now value.now })) }
-    ensures cause { HasCleanDisk (state S.Store tx.new.conn.now) → IfErr result (FailsToInsert meta (Text word.now ∷ Text value.now ∷ []) ⊥ (state S.Store tx.old.conn.now) (state S.Store tx.new.conn.now)) }
+    ensures new { HasCleanDisk (state S.Store tx.new.conn.now) → OnOk result (finite.get (contents_of (state S.Store tx.old.conn.now).now).meta word.now ≡ None) }
+    ensures cause { HasCleanDisk (state S.Store tx.new.conn.now) → IfErr result (FailsToInsert meta (Text word.now ∷ Text value.now ∷ []) (IsSome (finite.get (contents_of (state S.Store tx.old.conn.now).now).meta word.now)) (state S.Store tx.old.conn.now) (state S.Store tx.new.conn.now)) }
     ensures failed { HasCleanDisk (state S.Store tx.new.conn.now) → OnErr result (KeepsCommit (state S.Store tx.old.conn.now) (state S.Store tx.new.conn.now)) }
     ensures survives { Survives (state S.Store tx.old.conn.now) (state S.Store tx.new.conn.now) (λ _. ⊥) }
 {

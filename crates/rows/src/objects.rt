@@ -1,84 +1,22 @@
 //! The objects, with their archives.
 
-ghost use Rattle.std.specs.Prelude.{◌∷◌, [], ◌≡◌, ◌&&◌, IfOk, IfErr, OnOk, OnErr, IsTrue, None, map, not, pos, string_bytes, false};
+ghost use Rattle.std.specs.Prelude.{IsSome, ◌∷◌, [], ◌≡◌, IfOk, IfErr, OnOk, OnErr, IsTrue, None, map, not, string_bytes, false};
 ghost use Rattle.sqlite_value.specs.declared.value.Value.TheVariants.{Text, Blob};
-ghost use Rattle.rows.specs.Forms.{object};
-ghost use Rattle.std.specs.Ordering.{eq_by_cmp, is_lt, int_cmp};
+ghost use Rattle.table_forms.specs.Forms.{object};
+ghost use Rattle.std.specs.Ordering.{eq_by_cmp};
 ghost use Rattle.std.specs.FinMap as finite;
 ghost use Rattle.sqlite.specs.State.{HasCleanDisk, KeepsCommit, Survives, IsUnchanged};
 ghost use Rattle.sqlite.specs.Held.{state};
-ghost use Rattle.rows.specs.Failures.{FailsFor, FailsToInsert};
-ghost use Rattle.rows.specs.Calls.{IsUnderWay, Changes, IsReady, KeepsShown};
-ghost use Rattle.rows.specs.Contents.{texts_cmp, contents_of, without_archive};
-ghost use Rattle.rows.specs.Entries.{text_or_null, stored_of, ShowsObject, listed_of, ShowsListed, IsStored, stored, IsObjectRow, IsListedRow};
+ghost use Rattle.table_statements.specs.Failures.{FailsFor, FailsToInsert};
+ghost use Rattle.table_statements.specs.Calls.{IsUnderWay, Changes, IsReady, KeepsShown};
+ghost use Rattle.table_statements.specs.Contents.{texts_cmp, contents_of, without_archive};
+ghost use Rattle.table_entries.specs.Entries.{text_or_null, stored_of, listed_of, IsStored, stored};
 
-use crate::entry::Entry;
-use crate::failure::Failure;
-use crate::{reading, statement};
-use sqlite::{Alter, Connection, Row, Transaction, params};
+use sqlite::{Alter, Connection, Transaction, params};
 use std::alloc::Global;
-
-/// One object: the base name of its path, its archive, the archive's SHA-256, and its deriver and content address where it has one.
-#[derive(Debug, Drop)]
-pub struct Object {
-    pub base: String,
-    pub nar: Vec<u8>,
-    pub hash: Vec<u8>,
-    pub deriver: Option<String>,
-    pub ca: Option<String>,
-}
-
-impl Entry for Object {
-    ghost is_shown = { ShowsObject };
-
-    ghost is_legible = { IsObjectRow };
-
-    ghost is_below = { λ a b. is_lt (texts_cmp (stored_of a).0 (stored_of b).0) };
-
-    fn read(row: &Row) -> Result<Object, Failure> {
-        Ok(Object {
-            base: row.get(0)?,
-            nar: row.get(1)?,
-            hash: row.get(2)?,
-            deriver: row.get(3)?,
-            ca: row.get(4)?,
-        })
-    }
-
-    fn is_below(&self, other: &Object) -> bool {
-        self.base < other.base
-    }
-}
-
-/// One object without its archive.
-#[derive(Debug, Drop)]
-pub struct Listed {
-    pub base: String,
-    pub hash: Vec<u8>,
-    pub deriver: Option<String>,
-    pub ca: Option<String>,
-}
-
-impl Entry for Listed {
-    ghost is_shown = { ShowsListed };
-
-    ghost is_legible = { IsListedRow };
-
-    ghost is_below = { λ a b. is_lt (texts_cmp (listed_of a).0 (listed_of b).0) };
-
-    fn read(row: &Row) -> Result<Listed, Failure> {
-        Ok(Listed {
-            base: row.get(0)?,
-            hash: row.get(1)?,
-            deriver: row.get(2)?,
-            ca: row.get(3)?,
-        })
-    }
-
-    fn is_below(&self, other: &Listed) -> bool {
-        self.base < other.base
-    }
-}
+pub use table_entries::objects::{Listed, Object};
+use table_statements::failure::Failure;
+use table_statements::{reading, statement};
 
 /// All objects without their archives, in the order of their bases.
 pub fn all<S: Alter>(alloc: Global, conn: &mut Connection<S>) -> Result<Vec<Listed>, Failure>
@@ -155,7 +93,7 @@ fn of<S: Alter>(alloc: Global, conn: &mut Connection<S>, base: &str) -> Result<V
     )
 }
 
-/// Adds one object, under a key that is new.
+/// Adds one object. If its key is there already, the answer is `Disk` and nothing changes, unless the call fails otherwise.
 pub fn insert<S: Alter>(
     tx: &mut Transaction<'_, S>,
     base: &str,
@@ -164,12 +102,12 @@ pub fn insert<S: Alter>(
     deriver: &Option<String>,
     ca: &Option<String>,
 ) -> Result<(), Failure>
-    requires under_way { HasCleanDisk (state S.Store tx.old.conn.now) → IsUnderWay (state S.Store tx.old.conn.now) }
-    requires new { HasCleanDisk (state S.Store tx.old.conn.now) → IsTrue (state S.Store tx.old.conn.now).is_open → finite.get (contents_of (state S.Store tx.old.conn.now).now).objects base.now ≡ None }
+    requires { HasCleanDisk (state S.Store tx.old.conn.now) → IsUnderWay (state S.Store tx.old.conn.now) }
     ensures same_reference { tx.new.conn.ghost_name ≡ tx.old.conn.ghost_name }
     ensures done { HasCleanDisk (state S.Store tx.new.conn.now) → OnOk result (Changes (state S.Store tx.old.conn.now) (state S.Store tx.new.conn.now)
         (λ c. record c { objects = finite.insert c.objects base.now (stored nar.now hash.now deriver.now ca.now) })) }
-    ensures cause { HasCleanDisk (state S.Store tx.new.conn.now) → IfErr result (FailsToInsert object (Text base.now ∷ Blob nar.now ∷ Blob hash.now ∷ text_or_null deriver.now ∷ text_or_null ca.now ∷ []) ⊥ (state S.Store tx.old.conn.now) (state S.Store tx.new.conn.now)) }
+    ensures new { HasCleanDisk (state S.Store tx.new.conn.now) → OnOk result (finite.get (contents_of (state S.Store tx.old.conn.now).now).objects base.now ≡ None) }
+    ensures cause { HasCleanDisk (state S.Store tx.new.conn.now) → IfErr result (FailsToInsert object (Text base.now ∷ Blob nar.now ∷ Blob hash.now ∷ text_or_null deriver.now ∷ text_or_null ca.now ∷ []) (IsSome (finite.get (contents_of (state S.Store tx.old.conn.now).now).objects base.now)) (state S.Store tx.old.conn.now) (state S.Store tx.new.conn.now)) }
     ensures failed { HasCleanDisk (state S.Store tx.new.conn.now) → OnErr result (KeepsCommit (state S.Store tx.old.conn.now) (state S.Store tx.new.conn.now)) }
     ensures survives { Survives (state S.Store tx.old.conn.now) (state S.Store tx.new.conn.now) (λ _. ⊥) }
 {

@@ -1,55 +1,22 @@
 //! The outputs of derivations.
 
-ghost use Rattle.std.specs.Prelude.{◌∷◌, [], ◌≡◌, ◌&&◌, IfOk, IfErr, OnOk, OnErr, IsTrue, None, map, not, pos, false};
+ghost use Rattle.std.specs.Prelude.{IsSome, ◌∷◌, [], ◌≡◌, IfOk, IfErr, OnOk, OnErr, IsTrue, None, map, not, false};
 ghost use Rattle.sqlite_value.specs.declared.value.Value.TheVariants.{Text};
-ghost use Rattle.rows.specs.Forms.{outs};
-ghost use Rattle.std.specs.Ordering.{eq_by_cmp, is_lt, int_cmp};
+ghost use Rattle.table_forms.specs.Forms.{outs};
+ghost use Rattle.std.specs.Ordering.{eq_by_cmp};
 ghost use Rattle.std.specs.FinMap as finite;
 ghost use Rattle.sqlite.specs.State.{HasCleanDisk, KeepsCommit, Survives, IsUnchanged};
 ghost use Rattle.sqlite.specs.Held.{state};
-ghost use Rattle.rows.specs.Failures.{FailsFor, FailsToInsert};
-ghost use Rattle.rows.specs.Calls.{IsUnderWay, Changes, IsReady, KeepsShown};
-ghost use Rattle.rows.specs.Contents.{texts_cmp, pair_cmp, contents_of};
-ghost use Rattle.rows.specs.Entries.{output_of, ShowsOutput, IsTripleRow};
+ghost use Rattle.table_statements.specs.Failures.{FailsFor, FailsToInsert};
+ghost use Rattle.table_statements.specs.Calls.{IsUnderWay, Changes, IsReady, KeepsShown};
+ghost use Rattle.table_statements.specs.Contents.{texts_cmp, contents_of};
+ghost use Rattle.table_entries.specs.Entries.{output_of};
 
-use crate::entry::Entry;
-use crate::failure::Failure;
-use crate::{reading, statement};
-use sqlite::{Alter, Connection, Row, Transaction, params};
+use sqlite::{Alter, Connection, Transaction, params};
 use std::alloc::Global;
-use std::cmp::Ordering;
-
-/// One output: the base name of a derivation's path, the output's name, and the base name of its path.
-#[derive(Debug, Drop)]
-pub struct Output {
-    pub base: String,
-    pub name: String,
-    pub target: String,
-}
-
-impl Entry for Output {
-    ghost is_shown = { ShowsOutput };
-
-    ghost is_legible = { IsTripleRow };
-
-    ghost is_below = { λ a b. is_lt (pair_cmp (output_of a).0 (output_of b).0) };
-
-    fn read(row: &Row) -> Result<Output, Failure> {
-        Ok(Output {
-            base: row.get(0)?,
-            name: row.get(1)?,
-            target: row.get(2)?,
-        })
-    }
-
-    fn is_below(&self, other: &Output) -> bool {
-        match self.base.cmp(&other.base) {
-            Ordering::Less => true,
-            Ordering::Equal => self.name < other.name,
-            Ordering::Greater => false,
-        }
-    }
-}
+pub use table_entries::outputs::Output;
+use table_statements::failure::Failure;
+use table_statements::{reading, statement};
 
 /// All outputs, in order.
 pub fn all<S: Alter>(alloc: Global, conn: &mut Connection<S>) -> Result<Vec<Output>, Failure>
@@ -95,19 +62,19 @@ pub fn of<S: Alter>(
     )
 }
 
-/// Adds one output, under a key that is new.
+/// Adds one output. If its key is there already, the answer is `Disk` and nothing changes, unless the call fails otherwise.
 pub fn insert<S: Alter>(
     tx: &mut Transaction<'_, S>,
     base: &str,
     name: &str,
     target: &str,
 ) -> Result<(), Failure>
-    requires under_way { HasCleanDisk (state S.Store tx.old.conn.now) → IsUnderWay (state S.Store tx.old.conn.now) }
-    requires new { HasCleanDisk (state S.Store tx.old.conn.now) → IsTrue (state S.Store tx.old.conn.now).is_open → finite.get (contents_of (state S.Store tx.old.conn.now).now).outs (base.now, name.now) ≡ None }
+    requires { HasCleanDisk (state S.Store tx.old.conn.now) → IsUnderWay (state S.Store tx.old.conn.now) }
     ensures same_reference { tx.new.conn.ghost_name ≡ tx.old.conn.ghost_name }
     ensures done { HasCleanDisk (state S.Store tx.new.conn.now) → OnOk result (Changes (state S.Store tx.old.conn.now) (state S.Store tx.new.conn.now)
         (λ c. record c { outs = finite.insert c.outs (base.now, name.now) target.now })) }
-    ensures cause { HasCleanDisk (state S.Store tx.new.conn.now) → IfErr result (FailsToInsert outs (Text base.now ∷ Text name.now ∷ Text target.now ∷ []) ⊥ (state S.Store tx.old.conn.now) (state S.Store tx.new.conn.now)) }
+    ensures new { HasCleanDisk (state S.Store tx.new.conn.now) → OnOk result (finite.get (contents_of (state S.Store tx.old.conn.now).now).outs (base.now, name.now) ≡ None) }
+    ensures cause { HasCleanDisk (state S.Store tx.new.conn.now) → IfErr result (FailsToInsert outs (Text base.now ∷ Text name.now ∷ Text target.now ∷ []) (IsSome (finite.get (contents_of (state S.Store tx.old.conn.now).now).outs (base.now, name.now))) (state S.Store tx.old.conn.now) (state S.Store tx.new.conn.now)) }
     ensures failed { HasCleanDisk (state S.Store tx.new.conn.now) → OnErr result (KeepsCommit (state S.Store tx.old.conn.now) (state S.Store tx.new.conn.now)) }
     ensures survives { Survives (state S.Store tx.old.conn.now) (state S.Store tx.new.conn.now) (λ _. ⊥) }
 {

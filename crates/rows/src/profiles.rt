@@ -1,55 +1,22 @@
 //! The profiles, each with the number of its current generation.
 
-ghost use Rattle.std.specs.Prelude.{◌∷◌, [], ◌≡◌, ◌&&◌, IfOk, IfErr, OnOk, OnErr, IsTrue, None, map, not, pos, false};
+ghost use Rattle.std.specs.Prelude.{IsSome, ◌∷◌, [], ◌≡◌, ◌&&◌, IfOk, IfErr, OnOk, OnErr, IsTrue, None, map, not, pos, false};
 ghost use Rattle.sqlite_value.specs.declared.value.Value.TheVariants.{Int, Text};
-ghost use Rattle.rows.specs.Forms.{profile};
-ghost use Rattle.std.specs.Ordering.{eq_by_cmp, is_lt, int_cmp};
+ghost use Rattle.table_forms.specs.Forms.{profile};
+ghost use Rattle.std.specs.Ordering.{eq_by_cmp};
 ghost use Rattle.std.specs.FinMap as finite;
 ghost use Rattle.sqlite.specs.State.{HasCleanDisk, KeepsCommit, Survives, IsUnchanged};
 ghost use Rattle.sqlite.specs.Held.{state};
-ghost use Rattle.rows.specs.Failures.{FailsFor, FailsToInsert};
-ghost use Rattle.rows.specs.Calls.{IsUnderWay, Changes, IsReady, KeepsShown};
-ghost use Rattle.rows.specs.Contents.{texts_cmp, pair_cmp, contents_of};
-ghost use Rattle.rows.specs.Entries.{current_of, ShowsProfile, IsProfileRow};
+ghost use Rattle.table_statements.specs.Failures.{FailsFor, FailsToInsert};
+ghost use Rattle.table_statements.specs.Calls.{IsUnderWay, Changes, IsReady, KeepsShown};
+ghost use Rattle.table_statements.specs.Contents.{texts_cmp, contents_of};
+ghost use Rattle.table_entries.specs.Entries.{current_of};
 
-use crate::entry::Entry;
-use crate::failure::Failure;
-use crate::{reading, statement};
-use sqlite::{Alter, Connection, Row, Transaction, params};
+use sqlite::{Alter, Connection, Transaction, params};
 use std::alloc::Global;
-use std::cmp::Ordering;
-
-/// One profile: its owner, its name, and the number of its current generation.
-#[derive(Debug, Drop)]
-pub struct Profile {
-    pub owner: String,
-    pub name: String,
-    pub current: i64,
-}
-
-impl Entry for Profile {
-    ghost is_shown = { ShowsProfile };
-
-    ghost is_legible = { IsProfileRow };
-
-    ghost is_below = { λ a b. is_lt (pair_cmp (current_of a).0 (current_of b).0) };
-
-    fn read(row: &Row) -> Result<Profile, Failure> {
-        Ok(Profile {
-            owner: row.get(0)?,
-            name: row.get(1)?,
-            current: row.get(2)?,
-        })
-    }
-
-    fn is_below(&self, other: &Profile) -> bool {
-        match self.owner.cmp(&other.owner) {
-            Ordering::Less => true,
-            Ordering::Equal => self.name < other.name,
-            Ordering::Greater => false,
-        }
-    }
-}
+pub use table_entries::profiles::Profile;
+use table_statements::failure::Failure;
+use table_statements::{reading, statement};
 
 /// All profiles, in order.
 pub fn all<S: Alter>(alloc: Global, conn: &mut Connection<S>) -> Result<Vec<Profile>, Failure>
@@ -120,19 +87,19 @@ pub fn at<S: Alter>(
     )
 }
 
-/// Adds one profile, under a key that is new.
+/// Adds one profile. If its key is there already, the answer is `Disk` and nothing changes, unless the call fails otherwise.
 pub fn insert<S: Alter>(
     tx: &mut Transaction<'_, S>,
     owner: &str,
     name: &str,
     current: u32,
 ) -> Result<(), Failure>
-    requires under_way { HasCleanDisk (state S.Store tx.old.conn.now) → IsUnderWay (state S.Store tx.old.conn.now) }
-    requires new { HasCleanDisk (state S.Store tx.old.conn.now) → IsTrue (state S.Store tx.old.conn.now).is_open → finite.get (contents_of (state S.Store tx.old.conn.now).now).profiles (owner.now, name.now) ≡ None }
+    requires { HasCleanDisk (state S.Store tx.old.conn.now) → IsUnderWay (state S.Store tx.old.conn.now) }
     ensures same_reference { tx.new.conn.ghost_name ≡ tx.old.conn.ghost_name }
     ensures done { HasCleanDisk (state S.Store tx.new.conn.now) → OnOk result (Changes (state S.Store tx.old.conn.now) (state S.Store tx.new.conn.now)
         (λ c. record c { profiles = finite.insert c.profiles (owner.now, name.now) (pos current) })) }
-    ensures cause { HasCleanDisk (state S.Store tx.new.conn.now) → IfErr result (FailsToInsert profile (Text owner.now ∷ Text name.now ∷ Int (pos current) ∷ []) ⊥ (state S.Store tx.old.conn.now) (state S.Store tx.new.conn.now)) }
+    ensures new { HasCleanDisk (state S.Store tx.new.conn.now) → OnOk result (finite.get (contents_of (state S.Store tx.old.conn.now).now).profiles (owner.now, name.now) ≡ None) }
+    ensures cause { HasCleanDisk (state S.Store tx.new.conn.now) → IfErr result (FailsToInsert profile (Text owner.now ∷ Text name.now ∷ Int (pos current) ∷ []) (IsSome (finite.get (contents_of (state S.Store tx.old.conn.now).now).profiles (owner.now, name.now))) (state S.Store tx.old.conn.now) (state S.Store tx.new.conn.now)) }
     ensures failed { HasCleanDisk (state S.Store tx.new.conn.now) → OnErr result (KeepsCommit (state S.Store tx.old.conn.now) (state S.Store tx.new.conn.now)) }
     ensures survives { Survives (state S.Store tx.old.conn.now) (state S.Store tx.new.conn.now) (λ _. ⊥) }
 {

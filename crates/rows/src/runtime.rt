@@ -1,53 +1,22 @@
 //! The runtime roots.
 
-ghost use Rattle.std.specs.Prelude.{Some, ◌∷◌, [], ◌≡◌, ◌&&◌, IfOk, IfErr, OnOk, OnErr, IsTrue, None, map, not, pos, false};
+ghost use Rattle.std.specs.Prelude.{IsSome, ◌∷◌, [], ◌≡◌, IfOk, IfErr, OnOk, OnErr, IsTrue, None, map, not, false};
 ghost use Rattle.sqlite_value.specs.declared.value.Value.TheVariants.{Text};
-ghost use Rattle.rows.specs.Forms.{runtime};
-ghost use Rattle.std.specs.Ordering.{eq_by_cmp, is_lt, int_cmp};
+ghost use Rattle.table_forms.specs.Forms.{runtime};
+ghost use Rattle.std.specs.Ordering.{eq_by_cmp};
 ghost use Rattle.std.specs.FinMap as finite;
 ghost use Rattle.sqlite.specs.State.{HasCleanDisk, KeepsCommit, Survives, IsUnchanged};
 ghost use Rattle.sqlite.specs.Held.{state};
-ghost use Rattle.rows.specs.Failures.{FailsFor, FailsToInsert};
-ghost use Rattle.rows.specs.Calls.{IsUnderWay, Changes, IsReady, KeepsShown};
-ghost use Rattle.rows.specs.Contents.{texts_cmp, pair_cmp, contents_of};
-ghost use Rattle.rows.specs.Entries.{runtime_of, ShowsRuntimeRoot, IsPairRow};
+ghost use Rattle.table_statements.specs.Failures.{FailsFor, FailsToInsert};
+ghost use Rattle.table_statements.specs.Calls.{IsUnderWay, Changes, IsReady, KeepsShown};
+ghost use Rattle.table_statements.specs.Contents.{texts_cmp, contents_of};
+ghost use Rattle.table_entries.specs.Entries.{runtime_of};
 
-use crate::entry::Entry;
-use crate::failure::Failure;
-use crate::{reading, statement};
-use sqlite::{Alter, Connection, Row, Transaction, params};
+use sqlite::{Alter, Connection, Transaction, params};
 use std::alloc::Global;
-use std::cmp::Ordering;
-
-/// One runtime root: its label, and the base name of its target.
-#[derive(Debug, Drop)]
-pub struct RuntimeRoot {
-    pub label: String,
-    pub target: String,
-}
-
-impl Entry for RuntimeRoot {
-    ghost is_shown = { ShowsRuntimeRoot };
-
-    ghost is_legible = { IsPairRow };
-
-    ghost is_below = { λ a b. is_lt (pair_cmp (runtime_of a).0 (runtime_of b).0) };
-
-    fn read(row: &Row) -> Result<RuntimeRoot, Failure> {
-        Ok(RuntimeRoot {
-            label: row.get(0)?,
-            target: row.get(1)?,
-        })
-    }
-
-    fn is_below(&self, other: &RuntimeRoot) -> bool {
-        match self.label.cmp(&other.label) {
-            Ordering::Less => true,
-            Ordering::Equal => self.target < other.target,
-            Ordering::Greater => false,
-        }
-    }
-}
+pub use table_entries::runtime::RuntimeRoot;
+use table_statements::failure::Failure;
+use table_statements::{reading, statement};
 
 /// All runtime roots, in order.
 pub fn all<S: Alter>(alloc: Global, conn: &mut Connection<S>) -> Result<Vec<RuntimeRoot>, Failure>
@@ -104,7 +73,7 @@ pub fn insert<S: Alter>(
     ensures done { HasCleanDisk (state S.Store tx.new.conn.now) → OnOk result (Changes (state S.Store tx.old.conn.now) (state S.Store tx.new.conn.now)
         (λ c. record c { runtime = finite.insert c.runtime (label.now, target.now) tt })) }
     ensures new { HasCleanDisk (state S.Store tx.new.conn.now) → OnOk result (finite.get (contents_of (state S.Store tx.old.conn.now).now).runtime (label.now, target.now) ≡ None) }
-    ensures cause { HasCleanDisk (state S.Store tx.new.conn.now) → IfErr result (FailsToInsert runtime (Text label.now ∷ Text target.now ∷ []) (finite.get (contents_of (state S.Store tx.old.conn.now).now).runtime (label.now, target.now) ≡ Some tt) (state S.Store tx.old.conn.now) (state S.Store tx.new.conn.now)) }
+    ensures cause { HasCleanDisk (state S.Store tx.new.conn.now) → IfErr result (FailsToInsert runtime (Text label.now ∷ Text target.now ∷ []) (IsSome (finite.get (contents_of (state S.Store tx.old.conn.now).now).runtime (label.now, target.now))) (state S.Store tx.old.conn.now) (state S.Store tx.new.conn.now)) }
     ensures failed { HasCleanDisk (state S.Store tx.new.conn.now) → OnErr result (KeepsCommit (state S.Store tx.old.conn.now) (state S.Store tx.new.conn.now)) }
     ensures survives { Survives (state S.Store tx.old.conn.now) (state S.Store tx.new.conn.now) (λ _. ⊥) }
 {
@@ -129,4 +98,17 @@ pub fn delete_of<S: Alter>(tx: &mut Transaction<'_, S>, label: &str) -> Result<(
     ensures survives { Survives (state S.Store tx.old.conn.now) (state S.Store tx.new.conn.now) (λ _. ⊥) }
 {
     statement::remove(tx, "DELETE FROM runtime WHERE label = ?1", params![label])
+}
+
+/// Removes all runtime roots.
+pub fn delete_all<S: Alter>(tx: &mut Transaction<'_, S>) -> Result<(), Failure>
+    requires { HasCleanDisk (state S.Store tx.old.conn.now) → IsUnderWay (state S.Store tx.old.conn.now) }
+    ensures same_reference { tx.new.conn.ghost_name ≡ tx.old.conn.ghost_name }
+    ensures done { HasCleanDisk (state S.Store tx.new.conn.now) → OnOk result (Changes (state S.Store tx.old.conn.now) (state S.Store tx.new.conn.now)
+        (λ c. record c { runtime = finite.from_entries [] })) }
+    ensures cause { HasCleanDisk (state S.Store tx.new.conn.now) → IfErr result (FailsFor (state S.Store tx.old.conn.now) (state S.Store tx.new.conn.now)) }
+    ensures failed { HasCleanDisk (state S.Store tx.new.conn.now) → OnErr result (KeepsCommit (state S.Store tx.old.conn.now) (state S.Store tx.new.conn.now)) }
+    ensures survives { Survives (state S.Store tx.old.conn.now) (state S.Store tx.new.conn.now) (λ _. ⊥) }
+{
+    statement::remove(tx, "DELETE FROM runtime", &[])
 }

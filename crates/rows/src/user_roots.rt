@@ -1,55 +1,22 @@
 //! The roots of users.
 
-ghost use Rattle.std.specs.Prelude.{◌∷◌, [], ◌≡◌, ◌&&◌, IfOk, IfErr, OnOk, OnErr, IsTrue, None, map, not, pos, false};
+ghost use Rattle.std.specs.Prelude.{IsSome, ◌∷◌, [], ◌≡◌, ◌&&◌, IfOk, IfErr, OnOk, OnErr, IsTrue, None, map, not, false};
 ghost use Rattle.sqlite_value.specs.declared.value.Value.TheVariants.{Text};
-ghost use Rattle.rows.specs.Forms.{user_root};
-ghost use Rattle.std.specs.Ordering.{eq_by_cmp, is_lt, int_cmp};
+ghost use Rattle.table_forms.specs.Forms.{user_root};
+ghost use Rattle.std.specs.Ordering.{eq_by_cmp};
 ghost use Rattle.std.specs.FinMap as finite;
 ghost use Rattle.sqlite.specs.State.{HasCleanDisk, KeepsCommit, Survives, IsUnchanged};
 ghost use Rattle.sqlite.specs.Held.{state};
-ghost use Rattle.rows.specs.Failures.{FailsFor, FailsToInsert};
-ghost use Rattle.rows.specs.Calls.{IsUnderWay, Changes, IsReady, KeepsShown};
-ghost use Rattle.rows.specs.Contents.{texts_cmp, pair_cmp, contents_of};
-ghost use Rattle.rows.specs.Entries.{user_root_of, ShowsUserRoot, IsTripleRow};
+ghost use Rattle.table_statements.specs.Failures.{FailsFor, FailsToInsert};
+ghost use Rattle.table_statements.specs.Calls.{IsUnderWay, Changes, IsReady, KeepsShown};
+ghost use Rattle.table_statements.specs.Contents.{texts_cmp, contents_of};
+ghost use Rattle.table_entries.specs.Entries.{user_root_of};
 
-use crate::entry::Entry;
-use crate::failure::Failure;
-use crate::{reading, statement};
-use sqlite::{Alter, Connection, Row, Transaction, params};
+use sqlite::{Alter, Connection, Transaction, params};
 use std::alloc::Global;
-use std::cmp::Ordering;
-
-/// One root of a user: its owner, its name, and the base name of its target.
-#[derive(Debug, Drop)]
-pub struct UserRoot {
-    pub owner: String,
-    pub name: String,
-    pub target: String,
-}
-
-impl Entry for UserRoot {
-    ghost is_shown = { ShowsUserRoot };
-
-    ghost is_legible = { IsTripleRow };
-
-    ghost is_below = { λ a b. is_lt (pair_cmp (user_root_of a).0 (user_root_of b).0) };
-
-    fn read(row: &Row) -> Result<UserRoot, Failure> {
-        Ok(UserRoot {
-            owner: row.get(0)?,
-            name: row.get(1)?,
-            target: row.get(2)?,
-        })
-    }
-
-    fn is_below(&self, other: &UserRoot) -> bool {
-        match self.owner.cmp(&other.owner) {
-            Ordering::Less => true,
-            Ordering::Equal => self.name < other.name,
-            Ordering::Greater => false,
-        }
-    }
-}
+pub use table_entries::user_roots::UserRoot;
+use table_statements::failure::Failure;
+use table_statements::{reading, statement};
 
 /// All user roots, in order.
 pub fn all<S: Alter>(alloc: Global, conn: &mut Connection<S>) -> Result<Vec<UserRoot>, Failure>
@@ -120,19 +87,19 @@ pub fn at<S: Alter>(
     )
 }
 
-/// Adds one user root, under a key that is new.
+/// Adds one user root. If its key is there already, the answer is `Disk` and nothing changes, unless the call fails otherwise.
 pub fn insert<S: Alter>(
     tx: &mut Transaction<'_, S>,
     owner: &str,
     name: &str,
     target: &str,
 ) -> Result<(), Failure>
-    requires under_way { HasCleanDisk (state S.Store tx.old.conn.now) → IsUnderWay (state S.Store tx.old.conn.now) }
-    requires new { HasCleanDisk (state S.Store tx.old.conn.now) → IsTrue (state S.Store tx.old.conn.now).is_open → finite.get (contents_of (state S.Store tx.old.conn.now).now).user_roots (owner.now, name.now) ≡ None }
+    requires { HasCleanDisk (state S.Store tx.old.conn.now) → IsUnderWay (state S.Store tx.old.conn.now) }
     ensures same_reference { tx.new.conn.ghost_name ≡ tx.old.conn.ghost_name }
     ensures done { HasCleanDisk (state S.Store tx.new.conn.now) → OnOk result (Changes (state S.Store tx.old.conn.now) (state S.Store tx.new.conn.now)
         (λ c. record c { user_roots = finite.insert c.user_roots (owner.now, name.now) target.now })) }
-    ensures cause { HasCleanDisk (state S.Store tx.new.conn.now) → IfErr result (FailsToInsert user_root (Text owner.now ∷ Text name.now ∷ Text target.now ∷ []) ⊥ (state S.Store tx.old.conn.now) (state S.Store tx.new.conn.now)) }
+    ensures new { HasCleanDisk (state S.Store tx.new.conn.now) → OnOk result (finite.get (contents_of (state S.Store tx.old.conn.now).now).user_roots (owner.now, name.now) ≡ None) }
+    ensures cause { HasCleanDisk (state S.Store tx.new.conn.now) → IfErr result (FailsToInsert user_root (Text owner.now ∷ Text name.now ∷ Text target.now ∷ []) (IsSome (finite.get (contents_of (state S.Store tx.old.conn.now).now).user_roots (owner.now, name.now))) (state S.Store tx.old.conn.now) (state S.Store tx.new.conn.now)) }
     ensures failed { HasCleanDisk (state S.Store tx.new.conn.now) → OnErr result (KeepsCommit (state S.Store tx.old.conn.now) (state S.Store tx.new.conn.now)) }
     ensures survives { Survives (state S.Store tx.old.conn.now) (state S.Store tx.new.conn.now) (λ _. ⊥) }
 {

@@ -2,14 +2,14 @@
 
 use crate::tests::steps::{Step, on_file};
 use crate::tests::taken;
-use rows::failure::Failure;
-use rows::file::{self, Opened, Unopened, Untold};
-use rows::finding::Finding;
 use sqlite::{Alter, Connection, Unknown};
 use std::alloc::Global;
 use std::fs;
 use std::rt::HostRuntime;
 use std::test::Fail;
+use table_forms::finding::Finding;
+use table_opening::file::{self, Opened, Unopened, Untold};
+use table_statements::failure::Failure;
 
 /// What the file at the path holds of ours, or nothing where it is something else than a database.
 fn told(rt: &HostRuntime, path: &str) -> Result<Option<Finding>, Failure> {

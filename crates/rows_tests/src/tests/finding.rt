@@ -1,10 +1,10 @@
 //! What is found in schemas that are made by their texts.
 
 use crate::tests::texts::{AFTER, BEFORE, TABLES};
-use rows::finding::{self, Finding};
 use sqlite::{Alter, Connection, Error};
 use std::alloc::Global;
 use std::test::Fail;
+use table_forms::finding::{self, Finding};
 
 /// Where a text stands.
 #[derive(Clone, Copy, PartialEq, Eq)]

@@ -3,12 +3,12 @@
 use crate::tests::making::MADE;
 use crate::tests::taken::make;
 use crate::tests::{put, shown};
-use rows::failure::Failure;
-use rows::finding::Finding;
-use rows::opening;
 use sqlite::{Alter, Connection};
 use std::alloc::Global;
 use std::test::Fail;
+use table_forms::finding::Finding;
+use table_opening::opening;
+use table_statements::failure::Failure;
 
 /// The last rows that are shown of those that are put.
 const PUT: &str = "number: 2, target: \"b\" }][RuntimeRoot { label: \"r\", target: \"a\" }]";

@@ -3,16 +3,16 @@
 ghost use Rattle.std.specs.Prelude.{OnOk};
 ghost use Rattle.sqlite.specs.State.{HasCleanDisk};
 ghost use Rattle.sqlite.specs.Held.{state};
-ghost use Rattle.rows.specs.Calls.{IsUnderWay};
+ghost use Rattle.table_statements.specs.Calls.{IsUnderWay};
 
 use crate::tests::taken::begin;
-use rows::failure::Failure;
 use rows::{
-    generations, meta, objects, outputs, permanent, profiles, references, runtime, transaction,
-    user_roots,
+    generations, meta, objects, outputs, permanent, profiles, references, runtime, user_roots,
 };
 use sqlite::{Alter, Connection, Transaction};
 use std::alloc::Global;
+use table_statements::failure::Failure;
+use table_statements::transaction;
 
 fn setting<S: Alter>(tx: &mut Transaction<'_, S>, word: &str, value: &str) -> Result<(), Failure>
     requires { HasCleanDisk (state S.Store tx.old.conn.now) → IsUnderWay (state S.Store tx.old.conn.now) }

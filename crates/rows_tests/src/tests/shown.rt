@@ -3,16 +3,16 @@
 ghost use Rattle.std.specs.Prelude.{◌≡◌, false, IsTrue};
 ghost use Rattle.sqlite.specs.State.{HasCleanDisk};
 ghost use Rattle.sqlite.specs.Held.{state};
-ghost use Rattle.rows.specs.Calls.{IsReady};
+ghost use Rattle.table_statements.specs.Calls.{IsReady};
 
 use crate::tests::taken::take;
-use rows::failure::Failure;
 use rows::{
     generations, meta, objects, outputs, permanent, profiles, references, runtime, user_roots,
 };
 use sqlite::{Alter, Connection};
 use std::alloc::Global;
 use std::fmt::{Debug, Write};
+use table_statements::failure::Failure;
 
 /// A read of all rows of a table; of the objects their paths, and all but their archives.
 #[derive(Clone, Copy)]

@@ -2,9 +2,9 @@
 
 use crate::tests::steps::{Step, in_memory, on_file};
 use crate::tests::texts::{AFTER, AROUND, BEFORE, TABLES};
-use rows::finding::Finding;
 use std::fs;
 use std::test::Fail;
+use table_forms::finding::Finding;
 
 const FILLED: &str = "[Setting { word: \"schema\", value: \"1\" }]\
     [\"a\", \"b\"]\

@@ -1,11 +1,11 @@
 //! The steps of a test over one connection.
 
 use crate::tests::{put, removed, shown, taken};
-use rows::finding::Finding;
 use sqlite::{Alter, Connection, Error};
 use std::alloc::Global;
 use std::rt::HostRuntime;
 use std::test::Fail;
+use table_forms::finding::Finding;
 
 /// What is done, or what must then be so.
 pub enum Step<'a> {

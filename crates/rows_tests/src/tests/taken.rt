@@ -3,13 +3,15 @@
 ghost use Rattle.std.specs.Prelude.{◌≡◌, false, IsTrue, IfOk, OnOk};
 ghost use Rattle.sqlite.specs.State.{HasCleanDisk};
 ghost use Rattle.sqlite.specs.Held.{state};
-ghost use Rattle.rows.specs.Calls.{IsReady, IsUnderWay};
+ghost use Rattle.table_statements.specs.Calls.{IsReady, IsUnderWay};
 
-use rows::failure::Failure;
-use rows::finding::Finding;
-use rows::{making, opening, transaction};
 use sqlite::{Alter, Connection, Transaction};
 use std::alloc::Global;
+use table_forms::finding::Finding;
+use table_making::making;
+use table_opening::opening;
+use table_statements::failure::Failure;
+use table_statements::transaction;
 
 /// Succeeds where the connection has all nine of our tables; where it hasn't, or is inside a transaction, the answer is `Disk`.
 pub(crate) fn take<S: Alter>(alloc: Global, conn: &mut Connection<S>) -> Result<(), Failure>

@@ -1,11 +1,11 @@
 use Rattle.std.proofs.Common.{arith}
 use Rattle.sqlite.specs.State.{HasCleanDisk}
 use Rattle.sqlite.specs.Held.{state}
-use Rattle.rows.proofs.Under.{ready_settled}
-use Rattle.rows.proofs.Steps.{ready_after}
-use Rattle.rows.proofs.Rising.{select_fails}
+use Rattle.table_statements.proofs.Under.{ready_settled}
+use Rattle.table_statements.proofs.Steps.{ready_after}
+use Rattle.table_statements.proofs.Rising.{select_fails}
 use Rattle.rows.proofs.InOrder.{objects_all}
-use Rattle.rows.proofs.ListingLemmas.{all_read, reads_all, fails_all}
+use Rattle.table_entries.proofs.ListingLemmas.{all_read, reads_all, fails_all}
 use Rattle.rows.proofs.objects.all.Goals as goal
 
 pub returns-clause-reads : goal.returns-clause-reads

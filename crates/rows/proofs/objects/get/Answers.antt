@@ -1,6 +1,6 @@
 use Rattle.sqlite.specs.Held.{state}
-use Rattle.rows.specs.Contents.{contents_of}
-use Rattle.rows.proofs.ObjectLemmas.{last_is}
+use Rattle.table_statements.specs.Contents.{contents_of}
+use Rattle.table_entries.proofs.ObjectLemmas.{last_is}
 use Rattle.rows.proofs.objects.get.Goals as goal
 
 pub returns-clause-reads : goal.returns-clause-reads

@@ -1,11 +1,11 @@
 use Rattle.std.proofs.Common.{arith}
 use Rattle.sqlite.specs.State.{HasCleanDisk}
 use Rattle.sqlite.specs.Held.{state}
-use Rattle.rows.proofs.Under.{ready_settled}
-use Rattle.rows.proofs.Steps.{ready_after}
-use Rattle.rows.proofs.Rising.{select_fails}
+use Rattle.table_statements.proofs.Under.{ready_settled}
+use Rattle.table_statements.proofs.Steps.{ready_after}
+use Rattle.table_statements.proofs.Rising.{select_fails}
 use Rattle.rows.proofs.InOrder.{objects_keys}
-use Rattle.rows.proofs.ObjectLemmas.{keys_read, reads_keys, fails_keys}
+use Rattle.table_entries.proofs.ObjectLemmas.{keys_read, reads_keys, fails_keys}
 use Rattle.rows.proofs.objects.keys.Goals as goal
 
 pub returns-clause-reads : goal.returns-clause-reads

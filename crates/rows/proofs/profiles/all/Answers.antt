@@ -1,11 +1,11 @@
 use Rattle.std.proofs.Common.{arith}
 use Rattle.sqlite.specs.State.{HasCleanDisk}
 use Rattle.sqlite.specs.Held.{state}
-use Rattle.rows.proofs.Under.{ready_settled}
-use Rattle.rows.proofs.Steps.{ready_after}
-use Rattle.rows.proofs.Rising.{select_fails}
-use Rattle.rows.proofs.InOrder.{profiles_all}
-use Rattle.rows.proofs.ProfileLemmas.{all_read, reads_all, fails_all}
+use Rattle.table_statements.proofs.Under.{ready_settled}
+use Rattle.table_statements.proofs.Steps.{ready_after}
+use Rattle.table_statements.proofs.Rising.{select_fails}
+use Rattle.table_entries.proofs.Description.{selects_all, selects_not, never_amiss}
+use Rattle.table_entries.proofs.ProfileLemmas.{table, reading, all_read, all}
 use Rattle.rows.proofs.profiles.all.Goals as goal
 
 pub returns-clause-reads : goal.returns-clause-reads
@@ -13,7 +13,7 @@ returns-clause-reads g c clean =
     let old = state g.S.Store c.args.conn.now in
     let new = state g.S.Store c.select.new.conn in
     let early : HasCleanDisk old = omega (arith, c.select.ensures.survives.clean) in
-    reads_all old new c.select.result (c.requires.ready early) (c.select.ensures.shown clean) (c.select.ensures.rises clean)
+    selects_all table reading old new all (c.requires.ready early) c.select.result (c.select.ensures.shown clean) (c.select.ensures.rises clean)
 
 pub returns-clause-cause : goal.returns-clause-cause
 returns-clause-cause g c clean =
@@ -21,7 +21,7 @@ returns-clause-cause g c clean =
     let new = state g.S.Store c.select.new.conn in
     let early : HasCleanDisk old = omega (arith, c.select.ensures.survives.clean) in
     let ready = c.requires.ready early in
-    select_fails c.select.result old new _ _ _ (fails_all old new (ready_settled old ready)) (profiles_all old new ready _) (c.select.ensures.cause clean)
+    select_fails c.select.result old new _ _ _ (selects_not table reading old new all (ready_settled old ready)) (never_amiss table reading old new all ready) (c.select.ensures.cause clean)
 
 pub select-requires : goal.select-requires
 select-requires g c = all_read

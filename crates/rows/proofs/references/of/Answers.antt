@@ -1,11 +1,11 @@
 use Rattle.std.proofs.Common.{arith}
 use Rattle.sqlite.specs.State.{HasCleanDisk}
 use Rattle.sqlite.specs.Held.{state}
-use Rattle.rows.proofs.Under.{ready_settled}
-use Rattle.rows.proofs.Steps.{ready_after}
-use Rattle.rows.proofs.Rising.{select_fails}
-use Rattle.rows.proofs.InOrder.{references_of}
-use Rattle.rows.proofs.ReferenceLemmas.{of_read, reads_of, fails_of}
+use Rattle.table_statements.proofs.Under.{ready_settled}
+use Rattle.table_statements.proofs.Steps.{ready_after}
+use Rattle.table_statements.proofs.Rising.{select_fails}
+use Rattle.table_entries.proofs.Description.{selects, selects_not, never_amiss}
+use Rattle.table_entries.proofs.ReferenceLemmas.{table, reading, of_read, of}
 use Rattle.rows.proofs.references.of.Goals as goal
 
 pub returns-clause-reads : goal.returns-clause-reads
@@ -13,7 +13,7 @@ returns-clause-reads g c clean =
     let old = state g.S.Store c.args.conn.now in
     let new = state g.S.Store c.select.new.conn in
     let early : HasCleanDisk old = omega (arith, c.select.ensures.survives.clean) in
-    reads_of old new c.args.base.now c.select.result (c.requires.ready early) (rw c.params-to_sql.ensures at (c.select.ensures.shown clean)) (c.select.ensures.rises clean)
+    selects table reading old new (of c.args.base.now) (c.requires.ready early) c.select.result (rw c.params-to_sql.ensures at (c.select.ensures.shown clean)) (c.select.ensures.rises clean)
 
 pub returns-clause-cause : goal.returns-clause-cause
 returns-clause-cause g c clean =
@@ -21,7 +21,7 @@ returns-clause-cause g c clean =
     let new = state g.S.Store c.select.new.conn in
     let early : HasCleanDisk old = omega (arith, c.select.ensures.survives.clean) in
     let ready = c.requires.ready early in
-    select_fails c.select.result old new _ _ _ (fails_of old new c.args.base.now (ready_settled old ready)) (references_of old new ready _) (rw c.params-to_sql.ensures at (c.select.ensures.cause clean))
+    select_fails c.select.result old new _ _ _ (selects_not table reading old new (of c.args.base.now) (ready_settled old ready)) (never_amiss table reading old new (of c.args.base.now) ready) (rw c.params-to_sql.ensures at (c.select.ensures.cause clean))
 
 pub select-requires : goal.select-requires
 select-requires g c = of_read

@@ -2,11 +2,10 @@ use Rattle.std.proofs.Common.{arith, subst}
 use Rattle.std.specs.Prelude.{IsUtf8}
 use Rattle.sqlite.specs.State.{HasCleanDisk}
 use Rattle.sqlite.specs.Held.{state}
-use Rattle.rows.proofs.Scans.{on_ok}
-use Rattle.rows.proofs.Sizes.{addition_failed}
-use Rattle.rows.proofs.InsertFailures.{runtime_roots_insert}
-use Rattle.rows.proofs.RuntimeRootLemmas.{inserts}
-use Rattle.rows.proofs.NewEntries.{runtime_roots_new}
+use Rattle.table_statements.proofs.Scans.{on_ok}
+use Rattle.table_statements.proofs.Sizes.{addition_failed}
+use Rattle.table_entries.proofs.Description.{adds, adds_not}
+use Rattle.table_entries.proofs.RuntimeRootLemmas.{table, addition}
 use Rattle.rows.proofs.runtime.insert.Goals as goal
 
 pub returns-clause-done : goal.returns-clause-done
@@ -14,22 +13,18 @@ returns-clause-done g c clean =
     let old = state g.S.Store c.args.tx.now.conn.now in
     let new = state g.S.Store c.add.new.tx.conn.now in
     let early : HasCleanDisk old = omega (arith, c.add.ensures.survives.clean) in
-    on_ok c.add.result _ _ (λ ran. inserts old new c.args.label.now c.args.target.now ran.0 (subst IsUtf8 c.as_bytes-label.ensures.value c.as_bytes-label.ensures.utf8) (subst IsUtf8 c.as_bytes-target.ensures.value c.as_bytes-target.ensures.utf8) (c.requires early) (rw (c.params-to_sql.ensures, c.params-to_sql-2.ensures) at ran.1)) (c.add.ensures.ran clean)
+    on_ok c.add.result _ _ (λ ran. (adds table old new (c.requires early) (addition c.args.label.now c.args.target.now) ran.0 (subst IsUtf8 c.as_bytes-label.ensures.value c.as_bytes-label.ensures.utf8, (subst IsUtf8 c.as_bytes-target.ensures.value c.as_bytes-target.ensures.utf8, tt)) (rw (c.params-to_sql.ensures, c.params-to_sql-2.ensures) at ran.1)).1) (c.add.ensures.ran clean)
 
 pub returns-clause-new : goal.returns-clause-new
 returns-clause-new g c clean =
     let old = state g.S.Store c.args.tx.now.conn.now in
     let new = state g.S.Store c.add.new.tx.conn.now in
     let early : HasCleanDisk old = omega (arith, c.add.ensures.survives.clean) in
-    on_ok c.add.result _ _ (λ ran.
-    let done = rw (c.params-to_sql.ensures, c.params-to_sql-2.ensures) at ran.1 in
-    runtime_roots_new old new c.args.label.now c.args.target.now ran.0 (c.requires early) done
-    (inserts old new c.args.label.now c.args.target.now ran.0 (subst IsUtf8 c.as_bytes-label.ensures.value c.as_bytes-label.ensures.utf8) (subst IsUtf8 c.as_bytes-target.ensures.value c.as_bytes-target.ensures.utf8) (c.requires early) done).ours)
-    (c.add.ensures.ran clean)
+    on_ok c.add.result _ _ (λ ran. (adds table old new (c.requires early) (addition c.args.label.now c.args.target.now) ran.0 (subst IsUtf8 c.as_bytes-label.ensures.value c.as_bytes-label.ensures.utf8, (subst IsUtf8 c.as_bytes-target.ensures.value c.as_bytes-target.ensures.utf8, tt)) (rw (c.params-to_sql.ensures, c.params-to_sql-2.ensures) at ran.1)).0) (c.add.ensures.ran clean)
 
 pub returns-clause-cause : goal.returns-clause-cause
 returns-clause-cause g c clean =
     let old = state g.S.Store c.args.tx.now.conn.now in
     let new = state g.S.Store c.add.new.tx.conn.now in
     let early : HasCleanDisk old = omega (arith, c.add.ensures.survives.clean) in
-    addition_failed c.add.result old new _ _ _ _ (c.add.ensures.cause clean) (λ e h. runtime_roots_insert old new c.args.label.now c.args.target.now e (c.requires early) (rw (c.params-to_sql.ensures, c.params-to_sql-2.ensures) at h))
+    addition_failed c.add.result old new _ _ _ _ (c.add.ensures.cause clean) (λ e h. adds_not table old new (c.requires early) (addition c.args.label.now c.args.target.now) e (rw (c.params-to_sql.ensures, c.params-to_sql-2.ensures) at h))

@@ -1,0 +1,216 @@
+-- A table that is described once: its form, where it stands among ours, and the map or set that its rows make. What its statements do, and why they fail, is proved over the description.
+use Rattle.std.proofs.Common.{◌≡◌, ◌⊎◌, inl, inr, ◌/◌, ◌+◌, ◌<◌, ℕ, ℤ, List, [], ◌∷◌, true, false, not, Bool, Some, None, Option, Ok, Err, Result, IfOk, Vec, Global, map, length, drop, refl, sym, ap, subst, ◌∙◌, IsTrue}
+use Rattle.std.specs.declared.cmp.Ordering.{Ordering}
+use Rattle.std.specs.Prelude.{IsSome}
+use Rattle.std.specs.Cmp.{IsTotalOrder}
+use Rattle.std.specs.Ordering.{is_lt}
+use Rattle.std.specs.List.{AllByRecursion, AllAdjacentBelow, list_all}
+use Rattle.std.specs.FinMap as finite
+use Rattle.sqlite_value.specs.declared.value.Value.TheVariants.{Int}
+use Rattle.sqlite_value.specs.Order.{Row, column}
+use Rattle.sqlite_trees.specs.Tree.{put_row}
+use Rattle.sqlite_sql.specs.Term.{Term, holds}
+use Rattle.sqlite_sql.specs.Query.{Query, output, output_cmp}
+use Rattle.sqlite_schema.specs.declared.schema.Schema.{Schema}
+use Rattle.sqlite_schema.specs.declared.schema.Column.{Column}
+use Rattle.sqlite_schema.specs.declared.schema.Table.{Table}
+use Rattle.sqlite_schema.specs.declared.schema.Keys.TheVariants.{Enforced}
+use Rattle.sqlite_schema.specs.declared.command.Source.TheVariants.{Values}
+use Rattle.sqlite_schema.specs.declared.command.Command.TheVariants.{Insert, Delete, Select}
+use Rattle.sqlite_schema.specs.Rules.{are_typed, are_present}
+use Rattle.sqlite_typing.specs.Types.{accepts_terms, accepts_program}
+use Rattle.sqlite_rules.specs.Cast.{cast_row}
+use Rattle.sqlite_rules.specs.Edit.{Edit, edit_of, edited, Applies, numbered, next_rowid, is_taken}
+use Rattle.sqlite_rules.specs.declared.error.Rowids.TheVariants.{Chosen}
+use Rattle.sqlite.specs.Rows.{stamped}
+use Rattle.sqlite.specs.declared.error.Error.{Error}
+use Rattle.sqlite.specs.Effect.{Database, value_rows}
+use Rattle.sqlite.specs.State.{State, ExecutesInside, FailsToQuery, IsUnchanged}
+use Rattle.table_forms.specs.Forms.{strict, is_our_name}
+use Rattle.table_forms.specs.Standing.{IsKnown, IsNamed, Stands, HasTables, tree_named}
+use Rattle.table_statements.specs.Contents.{Contents, contents_of, map_of, rows_named}
+use Rattle.table_statements.specs.Texts.{IsReadable}
+use Rattle.table_statements.specs.declared.failure.Failure.{Failure}
+use Rattle.table_statements.specs.Calls.{IsKeyed, IsOurs, IsReady, IsUnderWay, HasSettledTables, Changes}
+use Rattle.table_statements.specs.Queries.{IsSelect, HasBegunWith}
+use Rattle.table_statements.specs.Reading.{IsAmiss}
+use Rattle.table_statements.specs.Failures.{failure_of, FailsWith, IsTooLarge, HasNoRowidLeft}
+use Rattle.table_statements.proofs.Truths.{free_of}
+use Rattle.table_statements.proofs.Means.{IsMeant, means_command}
+use Rattle.table_statements.proofs.Writes.{SetsRows, inserts_in, rowids_where}
+use Rattle.table_statements.proofs.Members.{keyed_put}
+use Rattle.table_statements.proofs.Entries.{put_map}
+use Rattle.table_statements.proofs.ReadableWrites.{put_readable}
+use Rattle.table_statements.proofs.Scans.{IsScan, shows}
+use Rattle.table_statements.proofs.Statements.{Compiles, Selects, reads_part, deletes_part, whole_map}
+use Rattle.table_statements.proofs.ReadFailures.{read_fails}
+use Rattle.table_statements.proofs.Rising.{AreKept, shown_well}
+use Rattle.table_statements.proofs.Additions.{IsNewKey, insert_fails}
+use Rattle.table_statements.proofs.Removals.{delete_fails}
+use Rattle.table_entries.proofs.Places.{changed, own_rows, ours_kept}
+use Rattle.table_entries.proofs.MappedRows.{HasOneRowEach}
+use Rattle.table_entries.proofs.NewEntries.{was_none}
+
+-- a table with these columns, whose rows make a map from keys to values; a set is a map to the unit
+pub record Description (K X : Type 0) : Type 1 where
+  pub name : List ℕ
+  pub columns : List Column
+  pub key : List ℕ
+  -- the map that its rows make
+  pub order : K → K → Ordering
+  pub total : IsTotalOrder order
+  pub same : finite.IsAntisymmetric order
+  pub kind : Row → Bool
+  pub entry : Row → K × X
+  -- which of the maps it is
+  pub of : Contents → finite.FinMap order X
+  pub put : Contents → finite.FinMap order X → Contents
+  pub held : (db : Database) → of (contents_of db) ≡ map_of order kind entry (rows_named db name)
+  -- it is one of ours
+  pub named : is_our_name name ≡ true
+  pub stands : (s : Schema) → HasTables s → Stands s (strict name columns key)
+  pub keyed : (db : Database) → IsOurs db → IsKeyed (rows_named db name)
+  pub kept : (db : Database) → IsOurs db → AreKept kind (λ r. (entry r).0) (length columns) (rows_named db name)
+  -- what our tables hold after a write to it
+  pub written : (old new : State) (rows : List Row) → HasTables old.now.schema → SetsRows old new (tree_named old.now.schema name) rows → (m : finite.FinMap order X) → map_of order kind entry rows ≡ m → contents_of new.now ≡ put (contents_of old.now) m
+
+abbrev pub form : {K X : Type 0} → Description K X → Table
+form d = strict d.name d.columns d.key
+
+-- ---- one entry more
+
+-- a text, with what it is given, that puts a row of these values, which is this entry
+pub record Addition {K X : Type 0} (d : Description K X) (text : List ℕ) (params values : Row) (k : K) (x : X) : Type 0 where
+  pub count : ℕ
+  pub terms : List Term
+  pub width : ℕ
+  pub given : length params ≡ count
+  pub is : (s : Schema) (at tree : ℕ) → IsNamed s d.name at (record (form d) { tree = tree }) → IsMeant s text count (Insert at (Values terms width))
+  pub accepts : accepts_terms terms (stamped (form d) params) ≡ true
+  pub made : (rows : List Row) → numbered Chosen rows (map (λ s. cast_row (form d) (drop 0 s)) (value_rows (stamped (form d) params) width (length terms / width) terms)) ≡ (Int (next_rowid rows) ∷ values) ∷ []
+  pub typed : are_typed None 0 d.columns values ≡ true
+  pub present : (id : ℤ) → are_present None 0 d.columns (Int id ∷ values) ≡ true
+  pub kind : (id : ℤ) → d.kind (Int id ∷ values) ≡ true
+  pub entry : (id : ℤ) → d.entry (Int id ∷ values) ≡ (k, x)
+  pub fresh : (db : Database) → IsOurs db → finite.get (d.of (contents_of db)) k ≡ None → IsNewKey d.name d.key db values
+
+module _ {K X : Type 0} (d : Description K X) (old new : State) (under : IsUnderWay old) {text : List ℕ} {params values : Row} {k : K} {x : X} (a : Addition d text params values k x) where
+  abbrev rows : List Row
+  rows = rows_named old.now d.name
+
+  abbrev row : Row
+  row = Int (next_rowid rows) ∷ values
+
+  -- its rowid is new, and it comes to the rows that were there
+  puts : (count : ℕ) → ExecutesInside 0 text params old new (Ok count) → (is_taken rows row ≡ false) × SetsRows old new (tree_named old.now.schema d.name) (put_row row rows)
+  puts count h =
+      let stands = d.stands old.now.schema (under.ours h.1.was_open).has in
+      let tree = tree_named old.now.schema d.name in
+      let own : Table = record (form d) { tree = tree } in
+      let m = means_command old.now.schema text _ (a.is old.now.schema stands.at tree stands.known.named) in
+      let it = inserts_in d.name d.columns d.key tree stands.at a.width a.terms text params old new count under.mode stands.known.named.1 m.0 m.1 h.0 in
+      let addition : Edit = record { table = own; gone = []; news = row ∷ [] } in
+      let same : edit_of old.now.trees own [] Chosen 0 (value_rows (stamped own params) a.width (length a.terms / a.width) a.terms) ≡ addition = ap (λ (all : List Row). let e : Edit = record { table = own; gone = []; news = all } in e) (a.made rows) in
+      let applies : Applies old.now.schema Enforced old.now.trees addition new.now.trees = subst (λ e. Applies old.now.schema Enforced old.now.trees e new.now.trees) same it.0 in
+      let sets : SetsRows old new tree (put_row row rows) = subst (λ e. SetsRows old new tree (edited old.now.trees e)) same it.1 in
+      (free_of _ _ applies.fresh, sets)
+
+  abbrev Added : Type 0
+  Added = Changes old new (λ c. d.put c (finite.insert (d.of c) k x))
+
+  -- the entry wasn't there, and is
+  pub adds : (count : ℕ) → AllByRecursion IsReadable values → ExecutesInside 0 text params old new (Ok count) → (finite.get (d.of (contents_of old.now)) k ≡ None) × Added
+  adds count texts h =
+      let ours = under.ours h.1.was_open in
+      let stands = d.stands old.now.schema ours.has in
+      let it = puts count h in
+      let e = a.entry (next_rowid rows) in
+      let keyed : IsKeyed rows → IsKeyed (put_row row rows) = keyed_put row rows it.0 refl in
+      let readable = put_readable (form d) row rows (tt, texts) in
+      let after : IsOurs new.now = ours_kept (form d) old new (put_row row rows) stands it.1 ours keyed readable in
+      let once : HasOneRowEach d.total d.same d.kind d.entry (put_row row rows) = subst (HasOneRowEach d.total d.same d.kind d.entry) (own_rows (form d) old new (put_row row rows) stands it.1) (d.kept new.now after).once in
+      let lacks : finite.get (map_of d.order d.kind d.entry rows) (d.entry row).0 ≡ None = was_none d.total d.same d.kind d.entry row rows it.0 (a.kind _) once in
+      let more : map_of d.order d.kind d.entry (put_row row rows) ≡ finite.insert (map_of d.order d.kind d.entry rows) k x =
+      put_map d.total d.same d.kind d.entry row rows it.0 (a.kind _) lacks ∙ ap (λ (p : K × X). finite.insert (map_of d.order d.kind d.entry rows) p.0 p.1) e in
+      let held = d.held old.now in (
+        subst (λ m. finite.get m k ≡ None) (sym held) (subst (λ (p : K × X). finite.get (map_of d.order d.kind d.entry rows) p.0 ≡ None) e lacks),
+        changed (form d) old new (put_row row rows) stands it.1 _ ours keyed readable d.named (d.written old new (put_row row rows) ours.has it.1 _ (more ∙ ap (λ m. finite.insert m k x) (sym held))),
+      )
+
+  -- why it isn't added: beside the store, for a limit on steps, for want of a rowid, or since its key is there
+  pub adds_not : (e : Error) → ExecutesInside 0 text params old new (Err e)
+      → FailsWith old new (IsTooLarge old.now (form d) values ⊎ (old.is_open ≡ false)) (IsSome old.step_limit ⊎ (HasNoRowidLeft old.now (form d) ⊎ IsSome (finite.get (d.of (contents_of old.now)) k))) (failure_of e)
+  adds_not e h =
+      insert_fails d.name d.columns d.key old new under (d.stands old.now.schema) text a.count params a.terms a.width values a.given (λ s at tree known. a.is s at tree known.named) a.accepts a.made a.typed a.present
+      (IsSome (finite.get (d.of (contents_of old.now)) k)) (λ up. free (under.ours up) (finite.get (d.of (contents_of old.now)) k) refl) e h
+    where
+      free : IsOurs old.now → (o : Option X) → finite.get (d.of (contents_of old.now)) k ≡ o → IsNewKey d.name d.key old.now values ⊎ IsSome (finite.get (d.of (contents_of old.now)) k)
+      free ours None none = inl (a.fresh old.now ours none)
+      free ours (Some v) there = inr (subst IsSome (sym there) refl)
+
+-- ---- those of a part of the keys gone
+
+-- a text, with what it is given, that removes the rows whose keys pass the test
+pub record Removal {K X : Type 0} (d : Description K X) (text : List ℕ) (params : Row) (test : K → Bool) : Type 0 where
+  pub count : ℕ
+  pub filter : List Term
+  pub given : length params ≡ count
+  pub is : Compiles d.name d.columns d.key text count (λ at tree. Delete at (record { lets = []; body = rowids_where tree filter }))
+  pub said : (r : Row) → d.kind r ≡ true → list_all (holds (params ∷ r ∷ [])) filter ≡ test (d.entry r).0
+  pub accepts : (s : Schema) (at tree : ℕ) → IsKnown s d.name at (record (form d) { tree = tree }) → accepts_program s [] (rowids_where tree filter) params ≡ true
+
+module _ {K X : Type 0} (d : Description K X) (old new : State) (under : IsUnderWay old) {text : List ℕ} {params : Row} {test : K → Bool} (r : Removal d text params test) where
+  pub removes : (count : ℕ) → ExecutesInside 0 text params old new (Ok count) → Changes old new (λ c. d.put c (finite.retain_keys (d.of c) (λ k. not (test k))))
+  removes count h =
+      let ours = under.ours h.1.was_open in
+      let it = deletes_part d.name d.columns d.key d.total d.same d.kind d.entry old new (d.stands old.now.schema) under text params r.filter test r.said r.is count h (d.keyed old.now ours) in
+      changed (form d) old new it.0 (d.stands old.now.schema ours.has) it.1 _ ours it.2 it.3 d.named (d.written old new it.0 ours.has it.1 _ (it.4 ∙ ap (λ m. finite.retain_keys m (λ k. not (test k))) (sym (d.held old.now))))
+
+  pub removes_not : (e : Error) → ExecutesInside 0 text params old new (Err e) → FailsWith old new (old.is_open ≡ false) (IsSome old.step_limit) (failure_of e)
+  removes_not e h = delete_fails d.name d.columns d.key old new under (d.stands old.now.schema) text r.count params r.filter r.given r.is r.accepts e h
+
+-- ---- reading
+
+-- how a query shows an entry, and which of its rows can be read as one
+pub record Reading {K X T : Type 0} (d : Description K X) (ShowsItem : Row → T → Type 0) (item : T → K × X) (IsLegible : Row → Type 0) : Type 0 where
+  pub names : List (List ℕ)
+  pub query : List Term → ℕ → Query
+  pub filters : (filter : List Term) (tree : ℕ) → (query filter tree).filter ≡ filter
+  pub scan : (filter : List Term) (tree : ℕ) → IsScan (query filter tree) tree
+  pub fits : (params : Row) (filter : List Term) (tree : ℕ) (r : Row) (t : T) → ShowsItem (shows (query filter tree) params r) t → (d.kind r ≡ true) × (d.entry r ≡ item t)
+  pub legible : (params : Row) (filter : List Term) (tree : ℕ) (r : Row) → d.kind r ≡ true → ((at : ℕ) → at < length d.columns → IsReadable (column r (at + 1))) → IsLegible (shows (query filter tree) params r)
+  pub orders : (params : Row) (filter : List Term) (tree : ℕ) (a b : Row) → d.kind a ≡ true → d.kind b ≡ true
+      → output_cmp (query filter tree) (output (query filter tree) (params ∷ a ∷ [])) (output (query filter tree) (params ∷ b ∷ [])) ≡ d.order (d.entry a).0 (d.entry b).0
+
+-- a text, with what it is given, that shows the rows whose keys pass the test
+pub record Selection {K X T : Type 0} (d : Description K X) {ShowsItem : Row → T → Type 0} {item : T → K × X} {IsLegible : Row → Type 0} (q : Reading d ShowsItem item IsLegible) (text : List ℕ) (params : Row) (test : K → Bool) : Type 0 where
+  pub filter : List Term
+  pub is : Compiles d.name d.columns d.key text (length params) (λ at tree. Select (record { lets = []; body = q.query filter tree }) q.names)
+  pub said : (r : Row) → d.kind r ≡ true → list_all (holds (params ∷ r ∷ [])) filter ≡ test (d.entry r).0
+  pub reads : IsSelect text
+  pub accepts : (s : Schema) (at tree : ℕ) → IsKnown s d.name at (record (form d) { tree = tree }) → accepts_program s [] (q.query filter tree) params ≡ true
+
+module _ {K X T : Type 0} (d : Description K X) {ShowsItem : Row → T → Type 0} {item : T → K × X} {IsLegible : Row → Type 0} (q : Reading d ShowsItem item IsLegible) (old new : State) {text : List ℕ} {params : Row} {test : K → Bool} (s : Selection d q text params test) where
+  -- the entries of this part of the keys, in order
+  pub selects : (IsTrue old.is_open → IsReady old) → (r : Result (Vec T Global) Failure) → Selects ShowsItem old new text params r → IfOk r (λ all. AllAdjacentBelow (λ x y. true ≡ is_lt (d.order (item x).0 (item y).0)) all.items (length all.items))
+      → IfOk r (λ all. IsUnchanged old new × (map item all.items ≡ finite.entries (finite.retain_keys (d.of (contents_of old.now)) test)))
+  selects ready r got up =
+      subst (λ m. IfOk r (λ all. IsUnchanged old new × (map item all.items ≡ finite.entries (finite.retain_keys m test)))) (sym (d.held old.now))
+      (reads_part d.name d.columns d.key d.total d.same d.kind d.entry old new (d.stands old.now.schema) ready text params q.names (q.query s.filter) (q.scan s.filter) test
+      (λ tree row is. ap (list_all (holds (params ∷ row ∷ []))) (q.filters s.filter tree) ∙ s.said row is) ShowsItem item (q.fits params s.filter) s.is r got up)
+
+  -- why they aren't read
+  pub selects_not : HasSettledTables old → (e : Error) → FailsToQuery text params old new e → FailsWith old new ⊥ (IsSome old.step_limit) (failure_of e)
+  selects_not rests = read_fails d.name d.columns d.key old new rests (d.stands old.now.schema) text params q.names (q.query s.filter) (q.scan s.filter) s.is s.reads s.accepts
+
+  -- what is shown can be read, and rises
+  pub never_amiss : (IsTrue old.is_open → IsReady old) → (rows : List Row) → HasBegunWith text params old new rows → ¬ IsAmiss IsLegible ShowsItem (λ x y. is_lt (d.order (item x).0 (item y).0)) rows
+  never_amiss ready =
+      shown_well d.name d.columns d.key d.same d.kind (λ r. (d.entry r).0) (length d.columns) old new ready (d.stands old.now.schema) (d.kept old.now) text params q.names (q.query s.filter) (q.scan s.filter) s.is (q.orders params s.filter)
+      ShowsItem (λ t. (item t).0) (λ tree row t h. ap (λ e. e.0) (q.fits params s.filter tree row t h).1) IsLegible (q.legible params s.filter)
+
+module _ {K X T : Type 0} (d : Description K X) {ShowsItem : Row → T → Type 0} {item : T → K × X} {IsLegible : Row → Type 0} (q : Reading d ShowsItem item IsLegible) (old new : State) {text : List ℕ} {params : Row} (s : Selection d q text params (λ _. true)) where
+  -- all entries, in order
+  pub selects_all : (IsTrue old.is_open → IsReady old) → (r : Result (Vec T Global) Failure) → Selects ShowsItem old new text params r → IfOk r (λ all. AllAdjacentBelow (λ x y. true ≡ is_lt (d.order (item x).0 (item y).0)) all.items (length all.items))
+      → IfOk r (λ all. IsUnchanged old new × (map item all.items ≡ finite.entries (d.of (contents_of old.now))))
+  selects_all ready r got up = whole_map d.total d.same item r (IsUnchanged old new) (d.of (contents_of old.now)) (selects d q old new s ready r got up)

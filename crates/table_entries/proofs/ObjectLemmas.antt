@@ -1,0 +1,335 @@
+-- The table of objects, described once, and what the texts of its statements mean.
+use Rattle.std.proofs.Common.{◌≡◌, ℕ, pos, negsuc, List, [], ◌∷◌, ◌++◌, inl, arith, vec_len, codes, Bool, true, false, ◌&&◌, Some, None, Option, Ok, Result, Err, IfOk, Vec, Global, String, map, length, refl, sym, ap, subst, ◌∙◌, IsTrue}
+use Rattle.std.specs.Prelude.{string_bytes, ◌<◌, ◌↔◌, IsSome, IsUtf8, is_some}
+use Rattle.std.specs.Option.{option_to_list}
+use Rattle.sqlite_rules.proofs.ListLemmas.{has_right}
+use Rattle.sqlite_rules.proofs.ProbeLemmas.{mapped_has}
+use Rattle.sqlite_rules.specs.Lists.{Has}
+use Rattle.std.specs.Ordering.{eq_by_cmp, is_lt}
+use Rattle.std.specs.List.{list_all, AllAdjacentBelow, AllByRecursion}
+use Rattle.std.specs.FinMap as finite
+use Rattle.sqlite_value.specs.declared.value.Value.{Value}
+use Rattle.sqlite_value.specs.declared.value.Value.TheVariants.{Null, Int, Real, Text, Blob}
+use Rattle.sqlite_value.specs.declared.keys.Collation.TheVariants.{Binary}
+use Rattle.sqlite_value.specs.Keys.{ascending}
+use Rattle.sqlite_value.specs.Order.{Row, column, bytes}
+use Rattle.sqlite_sql.specs.Term.{Term, lit, col, holds}
+use Rattle.sqlite_sql.specs.Query.{Query, inner, end}
+use Rattle.sqlite_schema.specs.declared.schema.Schema.{Schema}
+use Rattle.sqlite_schema.specs.declared.program.Program.{Program}
+use Rattle.sqlite_schema.specs.declared.command.Source.TheVariants.{Values}
+use Rattle.sqlite_schema.specs.declared.command.Command.TheVariants.{Insert, Delete, Select}
+use Rattle.sqlite_draft.specs.declared.query.Draft.{Draft}
+use Rattle.sqlite_draft.specs.declared.join.Step.TheVariants.{Inner}
+use Rattle.sqlite_draft.specs.Join.{chain}
+use Rattle.sqlite_resolve.specs.declared.scope.Output.{Output as Out}
+use Rattle.sqlite_resolve.specs.Lowering.{max_budget}
+use Rattle.sqlite_resolve.specs.Program.{program}
+use Rattle.sqlite_resolve.specs.Write.{over}
+use Rattle.sqlite_rules.specs.Edit.{next_rowid}
+use Rattle.sqlite_tied.specs.Compute.{everything}
+use Rattle.sqlite.specs.declared.error.Error.{Error}
+use Rattle.sqlite.specs.State.{State, FailsToQuery, IsUnchanged}
+use Rattle.table_statements.specs.declared.failure.Failure.{Failure}
+use Rattle.table_entries.specs.declared.objects.Object.{Object}
+use Rattle.table_forms.specs.Forms.{object}
+use Rattle.table_forms.specs.Standing.{IsNamed, IsKnown}
+use Rattle.table_statements.specs.Contents.{Bytes, Stored, map_of, rows_named, contents_of, texts_cmp, is_text, is_blob, is_object, object_of, text_if_any, is_text_or_null}
+use Rattle.table_statements.specs.Queries.{IsSelect}
+use Rattle.table_statements.specs.Calls.{IsReady, HasSettledTables, IsOurs}
+use Rattle.table_entries.specs.Entries.{stored_of, ShowsObject, IsStored, stored, IsObjectRow}
+use Rattle.table_statements.specs.Reading.{ShowsText}
+use Rattle.table_statements.proofs.Orders.{texts_total, texts_antisymmetric}
+use Rattle.table_statements.proofs.Truths.{cast_null, and_so, and_one, text_test}
+use Rattle.table_entries.proofs.Optional.{IsKept, given, kept_given, bound_given, read_given, option_fits}
+use Rattle.table_statements.proofs.Means.{IsMeant, insert_means, delete_means, ordered_by_one, plain_state, shown_column}
+use Rattle.table_entries.proofs.Conditions.{where_one, equals, select_context, filter_in}
+use Rattle.table_entries.proofs.Columns.{bounds_are, outputs_one, outputs_five, result_context, from_in, shown_in}
+use Rattle.table_statements.proofs.Writes.{rowids_where}
+use Rattle.table_statements.proofs.Scans.{IsScan, shows}
+use Rattle.table_statements.proofs.Entries.{map-map}
+use Rattle.table_entries.proofs.ContentsLemmas.{object_set}
+use Rattle.table_statements.specs.Failures.{failure_of, FailsWith}
+use Rattle.table_statements.proofs.ReadFailures.{read_fails}
+use Rattle.table_statements.proofs.Statements.{Compiles, Selects, reads_part, whole_map}
+use Rattle.table_entries.proofs.Typed.{objects_typed, base_is}
+use Rattle.table_entries.proofs.Alike.{map_made}
+use Rattle.table_entries.proofs.One.{one_is, none_is}
+use Rattle.sqlite.specs.Values.{bound_value}
+use Rattle.table_entries.proofs.KeyOrders.{by_text}
+use Rattle.table_entries.proofs.Legible.{object_row}
+use Rattle.table_entries.proofs.FreeKeys.{free_one}
+use Rattle.table_entries.proofs.Kept.{object_kept}
+use Rattle.table_entries.proofs.Description.{Description, Addition, Removal, Reading, Selection}
+use Rattle.table_statements.specs.Texts.{IsReadable}
+use Rattle.sqlite_schema.specs.declared.schema.Kind.TheVariants as kind
+use Rattle.sqlite_schema.specs.Rules.{is_of}
+use Rattle.sqlite_typing.specs.Types.{class_of}
+
+-- ---- the table
+
+abbrev pub table : Description Bytes Stored
+table = record {
+  name = object.name;
+  columns = object.columns;
+  key = object.primary;
+  order = texts_cmp;
+  total = texts_total;
+  same = texts_antisymmetric;
+  kind = is_object;
+  entry = object_of;
+  of = λ c. c.objects;
+  put = λ c m. record c { objects = m };
+  held = λ db. refl;
+  named = refl;
+  stands = λ s has. has.1.0;
+  keyed = λ db ours. ours.keyed.1.0;
+  kept = object_kept;
+  written = λ old new rows has sets m is. object_set old new has rows sets m is;
+}
+
+-- ---- one more
+
+abbrev pub insert_text : List ℕ
+insert_text = codes "INSERT INTO object (base, nar, hash, deriver, ca) VALUES (?1, ?2, ?3, ?4, ?5)"
+
+abbrev pub terms : List Term
+terms = lit Null ∷ col 0 0 ∷ col 0 1 ∷ col 0 2 ∷ col 0 3 ∷ col 0 4 ∷ []
+
+pub insert_is : (s : Schema) (at tree : ℕ) → IsNamed s (codes "object") at (record object { tree = tree }) → IsMeant s insert_text 5 (Insert at (Values terms 6))
+unfolding everything
+insert_is s at tree found = (_, insert_means insert_text refl s at (codes "object") object.columns object.primary tree _ found refl, refl, refl, refl, refl, refl)
+
+-- a text that may be missing has a class, and is of the type of its column
+has_class : (v : Value) → is_text_or_null v ≡ true → is_some (class_of v) ≡ true
+has_class Null h = refl
+has_class (Int n) h = refl
+has_class (Real x) h = absurd (let e = h in cc)
+has_class (Text t) h = refl
+has_class (Blob b) h = refl
+
+is_a_text : (v : Value) → is_text_or_null v ≡ true → is_of kind.Text v ≡ true
+is_a_text Null h = refl
+is_a_text (Int n) h = absurd (let e = h in cc)
+is_a_text (Real x) h = absurd (let e = h in cc)
+is_a_text (Text t) h = refl
+is_a_text (Blob b) h = absurd (let e = h in cc)
+
+addition_kept : (base nar hash : List ℕ) (deriver ca : Value) → IsKept deriver → IsKept ca → Addition table insert_text (Text base ∷ Blob nar ∷ Blob hash ∷ deriver ∷ ca ∷ []) (Text base ∷ Blob nar ∷ Blob hash ∷ deriver ∷ ca ∷ []) base (record { nar = nar; hash = hash; deriver = text_if_any deriver; ca = text_if_any ca })
+addition_kept base nar hash deriver ca d c = record {
+  count = 5;
+  terms = terms;
+  width = 6;
+  given = refl;
+  is = insert_is;
+  accepts = rw (has_class deriver d.kind, has_class ca c.kind) refl;
+  made = λ rows. rw (cast_null, d.cast_is, c.cast_is) refl;
+  typed = rw (is_a_text deriver d.kind, is_a_text ca c.kind) refl;
+  present = λ id. refl;
+  kind = λ id. rw (d.kind, c.kind) refl;
+  entry = λ id. refl;
+  fresh = λ db ours none. free_one is_object (rows_named db object.name) (object_kept db ours).typed object_of (λ r. refl) (λ r is. (and_so _ _ (and_so _ _ (and_so _ _ (and_so _ _ is).0).0).0).0) base none (Int (next_rowid (rows_named db object.name))) (Blob nar ∷ Blob hash ∷ deriver ∷ ca ∷ []);
+}
+
+pub addition : (base nar hash : List ℕ) (deriver ca : Option (String Global)) → Addition table insert_text (Text base ∷ Blob nar ∷ Blob hash ∷ bound_value (given deriver) ∷ bound_value (given ca) ∷ []) (Text base ∷ Blob nar ∷ Blob hash ∷ given deriver ∷ given ca ∷ []) base (stored nar hash deriver ca)
+addition base nar hash deriver ca = rw (bound_given deriver, bound_given ca, ← read_given deriver, ← read_given ca) (addition_kept base nar hash (given deriver) (given ca) (kept_given deriver) (kept_given ca))
+
+-- its texts are UTF-8
+pub readable : (base nar hash : List ℕ) (deriver ca : Option (String Global)) → IsUtf8 base → AllByRecursion IsReadable (Text base ∷ Blob nar ∷ Blob hash ∷ given deriver ∷ given ca ∷ [])
+readable base nar hash deriver ca utf8 = (utf8, (tt, (tt, ((kept_given deriver).readable, ((kept_given ca).readable, tt)))))
+
+-- ---- of a whole key
+
+abbrev pub of_one : List Term
+of_one = equals (col 1 1) (col 0 0) ∷ []
+
+said_one : (base : List ℕ) (r : Row) → is_object r ≡ true → list_all (holds ((Text base ∷ []) ∷ r ∷ [])) of_one ≡ (let k = (object_of r).0 in eq_by_cmp texts_cmp k base)
+said_one base r kind = and_one _ ∙ text_test (column r 1) base (and_so _ _ (and_so _ _ (and_so _ _ (and_so _ _ kind).0).0).0).0
+
+-- ---- those gone
+
+abbrev pub delete_text : List ℕ
+delete_text = codes "DELETE FROM object WHERE base = ?1"
+
+pub delete_is : Compiles object.name object.columns object.primary delete_text 1 (λ at tree. Delete at (record { lets = []; body = rowids_where tree of_one }))
+unfolding everything
+delete_is s at tree known =
+    let there = known.named.1 in
+    (_, delete_means delete_text refl s at (codes "object") object.columns object.primary tree of_one (plain_state 99997 None) _ known.named (where_one (over s at (codes "object")) (filter_in delete_text) refl refl (codes "base") at 0 1 (col 1 1) (equals (col 1 1) (col 0 0)) None max_budget (record { left_is = refl; right_is = refl; found = rw there; column = rw there; compare = rw there }) refl refl refl) (rw (known.low, known.by_tree)), refl, refl, refl, refl, refl)
+
+pub removal : (base : List ℕ) → Removal table delete_text (Text base ∷ []) (λ k. eq_by_cmp texts_cmp k base)
+removal base = record {
+  count = 1;
+  filter = of_one;
+  given = refl;
+  is = delete_is;
+  said = said_one base;
+  accepts = λ s at tree known. rw (known.low, known.by_tree) refl;
+}
+
+-- ---- reading them
+
+abbrev pub query : List Term → ℕ → Query
+query filter tree = record {
+  from = inner tree end;
+  filter = filter;
+  group = None;
+  project = col 1 1 ∷ col 1 2 ∷ col 1 3 ∷ col 1 4 ∷ col 1 5 ∷ [];
+  distinct = false;
+  collations = [];
+  order = (col 1 1, ascending Binary) ∷ [];
+  limit = lit (Int (negsuc 0));
+  offset = lit (Int (pos 0));
+}
+
+abbrev whole : List Term → ℕ → Program
+whole filter tree = record { lets = []; body = query filter tree }
+
+abbrev draft : List Term → ℕ → Draft
+draft filter tree = record { from = chain (Inner tree ∷ []); filter = filter; group = None; project = col 1 1 ∷ col 1 2 ∷ col 1 3 ∷ col 1 4 ∷ col 1 5 ∷ []; distinct = false; collations = []; order = (col 1 1, ascending Binary) ∷ []; limit = lit (Int (negsuc 0)); offset = lit (Int (pos 0)) }
+
+abbrev outputs : List Out
+outputs = shown_column (codes "base") 1 ∷ shown_column (codes "nar") 2 ∷ shown_column (codes "hash") 3 ∷ shown_column (codes "deriver") 4 ∷ shown_column (codes "ca") 5 ∷ []
+
+abbrev pub names : List (List ℕ)
+names = codes "base" ∷ codes "nar" ∷ codes "hash" ∷ codes "deriver" ∷ codes "ca" ∷ []
+
+abbrev pub reading : Reading table ShowsObject stored_of IsObjectRow
+reading = record {
+  names = names;
+  query = query;
+  filters = λ filter tree. refl;
+  scan = λ filter tree. record { from = refl; group = refl; distinct = refl; whole = λ params rows. refl };
+  fits = λ params filter tree r t h. (λ i. is_text (h.0 i) && is_blob (h.1 i) && is_blob (h.2 i) && (option_fits _ _ h.3).0 i && (option_fits _ _ h.4).0 i, λ i. (bytes (h.0 i), record { nar = bytes (h.1 i); hash = bytes (h.2 i); deriver = (option_fits _ _ h.3).1 i; ca = (option_fits _ _ h.4).1 i }));
+  legible = λ params filter tree. object_row;
+  orders = λ params filter tree a b h k. by_text a b (base_is a h) (base_is b k);
+}
+
+abbrev pub of_text : List ℕ
+of_text = codes "SELECT base, nar, hash, deriver, ca FROM object WHERE base = ?1 ORDER BY base"
+
+of_typed : (s : Schema) (at tree : ℕ) → IsKnown s (codes "object") at (record object { tree = tree }) → program s [] (draft of_one tree) ≡ Ok (whole of_one tree)
+unfolding everything
+of_typed s at tree known = rw (known.low, known.by_tree)
+
+pub of_is : Compiles object.name object.columns object.primary of_text 1 (λ at tree. Select (whole of_one tree) names)
+unfolding everything
+of_is s at tree known =
+    let there = known.named.1 in (
+      _,
+      ordered_by_one of_text refl refl refl s (codes "object") at (record object { tree = tree }) outputs of_one (codes "base") 0 (col 1 1) None (Some Binary) (lit (Int (negsuc 0)), lit (Int (pos 0)))
+          (plain_state 100000 None) (plain_state 99995 (Some Binary)) 99992 (whole of_one tree)
+          known.named refl refl refl refl refl refl refl refl refl refl (bounds_are s (from_in of_text) refl (codes "object") at refl refl refl known.named.0) (outputs_five (result_context s (codes "object") at) (record { name = codes "object"; table = at; slot = 1; shared = [] } ∷ []) (shown_in of_text) refl refl refl refl refl refl at (codes "base") (codes "nar") (codes "hash") (codes "deriver") (codes "ca") (record { names = refl; found = rw there; term = rw there; heading = rw there }) (record { names = refl; found = rw there; term = rw there; heading = rw there }) (record { names = refl; found = rw there; term = rw there; heading = rw there }) (record { names = refl; found = rw there; term = rw there; heading = rw there }) (record { names = refl; found = rw there; term = rw there; heading = rw there }) None max_budget (refl, (refl, (refl, (refl, (refl, tt)))))) (where_one (select_context s (codes "object") at outputs) (filter_in of_text) refl refl (codes "base") at 0 1 (col 1 1) (equals (col 1 1) (col 0 0)) (Some Binary) 99995 (record { left_is = refl; right_is = refl; found = rw there; column = rw there; compare = rw there }) refl refl refl)
+          (refl, refl, refl, refl) refl refl (rw there) (rw there) refl (of_typed s at tree known),
+      refl,
+      refl,
+      refl,
+      refl,
+      refl,
+    )
+
+pub of_read : IsSelect of_text
+unfolding everything
+of_read = (_, _, _, _, _, refl)
+
+pub of : (base : List ℕ) → Selection table reading of_text (Text base ∷ []) (λ k. eq_by_cmp texts_cmp k base)
+of base = record { filter = of_one; is = of_is; said = said_one base; reads = of_read; accepts = λ s at tree known. rw (known.low, known.by_tree) refl }
+
+-- ---- reading their keys alone
+
+abbrev pub keys_query : ℕ → Query
+keys_query tree = record {
+  from = inner tree end;
+  filter = [];
+  group = None;
+  project = col 1 1 ∷ [];
+  distinct = false;
+  collations = [];
+  order = (col 1 1, ascending Binary) ∷ [];
+  limit = lit (Int (negsuc 0));
+  offset = lit (Int (pos 0));
+}
+
+abbrev keys_whole : ℕ → Program
+keys_whole tree = record { lets = []; body = keys_query tree }
+
+abbrev keys_draft : ℕ → Draft
+keys_draft tree = record { from = chain (Inner tree ∷ []); filter = []; group = None; project = col 1 1 ∷ []; distinct = false; collations = []; order = (col 1 1, ascending Binary) ∷ []; limit = lit (Int (negsuc 0)); offset = lit (Int (pos 0)) }
+
+abbrev pub keys_text : List ℕ
+keys_text = codes "SELECT base FROM object ORDER BY base"
+
+keys_typed : (s : Schema) (at tree : ℕ) → IsKnown s (codes "object") at (record object { tree = tree }) → program s [] (keys_draft tree) ≡ Ok (keys_whole tree)
+unfolding everything
+keys_typed s at tree known = rw (known.low, known.by_tree)
+
+pub keys_is : Compiles object.name object.columns object.primary keys_text 0 (λ at tree. Select (keys_whole tree) (codes "base" ∷ []))
+unfolding everything
+keys_is s at tree known =
+    let there = known.named.1 in (
+      _,
+      ordered_by_one keys_text refl refl refl s (codes "object") at (record object { tree = tree }) (shown_column (codes "base") 1 ∷ []) [] (codes "base") 0 (col 1 1) (Some Binary) (Some Binary) (lit (Int (negsuc 0)), lit (Int (pos 0)))
+          (plain_state 100000 None) (plain_state 99999 (Some Binary)) 99999 (keys_whole tree)
+          known.named refl refl refl refl refl refl refl refl refl refl (bounds_are s (from_in keys_text) refl (codes "object") at refl refl refl known.named.0) (outputs_one (result_context s (codes "object") at) (record { name = codes "object"; table = at; slot = 1; shared = [] } ∷ []) (shown_in keys_text) refl refl at (codes "base") (record { names = refl; found = rw there; term = rw there; heading = rw there }) None max_budget (refl, tt)) refl
+          (refl, refl, refl, refl) refl refl (rw there) (rw there) refl (keys_typed s at tree known),
+      refl,
+      refl,
+      refl,
+      refl,
+      refl,
+    )
+
+abbrev has_key : Row → Bool
+has_key row = is_text (column row 1)
+
+abbrev key_in : Row → Bytes × Unit {0}
+key_in row = (bytes (column row 1), tt)
+
+abbrev key_of : String Global → Bytes × Unit {0}
+key_of key = (string_bytes key, tt)
+
+key_fits : (tree : ℕ) (r : Row) (t : String Global) → ShowsText (shows (keys_query tree) [] r) t → (has_key r ≡ true) × (key_in r ≡ key_of t)
+key_fits tree r t h = (λ i. is_text (h i), λ i. (bytes (h i), tt))
+
+-- the paths of all rows are those of the objects
+module _ (old : State) (ours : IsOurs old.now) where
+  paths : finite.entries (map_of texts_cmp has_key key_in (rows_named old.now object.name)) ≡ map (λ e. (e.0, tt)) (finite.entries (contents_of old.now).objects)
+  paths = map_made texts_cmp (λ (x : Stored). tt) is_object object_of has_key key_in texts_total (rows_named old.now object.name) (λ r there.
+      let kind = objects_typed old.now ours.sound ours.has.1.0 r there in (kind, (and_so _ _ (and_so _ _ (and_so _ _ (and_so _ _ kind).0).0).0).0, refl))
+
+pub reads_keys : (old new : State) (r : Result (Vec (String Global) Global) Failure) → (IsTrue old.is_open → IsReady old) → Selects ShowsText old new keys_text [] r → IfOk r (λ all. AllAdjacentBelow (λ x y. true ≡ is_lt (texts_cmp (string_bytes x) (string_bytes y))) all.items (length all.items))
+    → IfOk r (λ all. IsUnchanged old new × (map string_bytes all.items ≡ finite.keys (contents_of old.now).objects))
+reads_keys old new (Err e) ready selects up = tt
+reads_keys old new (Ok all) ready selects up =
+    let got = whole_map texts_total texts_antisymmetric key_of (Ok all) (IsUnchanged old new) (map_of texts_cmp has_key key_in (rows_named old.now object.name))
+    (reads_part object.name object.columns object.primary texts_total texts_antisymmetric has_key key_in old new (λ has. has.1.0) ready keys_text [] (codes "base" ∷ []) keys_query (λ tree. record { from = refl; group = refl; distinct = refl; whole = λ params rows. refl }) (λ _. true) (λ tree r kind. refl) ShowsText key_of key_fits keys_is (Ok all) selects up) in
+    let ours = (ready got.0.0.was_open).ours in
+    let same : map key_of all.items ≡ map (λ e. (e.0, tt)) (finite.entries (contents_of old.now).objects) = got.1 ∙ paths old ours in
+    (got.0, sym (map-map (λ (e : Bytes × Unit {0}). e.0) key_of all.items) ∙ ap (map (λ (e : Bytes × Unit {0}). e.0)) same ∙ map-map (λ (e : Bytes × Unit {0}). e.0) (λ (e : Bytes × Stored). (e.0, tt)) (finite.entries (contents_of old.now).objects))
+
+-- ---- the one of a path
+
+none_of : (objects : finite.FinMap texts_cmp Stored) (base : Bytes) (all : List Object) → map stored_of all ≡ finite.entries (finite.retain_keys objects (λ k. eq_by_cmp texts_cmp k base)) → (0 < length all → ⊥) → finite.get objects base ≡ None
+none_of objects base [] read none = none_is texts_total texts_antisymmetric objects base read
+none_of objects base (x ∷ all) read none = absurd (none (omega arith))
+
+-- the last of what a read of the path lists
+pub last_is : (objects : finite.FinMap texts_cmp Stored) (base : Bytes) (all : Vec Object Global) (rest : List Object) (last : Option Object) → map stored_of all.items ≡ finite.entries (finite.retain_keys objects (λ k. eq_by_cmp texts_cmp k base))
+    → all.items ≡ rest ++ option_to_list last → (IsSome last ↔ (0 < vec_len all)) → IsStored objects base last
+last_is objects base all rest (Some x) read is some =
+    let there : Has all.items x = subst (λ l. Has l x) (sym is) (has_right rest (x ∷ []) x (inl refl)) in
+    one_is texts_total texts_antisymmetric objects base (stored_of x).0 (stored_of x).1 (subst (λ l. Has l (stored_of x)) read (mapped_has stored_of all.items x there))
+last_is objects base all rest None read is some = none_of objects base all.items read (λ more. absurd (let e = some.1 (omega (arith, all.ok.0, more)) in cc))
+
+-- ---- why they aren't read
+
+pub keys_scan : (tree : ℕ) → IsScan (keys_query tree) tree
+keys_scan tree = record { from = refl; group = refl; distinct = refl; whole = λ params rows. refl }
+
+pub keys_read : IsSelect keys_text
+unfolding everything
+keys_read = (_, _, _, _, _, refl)
+
+pub fails_keys : (old new : State) → HasSettledTables old → (e : Error) → FailsToQuery keys_text [] old new e → FailsWith old new ⊥ (IsSome old.step_limit) (failure_of e)
+unfolding everything
+fails_keys old new rests = read_fails object.name object.columns object.primary old new rests (λ has. has.1.0) keys_text [] (codes "base" ∷ []) keys_query keys_scan keys_is keys_read (λ s at tree known. rw (known.low, known.by_tree) refl)

@@ -1,0 +1,218 @@
+-- The table of settings, described once, and what the texts of its statements mean.
+use Rattle.std.proofs.Common.{◌≡◌, ℕ, pos, negsuc, List, [], ◌∷◌, codes, true, false, ◌&&◌, Some, None, Ok, refl, ◌∙◌}
+use Rattle.std.specs.Ordering.{eq_by_cmp}
+use Rattle.std.specs.List.{list_all}
+use Rattle.sqlite_value.specs.declared.value.Value.TheVariants.{Null, Int, Text}
+use Rattle.sqlite_value.specs.declared.keys.Collation.TheVariants.{Binary}
+use Rattle.sqlite_value.specs.Keys.{ascending}
+use Rattle.sqlite_value.specs.Order.{Row, column, bytes}
+use Rattle.sqlite_sql.specs.Term.{Term, lit, col, holds}
+use Rattle.sqlite_sql.specs.Query.{Query, inner, end}
+use Rattle.sqlite_schema.specs.declared.schema.Schema.{Schema}
+use Rattle.sqlite_schema.specs.declared.program.Program.{Program}
+use Rattle.sqlite_schema.specs.declared.command.Source.TheVariants.{Values}
+use Rattle.sqlite_schema.specs.declared.command.Command.TheVariants.{Insert, Delete, Select}
+use Rattle.sqlite_draft.specs.declared.query.Draft.{Draft}
+use Rattle.sqlite_draft.specs.declared.join.Step.TheVariants.{Inner}
+use Rattle.sqlite_draft.specs.Join.{chain}
+use Rattle.sqlite_resolve.specs.declared.scope.Output.{Output as Out}
+use Rattle.sqlite_resolve.specs.Lowering.{max_budget}
+use Rattle.sqlite_resolve.specs.Program.{program}
+use Rattle.sqlite_resolve.specs.Write.{over}
+use Rattle.sqlite_rules.specs.Edit.{next_rowid}
+use Rattle.sqlite_tied.specs.Compute.{everything}
+use Rattle.table_forms.specs.Forms.{meta}
+use Rattle.table_forms.specs.Standing.{IsNamed, IsKnown}
+use Rattle.table_statements.specs.Contents.{texts_cmp, is_text, is_pair, pair_of, Bytes, rows_named}
+use Rattle.table_statements.specs.Queries.{IsSelect}
+use Rattle.table_entries.specs.Entries.{setting_of, ShowsSetting, IsPairRow}
+use Rattle.table_statements.proofs.Orders.{texts_total, texts_antisymmetric}
+use Rattle.table_statements.proofs.Truths.{cast_null, and_so, and_one, text_test}
+use Rattle.table_statements.proofs.Means.{IsMeant, insert_means, delete_means, ordered_by_one, plain_state, shown_column}
+use Rattle.table_entries.proofs.Conditions.{where_one, equals, filter_in, select_context}
+use Rattle.table_entries.proofs.Columns.{bounds_are, outputs_two, result_context, from_in, shown_in}
+use Rattle.table_statements.proofs.Writes.{rowids_where}
+use Rattle.table_entries.proofs.ContentsLemmas.{meta_set}
+use Rattle.table_statements.proofs.Statements.{Compiles}
+use Rattle.table_entries.proofs.KeyOrders.{by_text}
+use Rattle.table_entries.proofs.Legible.{pair_row}
+use Rattle.table_entries.proofs.FreeKeys.{free_one}
+use Rattle.table_entries.proofs.Kept.{meta_kept}
+use Rattle.table_entries.proofs.Description.{Description, Addition, Removal, Reading, Selection}
+
+-- ---- the table
+
+abbrev pub table : Description Bytes Bytes
+table = record {
+  name = meta.name;
+  columns = meta.columns;
+  key = meta.primary;
+  order = texts_cmp;
+  total = texts_total;
+  same = texts_antisymmetric;
+  kind = is_pair;
+  entry = pair_of;
+  of = λ c. c.meta;
+  put = λ c m. record c { meta = m };
+  held = λ db. refl;
+  named = refl;
+  stands = λ s has. has.0;
+  keyed = λ db ours. ours.keyed.0;
+  kept = meta_kept;
+  written = λ old new rows has sets m is. meta_set old new has rows sets m is;
+}
+
+-- ---- one more
+
+abbrev pub insert_text : List ℕ
+insert_text = codes "INSERT INTO meta (word, val) VALUES (?1, ?2)"
+
+abbrev pub terms : List Term
+terms = lit Null ∷ col 0 0 ∷ col 0 1 ∷ []
+
+pub insert_is : (s : Schema) (at tree : ℕ) → IsNamed s (codes "meta") at (record meta { tree = tree }) → IsMeant s insert_text 2 (Insert at (Values terms 3))
+unfolding everything
+insert_is s at tree found = (_, insert_means insert_text refl s at (codes "meta") meta.columns meta.primary tree _ found refl, refl, refl, refl, refl, refl)
+
+pub addition : (word : List ℕ) (value : List ℕ) → Addition table insert_text (Text word ∷ Text value ∷ []) (Text word ∷ Text value ∷ []) word value
+addition word value = record {
+  count = 2;
+  terms = terms;
+  width = 3;
+  given = refl;
+  is = insert_is;
+  accepts = refl;
+  made = λ rows. rw cast_null refl;
+  typed = refl;
+  present = λ id. refl;
+  kind = λ id. refl;
+  entry = λ id. refl;
+  fresh = λ db ours none. free_one is_pair (rows_named db meta.name) (meta_kept db ours).typed pair_of (λ r. refl) (λ r is. (and_so _ _ is).0) word none (Int (next_rowid (rows_named db meta.name))) (Text value ∷ []);
+}
+
+-- ---- of a whole key
+
+abbrev pub of_one : List Term
+of_one = equals (col 1 1) (col 0 0) ∷ []
+
+said_one : (word : List ℕ) (r : Row) → is_pair r ≡ true → list_all (holds ((Text word ∷ []) ∷ r ∷ [])) of_one ≡ (let k = (pair_of r).0 in eq_by_cmp texts_cmp k word)
+said_one word r kind = and_one _ ∙ text_test (column r 1) word (and_so _ _ kind).0
+
+-- ---- those gone
+
+abbrev pub delete_text : List ℕ
+delete_text = codes "DELETE FROM meta WHERE word = ?1"
+
+pub delete_is : Compiles meta.name meta.columns meta.primary delete_text 1 (λ at tree. Delete at (record { lets = []; body = rowids_where tree of_one }))
+unfolding everything
+delete_is s at tree known =
+    let there = known.named.1 in
+    (_, delete_means delete_text refl s at (codes "meta") meta.columns meta.primary tree of_one (plain_state 99997 None) _ known.named (where_one (over s at (codes "meta")) (filter_in delete_text) refl refl (codes "word") at 0 1 (col 1 1) (equals (col 1 1) (col 0 0)) None max_budget (record { left_is = refl; right_is = refl; found = rw there; column = rw there; compare = rw there }) refl refl refl) (rw (known.low, known.by_tree)), refl, refl, refl, refl, refl)
+
+pub removal : (word : List ℕ) → Removal table delete_text (Text word ∷ []) (λ k. eq_by_cmp texts_cmp k word)
+removal word = record {
+  count = 1;
+  filter = of_one;
+  given = refl;
+  is = delete_is;
+  said = said_one word;
+  accepts = λ s at tree known. rw (known.low, known.by_tree) refl;
+}
+
+-- ---- reading them
+
+abbrev pub query : List Term → ℕ → Query
+query filter tree = record {
+  from = inner tree end;
+  filter = filter;
+  group = None;
+  project = col 1 1 ∷ col 1 2 ∷ [];
+  distinct = false;
+  collations = [];
+  order = (col 1 1, ascending Binary) ∷ [];
+  limit = lit (Int (negsuc 0));
+  offset = lit (Int (pos 0));
+}
+
+abbrev whole : List Term → ℕ → Program
+whole filter tree = record { lets = []; body = query filter tree }
+
+abbrev draft : List Term → ℕ → Draft
+draft filter tree = record { from = chain (Inner tree ∷ []); filter = filter; group = None; project = col 1 1 ∷ col 1 2 ∷ []; distinct = false; collations = []; order = (col 1 1, ascending Binary) ∷ []; limit = lit (Int (negsuc 0)); offset = lit (Int (pos 0)) }
+
+abbrev outputs : List Out
+outputs = shown_column (codes "word") 1 ∷ shown_column (codes "val") 2 ∷ []
+
+abbrev pub names : List (List ℕ)
+names = codes "word" ∷ codes "val" ∷ []
+
+abbrev pub reading : Reading table ShowsSetting setting_of IsPairRow
+reading = record {
+  names = names;
+  query = query;
+  filters = λ filter tree. refl;
+  scan = λ filter tree. record { from = refl; group = refl; distinct = refl; whole = λ params rows. refl };
+  fits = λ params filter tree r t h. (λ i. is_text (h.0 i) && is_text (h.1 i), λ i. (bytes (h.0 i), bytes (h.1 i)));
+  legible = λ params filter tree. pair_row;
+  orders = λ params filter tree a b h k. by_text a b (and_so _ _ h).0 (and_so _ _ k).0;
+}
+
+abbrev pub all_text : List ℕ
+all_text = codes "SELECT word, val FROM meta ORDER BY word"
+
+all_typed : (s : Schema) (at tree : ℕ) → IsKnown s (codes "meta") at (record meta { tree = tree }) → program s [] (draft [] tree) ≡ Ok (whole [] tree)
+unfolding everything
+all_typed s at tree known = rw (known.low, known.by_tree)
+
+pub all_is : Compiles meta.name meta.columns meta.primary all_text 0 (λ at tree. Select (whole [] tree) names)
+unfolding everything
+all_is s at tree known =
+    let there = known.named.1 in (
+      _,
+      ordered_by_one all_text refl refl refl s (codes "meta") at (record meta { tree = tree }) outputs [] (codes "word") 0 (col 1 1) (Some Binary) (Some Binary) (lit (Int (negsuc 0)), lit (Int (pos 0)))
+          (plain_state 100000 None) (plain_state 99998 (Some Binary)) 99998 (whole [] tree)
+          known.named refl refl refl refl refl refl refl refl refl refl (bounds_are s (from_in all_text) refl (codes "meta") at refl refl refl known.named.0) (outputs_two (result_context s (codes "meta") at) (record { name = codes "meta"; table = at; slot = 1; shared = [] } ∷ []) (shown_in all_text) refl refl refl at (codes "word") (codes "val") (record { names = refl; found = rw there; term = rw there; heading = rw there }) (record { names = refl; found = rw there; term = rw there; heading = rw there }) None max_budget (refl, (refl, tt))) refl
+          (refl, refl, refl, refl) refl refl (rw there) (rw there) refl (all_typed s at tree known),
+      refl,
+      refl,
+      refl,
+      refl,
+      refl,
+    )
+
+pub all_read : IsSelect all_text
+unfolding everything
+all_read = (_, _, _, _, _, refl)
+
+pub all : Selection table reading all_text [] (λ _. true)
+all = record { filter = []; is = all_is; said = λ r kind. refl; reads = all_read; accepts = λ s at tree known. rw (known.low, known.by_tree) refl }
+
+abbrev pub of_text : List ℕ
+of_text = codes "SELECT word, val FROM meta WHERE word = ?1 ORDER BY word"
+
+of_typed : (s : Schema) (at tree : ℕ) → IsKnown s (codes "meta") at (record meta { tree = tree }) → program s [] (draft of_one tree) ≡ Ok (whole of_one tree)
+unfolding everything
+of_typed s at tree known = rw (known.low, known.by_tree)
+
+pub of_is : Compiles meta.name meta.columns meta.primary of_text 1 (λ at tree. Select (whole of_one tree) names)
+unfolding everything
+of_is s at tree known =
+    let there = known.named.1 in (
+      _,
+      ordered_by_one of_text refl refl refl s (codes "meta") at (record meta { tree = tree }) outputs of_one (codes "word") 0 (col 1 1) None (Some Binary) (lit (Int (negsuc 0)), lit (Int (pos 0)))
+          (plain_state 100000 None) (plain_state 99998 (Some Binary)) 99995 (whole of_one tree)
+          known.named refl refl refl refl refl refl refl refl refl refl (bounds_are s (from_in of_text) refl (codes "meta") at refl refl refl known.named.0) (outputs_two (result_context s (codes "meta") at) (record { name = codes "meta"; table = at; slot = 1; shared = [] } ∷ []) (shown_in of_text) refl refl refl at (codes "word") (codes "val") (record { names = refl; found = rw there; term = rw there; heading = rw there }) (record { names = refl; found = rw there; term = rw there; heading = rw there }) None max_budget (refl, (refl, tt))) (where_one (select_context s (codes "meta") at outputs) (filter_in of_text) refl refl (codes "word") at 0 1 (col 1 1) (equals (col 1 1) (col 0 0)) (Some Binary) 99998 (record { left_is = refl; right_is = refl; found = rw there; column = rw there; compare = rw there }) refl refl refl)
+          (refl, refl, refl, refl) refl refl (rw there) (rw there) refl (of_typed s at tree known),
+      refl,
+      refl,
+      refl,
+      refl,
+      refl,
+    )
+
+pub of_read : IsSelect of_text
+unfolding everything
+of_read = (_, _, _, _, _, refl)
+
+pub of : (word : List ℕ) → Selection table reading of_text (Text word ∷ []) (λ k. eq_by_cmp texts_cmp k word)
+of word = record { filter = of_one; is = of_is; said = said_one word; reads = of_read; accepts = λ s at tree known. rw (known.low, known.by_tree) refl }

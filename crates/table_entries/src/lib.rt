@@ -1,0 +1,12 @@
+//! The entries of each table, as a row shows them.
+#![tactic(auto)]
+
+pub mod generations;
+pub mod meta;
+pub mod objects;
+pub mod outputs;
+pub mod permanent;
+pub mod profiles;
+pub mod references;
+pub mod runtime;
+pub mod user_roots;

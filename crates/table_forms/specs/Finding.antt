@@ -1,0 +1,42 @@
+-- What a schema may hold of ours: all nine tables, nothing at all, or anything else.
+use Rattle.std.specs.Prelude.{◌≡◌, ℕ, ◌==◌, ◌^◌, nat_le, not, Bool, true, false, List, find, Some, None}
+use Rattle.std.specs.List.{list_all, AllByRecursion}
+use Rattle.sqlite_schema.specs.declared.schema.Schema.{Schema}
+use Rattle.sqlite_schema.specs.declared.schema.Table.{Table}
+use Rattle.sqlite_schema.specs.Names.{same_name, table_named, index_named, view_named}
+use Rattle.sqlite.specs.Does.{lacks_sequence}
+use Rattle.table_forms.specs.Forms.{our_tables}
+use Rattle.table_forms.specs.Standing.{is_unreferred, is_alone, is_unguarded}
+
+-- the table has the form, and is found by its tree too, which is below the numbers that a query gives to tables of its own
+pub record HasForm (tables : List Table) (form found : Table) : Type 0 where
+  pub same : found ≡ record form { tree = found.tree }
+  pub by_tree : find (λ t. t.tree == found.tree) tables ≡ Some (record form { tree = found.tree })
+  pub low : nat_le (2 ^ 31) found.tree ≡ false
+
+-- nothing else acts on the table of this tree
+pub record IsLeftAlone (s : Schema) (name : List ℕ) (tree : ℕ) (key : List ℕ) : Type 0 where
+  pub unreferred : is_unreferred s tree ≡ true
+  pub alone : is_alone s name tree ≡ true
+  pub unguarded : is_unguarded s tree key ≡ true
+
+-- the table is ours: of the form, and left alone
+pub record IsThis (s : Schema) (form found : Table) : Type 0 where
+  pub has_form : HasForm s.tables form found
+  pub left_alone : IsLeftAlone s form.name found.tree form.primary
+
+-- no foreign key waits for a table of the name
+abbrev pub is_unawaited : Schema → List ℕ → Bool
+is_unawaited s name = list_all (λ t. list_all (λ r. not (same_name r.parent name)) t.references) s.tables
+
+-- nothing of the schema has the name, and nothing waits for it
+pub record IsFree (s : Schema) (name : List ℕ) : Type 0 where
+  pub table : table_named s name ≡ None
+  pub index : index_named s name ≡ None
+  pub view : view_named s name ≡ None
+  pub unawaited : is_unawaited s name ≡ true
+
+-- none of our names is taken, and a table that counts its rowids has its counter
+pub record HasNone (s : Schema) : Type 0 where
+  pub free : AllByRecursion (λ t. IsFree s t.name) our_tables
+  pub counted : lacks_sequence s ≡ false

@@ -1,0 +1,4 @@
+pub mod Forms
+pub mod Shapes
+pub mod Standing
+pub mod Finding

@@ -1,0 +1,7 @@
+//! The forms of our tables, and what a schema holds of them.
+#![tactic(auto)]
+
+pub mod finding;
+mod form;
+mod nine;
+mod standing;

@@ -1,0 +1,9 @@
+pub mod Creates
+pub mod Made
+pub mod MakingFailures
+pub mod MakingTexts
+pub mod MakingTogether
+pub mod SettingFailures
+pub mod Settles
+pub mod Stood
+pub mod FrozenThen

@@ -1,0 +1,129 @@
+-- A failure after some of our tables were made is a failure to make them all.
+use Rattle.std.proofs.Common.{◌≡◌, ◌⊎◌, inl, inr, ◌<◌, ◌≤◌, ◌+◌, ℕ, List, [], ◌∷◌, ◌++◌, map, Bool, true, false, ◌||◌, Some, None, Option, refl, sym, ap, subst, ◌∙◌, arith, IsTrue, length-append, ◌&&◌, Result, Ok, Err}
+use Rattle.std.specs.Prelude.{fold, max, is_some, IfErr}
+use Rattle.std.specs.Result.{IsErrAnd}
+use Rattle.std.specs.List.{AllByRecursion, list_all}
+use Rattle.std.proofs.lemmas.Bool.{or_left, or_right}
+use Rattle.std.proofs.lemmas.List.Folds.{list_any-append}
+use Rattle.sqlite_trees.proofs.ListLemmas.{all_weaker}
+use Rattle.sqlite_schema.specs.declared.schema.Column.{Column}
+use Rattle.sqlite_schema.specs.declared.schema.Schema.{Schema}
+use Rattle.sqlite_schema.specs.declared.schema.Table.{Table}
+use Rattle.sqlite_schema.specs.declared.schema.Index.{Index}
+use Rattle.sqlite_catalog.specs.Change.{created, next_tree, past_views, is_used}
+use Rattle.sqlite_catalog.specs.Listing.{automatic}
+use Rattle.sqlite.specs.State.{State}
+use Rattle.table_statements.specs.declared.failure.Failure.{Failure}
+use Rattle.table_statements.specs.declared.failure.Failure.TheVariants.{Memory, Size, Disk}
+use Rattle.table_forms.specs.Forms.{strict}
+use Rattle.table_statements.specs.Contents.{Bytes}
+use Rattle.table_making.specs.Making.{IsUnused, Makes, index_of, all_created, LacksNumbers, LacksNames, FailsToMakeThese}
+use Rattle.table_making.proofs.Creates.{is_clear, unused_after}
+use Rattle.table_statements.proofs.Lists.{rises, all_below}
+use Rattle.table_statements.proofs.Truths.{and_so, neither}
+use Rattle.table_making.proofs.Stood.{Parts, table_of}
+use Rattle.table_making.proofs.MakingFailures.{none_used}
+
+-- ---- numbers
+
+fold_last : {X Y : Type 0} (f : Y → X → Y) (n : Y) (xs : List X) (x : X) → fold f n (xs ++ x ∷ []) ≡ f (fold f n xs) x
+fold_last f n [] x = refl
+fold_last f n (y ∷ xs) x = fold_last f (f n y) xs x
+
+bounded : {X : Type 0} (g : X → ℕ) (xs : List X) (m n : ℕ) → m ≤ n → AllByRecursion (λ x. g x < n) xs → fold (λ k x. max k (g x + 1)) m xs ≤ n
+bounded g [] m n low all = low
+bounded g (x ∷ xs) m n low all = bounded g xs (max m (g x + 1)) n (omega (arith, low, all.0)) all.1
+
+-- a table that is made takes two
+pub two_more : (s : Schema) (title : Bytes) (cs : List Column) (key : List ℕ) → next_tree (created s (strict title cs key)) ≤ next_tree s + 2
+two_more s title cs key =
+    let n = next_tree s in
+    let table : Table = record (strict title cs key) { tree = n } in
+    let tables = fold (λ k (t : Table). max k (t.tree + 1)) (past_views s) s.tables in
+    let more : fold (λ k (t : Table). max k (t.tree + 1)) (past_views s) (s.tables ++ table ∷ []) ≡ max tables (n + 1) = fold_last (λ k (t : Table). max k (t.tree + 1)) (past_views s) s.tables table in
+    let low : tables ≤ n = rises (λ (i : Index). i.tree) s.indexes tables in
+    let below = all_weaker (λ (i : Index). i.tree < n) (λ i. i.tree < n + 1) (λ i h. omega (arith, h)) s.indexes (all_below (λ (i : Index). i.tree) s.indexes tables) in
+    let first = bounded (λ (i : Index). i.tree) s.indexes (max tables (n + 1)) (n + 1) (omega (arith, low)) below in
+    omega (arith, first, ap (λ m. fold (λ k (i : Index). max k (i.tree + 1)) m (created s (strict title cs key)).indexes) more, fold_last (λ k (i : Index). max k (i.tree + 1)) (max tables (n + 1)) s.indexes (automatic table 0 key (n + 1)))
+
+-- ---- names
+
+none_if : {X : Type 0} (o : Option X) → is_some o ≡ false → o ≡ None
+none_if None h = refl
+none_if (Some x) h = cc
+
+unused_if : (s : Schema) (name : Bytes) → is_used s name ≡ false → IsUnused s name
+unused_if s name h = let last = neither _ _ h in let first = neither _ _ last.0 in (none_if _ first.0, none_if _ first.1, none_if _ last.1)
+
+either_still : (a b x y : Bool) → (a ≡ true → x ≡ true) → (b ≡ true → y ≡ true) → (a || b) ≡ true → (x || y) ≡ true
+either_still true b x y f g h = or_left x y (f refl)
+either_still false b x y f g h = or_right x y (g h)
+
+module _ (s : Schema) (title : Bytes) (cs : List Column) (key : List ℕ) where
+  abbrev after : Schema
+  after = created s (strict title cs key)
+
+  -- a name that is taken then, and is none of the table's, was taken before
+  used_before : (name : Bytes) → is_clear title name ≡ true → is_used after name ≡ true → is_used s name ≡ true
+  used_before name clear h = go (is_used s name) refl
+    where
+      go : (b : Bool) → is_used s name ≡ b → b ≡ true
+      go true is = refl
+      go false is = absurd (let no = sym (none_used after name (unused_after s title cs key name clear (unused_if s name is))) ∙ h in cc)
+
+  names_before : (us : List Table) → list_all (λ u. is_clear title (index_of u.name)) us ≡ true → LacksNames after us → LacksNames s us
+  names_before [] clear h = h
+  names_before (u ∷ us) clear h = let b = and_so _ _ clear in either_still _ _ _ _ (used_before (index_of u.name) b.0) (names_before us b.1) h
+
+  abbrev Lacks : Schema → List Table → Type 0
+  Lacks of tables = LacksNumbers of tables ⊎ LacksNames of tables
+
+  -- what the others lack then, they lacked together with it
+  lacks_before : (us : List Table) → list_all (λ u. is_clear title (index_of u.name)) us ≡ true → Lacks after us → Lacks s (strict title cs key ∷ us)
+  lacks_before us clear (inl few) = inl (omega (arith, two_more s title cs key, few))
+  lacks_before us clear (inr taken) = inr (or_right (is_used s (index_of title)) _ (names_before us clear taken))
+
+abbrev pub part : Table → Parts
+part t = (t.name, (t.columns, t.primary))
+
+-- each of these tables leaves the names of the later ones, and of those that follow
+abbrev pub are_clear : List Parts → List Table → Bool
+are_clear [] us = true
+are_clear (f ∷ fs) us = list_all (λ u. is_clear f.0 (index_of u.name)) (map table_of fs ++ us) && are_clear fs us
+
+lacks_then : (fs : List Parts) (us : List Table) (s : Schema) → are_clear fs us ≡ true → LacksNumbers (all_created s (map table_of fs)) us ⊎ LacksNames (all_created s (map table_of fs)) us → LacksNumbers s (map table_of fs ++ us) ⊎ LacksNames s (map table_of fs ++ us)
+lacks_then [] us s clear h = h
+lacks_then (f ∷ fs) us s clear h = let b = and_so _ _ clear in lacks_before s f.0 f.1.0 f.1.1 (map table_of fs ++ us) b.0 (lacks_then fs us (created s (table_of f)) b.1 h)
+
+-- ---- failures
+
+module _ (large refused : Type 0) (a b c : State) where
+  -- after these were made
+  pub fails_then : (fs : List Parts) (us : List Table) → are_clear fs us ≡ true → IsTrue a.is_open → b.now.schema ≡ all_created a.now.schema (map table_of fs) → IsTrue b.is_open → a.faults ≤ b.faults
+      → (f : Failure) → FailsToMakeThese us large refused b c f → FailsToMakeThese (map table_of fs ++ us) large refused a c f
+  fails_then fs us clear was_open made is_open rise Memory h = tt
+  fails_then fs us clear was_open made is_open rise Size h = (h.0, was_open)
+  fails_then fs us clear was_open made is_open rise Disk (inl (inl more)) = inl (inl (omega (arith, rise, more)))
+  fails_then fs us clear was_open made is_open rise Disk (inl (inr shut)) = absurd (let no = sym is_open ∙ shut in cc)
+  fails_then fs us clear was_open made is_open rise Disk (inr (inl why)) = inr (inl why)
+  fails_then fs us clear was_open made is_open rise Disk (inr (inr lacks)) = inr (inr (lacks_then fs us a.now.schema clear (subst (λ s. LacksNumbers s us ⊎ LacksNames s us) made lacks)))
+
+  -- for another reason too, and the call that fails may note more faults
+  pub fails_wider : (large_too refused_too : Type 0) → (large → large_too) → (refused → refused_too) → (ts us : List Table) → b.faults ≤ c.faults → (f : Failure) → FailsToMakeThese ts large refused a b f → FailsToMakeThese (ts ++ us) large_too refused_too a c f
+  fails_wider large_too refused_too grows more ts us rise Memory h = tt
+  fails_wider large_too refused_too grows more ts us rise Size h = (grows h.0, h.1)
+  fails_wider large_too refused_too grows more ts us rise Disk (inl (inl faults)) = inl (inl (omega (arith, rise, faults)))
+  fails_wider large_too refused_too grows more ts us rise Disk (inl (inr shut)) = inl (inr shut)
+  fails_wider large_too refused_too grows more ts us rise Disk (inr (inl why)) = inr (inl (more why))
+  fails_wider large_too refused_too grows more ts us rise Disk (inr (inr (inl few))) = inr (inr (inl (omega (arith, length-append ts us, few))))
+  fails_wider large_too refused_too grows more ts us rise Disk (inr (inr (inr taken))) = inr (inr (inr (list_any-append (λ (t : Table). is_used a.now.schema (index_of t.name)) ts us ∙ or_left _ _ taken)))
+
+-- one of several, after these were made
+pub fails_among : (large refused : Type 0) (a b c : State) (fs : List Parts) (ts us : List Table) → are_clear fs (ts ++ us) ≡ true → Makes (map table_of fs) a b → a.faults ≤ b.faults → (f : Failure) → FailsToMakeThese ts large refused b c f
+    → FailsToMakeThese (map table_of fs ++ (ts ++ us)) large refused a c f
+fails_among large refused a b c fs ts us clear made rise f h = fails_then large refused a b c fs (ts ++ us) clear made.was_open made.schema made.is_open rise f (fails_wider large refused b c c large refused (λ x. x) (λ x. x) ts us (omega arith) f h)
+
+-- an error that becomes a failure
+pub becomes : {T : Type 0} (r : Result T Failure) (R P : Failure → Type 0) → IsErrAnd r R → ((f : Failure) → R f → P f) → IfErr r P
+becomes (Ok x) R P is so = tt
+becomes (Err f) R P is so = so f is

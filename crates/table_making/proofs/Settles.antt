@@ -1,0 +1,208 @@
+-- That `meta` is made with its two settings.
+use Rattle.std.proofs.Common.{◌≡◌, ◌≢◌, ◌<◌, ◌≤◌, ◌+◌, ℕ, suc, List, [], ◌∷◌, ◌++◌, codes, Bool, true, false, cond, not, ◌&&◌, Some, None, Option, Ok, length, refl, sym, ap, subst, ◌∙◌, arith, IsTrue}
+use Rattle.std.specs.Prelude.{IsUtf8, slice_get, option_and_then, option_map, unwrap_or}
+use Rattle.std.specs.FinMap as finite
+use Rattle.std.specs.List.{AllByRecursion, IsDistinct, position_from}
+use Rattle.sqlite_value.specs.Order.{Row}
+use Rattle.sqlite_value.specs.declared.value.Value.TheVariants.{Int, Text}
+use Rattle.sqlite_trees.specs.Tree.{Trees, put_row}
+use Rattle.sqlite_schema.specs.declared.schema.Schema.{Schema}
+use Rattle.sqlite_schema.specs.declared.schema.Table.{Table}
+use Rattle.sqlite_schema.specs.declared.schema.Index.{Index}
+use Rattle.sqlite_schema.specs.Names.{same_name}
+use Rattle.sqlite_catalog.specs.Change.{created, next_tree, past_views}
+use Rattle.sqlite_rules.specs.Edit.{next_rowid, is_taken}
+use Rattle.sqlite.specs.Effect.{Database, IsDatabase}
+use Rattle.sqlite.specs.State.{State, Shows, ExecutesInside}
+use Rattle.table_forms.specs.Forms.{meta, object, refs, outs, permanent, user_root, profile, generation, runtime}
+use Rattle.table_forms.specs.Standing.{IsNamed, tree_named}
+use Rattle.table_statements.specs.Contents.{Bytes, texts_cmp, is_pair, pair_of, map_of, rows_named}
+use Rattle.table_statements.specs.Texts.{AreReadableRows}
+use Rattle.table_statements.specs.Calls.{IsKeyed}
+use Rattle.table_making.specs.Making.{IsUnused, Makes, MakesMeta, MakesAll, IsMadeOf, AreSettings, first_settings, IsPut, HasMeta, Puts, IsMadeIn, all_created, placed, ours_created, others_placed, other_tables}
+use Rattle.table_forms.specs.Finding.{IsFree, is_unawaited}
+use Rattle.table_statements.proofs.Orders.{texts_total, texts_antisymmetric}
+use Rattle.table_statements.proofs.Truths.{cast_null, free_of}
+use Rattle.table_statements.proofs.Means.{means_command}
+use Rattle.table_statements.proofs.Writes.{SetsRows, inserts_in}
+use Rattle.table_statements.proofs.Entries.{put_map}
+use Rattle.table_statements.proofs.Members.{keyed_put}
+use Rattle.table_statements.proofs.ReadableWrites.{put_readable}
+use Rattle.table_entries.proofs.SettingLemmas.{insert_text, insert_is, terms}
+use Rattle.table_statements.proofs.Lists.{one_list, rises, all_below}
+use Rattle.table_statements.proofs.Frozen.{frozen_of}
+use Rattle.table_making.proofs.FrozenThen.{frozen_then}
+use Rattle.table_making.proofs.Creates.{kept_then, makes_then}
+
+-- ---- where a table stands that was just made
+
+pub last_found : {X : Type 0} (p : X → Bool) (xs : List X) (x : X) (n : ℕ) → position_from p n xs ≡ None → p x ≡ true → position_from p n (xs ++ x ∷ []) ≡ Some (n + length xs)
+last_found p [] x n h is = rw is (ap Some (let e : n ≡ n + 0 = omega arith in e))
+last_found {X} p (y ∷ ys) x n h is = go (p y) h (λ k. last_found p ys x (n + 1) k is)
+  where
+    go : (b : Bool) → ◌≡◌ {A = Option ℕ} (cond b (Some n) (position_from p (n + 1) ys)) None → (position_from p (n + 1) ys ≡ None → position_from p (n + 1) (ys ++ x ∷ []) ≡ Some (n + 1 + length ys))
+        → ◌≡◌ {A = Option ℕ} (cond b (Some n) (position_from p (n + 1) (ys ++ x ∷ []))) (Some (n + length (y ∷ ys)))
+    go true k f = absurd cc
+    go false k f = f k ∙ ap Some (let e : n + 1 + length ys ≡ n + suc (length ys) = omega arith in e)
+
+pub last_there : {X : Type 0} (xs : List X) (x : X) → slice_get (xs ++ x ∷ []) (length xs) ≡ Some x
+last_there [] x = refl
+last_there (y ∷ ys) x = last_there ys x
+
+same_meta : same_name (codes "meta") (codes "meta") ≡ true
+unfolding same_name
+same_meta = refl
+
+meta_named : (s : Schema) → IsUnused s (codes "meta") → IsNamed (created s meta) (codes "meta") (0 + length s.tables) (record meta { tree = next_tree s })
+meta_named s h = (last_found (λ (t : Table). same_name t.name (codes "meta")) s.tables (record meta { tree = next_tree s }) 0 h.0 same_meta, ap (slice_get (s.tables ++ record meta { tree = next_tree s } ∷ [])) (let e : 0 + length s.tables ≡ length s.tables = omega arith in e) ∙ last_there s.tables (record meta { tree = next_tree s }))
+
+pub meta_tree : (s : Schema) → IsUnused s (codes "meta") → tree_named (created s meta) (codes "meta") ≡ next_tree s
+meta_tree s h = let it = meta_named s h in
+    ap (λ o. unwrap_or (option_map (λ (t : Table). t.tree) (option_and_then (slice_get (created s meta).tables) o)) 0) it.0 ∙ ap (λ o. unwrap_or (option_map (λ (t : Table). t.tree) o) 0) it.1
+
+pub has_meta : (a b : State) → IsUnused a.now.schema (codes "meta") → Makes (meta ∷ []) a b → HasMeta b
+has_meta a b free h =
+    let s = a.now.schema in
+    let own : IsNamed (created s meta) (codes "meta") (0 + length s.tables) (record meta { tree = tree_named (created s meta) (codes "meta") }) = subst (λ n. IsNamed (created s meta) (codes "meta") (0 + length s.tables) (record meta { tree = n })) (sym (meta_tree s free)) (meta_named s free) in
+    record { named = λ is_open. (0 + length s.tables, subst (λ (x : Schema). IsNamed x (codes "meta") (0 + length s.tables) (record meta { tree = tree_named x (codes "meta") })) (sym h.schema) own); mode = h.mode }
+
+pub has_still : (a b : State) (word value : Bytes) → HasMeta a → Puts word value a b → HasMeta b
+has_still a b word value has h = record { named = λ is_open. subst (λ (x : Schema). (at : ℕ) × IsNamed x (codes "meta") at (record meta { tree = tree_named x (codes "meta") })) (sym h.schema) (has.named h.was_open); mode = h.mode }
+
+-- ---- no table has the next tree
+
+others_apart : (ts : List Table) (m n : ℕ) → m ≤ n → AllByRecursion (λ t. t.tree < m) ts → AllByRecursion (λ t. t.tree ≢ n) ts
+others_apart [] m n h k = tt
+others_apart (t ∷ ts) m n h k = (λ e. absurd (omega (arith, h, k.0, e)), others_apart ts m n h k.1)
+
+pub not_next : (s : Schema) → AllByRecursion (λ t. t.tree ≢ next_tree s) s.tables
+not_next s = others_apart s.tables _ _ (rises (λ (i : Index). i.tree) s.indexes _) (all_below (λ (t : Table). t.tree) s.tables (past_views s))
+
+kept_off : (a b : Trees) (tree : ℕ) (ts : List Table) → AllByRecursion (λ t. t.tree ≢ tree) ts → AllByRecursion (λ t. t.tree ≢ tree → b t.tree ≡ a t.tree) ts → AllByRecursion (λ t. b t.tree ≡ a t.tree) ts
+kept_off a b tree [] h k = tt
+kept_off a b tree (t ∷ ts) h k = (k.0 h.0, kept_off a b tree ts h.1 k.1)
+
+-- ---- one setting
+
+pub puts : (old new : State) (word value : Bytes) (count : ℕ) → HasMeta old → ExecutesInside 0 insert_text (Text word ∷ Text value ∷ []) old new (Ok count) → Puts word value old new
+puts old new word value count has h =
+    let found = has.named h.1.was_open in
+    let tree = tree_named old.now.schema (codes "meta") in
+    let m = means_command old.now.schema insert_text _ (insert_is old.now.schema found.0 tree found.1) in
+    let it = inserts_in meta.name meta.columns meta.primary tree found.0 3 terms insert_text (Text word ∷ Text value ∷ []) old new count has.mode found.1.1 m.0 m.1 h.0 in
+    let rows = old.now.trees tree in
+    let row : Row = Int (next_rowid rows) ∷ Text word ∷ Text value ∷ [] in
+    let fresh : (not (is_taken rows row) && true) ≡ true = rw cast_null at it.0.fresh in
+    let free = free_of _ _ fresh in
+    let sets : SetsRows old new tree (put_row row rows) = rw cast_null at it.1 in
+    let made : IsPut word value rows (put_row row rows) = record { is = refl; keyed = keyed_put row rows free refl; readable = λ word_utf8 value_utf8. put_readable meta row rows (tt, (word_utf8, (value_utf8, tt))); put = λ none. put_map texts_total texts_antisymmetric is_pair pair_of row rows free refl none } in
+    let own : rows_named new.now (codes "meta") ≡ put_row row rows = ap (λ s. new.now.trees (tree_named s (codes "meta"))) sets.schema ∙ sets.rows_are in
+    record {
+      was_open = sets.was_open;
+      is_open = sets.is_open;
+      sound = sets.sound;
+      schema = sets.schema;
+      rows = subst (IsPut word value rows) (sym own) made;
+      others = sets.others;
+      frozen = λ sound. frozen_of old.now new.now.trees sound sets.unshown;
+      committed = sets.committed;
+      mode = sets.mode;
+    }
+
+-- ---- both
+
+abbrev settings_in : List Row → finite.FinMap texts_cmp Bytes
+settings_in = map_of texts_cmp is_pair pair_of
+
+none_in_none : settings_in [] ≡ finite.from_entries []
+unfolding map_of
+none_in_none = refl
+
+pub keyed_none : IsKeyed []
+unfolding IsDistinct
+keyed_none = record { ints = λ a h. absurd h; apart = tt }
+
+words_utf8 : IsUtf8 (codes "schema") × IsUtf8 (codes "1") × IsUtf8 (codes "store-dir")
+unfolding lib.Utf8.encode
+words_utf8 = ((codes "schema", (refl, refl)), (codes "1", (refl, refl)), (codes "store-dir", (refl, refl)))
+
+pub meta_made : (dir : Bytes) (a b c d : State) → IsUnused a.now.schema (codes "meta") → Makes (meta ∷ []) a b → Puts (codes "schema") (codes "1") b c → Puts (codes "store-dir") dir c d → MakesMeta dir a d
+meta_made dir a b c d free h p q =
+    let s = a.now.schema in
+    let tree = next_tree s in
+    let tree_b : tree_named b.now.schema (codes "meta") ≡ tree = ap (λ (x : Schema). tree_named x (codes "meta")) h.schema ∙ meta_tree s free in
+    let tree_c : tree_named c.now.schema (codes "meta") ≡ tree = ap (λ (x : Schema). tree_named x (codes "meta")) p.schema ∙ tree_b in
+    let tree_d : tree_named d.now.schema (codes "meta") ≡ tree = ap (λ (x : Schema). tree_named x (codes "meta")) q.schema ∙ tree_c in
+    let rows_b : rows_named b.now (codes "meta") ≡ [] = ap b.now.trees tree_b ∙ h.empty.0 in
+    let map_b : settings_in (rows_named b.now (codes "meta")) ≡ finite.from_entries [] = ap settings_in rows_b ∙ none_in_none in
+    let free_b : finite.get (settings_in (rows_named b.now (codes "meta"))) (codes "schema") ≡ None = ap (λ m. finite.get m (codes "schema")) map_b ∙ finite.get-from_entries texts_total [] (codes "schema") in
+    let map_c : settings_in (rows_named c.now (codes "meta")) ≡ finite.insert (finite.from_entries []) (codes "schema") (codes "1") = p.rows.put free_b ∙ ap (λ m. finite.insert m (codes "schema") (codes "1")) map_b in
+    let after : finite.get (finite.insert (finite.from_entries []) (codes "schema") (codes "1")) (codes "store-dir") ≡ None = finite.get-insert texts_total (finite.from_entries []) (codes "schema") (codes "1") (codes "store-dir") ∙ finite.get-from_entries texts_total [] (codes "store-dir") in
+    let free_c : finite.get (settings_in (rows_named c.now (codes "meta"))) (codes "store-dir") ≡ None = ap (λ m. finite.get m (codes "store-dir")) map_c ∙ after in
+    let map_d : settings_in (rows_named d.now (codes "meta")) ≡ first_settings dir = q.rows.put free_c ∙ ap (λ m. finite.insert m (codes "store-dir") dir) map_c in
+    let keyed : IsKeyed (rows_named d.now (codes "meta")) = q.rows.keyed (p.rows.keyed (subst IsKeyed (sym rows_b) keyed_none)) in
+    let none : AreReadableRows meta (rows_named b.now (codes "meta")) = subst (AreReadableRows meta) (sym rows_b) (λ row at there low. absurd there) in
+    let made : AreSettings dir (rows_named d.now (codes "meta")) = record { keyed = keyed; readable = λ utf8. q.rows.readable words_utf8.2 utf8 (p.rows.readable words_utf8.0 words_utf8.1 none); settings = map_d } in
+    let old_c : AllByRecursion (λ t. t.tree ≢ tree → c.now.trees t.tree ≡ b.now.trees t.tree) s.tables = (one_list (λ (t : Table). t.tree ≢ tree → c.now.trees t.tree ≡ b.now.trees t.tree) s.tables _
+    (subst (λ (x : Schema). AllByRecursion (λ t. t.tree ≢ tree → c.now.trees t.tree ≡ b.now.trees t.tree) x.tables) h.schema (subst (λ n. AllByRecursion (λ t. t.tree ≢ n → c.now.trees t.tree ≡ b.now.trees t.tree) b.now.schema.tables) tree_b p.others))).0 in
+    let old_d : AllByRecursion (λ t. t.tree ≢ tree → d.now.trees t.tree ≡ c.now.trees t.tree) s.tables = (one_list (λ (t : Table). t.tree ≢ tree → d.now.trees t.tree ≡ c.now.trees t.tree) s.tables _
+    (subst (λ (x : Schema). AllByRecursion (λ t. t.tree ≢ tree → d.now.trees t.tree ≡ c.now.trees t.tree) x.tables) (p.schema ∙ h.schema) (subst (λ n. AllByRecursion (λ t. t.tree ≢ n → d.now.trees t.tree ≡ c.now.trees t.tree) c.now.schema.tables) tree_c q.others))).0 in
+    let off = not_next s in
+    record {
+      was_open = h.was_open;
+      is_open = q.is_open;
+      sound = q.sound;
+      schema = q.schema ∙ p.schema ∙ h.schema;
+      kept = kept_then a.now.trees c.now.trees d.now.trees s.tables (kept_then a.now.trees b.now.trees c.now.trees s.tables h.kept (kept_off b.now.trees c.now.trees tree s.tables off old_c)) (kept_off c.now.trees d.now.trees tree s.tables off old_d);
+      settings = subst (λ n. AreSettings dir (d.now.trees n)) tree_d made;
+      frozen = λ sound. frozen_then a.now b.now d.now.trees (meta ∷ []) h.schema (h.frozen sound) (frozen_then b.now c.now d.now.trees [] p.schema (p.frozen h.sound) (q.frozen p.sound));
+      committed = q.committed ∙ p.committed ∙ h.committed;
+      mode = q.mode;
+    }
+
+-- ---- all nine
+
+pub all_made : (dir : Bytes) (a b c d : State) → MakesMeta dir a b → Makes (object ∷ refs ∷ outs ∷ permanent ∷ []) b c → Makes (user_root ∷ profile ∷ generation ∷ runtime ∷ []) c d → MakesAll dir a d
+unfolding ours_created others_placed
+all_made dir a b c d h p q =
+    let s = a.now.schema in
+    let rest = makes_then (object ∷ refs ∷ outs ∷ permanent ∷ []) (user_root ∷ profile ∷ generation ∷ runtime ∷ []) b c d p q in
+    let later : AllByRecursion (λ t. d.now.trees t.tree ≡ b.now.trees t.tree) (s.tables ++ record meta { tree = next_tree s } ∷ []) = subst (λ (x : Schema). AllByRecursion (λ t. d.now.trees t.tree ≡ b.now.trees t.tree) x.tables) h.schema rest.kept in
+    let both = one_list (λ (t : Table). d.now.trees t.tree ≡ b.now.trees t.tree) s.tables (record meta { tree = next_tree s } ∷ []) later in
+    record {
+      was_open = h.was_open;
+      is_open = rest.is_open;
+      sound = rest.sound;
+      schema = rest.schema ∙ ap (λ (x : Schema). all_created x other_tables) h.schema;
+      made = record {
+        sound = subst (λ (x : Schema). IsDatabase (record { schema = x; trees = d.now.trees })) (rest.schema ∙ ap (λ (x : Schema). all_created x other_tables) h.schema) rest.sound;
+        kept = kept_then a.now.trees b.now.trees d.now.trees s.tables h.kept both.0;
+        settings = subst (AreSettings dir) (sym both.1.0) h.settings;
+        empty = subst (λ (x : Schema). AllByRecursion (λ t. d.now.trees t.tree ≡ []) (placed x other_tables)) h.schema rest.empty;
+        frozen = λ sound. frozen_then a.now b.now d.now.trees (meta ∷ []) h.schema (h.frozen sound) (rest.frozen h.sound);
+      };
+      committed = rest.committed ∙ h.committed;
+      mode = rest.mode;
+    }
+
+pub names_free : (s : Schema) (ts : List Table) → AllByRecursion (λ t. IsFree s t.name) ts → AllByRecursion (λ t. IsUnused s t.name) ts
+names_free s [] h = tt
+names_free s (t ∷ ts) h = ((h.0.table, h.0.index, h.0.view), names_free s ts h.1)
+
+pub names_unawaited : (s : Schema) (ts : List Table) → AllByRecursion (λ t. IsFree s t.name) ts → AllByRecursion (λ t. is_unawaited s t.name ≡ true) ts
+names_unawaited s [] h = tt
+names_unawaited s (t ∷ ts) h = (h.0.unawaited, names_unawaited s ts h.1)
+
+pub free_name : (s : Schema) (name : Bytes) → IsUnused s name → is_unawaited s name ≡ true → IsFree s name
+free_name s name unused unawaited = record { table = unused.0; index = unused.1; view = unused.2; unawaited = unawaited }
+
+-- what was made and committed
+pub committed_made : (dir : Bytes) (a b m n : State) → b.now ≡ a.now → b.is_open ≡ a.is_open → MakesAll dir b m → Shows m n m.now m.now false → IsMadeIn dir a n
+committed_made dir a b m n now is_open h k = record {
+  was_open = subst IsTrue is_open h.was_open;
+  is_open = k.is_open;
+  sound = subst IsDatabase (sym k.now_is) h.sound;
+  schema = ap (λ (d : Database). d.schema) k.now_is ∙ h.schema ∙ ap (λ (d : Database). ours_created d.schema) now;
+  made = subst (λ (d : Database). IsMadeOf dir d n.now.trees) now (subst (λ (d : Database). IsMadeOf dir b.now d.trees) (sym k.now_is) h.made);
+  settled = k.now_is ∙ sym k.committed_is;
+}

@@ -1,0 +1,5 @@
+//! Making the tables of a new store.
+#![tactic(auto)]
+
+mod creating;
+pub mod making;

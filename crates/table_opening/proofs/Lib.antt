@@ -1,0 +1,6 @@
+pub mod OwnRowids
+pub mod RowidTexts
+pub mod RowidFailures
+pub mod ReadableRows
+pub mod ReadableTexts
+pub mod Opened

@@ -1,0 +1,31 @@
+use Rattle.std.proofs.Common.{[], refl, arith}
+use Rattle.sqlite.specs.State.{HasCleanDisk}
+use Rattle.sqlite.specs.Held.{state}
+use Rattle.table_statements.proofs.TestFailures.{passed_on}
+use Rattle.table_statements.proofs.RowByRow.{commits_nothing, unchanged_before, failed_before}
+use Rattle.table_statements.proofs.Probing.{text, reads, ask_fails, ask_same}
+use Rattle.table_opening.proofs.opening.probe.Goals as goal
+
+pub returns-in_err-query_all-clause-cause : goal.returns-in_err-query_all-clause-cause
+returns-in_err-query_all-clause-cause g c clean =
+    let old = state g.S.Store c.args.conn.now in
+    let new = state g.S.Store c.query_all.new.self in
+    passed_on c.from_residual.result _ _ c.from_residual.ensures.1 (ask_fails old new _ (c.in_err-query_all.field-0.0, refl, c.in_err-query_all.ensures.err clean))
+
+pub returns-in_err-query_all-clause-same : goal.returns-in_err-query_all-clause-same
+returns-in_err-query_all-clause-same g c clean =
+    let old = state g.S.Store c.args.conn.now in
+    let early : HasCleanDisk old = omega (arith, c.query_all.ensures.survives.clean) in
+    failed_before text [] reads old _ (c.requires.settled early) c.in_err-query_all.field-0.0 (c.in_err-query_all.ensures.err clean)
+
+pub returns-in_err-query_all-clause-survives : goal.returns-in_err-query_all-clause-survives
+returns-in_err-query_all-clause-survives g c = commits_nothing text [] reads _ _ c.query_all.ensures.survives
+
+pub returns-clause-unchanged : goal.returns-clause-unchanged
+returns-clause-unchanged g c clean = ask_same _ _ _ (c.in_ok-query_all.ensures.ok clean)
+
+pub returns-clause-same : goal.returns-clause-same
+returns-clause-same g c clean = unchanged_before _ _ (ask_same _ _ _ (c.in_ok-query_all.ensures.ok clean))
+
+pub returns-clause-survives : goal.returns-clause-survives
+returns-clause-survives g c = commits_nothing text [] reads _ _ c.query_all.ensures.survives

@@ -1,0 +1,191 @@
+-- What map the rows of one table make, when they are read, when one is put and when some are taken.
+use Rattle.std.proofs.Common.{◌≡◌, inl, inr, ℕ, ℤ, List, [], ◌∷◌, ◌++◌, map, filter, Bool, true, false, not, cond, None, refl, sym, ap, subst, ◌∙◌}
+use Rattle.std.specs.declared.cmp.Ordering.{Ordering}
+use Rattle.std.specs.Cmp.{IsTotalOrder}
+use Rattle.std.specs.FinMap as finite
+use Rattle.std.specs.FinMap.Entries.{where_key}
+use Rattle.std.specs.List.{list_all, AllZip}
+use Rattle.std.specs.List.Sorted.{IsStrictlySortedBy}
+use Rattle.sqlite_value.specs.Order.{Row}
+use Rattle.sqlite_trees.specs.Tree.{Trees, put_row, has_rowid, without_rowid}
+use Rattle.sqlite_rules.specs.Lists.{Has}
+use Rattle.sqlite_rules.specs.Edit.{is_taken, without_all}
+use Rattle.sqlite_rules.specs.Calls.{ids_of}
+use Rattle.sqlite_rules.proofs.ListLemmas.{has_filtered, has_kept}
+use Rattle.sqlite_rules.proofs.ProbeLemmas.{has_mapped, mapped_has}
+use Rattle.sqlite_sql.specs.Term.{Term, holds}
+use Rattle.sqlite_sql.specs.Query.{Query, IsAnswer}
+use Rattle.table_statements.specs.Calls.{IsKeyed}
+use Rattle.table_statements.specs.Contents.{map_of}
+use Rattle.table_statements.proofs.Orders.{listed_as}
+use Rattle.table_statements.proofs.Scans.{IsScan, scan_sound, scan_complete, shows}
+use Rattle.table_statements.proofs.Writes.{rowids_where}
+use Rattle.table_statements.proofs.Members.{made_where, made_new, made_with, unit_once, gone_from, spared, left_from, left_has, Spares}
+
+pub map-map : {A B C : Type 0} (f : B → C) (g : A → B) (xs : List A) → map f (map g xs) ≡ map (λ x. f (g x)) xs
+map-map f g [] = refl
+map-map f g (x ∷ xs) = ap (λ l. f (g x) ∷ l) (map-map f g xs)
+
+-- ---- two lists, one beside the other
+
+zip_left : {X Y : Type 0} (P : X → Y → Type 0) (xs : List X) (ys : List Y) → AllZip P xs ys → (x : X) → Has xs x → (y : Y) × Has ys y × P x y
+zip_left P [] ys z x h = absurd h
+zip_left P (a ∷ xs) [] z x h = absurd z
+zip_left P (a ∷ xs) (b ∷ ys) z x (inl is) = (b, inl refl, subst (λ w. P w b) (sym is) z.0)
+zip_left P (a ∷ xs) (b ∷ ys) z x (inr there) = let r = zip_left P xs ys z.1 x there in (r.0, inr r.1, r.2)
+
+zip_right : {X Y : Type 0} (P : X → Y → Type 0) (xs : List X) (ys : List Y) → AllZip P xs ys → (y : Y) → Has ys y → (x : X) × Has xs x × P x y
+zip_right P xs [] z y h = absurd h
+zip_right P [] (b ∷ ys) z y h = absurd z
+zip_right P (a ∷ xs) (b ∷ ys) z y (inl is) = (a, inl refl, subst (λ w. P a w) (sym is) z.0)
+zip_right P (a ∷ xs) (b ∷ ys) z y (inr there) = let r = zip_right P xs ys z.1 y there in (r.0, inr r.1, r.2)
+
+-- one more of each
+pub zip_more : {X Y : Type 0} (P : X → Y → Type 0) (xs : List X) (ys : List Y) (x : X) (y : Y) → AllZip P xs ys → P x y → AllZip P (xs ++ x ∷ []) (ys ++ y ∷ [])
+zip_more P [] [] x y z h = (h, tt)
+zip_more P [] (b ∷ ys) x y z h = absurd z
+zip_more P (a ∷ xs) [] x y z h = absurd z
+zip_more P (a ∷ xs) (b ∷ ys) x y z h = (z.0, zip_more P xs ys x y z.1 h)
+
+-- ---- what a query of some of the rows shows
+
+module _ {K X T : Type 0} {R : K → K → Ordering} (o : IsTotalOrder R) (same : finite.IsAntisymmetric R) (kind : Row → Bool) (entry : Row → K × X)
+    (tree : ℕ) (q : Query) (scan : IsScan q tree) (db : Trees) (params : Row) (rows : List Row) (answer : IsAnswer q db params rows)
+    (test : K → Bool) (said : (r : Row) → kind r ≡ true → list_all (holds (params ∷ r ∷ [])) q.filter ≡ test (entry r).0)
+    (Shown : Row → T → Type 0) (item : T → K × X) (fits : (r : Row) (t : T) → Shown (shows q params r) t → (kind r ≡ true) × (entry r ≡ item t))
+    (all : List T) (texts : AllZip Shown rows all) where
+  abbrev wanted : List (K × X)
+  wanted = where_key R test (map entry (filter kind (db tree)))
+
+  to : (e : K × X) → Has wanted e → Has (map item all) e
+  to e h =
+      let k = has_filtered (λ (x : K × X). test x.0) _ e h in
+      let r = has_mapped entry _ e k.0 in
+      let kept = has_filtered kind _ r.0 r.1 in
+      let passes = said r.0 kept.1 ∙ subst (λ (x : K × X). test x.0 ≡ true) r.2 k.1 in
+      let there = scan_complete q tree scan db params rows answer r.0 kept.0 passes in
+      let p = zip_left Shown rows all texts _ there in
+      let f = fits r.0 p.0 p.2 in
+      subst (Has (map item all)) (sym (r.2 ∙ f.1)) (mapped_has item all p.0 p.1)
+
+  back : (e : K × X) → Has (map item all) e → Has wanted e
+  back e h =
+      let p = has_mapped item all e h in
+      let x = zip_right Shown rows all texts p.0 p.1 in
+      let r = scan_sound q tree scan db params rows answer x.0 x.1 in
+      let f = fits r.0 p.0 (subst (λ w. Shown w p.0) r.3 x.2) in
+      let passes : test (entry r.0).0 ≡ true = sym (said r.0 f.0) ∙ r.2 in
+      subst (Has wanted) (sym (p.2 ∙ sym f.1)) (has_kept (λ (x : K × X). test x.0) _ (entry r.0) (mapped_has entry _ r.0 (has_kept kind _ r.0 r.1 f.0)) passes)
+
+  -- the entries of some of the keys, in order
+  pub part_listed : IsStrictlySortedBy R (map (λ t. (item t).0) all) → map item all ≡ finite.entries (finite.retain_keys (map_of R kind entry (db tree)) test)
+  unfolding map_of
+  part_listed up =
+      let keys : map (λ (e : K × X). e.0) (map item all) ≡ map (λ t. (item t).0) all = map-map (λ (e : K × X). e.0) item all in
+      sym (listed_as o same wanted (map item all) to back (subst (IsStrictlySortedBy R) (sym keys) up)) ∙ ap finite.entries (made_where o same test (map entry (filter kind (db tree))))
+
+-- a map keeps all its keys where the test always passes
+pub all_kept : {K X : Type 0} {R : K → K → Ordering} (o : IsTotalOrder R) (same : finite.IsAntisymmetric R) (m : finite.FinMap R X) → finite.retain_keys m (λ _. true) ≡ m
+all_kept o same m = finite.same_map o same _ _ (λ q. finite.get-retain_keys m (λ _. true) q (λ _ _. refl))
+
+-- where each is left out
+pub none_kept : {K X : Type 0} {R : K → K → Ordering} (o : IsTotalOrder R) (same : finite.IsAntisymmetric R) (m : finite.FinMap R X) → finite.retain_keys m (λ _. false) ≡ finite.from_entries []
+none_kept o same m = finite.same_map o same _ _ (λ q. finite.get-retain_keys m (λ _. false) q (λ _ _. refl) ∙ sym (finite.get-from_entries o [] q))
+
+-- ---- rows that a DELETE takes
+
+filter-filter : {A : Type 0} (p q : A → Bool) (xs : List A) → filter p (filter q xs) ≡ filter (λ x. cond (q x) (p x) false) xs
+filter-filter p q [] = refl
+filter-filter {A} p q (x ∷ xs) = go (q x) (filter-filter p q xs)
+  where
+    go : (b : Bool) → filter p (filter q xs) ≡ filter (λ x. cond (q x) (p x) false) xs → filter p (cond b (x ∷ filter q xs) (filter q xs)) ≡ cond (cond b (p x) false) (x ∷ filter (λ x. cond (q x) (p x) false) xs) (filter (λ x. cond (q x) (p x) false) xs)
+    go true later = ap (λ l. cond (p x) (x ∷ l) l) later
+    go false later = later
+
+filter_alike : {A : Type 0} (p q : A → Bool) (xs : List A) → ((x : A) → Has xs x → p x ≡ q x) → filter p xs ≡ filter q xs
+filter_alike p q [] alike = refl
+filter_alike p q (x ∷ xs) alike = rw (alike x (inl refl)) (ap (λ l. cond (q x) (x ∷ l) l) (filter_alike p q xs (λ y h. alike y (inr h))))
+
+-- no rowid of the list is this row's, as a test
+is_spared : List ℤ → Row → Bool
+is_spared [] x = true
+is_spared (id ∷ ids) x = cond (not (has_rowid id x)) (is_spared ids x) false
+
+left_is : (ids : List ℤ) (rows : List Row) → without_all rows ids ≡ filter (is_spared ids) rows
+unfolding is_spared
+left_is [] rows = sym (every rows)
+  where
+    every : (xs : List Row) → filter (λ _. true) xs ≡ xs
+    every [] = refl
+    every (x ∷ xs) = ap (λ l. x ∷ l) (every xs)
+left_is (i ∷ ids) rows = left_is ids (without_rowid i rows) ∙ filter-filter (is_spared ids) (λ r. not (has_rowid i r)) rows
+
+module _ (tree : ℕ) (terms : List Term) (db : Trees) (params : Row) (rows : List Row) (answer : IsAnswer (rowids_where tree terms) db params rows) (keyed : IsKeyed (db tree)) where
+  abbrev passing : Row → Bool
+  passing row = list_all (holds (params ∷ row ∷ [])) terms
+
+  spares_all : (ids : List ℤ) (x : Row) → Spares ids x → is_spared ids x ≡ true
+  unfolding is_spared
+  spares_all [] x h = refl
+  spares_all (id ∷ ids) x h = rw (h id (inl refl)) (spares_all ids x (λ i there. h i (inr there)))
+
+  all_spares : (ids : List ℤ) (x : Row) → is_spared ids x ≡ true → Spares ids x
+  unfolding is_spared
+  all_spares [] x h = λ id none. absurd none
+  all_spares (id ∷ ids) x h = go (has_rowid id x) refl h (all_spares ids x)
+    where
+      go : (b : Bool) → has_rowid id x ≡ b → cond (not b) (is_spared ids x) false ≡ true → (is_spared ids x ≡ true → Spares ids x) → Spares (id ∷ ids) x
+      go true e h later = absurd (let f = h in cc)
+      go false e h later = λ i there. elim there [ inl is ↦ ap (λ n. has_rowid n x) is ∙ e | inr more ↦ later h i more ]
+
+  -- what stays is what does not pass the test
+  pub left_by_test : without_all (db tree) (ids_of rows) ≡ filter (λ r. not (passing r)) (db tree)
+  left_by_test = left_is (ids_of rows) (db tree) ∙ filter_alike (is_spared (ids_of rows)) (λ r. not (passing r)) (db tree) alike
+    where
+      alike : (x : Row) → Has (db tree) x → is_spared (ids_of rows) x ≡ not (passing x)
+      alike x h = go (is_spared (ids_of rows) x) refl (passing x) refl
+        where
+          go : (b : Bool) → is_spared (ids_of rows) x ≡ b → (c : Bool) → passing x ≡ c → b ≡ not c
+          go true e true f = let was = gone_from tree terms db params rows answer keyed x (left_has (ids_of rows) (db tree) x h (all_spares (ids_of rows) x e)) in absurd (let g = sym f ∙ was.1 in cc)
+          go true e false f = refl
+          go false e true f = refl
+          go false e false f =
+              let there = left_from (ids_of rows) (db tree) x (spared tree terms db params rows answer keyed x h f) in
+              absurd (let g = sym e ∙ spares_all (ids_of rows) x there.1 in cc)
+
+-- a filter of the rows of one kind by what their keys say
+filtered : {K X : Type 0} (kind p : Row → Bool) (entry : Row → K × X) (keep : K → Bool) (rows : List Row) → ((r : Row) → kind r ≡ true → p r ≡ keep (entry r).0)
+    → map entry (filter kind (filter p rows)) ≡ filter (λ (e : K × X). keep e.0) (map entry (filter kind rows))
+filtered kind p entry keep [] said = refl
+filtered {K} {X} kind p entry keep (r ∷ rows) said = go (kind r) refl (p r) refl (filtered kind p entry keep rows said)
+  where
+    go : (k : Bool) → kind r ≡ k → (b : Bool) → p r ≡ b → map entry (filter kind (filter p rows)) ≡ filter (λ (e : K × X). keep e.0) (map entry (filter kind rows))
+        → map entry (filter kind (cond b (r ∷ filter p rows) (filter p rows))) ≡ filter (λ (e : K × X). keep e.0) (map entry (cond k (r ∷ filter kind rows) (filter kind rows)))
+    go true e true f later = rw (e, ← said r e, f) (ap (λ l. entry r ∷ l) later)
+    go true e false f later = rw (← said r e, f) later
+    go false e true f later = rw e later
+    go false e false f later = later
+
+-- the map that is left
+module _ {K X : Type 0} {R : K → K → Ordering} (o : IsTotalOrder R) (same : finite.IsAntisymmetric R) (kind : Row → Bool) (entry : Row → K × X)
+    (tree : ℕ) (terms : List Term) (db : Trees) (params : Row) (rows : List Row) (answer : IsAnswer (rowids_where tree terms) db params rows) (keyed : IsKeyed (db tree))
+    (test : K → Bool) (said : (r : Row) → kind r ≡ true → list_all (holds (params ∷ r ∷ [])) terms ≡ test (entry r).0) where
+  pub left_map : map_of R kind entry (without_all (db tree) (ids_of rows)) ≡ finite.retain_keys (map_of R kind entry (db tree)) (λ k. not (test k))
+  unfolding map_of
+  left_map = ap (λ rs. finite.from_entries {R = R} (map entry (filter kind rs))) (left_by_test tree terms db params rows answer keyed)
+      ∙ ap (finite.from_entries {R = R}) (filtered kind (λ r. not (list_all (holds (params ∷ r ∷ [])) terms)) entry (λ k. not (test k)) (db tree) (λ r is. ap not (said r is)))
+      ∙ made_where o same (λ k. not (test k)) (map entry (filter kind (db tree)))
+
+-- ---- a row that an INSERT puts
+
+-- one entry more, under a new key
+pub put_map : {K X : Type 0} {R : K → K → Ordering} (o : IsTotalOrder R) (same : finite.IsAntisymmetric R) (kind : Row → Bool) (entry : Row → K × X) (new : Row) (rows : List Row)
+    → is_taken rows new ≡ false → kind new ≡ true → finite.get (map_of R kind entry rows) (entry new).0 ≡ None → map_of R kind entry (put_row new rows) ≡ finite.insert (map_of R kind entry rows) (entry new).0 (entry new).1
+unfolding map_of
+put_map o same kind entry new rows free is none = made_new o same kind entry new rows free is none
+
+-- one member more
+pub put_set : {K : Type 0} {R : K → K → Ordering} (o : IsTotalOrder R) (same : finite.IsAntisymmetric R) (kind : Row → Bool) (entry : Row → K × Unit {0}) (new : Row) (rows : List Row)
+    → is_taken rows new ≡ false → kind new ≡ true → map_of R kind entry (put_row new rows) ≡ finite.insert (map_of R kind entry rows) (entry new).0 (entry new).1
+unfolding map_of
+put_set {R = R} o same kind entry new rows free is = made_with o same kind entry new rows free is (unit_once R (entry new ∷ map entry (filter kind rows)))

@@ -1,0 +1,220 @@
+-- Which rows a table has after a write, and what map they make.
+use Rattle.std.proofs.Common.{◌≡◌, ◌⊎◌, inl, inr, ℕ, ℤ, List, [], ◌∷◌, map, filter, Bool, true, false, not, ◌||◌, cond, Some, None, Option, refl, sym, ap, subst, ◌∙◌, IsTrue, Less, Equal, Greater, Ordering}
+use Rattle.std.specs.Ordering.{is_eq, eq_by_cmp, match_ordering}
+use Rattle.std.specs.Cmp.{IsTotalOrder}
+use Rattle.std.specs.FinMap as finite
+use Rattle.std.specs.FinMap.Entries.{find, where_key, find-where_key}
+use Rattle.std.specs.List.{list_all}
+use Rattle.sqlite_value.specs.Order.{Row, value_cmp}
+use Rattle.sqlite_trees.specs.Tree.{Trees, rowid, put_row, has_rowid, without_rowid}
+use Rattle.sqlite_rules.specs.Lists.{Has}
+use Rattle.sqlite_rules.specs.Edit.{is_taken, without_all, id_in}
+use Rattle.sqlite_rules.specs.Calls.{ids_of}
+use Rattle.sqlite_sql.specs.Term.{Term, holds}
+use Rattle.sqlite_sql.specs.Query.{IsAnswer}
+use Rattle.sqlite_value.specs.declared.value.Value.{Value}
+use Rattle.sqlite_value.specs.declared.value.Value.TheVariants.{Null, Int, Real, Text, Blob}
+use Rattle.sqlite_rules.proofs.ListLemmas.{has_filtered, has_kept}
+use Rattle.sqlite_rules.proofs.ProbeLemmas.{has_mapped, mapped_has}
+use Rattle.sqlite_trees.specs.View.{is_int}
+use Rattle.sqlite_value.proofs.OrderLemmas.{value_cmp_total}
+use Rattle.std.specs.Cmp.{tied_itself}
+use Rattle.table_statements.specs.Calls.{IsKeyed}
+use Rattle.table_statements.proofs.Orders.{found_has, tied_some}
+use Rattle.table_statements.proofs.Apart.{once, apart_put, apart_left}
+use Rattle.table_statements.proofs.Truths.{not_so}
+use Rattle.table_statements.proofs.Scans.{IsScan, scan_sound, scan_complete}
+use Rattle.table_statements.proofs.Writes.{rowids_where}
+
+-- ---- two lists with the same entries make one map, where a key has one value
+
+module _ {K X : Type 0} {R : K → K → Ordering} (o : IsTotalOrder R) (same : finite.IsAntisymmetric R) where
+  abbrev pub HasOneEach : List (K × X) → Type 0
+  HasOneEach es = (k l : K) (v w : X) → Has es (k, v) → Has es (l, w) → R k l ≡ Equal → v ≡ w
+
+  pub same_made : (ls es : List (K × X)) → ((e : K × X) → Has ls e → Has es e) → ((e : K × X) → Has es e → Has ls e) → HasOneEach es → finite.from_entries {R = R} ls ≡ finite.from_entries es
+  same_made ls es to back once = finite.same_map o same _ _ (λ q. finite.get-from_entries o ls q ∙ go q (find R q ls) refl (find R q es) refl ∙ sym (finite.get-from_entries o es q))
+    where
+      go : (q : K) (a : Option X) → find R q ls ≡ a → (b : Option X) → find R q es ≡ b → find R q ls ≡ find R q es
+      go q None a None b = a ∙ sym b
+      go q None a (Some w) b = let f = found_has o same q es w b in absurd (tied_some o same q f.0 ls w (back _ f.2) f.1 a)
+      go q (Some v) a None b = let f = found_has o same q ls v a in absurd (tied_some o same q f.0 es v (to _ f.2) f.1 b)
+      go q (Some v) a (Some w) b =
+          let f = found_has o same q ls v a in
+          let h = found_has o same q es w b in
+          a ∙ ap Some (once f.0 h.0 v w (to _ f.2) h.2 (sym (o.congr q f.0 h.0 f.1) ∙ h.1)) ∙ sym b
+
+pub unit_once : {K : Type 0} (R : K → K → Ordering) (es : List (K × Unit {0})) → (k l : K) (v w : Unit {0}) → Has es (k, v) → Has es (l, w) → R k l ≡ Equal → v ≡ w
+unit_once R es k l v w h g tie = refl
+
+-- ---- a new row
+
+pub put_has : (new : Row) (rows : List Row) → Has (put_row new rows) new
+put_has new [] = inl refl
+put_has new (r ∷ rs) = elim (value_cmp (rowid r) (rowid new)) as (λ c. Has (match_ordering c (r ∷ put_row new rs) (new ∷ rs) (new ∷ r ∷ rs)) new) [ Less ↦ inr (put_has new rs) | Equal ↦ inl refl | Greater ↦ inl refl ]
+
+pub from_put : (new : Row) (rows : List Row) (x : Row) → Has (put_row new rows) x → (x ≡ new) ⊎ Has rows x
+from_put new [] x (inl is) = inl is
+from_put new [] x (inr h) = absurd h
+from_put new (r ∷ rs) x h = go (value_cmp (rowid r) (rowid new)) h (from_put new rs x)
+  where
+    go : (c : Ordering) → Has (match_ordering c (r ∷ put_row new rs) (new ∷ rs) (new ∷ r ∷ rs)) x → (Has (put_row new rs) x → (x ≡ new) ⊎ Has rs x) → (x ≡ new) ⊎ Has (r ∷ rs) x
+    go Less (inl is) later = inr (inl is)
+    go Less (inr there) later = elim (later there) [ inl is ↦ inl is | inr rest ↦ inr (inr rest) ]
+    go Equal (inl is) later = inl is
+    go Equal (inr there) later = inr (inr there)
+    go Greater (inl is) later = inl is
+    go Greater (inr there) later = inr there
+
+pub kept_put : (new : Row) (rows : List Row) (x : Row) → is_taken rows new ≡ false → Has rows x → Has (put_row new rows) x
+kept_put new [] x free h = absurd h
+kept_put new (r ∷ rs) x free h = go (value_cmp (rowid r) (rowid new)) free h (kept_put new rs x)
+  where
+    go : (c : Ordering) → (is_eq c || is_taken rs new) ≡ false → Has (r ∷ rs) x → (is_taken rs new ≡ false → Has rs x → Has (put_row new rs) x) → Has (match_ordering c (r ∷ put_row new rs) (new ∷ rs) (new ∷ r ∷ rs)) x
+    go Less free (inl is) later = inl is
+    go Less free (inr there) later = inr (later free there)
+    go Equal free h later = absurd (let e = free in cc)
+    go Greater free h later = inr h
+
+-- the map that the rows of one kind make has one entry more
+module _ {K X : Type 0} {R : K → K → Ordering} (o : IsTotalOrder R) (same : finite.IsAntisymmetric R) (kind : Row → Bool) (entry : Row → K × X) (new : Row) (rows : List Row) where
+  pub made_with : is_taken rows new ≡ false → kind new ≡ true → HasOneEach o same (entry new ∷ map entry (filter kind rows))
+      → finite.from_entries {R = R} (map entry (filter kind (put_row new rows))) ≡ finite.insert (finite.from_entries (map entry (filter kind rows))) (entry new).0 (entry new).1
+  made_with free is once = same_made o same (map entry (filter kind (put_row new rows))) (entry new ∷ map entry (filter kind rows)) to back once
+    where
+      to : (e : K × X) → Has (map entry (filter kind (put_row new rows))) e → Has (entry new ∷ map entry (filter kind rows)) e
+      to e h =
+          let r = has_mapped entry _ e h in
+          let k = has_filtered kind _ r.0 r.1 in
+          elim (from_put new rows r.0 k.0) [ inl same ↦ inl (r.2 ∙ ap entry same) | inr there ↦ inr (subst (Has (map entry (filter kind rows))) (sym r.2) (mapped_has entry _ r.0 (has_kept kind rows r.0 there k.1))) ]
+
+      back : (e : K × X) → Has (entry new ∷ map entry (filter kind rows)) e → Has (map entry (filter kind (put_row new rows))) e
+      back e (inl same) = subst (Has (map entry (filter kind (put_row new rows)))) (sym same) (mapped_has entry _ new (has_kept kind _ new (put_has new rows) is))
+      back e (inr h) =
+          let r = has_mapped entry _ e h in
+          let k = has_filtered kind rows r.0 r.1 in
+          subst (Has (map entry (filter kind (put_row new rows)))) (sym r.2) (mapped_has entry _ r.0 (has_kept kind _ r.0 (kept_put new rows r.0 free k.0) k.1))
+
+pub keyed_put : (new : Row) (rows : List Row) → is_taken rows new ≡ false → IsTrue (is_int (rowid new)) → IsKeyed rows → IsKeyed (put_row new rows)
+keyed_put new rows free int keyed = record { ints = ints; apart = apart_put new rows free keyed.apart }
+  where
+    ints : (a : Row) → Has (put_row new rows) a → IsTrue (is_int (rowid a))
+    ints a h = elim (from_put new rows a h) [ inl is ↦ subst (λ r. IsTrue (is_int (rowid r))) (sym is) int | inr there ↦ keyed.ints a there ]
+
+-- ---- rows that go
+
+-- no rowid of the list is this row's
+abbrev pub Spares : List ℤ → Row → Type 0
+Spares ids x = (id : ℤ) → Has ids id → has_rowid id x ≡ false
+
+pub left_from : (ids : List ℤ) (rows : List Row) (x : Row) → Has (without_all rows ids) x → Has rows x × Spares ids x
+left_from [] rows x h = (h, λ id none. absurd none)
+left_from (i ∷ ids) rows x h =
+    let later = left_from ids (without_rowid i rows) x h in
+    let here = has_filtered (λ r. not (has_rowid i r)) rows x later.0 in
+    (here.0, λ id is. elim is [ inl same ↦ ap (λ n. has_rowid n x) same ∙ not_so _ here.1 | inr there ↦ later.1 id there ])
+
+pub left_has : (ids : List ℤ) (rows : List Row) (x : Row) → Has rows x → Spares ids x → Has (without_all rows ids) x
+left_has [] rows x h spares = h
+left_has (i ∷ ids) rows x h spares =
+    left_has ids (without_rowid i rows) x (has_kept (λ r. not (has_rowid i r)) rows x h (ap not (spares i (inl refl)))) (λ id there. spares id (inr there))
+
+pub keyed_left : (ids : List ℤ) (rows : List Row) → IsKeyed rows → IsKeyed (without_all rows ids)
+keyed_left ids rows keyed = record { ints = λ a h. keyed.ints a (left_from ids rows a h).0; apart = apart_left ids rows keyed.apart }
+
+-- the rowid of a row that has an integer there
+pub int_is : (v : Value) → IsTrue (is_int v) → v ≡ Int (id_in v)
+int_is Null h = cc
+int_is (Int n) h = refl
+int_is (Real x) h = cc
+int_is (Text t) h = cc
+int_is (Blob b) h = cc
+
+has_own : (x : Row) → IsTrue (is_int (rowid x)) → has_rowid (id_in (rowid x)) x ≡ true
+has_own x int = rw (← int_is (rowid x) int) (ap is_eq (tied_itself value_cmp_total (rowid x)))
+
+-- The rows that a query found by a test are gone, and the others stay.
+module _ (tree : ℕ) (terms : List Term) (db : Trees) (params : Row) (rows : List Row) (answer : IsAnswer (rowids_where tree terms) db params rows) (keyed : IsKeyed (db tree)) where
+  abbrev pub passes : Row → Bool
+  passes row = list_all (holds (params ∷ row ∷ [])) terms
+
+  scan : IsScan (rowids_where tree terms) tree
+  scan = record { from = refl; group = refl; distinct = refl; whole = λ params rows. refl }
+
+  pub gone_from : (x : Row) → Has (without_all (db tree) (ids_of rows)) x → Has (db tree) x × (passes x ≡ false)
+  gone_from x h =
+      let was = left_from (ids_of rows) (db tree) x h in
+      (was.0, go (passes x) refl was.0 was.1)
+    where
+      go : (b : Bool) → passes x ≡ b → Has (db tree) x → Spares (ids_of rows) x → passes x ≡ false
+      go false is there spares = is
+      go true is there spares =
+          let shown = scan_complete (rowids_where tree terms) tree scan db params rows answer x there is in
+          let id = mapped_has (λ (r : Row). id_in (rowid r)) rows _ shown in
+          absurd (let e = sym (has_own x (keyed.ints x there)) ∙ spares (id_in (rowid x)) id in cc)
+
+  pub spared : (x : Row) → Has (db tree) x → passes x ≡ false → Has (without_all (db tree) (ids_of rows)) x
+  spared x h fails = left_has (ids_of rows) (db tree) x h other
+    where
+      other : Spares (ids_of rows) x
+      other id there =
+          let s = has_mapped (λ (r : Row). id_in (rowid r)) rows id there in
+          let r = scan_sound (rowids_where tree terms) tree scan db params rows answer s.0 s.1 in
+          let is : id ≡ id_in (rowid r.0) = s.2 ∙ ap (λ (row : Row). id_in (rowid row)) r.3 in
+          go r.0 r.1 r.2 is (has_rowid id x) refl
+        where
+          go : (r : Row) → Has (db tree) r → passes r ≡ true → id ≡ id_in (rowid r) → (b : Bool) → has_rowid id x ≡ b → has_rowid id x ≡ false
+          go r here so is false e = e
+          go r here so is true e =
+              let own : rowid r ≡ Int id = int_is (rowid r) (keyed.ints r here) ∙ ap Int (sym is) in
+              let same : x ≡ r = once (db tree) keyed.apart x r h here (rw own e) in
+              absurd (let f = sym so ∙ ap passes (sym same) ∙ fails in cc)
+
+-- ---- a map without the keys that fail a test
+module _ {K X : Type 0} {R : K → K → Ordering} (o : IsTotalOrder R) (same : finite.IsAntisymmetric R) where
+  pub made_where : (p : K → Bool) (es : List (K × X)) → finite.from_entries {R = R} (where_key R p es) ≡ finite.retain_keys (finite.from_entries es) p
+  made_where p es = finite.same_map o same _ _ (λ q.
+      let alike : (x : K) → R q x ≡ Equal → p x ≡ p q = λ x tie. ap p (sym (same q x tie)) in
+      finite.get-from_entries o (where_key R p es) q ∙ find-where_key R p q alike es ∙ ap (λ v. cond (p q) v None) (sym (finite.get-from_entries o es q)) ∙ sym (finite.get-retain_keys (finite.from_entries es) p q alike))
+
+-- ---- one more entry, under a new key
+module _ {K X : Type 0} {R : K → K → Ordering} (o : IsTotalOrder R) (same : finite.IsAntisymmetric R) (kind : Row → Bool) (entry : Row → K × X) (new : Row) where
+  swapped : (q a b : K) (v w : X) (rest : Option X) → (R b a ≡ Equal → ⊥) → cond (eq_by_cmp R q a) (Some v) (cond (eq_by_cmp R q b) (Some w) rest) ≡ cond (eq_by_cmp R q b) (Some w) (cond (eq_by_cmp R q a) (Some v) rest)
+  swapped q a b v w rest apart = go (R q a) refl (R q b) refl
+    where
+      go : (r : Ordering) → R q a ≡ r → (s : Ordering) → R q b ≡ s → cond (is_eq r) (Some v) (cond (is_eq s) (Some w) rest) ≡ cond (is_eq s) (Some w) (cond (is_eq r) (Some v) rest)
+      go Less e s f = refl
+      go Greater e s f = refl
+      go Equal e Less f = refl
+      go Equal e Greater f = refl
+      go Equal e Equal f = absurd (apart (sym (o.congr q b a f) ∙ e))
+
+  none_first : (q k : K) (v : X) (rest : Option X) → cond (eq_by_cmp R q k) (Some v) rest ≡ None → (R q k ≡ Equal → ⊥) × (rest ≡ None)
+  none_first q k v rest h = go (R q k) refl h
+    where
+      go : (r : Ordering) → R q k ≡ r → cond (is_eq r) (Some v) rest ≡ None → (R q k ≡ Equal → ⊥) × (rest ≡ None)
+      go Less e h = (λ f. let x = sym e ∙ f in absurd cc, h)
+      go Equal e h = absurd (let x = h in cc)
+      go Greater e h = (λ f. let x = sym e ∙ f in absurd cc, h)
+
+  found_with : (rows : List Row) → is_taken rows new ≡ false → kind new ≡ true → find R (entry new).0 (map entry (filter kind rows)) ≡ None → (q : K)
+      → find R q (map entry (filter kind (put_row new rows))) ≡ cond (eq_by_cmp R q (entry new).0) (Some (entry new).1) (find R q (map entry (filter kind rows)))
+  found_with [] free is none q = rw is refl
+  found_with (r ∷ rs) free is none q = go (value_cmp (rowid r) (rowid new)) free (kind r) refl none (λ f n. found_with rs f is n q)
+    where
+      go : (c : Ordering) → (is_eq c || is_taken rs new) ≡ false → (b : Bool) → kind r ≡ b → find R (entry new).0 (map entry (cond b (r ∷ filter kind rs) (filter kind rs))) ≡ None
+          → (is_taken rs new ≡ false → find R (entry new).0 (map entry (filter kind rs)) ≡ None → find R q (map entry (filter kind (put_row new rs))) ≡ cond (eq_by_cmp R q (entry new).0) (Some (entry new).1) (find R q (map entry (filter kind rs))))
+          → find R q (map entry (filter kind (match_ordering c (r ∷ put_row new rs) (new ∷ rs) (new ∷ r ∷ rs)))) ≡ cond (eq_by_cmp R q (entry new).0) (Some (entry new).1) (find R q (map entry (cond b (r ∷ filter kind rs) (filter kind rs))))
+      go Less free false e none later = rw e (later free none)
+      go Less free true e none later =
+          let first = none_first (entry new).0 (entry r).0 (entry r).1 _ none in
+          rw e (ap (cond (eq_by_cmp R q (entry r).0) (Some (entry r).1)) (later free first.1) ∙ swapped q (entry r).0 (entry new).0 (entry r).1 (entry new).1 _ first.0)
+      go Equal free b e none later = absurd (let x = free in cc)
+      go Greater free b e none later = rw (is, e) refl
+
+  -- the map that the rows of one kind make has one entry more
+  pub made_new : (rows : List Row) → is_taken rows new ≡ false → kind new ≡ true → finite.get (finite.from_entries {R = R} (map entry (filter kind rows))) (entry new).0 ≡ None
+      → finite.from_entries {R = R} (map entry (filter kind (put_row new rows))) ≡ finite.insert (finite.from_entries (map entry (filter kind rows))) (entry new).0 (entry new).1
+  made_new rows free is none = finite.same_map o same _ _ (λ q.
+      finite.get-from_entries o (map entry (filter kind (put_row new rows))) q ∙ found_with rows free is (sym (finite.get-from_entries o (map entry (filter kind rows)) (entry new).0) ∙ none) q
+      ∙ ap (cond (eq_by_cmp R q (entry new).0) (Some (entry new).1)) (sym (finite.get-from_entries o (map entry (filter kind rows)) q)) ∙ sym (finite.get-insert o (finite.from_entries (map entry (filter kind rows))) (entry new).0 (entry new).1 q))
