@@ -1,0 +1,72 @@
+//! An archive on its way in.
+
+ghost use Rattle.std.specs.Prelude.{◌≡◌, List, ℕ, [], Some, None, IsSome, IfOk, OnOk, OnErr};
+ghost use Rattle.nar.specs.Outcome.{outcome_of};
+ghost use Rattle.paths.specs.Facts.{facts_of};
+ghost use Rattle.intake.specs.Arriving.{appended, fault_of};
+
+use crate::arriving::{Arrived, Arriving};
+use std::alloc::{AllocError, Global};
+use std::marker::Model;
+
+/// An archive that comes in pieces, however they are cut. Each byte is checked and hashed as it comes, and kept, also
+/// where it is no archive. Where memory is refused once, the intake is spent: from then on it only answers so.
+/// Contracts see the bytes that have come, or nothing where it is spent.
+#[derive(Drop)]
+pub struct Intake {
+    so_far: Option<Arriving>,
+}
+
+impl Model for Intake {
+    ghost use Rattle.std.specs.Prelude.{Option, List, ℕ};
+
+    ghost Value = { Option (List ℕ) };
+
+    ghost view = { λ i. i.so_far };
+}
+
+impl Intake {
+    /// No bytes yet. It takes no memory.
+    pub fn new(alloc: Global) -> Intake
+        ensures { result ≡ Some [] }
+    {
+        Intake {
+            so_far: Some(Arriving::new(alloc)),
+        }
+    }
+
+    /// Takes the next piece.
+    ///
+    /// # Errors
+    ///
+    /// Memory was refused, now or by an earlier piece.
+    pub fn push(&mut self, piece: &[u8]) -> Result<(), AllocError>
+        ensures ok { OnOk result ((self.new ≡ appended self.old piece.now) × IsSome self.old) }
+        ensures err { OnErr result (self.new ≡ None) }
+    {
+        match self.so_far.take() {
+            None => Err(AllocError),
+            Some(arriving) => {
+                self.so_far = Some(arriving.push(piece)?);
+                Ok(())
+            }
+        }
+    }
+
+    /// The end of the archive: its fault or none, what is told of it, and its bytes. It takes no memory.
+    ///
+    /// # Errors
+    ///
+    /// Memory was refused by an earlier piece.
+    pub fn finish(self) -> Result<Arrived, AllocError>
+        ensures pieces { IfOk result (λ a. self ≡ Some a.pieces) }
+        ensures facts { IfOk result (λ a. a.facts ≡ facts_of a.pieces) }
+        ensures fault { IfOk result (λ a. a.fault ≡ fault_of (outcome_of a.pieces)) }
+        ensures spent { OnErr result (self ≡ None) }
+    {
+        let Some(arriving) = self.so_far else {
+            return Err(AllocError);
+        };
+        Ok(arriving.finish())
+    }
+}

@@ -1,0 +1,23 @@
+-- Numbers in decimal digits.
+use Rattle.std.specs.Prelude.{ℕ, ◌==◌, ◌&&◌, ◌||◌, ◌^◌, Bool, not, if◌then◌else◌, nat_lt, nat_le, List, length, slice_index, Option, Some, None, unwrap_or}
+use Rattle.std.specs.List.{list_all}
+use Rattle.std.specs.Char.{digit_value}
+use Rattle.std.specs.Str.Parse.{digits_value}
+
+-- one or more decimal digits, and nothing else
+abbrev pub is_digits : List ℕ → Bool
+is_digits text = nat_lt 0 (length text) && list_all (λ c. nat_lt (digit_value c) 10) text
+
+-- the digits don't begin with a 0, or are that one
+abbrev pub has_no_leading_zero : List ℕ → Bool
+has_no_leading_zero text = nat_lt (length text) 2 || not (slice_index text 0 == 48)
+
+-- the number below 2^64 that a text writes in decimal digits, without a leading zero
+abbrev pub decimal_of : List ℕ → Option ℕ
+decimal_of text =
+    if is_digits text && (has_no_leading_zero text && nat_lt (digits_value 10 text) (2 ^ 64)) then Some (digits_value 10 text)
+    else None
+
+-- the number of a text that writes one up to `most`; any other text stands for 0
+abbrev pub number_up_to : ℕ → List ℕ → ℕ
+number_up_to most text = let n = unwrap_or (decimal_of text) 0 in if nat_le n most then n else 0

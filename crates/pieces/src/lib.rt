@@ -1,0 +1,9 @@
+//! Bytes in pieces of 65,536.
+#![tactic(auto)]
+
+mod bytes;
+
+pub use bytes::Pieces;
+
+#[cfg(test)]
+mod tests;

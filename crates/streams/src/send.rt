@@ -1,0 +1,29 @@
+//! Bytes, written to a writer that takes any number of them a call.
+ghost use Rattle.streams.specs.Sends.{Sends};
+
+use std::io;
+use std::io::{Error, ErrorKind, Write};
+
+/// Writes all of some bytes, in as many calls as the writer wants; a front of them, and not all, where
+/// it fails.
+///
+/// # Errors
+///
+/// That of the first call that fails, an interrupted one too; `WriteZero` where a call takes no byte.
+pub fn send_bytes<W: Write>(output: &mut W, bytes: &[u8]) -> io::Result<()>
+    ensures { Sends (W.contents output.old) (W.contents output.new) bytes.now result }
+{
+    let mut done = 0;
+    'writes: while done < bytes.len() {
+        match output.write(&bytes[done..]) {
+            Ok(count) => {
+                if count == 0 {
+                    return Err(Error::from(ErrorKind::WriteZero));
+                }
+                done += count;
+            }
+            Err(fault) => return Err(fault),
+        }
+    }
+    Ok(())
+}

@@ -1,0 +1,49 @@
+//! The bytes of an input, held whole.
+ghost use Rattle.std.specs.Prelude.{◌≡◌, IfOk, IfSome, take};
+ghost use Rattle.streams.specs.Reads.{TakesAtMost};
+
+use crate::receive::receive_at_most;
+use crate::sink::Sink;
+use std::alloc::{AllocError, Global};
+use std::io;
+use std::io::Read;
+
+/// What came of an input, of which no more than some number of bytes will.
+#[derive(Drop)]
+struct Held {
+    bytes: Vec<u8>,
+    most: usize,
+}
+
+impl Sink for Held {
+    ghost taken = { λ held. held.bytes.items };
+
+    /// The room grows by doubling, and never beyond what may come.
+    fn take(&mut self, piece: &[u8]) -> Result<(), AllocError> {
+        let held = self.bytes.len();
+        if self.bytes.capacity() - held < piece.len() {
+            let growth = held.min(self.most.saturating_sub(held));
+            self.bytes.reserve_exact(growth.max(piece.len()))?;
+        }
+        self.bytes.extend_from_slice(piece)
+    }
+}
+
+/// The bytes of an input, of which no more than `most` are read. An interrupted read is tried again.
+///
+/// # Errors
+///
+/// The fault of the input, or `OutOfMemory` where memory was refused.
+pub fn read_at_most<R: Read>(alloc: Global, input: &mut R, most: usize) -> io::Result<Vec<u8>>
+    ensures bytes { IfOk result (λ bytes. IfSome (R.remaining input.old) (λ all. bytes.items ≡ take most all)) }
+    ensures within { TakesAtMost most (R.remaining input.old) (R.remaining input.new) }
+{
+    let mut held = Held {
+        bytes: Vec::new(alloc),
+        most,
+    };
+    match receive_at_most(input, most, &mut held) {
+        Ok(()) => Ok(held.bytes),
+        Err(fault) => Err(fault),
+    }
+}
