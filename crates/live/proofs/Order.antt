@@ -1,16 +1,17 @@
 -- The order of roots, and the members of a list in that order.
-use Rattle.std.proofs.Common.{◌≡◌, ℕ, List, [], ◌∷◌, map, Bool, true, false, Some, None, Option, refl, sym, ap, ◌∙◌, IsTrue, subst}
-use Rattle.std.specs.Prelude.{Contains, is_some, if◌then◌else◌}
+use Rattle.std.proofs.Common.{◌≡◌, ℕ, suc, ◌<◌, ◌&&◌, length, get_or, arith, List, [], ◌∷◌, map, Bool, true, false, Some, None, Option, refl, sym, ap, ◌∙◌, IsTrue, subst}
+use Rattle.std.specs.Prelude.{Contains, AllPairs, is_some, if◌then◌else◌}
 use Rattle.std.specs.List.{list_any, find}
 use Rattle.std.specs.declared.cmp.Ordering.{Ordering}
 use Rattle.std.specs.declared.cmp.Ordering.TheVariants.{Less, Equal, Greater}
-use Rattle.std.specs.Ordering.{eq_by_cmp, is_eq, ordering_then, nat_cmp}
+use Rattle.std.specs.Ordering.{eq_by_cmp, is_eq, is_lt, ordering_then, nat_cmp}
 use Rattle.std.specs.Cmp.{IsTotalOrder, Equal-is, tied_itself, then_total, on_total, nat_cmp_total}
 use Rattle.std.specs.Cmp.Lexicographic.{on_texts}
 use Rattle.std.specs.FinMap as finite
-use Rattle.std.specs.FinMap.Entries.{is_some-find}
+use Rattle.std.specs.FinMap.Entries.{is_some-find, is_sorted, below_all}
+use lib.Dec.{T}
 use Rattle.std.proofs.lemmas.Bool.{false≢true, false_from_ne_true}
-use Rattle.paths.specs.Root.{bytes_cmp, Set, set_of, Kind, permanent, user, profile, runtime, Root, place, root_cmp, in_order}
+use Rattle.paths.specs.Root.{bytes_cmp, Set, set_of, Kind, permanent, user, profile, runtime, temporary, Root, place, root_cmp, in_order}
 use Rattle.live.proofs.Members.{any_from, some_of_any, least}
 
 pub root_total : IsTotalOrder root_cmp
@@ -19,7 +20,7 @@ root_total = then_total (on_total (λ (r : Root). place r.kind) nat_cmp_total) (
 -- ---- roots are told apart by kind, target and label
 
 kind_at : ℕ → Kind
-kind_at n = if is_at n 0 then permanent else if is_at n 1 then user else if is_at n 2 then profile else runtime
+kind_at n = if is_at n 0 then permanent else if is_at n 1 then user else if is_at n 2 then profile else if is_at n 3 then runtime else temporary
   where
     is_at : ℕ → ℕ → Bool
     is_at n k = eq_by_cmp nat_cmp n k
@@ -30,6 +31,7 @@ kind_at-place permanent = refl
 kind_at-place user = refl
 kind_at-place profile = refl
 kind_at-place runtime = refl
+kind_at-place temporary = refl
 
 pub same_kinds : (j k : Kind) → nat_cmp (place j) (place k) ≡ Equal → j ≡ k
 same_kinds j k e = sym (kind_at-place j) ∙ ap kind_at (finite.nat_cmp-IsAntisymmetric (place j) (place k) e) ∙ kind_at-place k
@@ -107,3 +109,30 @@ same_order xs ys f g = ap finite.keys (same_set root_total root_antisymmetric (s
     contains_key-set_of root_total xs r
     ∙ same_bools (list_any (eq_by_cmp root_cmp r) xs) (list_any (eq_by_cmp root_cmp r) ys) (λ h. to_test ys r (f r (from_test xs r h))) (λ h. to_test xs r (g r (from_test ys r h)))
     ∙ sym (contains_key-set_of root_total ys r)))
+
+-- ---- a list in order
+
+pub from_both : (a b : Bool) → T a → T b → T (a && b)
+from_both true b g h = h
+from_both false b g h = absurd g
+
+abbrev units : List Root → List (Root × Unit {0})
+units rs = map (λ (k : Root). (k, tt)) rs
+
+below_units : (r : Root) (rs : List Root) → ((j : ℕ) → j < length rs → (d : Root) → root_cmp r (get_or rs j d) ≡ Less) → T (below_all root_cmp r (units rs))
+below_units r [] h = tt
+below_units r (s ∷ rs) h = from_both (is_lt (root_cmp r s)) _ (subst (λ o. T (is_lt o)) (sym (h 0 (omega arith) s)) tt) (below_units r rs (λ j l d. h (suc j) (omega arith) d))
+
+sorted_units : (rs : List Root) → AllPairs (λ a b. root_cmp a b ≡ Less) rs → T (is_sorted root_cmp (units rs))
+sorted_units [] h = tt
+sorted_units (r ∷ rs) h = from_both (below_all root_cmp r (units rs)) _ (below_units r rs (λ j l d. h 0 (suc j) d (omega arith) (omega arith))) (sorted_units rs (λ i j d l k. h (suc i) (suc j) d (omega arith) (omega arith)))
+
+-- roots that strictly rise are in order
+pub in_order_is : (rs : List Root) → AllPairs (λ a b. root_cmp a b ≡ Less) rs → in_order rs ≡ rs
+unfolding in_order
+in_order_is rs h =
+    let es = units rs in
+    let sorted = sorted_units rs h in
+    ap finite.keys (finite.same_map root_total root_antisymmetric (finite.from_entries (units rs)) (finite.from_sorted {R = root_cmp} (units rs))
+    (λ q. finite.get-from_entries root_total (units rs) q ∙ sym (finite.get-from_sorted root_cmp (units rs) q sorted)))
+    ∙ ap (map (λ (e : Root × Unit {0}). e.0)) (finite.entries-from_sorted root_cmp (units rs) sorted) ∙ firsts rs

@@ -2,3 +2,16 @@ pub mod Graph
 pub mod Reach
 pub mod Live
 pub mod Laws
+pub mod Places
+pub mod Keeping
+pub mod Flat
+pub mod Marking
+pub mod Numbering
+pub mod Exact
+pub mod Added
+pub mod Handed
+pub mod Backward
+pub mod Limited
+pub mod Heads
+pub mod Searched
+pub mod Leaving

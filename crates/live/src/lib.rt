@@ -1,10 +1,32 @@
 //! Which store paths roots keep alive: the definitions, and the laws that hold of them.
 #![tactic(auto)]
 
+mod asking;
+mod backward;
+mod keeping;
 mod laws;
+mod leaving;
+mod limited_laws;
+mod limiting;
+mod marking;
+mod numbered;
+mod referring;
+mod taking;
+mod turning;
+mod walk;
 
+pub use asking::{referrers, roots_of};
+pub use keeping::Keep;
 pub use laws::{
     closures_are_decided, edges_are_decided, first_roots_are_least, live_and_dead_part_the_paths,
     liveness_is_decided, more_roots_keep_more, reach_is_closed, reach_is_decided,
     references_always_keep,
 };
+pub use limited_laws::{
+    a_limit_beyond_all_removes_all, a_limit_of_nothing_removes_nothing,
+    limited_collections_have_one_answer, limits_remove_dead_paths, referrers_go_with_it_or_before,
+    what_stays_refers_to_nothing_that_went,
+};
+pub use limiting::limited;
+pub use marking::{Marks, mark};
+pub use numbered::{Graph, Kind, Root, Roots, Row, are_valid, do_rise};

@@ -1,0 +1,33 @@
+//! What reaches some named places.
+ghost use Rattle.std.specs.Prelude.{◌<◌, length, All, IfOk};
+ghost use Rattle.live.specs.Keeping.{keep_view};
+ghost use Rattle.live.specs.Backward.{IsBackward};
+
+use crate::keeping::Keep;
+use crate::numbered::Graph;
+use crate::turning::turned;
+use crate::walk::Walk;
+use std::alloc::{AllocError, Global};
+
+/// Marks each place that reaches a named one by 0, and any other by 1.
+pub(crate) fn backward(
+    alloc: Global,
+    graph: &Graph,
+    keep: Keep,
+    named: &[usize],
+) -> Result<Vec<usize>, AllocError>
+    requires { All (λ t. t < length graph.now) named.now }
+    ensures { IfOk result (λ v. IsBackward (keep_view keep) graph.now named.now v.items) }
+{
+    let into = turned(alloc, graph, keep)?;
+    let mut walk = Walk {
+        first: vec![in alloc; 1; graph.len()]?,
+        work: Vec::new(alloc),
+    };
+    walk.reach_all(1, 0, named)?;
+    'work: while let Some(place) = walk.next() {
+        walk.reach_all(1, 0, &into[place])?;
+    }
+    let Walk { first, work: _ } = walk;
+    Ok(first)
+}

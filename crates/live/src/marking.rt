@@ -1,0 +1,72 @@
+//! The marking walk.
+ghost use Rattle.std.specs.Prelude.{◌≡◌, ◌<◌, List, length, All, IfOk};
+ghost use Rattle.live.specs.Keeping.{keep_view};
+ghost use Rattle.live.specs.Marking.{IsMarking, Marking, first_of};
+ghost use Rattle.paths.specs.Root.{Root};
+ghost use Rattle.live.specs.Numbering.{IsAimed, Rise, RootsRise, Row, numbered, paths_of};
+ghost use Rattle.live.specs.Exact.{IsExact};
+
+use crate::keeping::Keep;
+use crate::numbered::{Graph, Roots, Walker};
+use crate::walk::Walk;
+use std::alloc::{AllocError, Global};
+use std::marker::Model;
+
+/// What a walk found: for each place its first root, and the steps that it took.
+#[derive(Drop)]
+pub struct Marks {
+    first: Vec<usize>,
+    none: usize,
+    steps: u64,
+}
+
+impl Model for Marks {
+    ghost Value = { Marking };
+
+    ghost view = { λ m. record { first = m.first.items; none = m.none; steps = m.steps } };
+}
+
+impl Marks {
+    /// The place of the first root that reaches a path, or none where the path is dead.
+    pub fn first_root(&self, place: usize) -> Option<usize>
+        requires { place < length self.now.first }
+        ensures { result ≡ first_of self.now place }
+    {
+        let root = self.first[place];
+        if root < self.none { Some(root) } else { None }
+    }
+
+    /// How many steps the walk took: roots, objects and entries that were read.
+    pub fn steps(&self) -> u64
+        ensures { result ≡ self.now.steps }
+    {
+        self.steps
+    }
+}
+
+/// Marks each live path with the first root that reaches it.
+pub fn mark(alloc: Global, graph: &Graph, roots: &Roots, keep: Keep) -> Result<Marks, AllocError>
+    requires { All (λ t. t < length graph.now) roots.now }
+    ensures places { IfOk result (IsMarking (keep_view keep) graph.now roots.now) }
+    ensures paths { IfOk result (λ m. (rows : List Row) (given : List Root) → Rise (paths_of rows) → RootsRise given → graph.now ≡ numbered rows → IsAimed rows given roots.now → IsExact (keep_view keep) rows given m) }
+{
+    let none = roots.len();
+    let mut walk = Walk {
+        first: vec![in alloc; none; graph.len()]?,
+        work: Vec::new(alloc),
+    };
+    let mut walker = Walker::new();
+    'roots: for root in 0..none {
+        let target = walker.root(roots, root);
+        walk.reach(none, root, target)?;
+        'work: while let Some(place) = walk.next() {
+            walk.take(&mut walker, graph, keep, none, root, place)?;
+        }
+    }
+    let Walk { first, work: _ } = walk;
+    Ok(Marks {
+        first,
+        none,
+        steps: walker.steps(),
+    })
+}

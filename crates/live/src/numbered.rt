@@ -1,0 +1,147 @@
+//! The graph by places, and the one way to read it.
+ghost use Rattle.std.specs.Prelude.{◌≡◌, ℕ, ◌+◌, ◌<◌, ◌++◌, List, length, map, nat_lt};
+ghost use Rattle.std.specs.List.{slice_index};
+ghost use Rattle.live.specs.Places.{AllInside, Entries, entries_at, held};
+ghost use Rattle.live.specs.Flat.{IsFlat, entries_in};
+ghost use Rattle.live.specs.Marking.{told};
+
+mod conditions;
+mod heads;
+mod making;
+mod places;
+mod rows;
+
+pub use conditions::{are_valid, do_rise};
+pub use rows::{Kind, Root, Row};
+use std::marker::Model;
+
+/// Where an object's entries begin, kind after kind, and where the last of them ends.
+#[derive(Clone, Copy)]
+struct Span {
+    references: usize,
+    outputs: usize,
+    deriver: usize,
+    end: usize,
+}
+
+/// The valid paths by their places, each with the places of what it points to. Contracts see it as a list of entries.
+#[derive(Drop)]
+pub struct Graph {
+    spans: Vec<Span>,
+    targets: Vec<usize>,
+}
+
+impl Model for Graph {
+    ghost Value = { List Entries };
+
+    ghost view = { λ g. map (entries_in g.targets.items) g.spans.items };
+
+    ghost invariant = { λ g. IsFlat g.spans.items g.targets.items };
+}
+
+impl Graph {
+    /// How many objects it has.
+    pub fn len(&self) -> usize
+        ensures value { result ≡ length self.now }
+        ensures inside { AllInside self.now }
+    {
+        self.spans.len()
+    }
+}
+
+/// The roots in their order, each by the place of its target. Contracts see it as the list of these places.
+#[derive(Drop)]
+pub struct Roots {
+    targets: Vec<usize>,
+}
+
+impl Model for Roots {
+    ghost Value = { List ℕ };
+
+    ghost view = { λ r. r.targets.items };
+}
+
+impl Roots {
+    /// How many roots there are.
+    pub fn len(&self) -> usize
+        ensures { result ≡ length self.now }
+    {
+        self.targets.len()
+    }
+}
+
+/// How many entries an object has: its references, the same and its outputs, all of them.
+#[derive(Clone, Copy)]
+pub(crate) struct Counts {
+    pub(crate) references: usize,
+    pub(crate) outputs: usize,
+    pub(crate) all: usize,
+}
+
+/// Reads a graph and its roots, and counts what it reads.
+#[derive(Drop)]
+pub(crate) struct Walker {
+    steps: u64,
+}
+
+impl Model for Walker {
+    ghost Value = { ℕ };
+
+    ghost view = { λ w. w.steps };
+}
+
+impl Walker {
+    /// A walker that has read nothing yet.
+    pub(crate) fn new() -> Walker
+        ensures { result ≡ 0 }
+    {
+        Walker { steps: 0 }
+    }
+
+    /// The number of roots, objects and entries that it has read.
+    pub(crate) fn steps(&self) -> u64
+        ensures { result ≡ self.now }
+    {
+        self.steps
+    }
+
+    /// The target of a root.
+    pub(crate) fn root(&mut self, roots: &Roots, root: usize) -> usize
+        requires { root < length roots.now }
+        ensures value { result ≡ slice_index roots.now root }
+        ensures counted { self.new ≡ told (self.old + 1) }
+    {
+        self.steps = self.steps.saturating_add(1);
+        roots.targets[root]
+    }
+
+    /// An object's numbers of entries.
+    pub(crate) fn object(&mut self, graph: &Graph, place: usize) -> Counts
+        requires { place < length graph.now }
+        ensures references { result.references ≡ length (entries_at graph.now place).references }
+        ensures outputs { result.outputs ≡ result.references + length (entries_at graph.now place).outputs }
+        ensures all { result.all ≡ result.outputs + length (entries_at graph.now place).deriver }
+        ensures counted { self.new ≡ told (self.old + 1) }
+    {
+        self.steps = self.steps.saturating_add(1);
+        let span = graph.spans[place];
+        Counts {
+            references: span.outputs - span.references,
+            outputs: span.deriver - span.references,
+            all: span.end - span.references,
+        }
+    }
+
+    /// One of an object's entries.
+    pub(crate) fn entry(&mut self, graph: &Graph, place: usize, entry: usize) -> usize
+        requires place { place < length graph.now }
+        requires entry { entry < length (held (entries_at graph.now place)) }
+        ensures value { result ≡ slice_index (held (entries_at graph.now place)) entry }
+        ensures inside { result < length graph.now }
+        ensures counted { self.new ≡ told (self.old + 1) }
+    {
+        self.steps = self.steps.saturating_add(1);
+        let first = graph.spans[place].references;
+        graph.targets[first + entry]
+    }
+}

@@ -1,0 +1,45 @@
+//! Making a graph of rows, and roots of their targets.
+ghost use Rattle.std.specs.Prelude.{◌≡◌, ◌<◌, IfOk, All, length};
+ghost use Rattle.live.specs.Numbering.{AllValid, IsAimed, Rise, numbered, paths_of};
+ghost use Rattle.live.specs.Handed.{rows_view, roots_view};
+
+use crate::numbered::heads::heads_of;
+use crate::numbered::places::{add_row, place_of};
+use crate::numbered::rows::{Root, Row};
+use crate::numbered::{Graph, Roots};
+use std::alloc::{AllocError, Global};
+
+impl Graph {
+    /// The graph of some rows, which strictly rise. Nothing stays lent.
+    pub fn new(alloc: Global, rows: &[Row]) -> Result<Graph, AllocError>
+        requires { Rise (paths_of (rows_view rows.now)) }
+        ensures { IfOk result (λ g. g ≡ numbered (rows_view rows.now)) }
+    {
+        let heads = heads_of(alloc, rows)?;
+        let mut spans = Vec::new(alloc);
+        let mut targets = Vec::new(alloc);
+        for row in rows {
+            let span = add_row(&mut targets, rows, &heads, *row)?;
+            spans.push(span)?;
+        }
+        Ok(Graph { spans, targets })
+    }
+}
+
+impl Roots {
+    /// The roots of a graph, in their order. Each target is a row's path.
+    pub fn new(alloc: Global, rows: &[Row], roots: &[Root]) -> Result<Roots, AllocError>
+        requires rows { Rise (paths_of (rows_view rows.now)) }
+        requires targets { AllValid (rows_view rows.now) (roots_view roots.now) }
+        ensures aimed { IfOk result (IsAimed (rows_view rows.now) (roots_view roots.now)) }
+        ensures inside { IfOk result (λ r. All (λ t. t < length rows.now) r) }
+    {
+        let mut targets = Vec::new(alloc);
+        for root in roots {
+            if let Some(place) = place_of(rows, root.target) {
+                targets.push(place)?;
+            }
+        }
+        Ok(Roots { targets })
+    }
+}

@@ -1,0 +1,113 @@
+//! The places of paths among rows.
+ghost use Rattle.std.specs.Prelude.{◌≡◌, ◌++◌, IfOk, OnOk};
+ghost use Rattle.live.specs.Numbering.{Rise, numbered_links, paths_of, place_of as place, places_of};
+ghost use Rattle.live.specs.Handed.{row_view, rows_view};
+ghost use Rattle.live.specs.Heads.{AreHeads};
+ghost use Rattle.live.specs.Added.{IsAdded};
+ghost use Rattle.live.specs.Searched.{IsSearched};
+
+use crate::numbered::Span;
+use crate::numbered::heads::head_of;
+use crate::numbered::rows::Row;
+use paths::StorePath;
+use std::alloc::AllocError;
+use std::cmp::Ordering;
+
+/// The place of a path, if it is a row's, where it can stand only from one place on and before another.
+fn place_between(rows: &[Row], path: &StorePath, from: usize, to: usize) -> Option<usize>
+    requires rise { Rise (paths_of (rows_view rows.now)) }
+    requires searched { IsSearched rows.now path.now from to }
+    ensures { result ≡ place (paths_of (rows_view rows.now)) path.now }
+{
+    let mut low = from;
+    let mut high = to;
+    'search: while low < high {
+        let middle = low + (high - low) / 2;
+        match rows[middle].path.cmp(path) {
+            Ordering::Less => low = middle + 1,
+            Ordering::Equal => return Some(middle),
+            Ordering::Greater => high = middle,
+        }
+    }
+    None
+}
+
+/// The place of a path, if it is a row's.
+pub(crate) fn place_of(rows: &[Row], path: &StorePath) -> Option<usize>
+    requires { Rise (paths_of (rows_view rows.now)) }
+    ensures { result ≡ place (paths_of (rows_view rows.now)) path.now }
+{
+    place_between(rows, path, 0, rows.len())
+}
+
+/// The same, by the heads of the rows' paths: paths are compared only where heads are the same.
+fn place_by_head(rows: &[Row], heads: &[u64], path: &StorePath) -> Option<usize>
+    requires rise { Rise (paths_of (rows_view rows.now)) }
+    requires heads { AreHeads (paths_of (rows_view rows.now)) heads.now }
+    ensures { result ≡ place (paths_of (rows_view rows.now)) path.now }
+{
+    let head = head_of(path);
+    let mut low = 0;
+    let mut high = heads.len();
+    'search: while low < high {
+        let middle = low + (high - low) / 2;
+        let other = heads[middle];
+        if other == head {
+            break;
+        }
+        if other < head {
+            low = middle + 1;
+        } else {
+            high = middle;
+        }
+    }
+    place_between(rows, path, low, high)
+}
+
+/// The places of the paths that are rows' go to the end of the list.
+fn add_places(
+    targets: &mut Vec<usize>,
+    rows: &[Row],
+    heads: &[u64],
+    paths: &[StorePath],
+) -> Result<(), AllocError>
+    requires rise { Rise (paths_of (rows_view rows.now)) }
+    requires heads { AreHeads (paths_of (rows_view rows.now)) heads.now }
+    ensures { OnOk result (targets.new.items ≡ targets.old.items ++ places_of (paths_of (rows_view rows.now)) paths.now) }
+{
+    for path in paths {
+        if let Some(place) = place_by_head(rows, heads, path) {
+            targets.push(place)?;
+        }
+    }
+    Ok(())
+}
+
+/// The places of an object's entries go to the end of the list.
+pub(crate) fn add_row(
+    targets: &mut Vec<usize>,
+    rows: &[Row],
+    heads: &[u64],
+    row: Row,
+) -> Result<Span, AllocError>
+    requires rise { Rise (paths_of (rows_view rows.now)) }
+    requires heads { AreHeads (paths_of (rows_view rows.now)) heads.now }
+    ensures { IfOk result (IsAdded (numbered_links (paths_of (rows_view rows.now)) (row_view row.entry).1) targets.old.items targets.new.items) }
+{
+    let references = targets.len();
+    add_places(targets, rows, heads, row.references)?;
+    let outputs = targets.len();
+    add_places(targets, rows, heads, row.outputs)?;
+    let deriver = targets.len();
+    if let Some(path) = row.deriver {
+        if let Some(place) = place_by_head(rows, heads, path) {
+            targets.push(place)?;
+        }
+    }
+    Ok(Span {
+        references,
+        outputs,
+        deriver,
+        end: targets.len(),
+    })
+}

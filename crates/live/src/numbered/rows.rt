@@ -1,0 +1,36 @@
+//! Objects and roots as they are handed in.
+use paths::StorePath;
+
+/// An object as it is handed in: its path, and what it points to, lent from whoever holds it.
+#[derive(Clone, Copy)]
+pub struct Row<'a> {
+    /// The path.
+    pub path: &'a StorePath,
+    /// The references.
+    pub references: &'a [StorePath],
+    /// The paths of the outputs.
+    pub outputs: &'a [StorePath],
+    /// The deriver, if one is recorded.
+    pub deriver: Option<&'a StorePath>,
+}
+
+/// Which table a root stands in, in the order of roots.
+#[derive(Clone, Copy)]
+pub enum Kind {
+    Permanent,
+    User,
+    Profile,
+    Runtime,
+    Temporary,
+}
+
+/// A root as it is handed in.
+#[derive(Clone, Copy)]
+pub struct Root<'a> {
+    /// The table.
+    pub kind: Kind,
+    /// The path that it keeps.
+    pub target: &'a StorePath,
+    /// The label.
+    pub label: &'a str,
+}
