@@ -6,7 +6,7 @@ use Rattle.std.proofs.lemmas.Bool.{or_parts}
 use Rattle.std.proofs.lemmas.Option.{slice_get-map}
 use Rattle.paths.specs.Root.{Root}
 use Rattle.live.specs.Reach.{reaches}
-use Rattle.tables.specs.World.{Path, World, roots_of}
+use Rattle.world.specs.World.{Path, World, roots_of}
 use Rattle.policy.specs.Settings.{Settings}
 use Rattle.store.specs.Liveness.{graph_of, keep_of, lives, first_root_of, roots_that_keep}
 use Rattle.store.proofs.WorldLives.{first_found, ordered_again}

@@ -7,7 +7,7 @@ use Rattle.std.specs.FinMap as finite
 use Rattle.std.proofs.lemmas.List.Folds.{list_any-append}
 use Rattle.live.specs.Graph.{Path, same, holds}
 use Rattle.live.proofs.Reach.{same_is}
-use Rattle.tables.specs.World.{Object, Objects}
+use Rattle.world.specs.World.{Object, Objects}
 use Rattle.store.proofs.MapMembers.{bytes_antisymmetric}
 use Rattle.store.proofs.Worlds.{get-keeping}
 

@@ -15,7 +15,7 @@ use Rattle.paths.specs.Root.{bytes_cmp}
 use Rattle.live.specs.Graph.{Path, same, holds, Links, Keep, listed, kept_by, kept_if_valid, is_edge}
 use Rattle.live.proofs.Members.{both_T}
 use Rattle.live.proofs.Order.{contains_key-set_of}
-use Rattle.tables.specs.World.{Object, World, has, all_paths}
+use Rattle.world.specs.World.{Object, World, has, all_paths}
 use Rattle.store.specs.Liveness.{links_of, linked, graph_of}
 use Rattle.store.proofs.MapMembers.{bytes_antisymmetric}
 use Rattle.store.proofs.Worlds.{get-graph, valid_is}

@@ -5,7 +5,7 @@ use Rattle.std.specs.Cmp.Lexicographic.{texts_ties}
 use Rattle.std.specs.declared.alloc.Global.{Global}
 use Rattle.std.specs.String.{string_eq}
 use Rattle.paths.specs.Root.{is_runtime_label}
-use Rattle.tables.specs.World.{Pair}
+use Rattle.world.specs.World.{Pair}
 use Rattle.store.specs.Seen.{same_pair}
 use Rattle.model.specs.Maps.{pair_bytes}
 

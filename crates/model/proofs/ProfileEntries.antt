@@ -12,8 +12,8 @@ use Rattle.std.specs.FinMap as finite
 use Rattle.std.proofs.lemmas.Bool.{false≢true}
 use Rattle.std.proofs.lemmas.List.{map-id}
 use denote.Ref.{Bor}
-use Rattle.tables.specs.World.{Path, Pair, Profile, pair_cmp}
-use Rattle.tables.proofs.Empty.{no_entries}
+use Rattle.world.specs.World.{Path, Pair, Profile, pair_cmp}
+use Rattle.world.proofs.Empty.{no_entries}
 use Rattle.store.specs.Profiles.{highest, is_path, is_highest, number_for, set_to, switched, new_profile, profile_or_new, previous}
 use Rattle.store.proofs.MapMembers.{bytes_antisymmetric, pair_total, pair_antisymmetric, tied_is}
 use Rattle.model.specs.declared.world.Profile.{Profile as InMemory}

@@ -6,7 +6,7 @@ use Rattle.std.proofs.lemmas.Bool.{false≢true, and_parts}
 use Rattle.std.proofs.lemmas.List.Elements.{filter-append}
 use Rattle.paths.specs.Root.{Root}
 use Rattle.live.specs.Graph.{same}
-use Rattle.tables.specs.World.{Pair}
+use Rattle.world.specs.World.{Pair}
 use Rattle.policy.specs.declared.kinds.Class.{Class}
 use Rattle.policy.specs.Rules.{is_trusted}
 use Rattle.store.specs.Seen.{plain, censored, same_pair, each_once, seen_root, seen}

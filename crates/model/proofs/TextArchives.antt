@@ -7,8 +7,8 @@ use Rattle.nar.specs.Archive.{IsWritable, limit}
 use Rattle.nar.specs.declared.error.NarError.{NarError}
 use Rattle.nar.proofs.Files.{length-file, file_is_read}
 use Rattle.paths.specs.StorePath.{is_derivation}
-use Rattle.tables.specs.World.{Path}
-use Rattle.tables.specs.Objects.{tree_outputs, outputs_at}
+use Rattle.world.specs.World.{Path}
+use Rattle.world.specs.Objects.{tree_outputs, outputs_at}
 use Rattle.store.specs.Adds.{text_archive, text_archive_size}
 
 pub writable : (contents : List ℕ) → IsBytes contents → text_archive_size contents ≤ limit → IsWritable (regular false contents)

@@ -8,7 +8,7 @@ use Rattle.policy.specs.Class.{class_of}
 use Rattle.policy.specs.Rules.{allows, first_broken}
 use Rattle.policy.specs.declared.kinds.Rule.{Rule}
 use Rattle.policy.specs.declared.kinds.Rule.TheVariants.{Connect, TrustedImport, TrustedPermanentRoot, TrustedRuntimeRoots, OwnRoot, NoIgnoreLiveness, Live}
-use Rattle.tables.specs.World.{Pair, World}
+use Rattle.world.specs.World.{Pair, World}
 use Rattle.store.specs.Request.{Request}
 use Rattle.store.specs.Liveness.{lives}
 use Rattle.store.specs.Verdict.{operation_of, named_in, verdict, shown}

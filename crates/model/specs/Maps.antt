@@ -6,7 +6,7 @@ use Rattle.std.specs.FinMap as finite
 use Rattle.std.specs.declared.cmp.Ordering.{Ordering}
 use Rattle.std.specs.declared.alloc.Global.{Global}
 use Rattle.paths.specs.Root.{Set, set_of}
-use Rattle.tables.specs.World.{Pair}
+use Rattle.world.specs.World.{Pair}
 
 -- the map of some entries, with keys and values seen as the functions say
 abbrev pub seen_map : {K X L Y : Type 0} (R : L → L → Ordering) → (K → L) → (X → Y) → List (K × X) → finite.FinMap R Y

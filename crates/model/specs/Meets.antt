@@ -5,7 +5,7 @@ use Rattle.std.specs.declared.alloc.Global.{Global}
 use Rattle.policy.specs.declared.kinds.Rule.TheVariants.{Live}
 use Rattle.policy.specs.Settings.{Settings}
 use Rattle.policy.specs.Caller.{Caller}
-use Rattle.tables.specs.World.{World}
+use Rattle.world.specs.World.{World}
 use Rattle.store.specs.Request.{Request}
 use Rattle.store.specs.Liveness.{lives}
 use Rattle.store.specs.Verdict.{named_in, shown}

@@ -3,7 +3,7 @@ use Rattle.std.specs.Prelude.{List, String, string_bytes}
 use Rattle.std.specs.FinMap as finite
 use Rattle.std.specs.declared.alloc.Global.{Global}
 use Rattle.paths.specs.Root.{bytes_cmp, Set}
-use Rattle.tables.specs.World.{Path}
+use Rattle.world.specs.World.{Path}
 use Rattle.model.specs.Maps.{seen_map, seen_set}
 
 -- outputs by their names

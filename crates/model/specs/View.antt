@@ -1,10 +1,11 @@
 -- What the program's values stand for.
-use Rattle.std.specs.Prelude.{List, map, option_map, string_bytes}
+use Rattle.std.specs.Prelude.{List, map, option_map, None, string_bytes}
 use Rattle.std.specs.Ordering.{nat_cmp}
+use Rattle.std.specs.FinMap as finite
 use Rattle.paths.specs.Root.{bytes_cmp}
 use Rattle.paths.specs.Root as roots
-use Rattle.tables.specs.World.{pair_cmp}
-use Rattle.tables.specs.World as tables
+use Rattle.world.specs.World.{pair_cmp}
+use Rattle.world.specs.World as tables
 use Rattle.store.specs.Request as asked
 use Rattle.store.specs.Reply as replied
 use Rattle.model.specs.declared.world.Object.{Object}
@@ -39,6 +40,7 @@ object_view o = record {
 abbrev pub profile_view : Profile → tables.Profile
 profile_view p = record { generations = seen_map nat_cmp (λ n. n) string_bytes p.generations.entries; current = p.current }
 
+-- a world without temporary roots: no request of this program adds one
 abbrev pub world_view : World → tables.World
 world_view w = record {
   objects = seen_map bytes_cmp string_bytes object_view w.objects.entries;
@@ -46,6 +48,7 @@ world_view w = record {
   user_roots = seen_map pair_cmp pair_bytes string_bytes w.user_roots.entries;
   profiles = seen_map pair_cmp pair_bytes profile_view w.profiles.entries;
   runtime = seen_set pair_cmp pair_bytes w.runtime.keys;
+  temporary = finite.empty;
 }
 
 abbrev pub kind_view : Kind → roots.Kind
@@ -86,7 +89,7 @@ request_view (Rollback owner name) = asked.rollback (string_bytes owner) (string
 request_view (Switch owner name n) = asked.switch (string_bytes owner) (string_bytes name) n
 request_view (DeleteGeneration owner name n) = asked.delete_generation (string_bytes owner) (string_bytes name) n
 request_view (ReplaceRuntime pairs) = asked.replace_runtime (map pair_bytes pairs.items)
-request_view (Collect ignores) = asked.collect ignores
+request_view (Collect ignores) = asked.collect ignores None
 request_view (Delete named ignores) = asked.delete (map string_bytes named.items) ignores
 request_view Report = asked.report
 

@@ -3,7 +3,7 @@ ghost use Rattle.std.specs.Prelude.{◌≡◌, ◌++◌, IfOk, OnOk, map};
 ghost use Rattle.std.specs.List.{flat_map};
 ghost use Rattle.std.specs.FinMap as finite;
 ghost use Rattle.paths.specs.Root.{root_cmp, set_of};
-ghost use Rattle.tables.specs.World.{generation_root, generation_roots, lasting_roots, permanent_root, runtime_roots, user_root};
+ghost use Rattle.world.specs.World.{generation_root, generation_roots, lasting_roots, permanent_root, runtime_roots, temporary_roots, user_root};
 ghost use Rattle.model.specs.Maps.{Gains, pair_bytes};
 ghost use Rattle.model.specs.View.{profile_view, root_set, world_view};
 
@@ -73,7 +73,7 @@ impl World {
 
     /// All roots, in their order.
     pub(crate) fn roots(&self, alloc: Global) -> Result<BTreeSet<Root>, AllocError>
-        ensures { IfOk result (λ r. root_set r.keys ≡ set_of root_cmp (lasting_roots (world_view self.now) ++ runtime_roots (world_view self.now))) }
+        ensures { IfOk result (λ r. root_set r.keys ≡ set_of root_cmp (lasting_roots (world_view self.now) ++ runtime_roots (world_view self.now) ++ temporary_roots (world_view self.now))) }
     {
         let mut roots = BTreeSet::new(alloc);
         self.add_permanent(alloc, &mut roots)?;

@@ -1,7 +1,7 @@
 //! What is in a world, and changes of one entry.
 ghost use Rattle.std.specs.Prelude.{◌≡◌, string_bytes, OnOk, OnErr};
 ghost use Rattle.std.specs.FinMap as finite;
-ghost use Rattle.tables.specs.World.{has};
+ghost use Rattle.world.specs.World.{has};
 ghost use Rattle.store.specs.Effects.{with_permanent, with_user_root, without_permanent, without_user_root};
 ghost use Rattle.model.specs.Maps.{pair_bytes};
 ghost use Rattle.model.specs.View.{world_view};

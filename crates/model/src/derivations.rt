@@ -6,7 +6,7 @@ ghost use Rattle.nar.specs.declared.error.NarError.{NarError as Fault};
 ghost use Rattle.nar.specs.View.{tree_of};
 ghost use Rattle.drv.specs.Outcome as outcome;
 ghost use Rattle.drv.specs.View.{pairs};
-ghost use Rattle.tables.specs.Objects as objects;
+ghost use Rattle.world.specs.Objects as objects;
 ghost use Rattle.store.specs.Tests.{if_derivation, outputs_fault, tree_fault};
 ghost use Rattle.model.specs.Tested.{Gives};
 ghost use Rattle.model.specs.Parts.{outputs_view};

@@ -1,7 +1,7 @@
 //! The tests of the objects that are handed in, in their order.
 ghost use Rattle.store.specs.Adds.{text_archive};
 ghost use Rattle.store.specs.Tests.{first_failing, import_tests, source_tests, text_tests};
-ghost use Rattle.tables.specs.Objects as objects;
+ghost use Rattle.world.specs.Objects as objects;
 ghost use Rattle.model.specs.Tested.{Gives};
 ghost use Rattle.model.specs.Parts.{outputs_view};
 ghost use Rattle.model.specs.View.{import_view, world_view};

@@ -2,7 +2,7 @@
 ghost use Rattle.std.specs.Prelude.{◌≡◌, map, not, string_bytes};
 ghost use Rattle.std.specs.List.{list_all};
 ghost use Rattle.live.specs.Graph.{holds};
-ghost use Rattle.tables.specs.World.{has};
+ghost use Rattle.world.specs.World.{has};
 ghost use Rattle.store.specs.Effects.{keeping};
 ghost use Rattle.model.specs.View.{world_view};
 

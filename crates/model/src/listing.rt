@@ -1,6 +1,6 @@
 //! Paths and roots, in their order.
 ghost use Rattle.std.specs.Prelude.{◌≡◌, IfOk, map, string_bytes};
-ghost use Rattle.tables.specs.World.{all_paths, roots_of};
+ghost use Rattle.world.specs.World.{all_paths, roots_of};
 ghost use Rattle.model.specs.View.{root_view, world_view};
 
 use crate::root::Root;

@@ -3,8 +3,8 @@ ghost use Rattle.std.specs.Prelude.{◌≡◌, ◌||◌, not, length, nat_le, op
 ghost use Rattle.paths.specs.Root as roots;
 ghost use Rattle.paths.specs.Root.{bytes_cmp};
 ghost use Rattle.live.specs.Graph as graph;
-ghost use Rattle.tables.specs.World.{has};
-ghost use Rattle.tables.specs.Objects.{most_references};
+ghost use Rattle.world.specs.World.{has};
+ghost use Rattle.world.specs.Objects.{most_references};
 ghost use Rattle.store.specs.Reply as replied;
 ghost use Rattle.store.specs.Tests as tests;
 ghost use Rattle.store.specs.Tests.{unless};

@@ -54,7 +54,7 @@ pub(crate) fn collect(
     world: &mut World,
     ignores: bool,
 ) -> Result<Answer, Stop>
-    ensures { (c : callers.Caller) → Meets config.now (world_view world.old) c (asked.collect ignores) result (world_view world.new) }
+    ensures { (c : callers.Caller) → Meets config.now (world_view world.old) c (asked.collect ignores None) result (world_view world.new) }
 {
     let gone = world.dead_paths(alloc, config)?;
     let bytes = world.bytes_in(&gone);

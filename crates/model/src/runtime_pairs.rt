@@ -3,7 +3,7 @@ ghost use Rattle.std.specs.Prelude.{◌≡◌, [], ◌∷◌, map, string_bytes,
 ghost use Rattle.std.specs.List.{filter, list_all};
 ghost use Rattle.std.specs.FinMap as finite;
 ghost use Rattle.paths.specs.Root.{is_label_byte, is_runtime_label};
-ghost use Rattle.tables.specs.World.{has, pair_cmp};
+ghost use Rattle.world.specs.World.{has, pair_cmp};
 ghost use Rattle.store.specs.Effects.{valid_pairs, with_runtime};
 ghost use Rattle.model.specs.Maps.{Gains, pair_bytes, seen_set};
 ghost use Rattle.model.specs.View.{world_view};

@@ -18,8 +18,8 @@ fn is_trusted(class: Class) -> bool
     matches!(class, Class::Trusted)
 }
 
-fn is_runtime(kind: Kind) -> bool
-    ensures { result ≡ spec.is_runtime (kind_view kind) }
+fn is_hidden(kind: Kind) -> bool
+    ensures { result ≡ spec.is_hidden (kind_view kind) }
 {
     matches!(kind, Kind::Runtime)
 }
@@ -30,7 +30,7 @@ fn seen_label(alloc: Global, class: Class, root: &Root) -> Result<String, AllocE
     if is_trusted(class) {
         return root.label.clone();
     }
-    if is_runtime(root.kind) {
+    if is_hidden(root.kind) {
         return String::from_str(alloc, "{censored}");
     }
     root.label.clone()

@@ -1,6 +1,6 @@
 //! A world kept in memory.
 ghost use Rattle.std.specs.Prelude.{◌≡◌};
-ghost use Rattle.tables.specs.World.{no_world};
+ghost use Rattle.world.specs.World.{no_world};
 ghost use Rattle.model.specs.View.{world_view};
 
 use paths::Ca;

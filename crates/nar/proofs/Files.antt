@@ -51,13 +51,13 @@ length-spelling : (p : Part) (ps : List Part) → length (spelling (p ∷ ps)) �
 length-spelling p ps = length-append (string (spelled p)) (spelling ps) ∙ ap (λ (k : ℕ). k + length (spelling ps)) (length-string (spelled p))
 
 -- what comes before the contents
-abbrev head : List Part
+abbrev pub head : List Part
 head = other (codes "nix-archive-1") ∷ other (codes "(") ∷ other (codes "type") ∷ other (codes "regular") ∷ other (codes "contents") ∷ []
 
-abbrev close : List Part
+abbrev pub close : List Part
 close = other (codes ")") ∷ []
 
-length-head : length (spelling head) ≡ 88
+pub length-head : length (spelling head) ≡ 88
 length-head =
     length-spelling (other (codes "nix-archive-1")) (other (codes "(") ∷ other (codes "type") ∷ other (codes "regular") ∷ other (codes "contents") ∷ [])
     ∙ ap (λ (k : ℕ). 24 + k) (length-spelling (other (codes "(")) (other (codes "type") ∷ other (codes "regular") ∷ other (codes "contents") ∷ [])
@@ -68,7 +68,7 @@ length-close : length (spelling close) ≡ 16
 length-close = length-spelling (other (codes ")")) []
 
 -- the archive in three
-in_three : (c : List ℕ) → spelling (archive (regular false c)) ≡ spelling head ++ (string c ++ spelling close)
+pub in_three : (c : List ℕ) → spelling (archive (regular false c)) ≡ spelling head ++ (string c ++ spelling close)
 in_three c =
     let a : List ℕ = string (codes "nix-archive-1") in
     let b : List ℕ = string (codes "(") in

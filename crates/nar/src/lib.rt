@@ -21,6 +21,7 @@ pub use error::NarError;
 pub use fitting::is_writable;
 pub use listing::list;
 pub use node::{Entry, Node};
+pub use pieces::Pieces;
 pub use reading::read;
 pub use writing::write;
 

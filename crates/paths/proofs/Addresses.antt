@@ -92,3 +92,11 @@ digest-back digest count bytes = ap (unbase32 (base32 digest)) (sym count) ∙ r
 pub address-back : (method : Method) (digest text : List ℕ) → length digest ≡ 32 → IsBytes digest → text ≡ address_front method ++ base32 digest → address_of text ≡ Some (record { method = method; digest = digest })
 address-back Text digest text count bytes e = address_of-text text (base32 digest) e ∙ ap (with_method Text) (digest-back digest count bytes)
 address-back Source digest text count bytes e = address_of-source text (base32 digest) e ∙ ap (with_method Source) (digest-back digest count bytes)
+
+-- an address is read off its front and the digits that are read as its digest
+pub address-read : (ca : ContentAddress) (text digits : List ℕ) → text ≡ address_front ca.method ++ digits → unbase32 digits 32 ≡ Ok ca.digest → address_of text ≡ Some ca
+address-read ca text digits e h = by ca.method e
+  where
+    by : (method : Method) → text ≡ address_front method ++ digits → address_of text ≡ Some (record { method = method; digest = ca.digest })
+    by Text t = address_of-text text digits t ∙ ap (with_method Text) h
+    by Source t = address_of-source text digits t ∙ ap (with_method Source) h

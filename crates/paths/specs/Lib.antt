@@ -6,3 +6,4 @@ pub mod Root
 pub mod Path
 pub mod ContentAddress
 pub mod Laws
+pub mod Facts

@@ -26,6 +26,7 @@ pub data Kind : Type 0 where
   user : Kind
   profile : Kind
   runtime : Kind
+  temporary : Kind
 
 -- a root keeps its target, a store path, and all that the target keeps
 pub record Root : Type 0 where
@@ -39,6 +40,7 @@ place permanent = 0
 place user = 1
 place profile = 2
 place runtime = 3
+place temporary = 4
 
 -- the order of roots: by kind, then target, then label
 abbrev pub root_cmp : Root → Root → Ordering
@@ -61,6 +63,14 @@ user_label owner name = codes "gcroots/per-user/" ++ owner ++ codes "/" ++ name
 -- the label of a generation of a profile, by its owner, its name and the number
 abbrev pub generation_label : List ℕ → List ℕ → ℕ → List ℕ
 generation_label owner name n = codes "profiles/per-user/" ++ owner ++ codes "/" ++ name ++ codes "-" ++ decimal n ++ codes "-link"
+
+-- the label of a temporary root, by the number of its session
+abbrev pub temporary_label : ℕ → List ℕ
+temporary_label session = codes "{temp:" ++ decimal session ++ codes "}"
+
+-- the number of a session: 1 to 4,194,304
+abbrev pub is_session : ℕ → Bool
+is_session n = nat_le 1 n && nat_le n 4194304
 
 -- a byte of a runtime label: it is printed, and isn't a space
 abbrev pub is_label_byte : ℕ → Bool

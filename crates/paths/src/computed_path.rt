@@ -100,14 +100,26 @@ pub fn text_path(
     ensures fits { IfOk result (λ p. IsPathOf (codes "text") dir.now name.now refs.now (sha256 contents.now) p) }
     ensures value { IfOk result (λ p. p ≡ spec.text_path dir.now name.now refs.now contents.now) }
 {
-    path_of(
-        alloc,
-        "text",
-        dir,
-        name.as_str(),
-        refs,
-        &Sha256::digest(contents),
-    )
+    text_path_of(alloc, dir, name, refs, &Sha256::digest(contents))
+}
+
+/// The path of a text object, by SHA-256 of its contents.
+///
+/// # Errors
+///
+/// Memory was refused.
+pub fn text_path_of(
+    alloc: Global,
+    dir: &StoreDir,
+    name: &Name,
+    refs: &[StorePath],
+    hash: &[u8; 32],
+) -> Result<StorePath, AllocError>
+    ensures fits { IfOk result (λ p. IsPathOf (codes "text") dir.now name.now refs.now hash.now p) }
+    // It is the path of the contents that have this digest.
+    ensures value { (contents : List ℕ) → hash.now ≡ sha256 contents → IfOk result (λ p. p ≡ spec.text_path dir.now name.now refs.now contents) }
+{
+    path_of(alloc, "text", dir, name.as_str(), refs, hash)
 }
 
 /// The path of a source object: any archive. The order and the repeats of `refs` make no difference.
@@ -125,12 +137,24 @@ pub fn source_path(
     ensures fits { IfOk result (λ p. IsPathOf (codes "source") dir.now name.now refs.now (sha256 nar.now) p) }
     ensures value { IfOk result (λ p. p ≡ spec.source_path dir.now name.now refs.now nar.now) }
 {
-    path_of(
-        alloc,
-        "source",
-        dir,
-        name.as_str(),
-        refs,
-        &Sha256::digest(nar),
-    )
+    source_path_of(alloc, dir, name, refs, &Sha256::digest(nar))
+}
+
+/// The path of a source object, by SHA-256 of its archive.
+///
+/// # Errors
+///
+/// Memory was refused.
+pub fn source_path_of(
+    alloc: Global,
+    dir: &StoreDir,
+    name: &Name,
+    refs: &[StorePath],
+    nar_hash: &[u8; 32],
+) -> Result<StorePath, AllocError>
+    ensures fits { IfOk result (λ p. IsPathOf (codes "source") dir.now name.now refs.now nar_hash.now p) }
+    // It is the path of the archive that has this digest.
+    ensures value { (nar : List ℕ) → nar_hash.now ≡ sha256 nar → IfOk result (λ p. p ≡ spec.source_path dir.now name.now refs.now nar) }
+{
+    path_of(alloc, "source", dir, name.as_str(), refs, nar_hash)
 }

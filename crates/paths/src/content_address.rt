@@ -1,14 +1,16 @@
 //! Content addresses.
-ghost use Rattle.std.specs.Prelude.{◌≡◌, ◌⊎◌, IfOk, IfErr, OnOk, Some, None, true, false, string_bytes};
+ghost use Rattle.std.specs.Prelude.{◌≡◌, ◌⊎◌, List, ℕ, IfOk, IfErr, OnOk, Some, None, true, false, string_bytes};
 ghost use Rattle.std.specs.Option.{option_copied};
 ghost use Rattle.std.specs.Str.{bytes_eq};
 ghost use Rattle.nar.specs.View.{tree_of};
 ghost use Rattle.nar.specs.Outcome.{outcome_of};
 ghost use Rattle.paths.specs.Base32 as spec;
 ghost use Rattle.paths.specs.ContentAddress.{ContentAddress, address_front, address_text, address_of, with_method, text_address, source_address, plain, plain_contents, is_made_of, method_verifies, verifies};
+ghost use Rattle.paths.specs.Facts.{facts_of, verifies_by};
 
 use crate::computed_path::path_of;
 use crate::digits::{Base32Error, base32, unbase32};
+use crate::facts::Facts;
 use crate::store_dir::StoreDir;
 use crate::store_path::StorePath;
 use nar::{NarError, Node};
@@ -102,7 +104,7 @@ impl Ca {
             Ok(bytes) => {
                 let mut digest = [0u8; 32];
                 digest.copy_from_slice(bytes.as_slice());
-                Ok(Ca { method, digest })
+                Ok(Ca::new(method, digest))
             }
             Err(Base32Error::Memory) => Err(CaError::Memory),
             Err(_) => Err(CaError::BadCa),
@@ -129,13 +131,21 @@ impl Ca {
         }
     }
 
-    /// Its text.
+    /// The address of this method and digest: SHA-256 of a text's contents, or of a source's archive.
+    pub fn new(method: Method, digest: [u8; 32]) -> Ca
+        ensures { result ≡ record { method = method; digest = digest } }
+    {
+        Ca { method, digest }
+    }
+
+    /// Its text, which is read as this address.
     ///
     /// # Errors
     ///
     /// Memory was refused.
     pub fn to_text(&self, alloc: Global) -> Result<String, AllocError>
-        ensures { IfOk result (λ text. string_bytes text ≡ address_text self.now) }
+        ensures text { IfOk result (λ text. string_bytes text ≡ address_text self.now) }
+        ensures back { IfOk result (λ text. address_of (string_bytes text) ≡ Some self.now) }
     {
         let mut text = String::from_str(alloc, front(self.method))?;
         let digits = base32(alloc, &self.digest)?;
@@ -167,6 +177,45 @@ impl Ca {
             Method::Source => {
                 let inner = Sha256::digest(nar);
                 verify_made(alloc, "source", &self.digest, &inner, dir, path, refs)
+            }
+        }
+    }
+
+    /// The same test as `verify`, by what is told of the archive.
+    ///
+    /// # Errors
+    ///
+    /// `CaMismatch` exactly where `verify` answers it of the archive, and `Memory`.
+    pub fn verify_facts(
+        &self,
+        alloc: Global,
+        dir: &StoreDir,
+        path: &StorePath,
+        refs: &[StorePath],
+        facts: &Facts,
+    ) -> Result<(), VerifyError>
+        ensures ok { OnOk result (verifies_by self.now dir.now path.now refs.now facts.now ≡ true) }
+        ensures bad { IfErr result (λ e. (e ≡ VerifyError.Memory) ⊎ ((e ≡ VerifyError.CaMismatch) × (verifies_by self.now dir.now path.now refs.now facts.now ≡ false))) }
+        // It is the test of the archive of which this is told.
+        ensures same { (nar : List ℕ) → facts.now ≡ facts_of nar → verifies_by self.now dir.now path.now refs.now facts.now ≡ verifies self.now dir.now path.now refs.now nar }
+    {
+        match self.method {
+            Method::Text => {
+                let Some(inner) = facts.plain else {
+                    return Err(VerifyError::CaMismatch);
+                };
+                verify_made(alloc, "text", &self.digest, &inner, dir, path, refs)
+            }
+            Method::Source => {
+                verify_made(
+                    alloc,
+                    "source",
+                    &self.digest,
+                    &facts.nar_hash,
+                    dir,
+                    path,
+                    refs,
+                )
             }
         }
     }

@@ -81,11 +81,22 @@ impl StorePath {
         ensures ok { IfOk result (λ p. (p ≡ base_of dir.now text.now) × (is_base_name p ≡ true)) }
         ensures bad { (result ≡ Err StorePathError.BadStorePath) ↔ (is_base_name (base_of dir.now text.now) ≡ false) }
     {
-        let base = base_of(dir, text);
-        if !is_base_name(base.as_bytes()) {
+        StorePath::from_base(alloc, base_of(dir, text))
+    }
+
+    /// The store path of a base name, such as a database keeps.
+    ///
+    /// # Errors
+    ///
+    /// `BadStorePath` exactly where the text is no base name, and `Memory`.
+    pub fn from_base(alloc: Global, text: &str) -> Result<StorePath, StorePathError>
+        ensures ok { IfOk result (λ p. (p ≡ text.now) × (is_base_name p ≡ true)) }
+        ensures bad { (result ≡ Err StorePathError.BadStorePath) ↔ (is_base_name text.now ≡ false) }
+    {
+        if !is_base_name(text.as_bytes()) {
             return Err(StorePathError::BadStorePath);
         }
-        match String::from_str(alloc, base) {
+        match String::from_str(alloc, text) {
             Ok(base) => Ok(StorePath { base }),
             Err(_) => Err(StorePathError::Memory),
         }
@@ -189,6 +200,7 @@ impl fmt::Display for StorePath {
     ghost output = { λ path. Some path };
 
     fn fmt<W: fmt::Write>(&self, f: &mut fmt::Formatter<W>) -> fmt::Result {
-        f.write_str(self.as_str())
+        let base = self.as_str();
+        f.write_str(base)
     }
 }

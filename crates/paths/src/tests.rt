@@ -1,7 +1,7 @@
 use crate::computed_path::{fingerprint, in_path_order};
 use crate::{
-    Base32Error, Ca, CaError, Name, NameError, StoreDir, StoreDirError, StorePath, StorePathError,
-    VerifyError, base32, fold20, is_plain_name, source_path, text_path, unbase32,
+    Base32Error, Ca, CaError, Facts, Method, Name, NameError, StoreDir, StoreDirError, StorePath,
+    StorePathError, VerifyError, base32, fold20, is_plain_name, source_path, text_path, unbase32,
 };
 use sha2::{Digest, Sha256};
 use std::test::Fail;
@@ -80,6 +80,11 @@ fn store_paths(rt: HostRuntime) -> Result<(), Fail> {
     let path = StorePath::parse(alloc, &dir, full.as_str())?;
     assert_eq!(rt; path.as_str(), base);
     assert_eq!(rt; StorePath::parse(alloc, &dir, base)?, path.clone()?);
+    assert_eq!(rt; StorePath::from_base(alloc, base)?, path.clone()?);
+    assert_eq!(rt;
+        StorePath::from_base(alloc, full.as_str()).err(),
+        Some(StorePathError::BadStorePath)
+    );
     let low = StorePath::parse(alloc, &dir, "00000000000000000000000000000000-a")?;
     assert!(rt; low < path);
     for bad in [
@@ -266,5 +271,29 @@ fn addresses_verified(rt: HostRuntime) -> Result<(), Fail> {
     assert_eq!(rt; made.name(), "myfile");
     assert!(rt; !made.is_derivation());
     assert!(rt; store_path(&rt, "00000000000000000000000000000000-a.drv")?.is_derivation());
+    Ok(())
+}
+
+#[test]
+fn addresses_verified_by_facts(rt: HostRuntime) -> Result<(), Fail> {
+    let alloc = rt.alloc();
+    let dir = StoreDir::parse(alloc, "/nix/store")?;
+    let name = Name::parse(alloc, "myfile")?;
+    let facts = Facts {
+        nar_hash: Sha256::digest(ARCHIVE.as_slice()),
+        nar_size: 128,
+        plain: Some(Sha256::digest(b"mycontent\n".as_slice())),
+    };
+    let path = store_path(&rt, "xv2iccirbrvklck36f1g7vldn5v58vck-myfile")?;
+    let source = Ca::new(Method::Source, facts.nar_hash);
+    assert_eq!(rt;
+        source.verify_facts(alloc, &dir, &path, &[], &facts),
+        Ok(())
+    );
+    let text = Ca::of_text(b"mycontent\n".as_slice());
+    assert_eq!(rt;
+        text.verify_facts(alloc, &dir, &path, &[], &facts),
+        Err(VerifyError::CaMismatch)
+    );
     Ok(())
 }

@@ -2,7 +2,7 @@
 use Rattle.std.specs.Prelude.{◌≡◌, ℕ, Bool, true, false, if◌then◌else◌, ◌&&◌, List, codes, Some, None}
 use Rattle.std.specs.Option.{option_or}
 use Rattle.policy.specs.Caller.{Caller, caller_of}
-use Rattle.policy.specs.Operation.{Operation, plain, import_object, set_permanent, drop_permanent, replace_runtime, set_user_root, drop_user_root, set_profile, rollback, switch, delete_generation, collect, delete, deletes}
+use Rattle.policy.specs.Operation.{Operation, plain, import_object, set_permanent, drop_permanent, replace_runtime, set_user_root, drop_user_root, set_profile, rollback, switch, delete_generation, add_temp, end_session, collect, delete, deletes}
 use Rattle.policy.specs.Rules.{verdict, first_broken, is_stranger}
 use Rattle.policy.specs.declared.kinds.Class.{Class}
 use Rattle.policy.specs.declared.kinds.Class.TheVariants.{Stranger, Allowed, Trusted}
@@ -56,6 +56,10 @@ KeptForTheOwner =
     × (first_broken Allowed ann (delete_generation bob) ≡ Some OwnRoot)
     × (first_broken Trusted ann (delete_generation bob) ≡ None)
     × (first_broken Allowed ann (set_profile (codes "ann")) ≡ None)
+    × (first_broken Allowed ann (add_temp (codes "ann")) ≡ None)
+    × (first_broken Trusted ann (add_temp bob) ≡ Some OwnRoot)
+    × (first_broken Allowed ann (end_session bob) ≡ Some OwnRoot)
+    × (first_broken Trusted ann (end_session bob) ≡ None)
 
 -- what nobody may: ignore liveness, or delete what is live
 abbrev pub KeptFromAll : Type 0

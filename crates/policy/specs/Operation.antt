@@ -18,6 +18,9 @@ pub data Operation : Type 0 where
   rollback : List ℕ → Operation
   switch : List ℕ → Operation
   delete_generation : List ℕ → Operation
+  -- with the owner of the session
+  add_temp : List ℕ → Operation
+  end_session : List ℕ → Operation
   -- with the flag to ignore liveness
   collect : Bool → Operation
   delete : Bool → Operation
@@ -30,12 +33,15 @@ owner_of (set_profile owner) = Some owner
 owner_of (rollback owner) = Some owner
 owner_of (switch owner) = Some owner
 owner_of (delete_generation owner) = Some owner
+owner_of (add_temp owner) = Some owner
+owner_of (end_session owner) = Some owner
 owner_of _ = None
 
--- whether it drops what has an owner, a user root or a generation: a trusted caller may do so for another
+-- whether it drops what has an owner, a user root, a generation or a session's roots: a trusted caller may do so for another
 abbrev pub drops_owned : Operation → Bool
 drops_owned (drop_user_root owner) = true
 drops_owned (delete_generation owner) = true
+drops_owned (end_session owner) = true
 drops_owned _ = false
 
 -- whether it imports an object that has no content address

@@ -37,7 +37,8 @@ pub enum Rule {
     TrustedPermanentRoot,
     /// Only a trusted caller may replace the runtime roots.
     TrustedRuntimeRoots,
-    /// A root or profile is its owner's; a trusted caller may drop another's root or generation.
+    /// A root, profile or session is its owner's; a trusted caller may drop another's root or generation, or end another's
+    /// session.
     OwnRoot,
     /// Nobody may ignore liveness.
     NoIgnoreLiveness,

@@ -12,9 +12,9 @@ use Rattle.paths.specs.StorePath.{is_base_name}
 use Rattle.paths.specs.Base32.{all_digits, value_of}
 use Rattle.paths.specs.Root.{Root, is_runtime_label, is_label_byte}
 use Rattle.live.proofs.Order.{member_ordered}
-use Rattle.tables.specs.World.{Path, Object, World, has, permanent_root, user_root, generation_root, generation_roots, runtime_root, lasting_roots, runtime_roots, roots_of}
-use Rattle.tables.specs.Sound.{IsSound}
-use Rattle.store.proofs.MapMembers.{pair_total, listed_key, listed_entry}
+use Rattle.world.specs.World.{Path, Object, World, has, permanent_root, user_root, generation_root, generation_roots, runtime_root, temporary_root, lasting_roots, runtime_roots, temporary_roots, roots_of}
+use Rattle.world.specs.Sound.{IsSound}
+use Rattle.store.proofs.MapMembers.{pair_total, temporary_total, listed_key, listed_entry}
 use Rattle.store.proofs.Filtered.{from_mapped, from_joined}
 use Rattle.report.specs.Laws.{lacks}
 use Rattle.report.proofs.Lacking.{lacks_failing, lacks_both, lacks-decimal, lacks_pieces}
@@ -106,8 +106,17 @@ module _ (dir : List ℕ) (w : World) (sound : IsSound dir w) where
       let at = listed_key pair_total w.runtime x.0 x.1 in
       subst Unbroken x.2 (label_lacks x.0.0 (sound.runtime_label x.0 at), target_lacks x.0.1 (sound.runtime_target x.0 at))
 
-  pub unbroken : (r : Root) → Contains (roots_of w) r → Unbroken r
-  unbroken r c = elim (Contains-append_cases (lasting_roots w) (runtime_roots w) r (member_ordered (lasting_roots w ++ runtime_roots w) r c)) as (λ _. Unbroken r) [
+  temporaries : (r : Root) → Contains (temporary_roots w) r → Unbroken r
+  temporaries r c =
+      let x = from_mapped temporary_root (finite.keys w.temporary) r c in
+      let at = listed_key temporary_total w.temporary x.0 x.1 in
+      subst Unbroken x.2 (
+        lacks_both 10 (codes "{temp:" ++ decimal x.0.session) (codes "}") (lacks_both 10 (codes "{temp:") (decimal x.0.session) refl (lacks-decimal 10 x.0.session (omega arith))) refl,
+        target_lacks x.0.path (sound.temporary_target x.0 at),
+      )
+
+  until_runtime : (r : Root) → Contains (lasting_roots w ++ runtime_roots w) r → Unbroken r
+  until_runtime r c = elim (Contains-append_cases (lasting_roots w) (runtime_roots w) r c) as (λ _. Unbroken r) [
     | inl lasting ↦ elim (Contains-append_cases (map permanent_root (finite.entries w.permanent) ++ map user_root (finite.entries w.user_roots)) (flat_map generation_roots (finite.entries w.profiles)) r lasting) as (λ _. Unbroken r) [
       | inl named ↦ elim (Contains-append_cases (map permanent_root (finite.entries w.permanent)) (map user_root (finite.entries w.user_roots)) r named) as (λ _. Unbroken r) [
         | inl here ↦ permanents r here
@@ -116,4 +125,10 @@ module _ (dir : List ℕ) (w : World) (sound : IsSound dir w) where
       | inr here ↦ generations r here
     ]
     | inr here ↦ runtimes r here
+  ]
+
+  pub unbroken : (r : Root) → Contains (roots_of w) r → Unbroken r
+  unbroken r c = elim (Contains-append_cases (lasting_roots w ++ runtime_roots w) (temporary_roots w) r (member_ordered (lasting_roots w ++ runtime_roots w ++ temporary_roots w) r c)) as (λ _. Unbroken r) [
+    | inl early ↦ until_runtime r early
+    | inr here ↦ temporaries r here
   ]

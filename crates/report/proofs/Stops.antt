@@ -3,7 +3,7 @@ use Rattle.std.proofs.Common.{◌≡◌, ℕ, List, ◌++◌, true, false, cond,
 use Rattle.std.specs.Option.{option_map_or}
 use Rattle.std.specs.Prelude.{Contains}
 use Rattle.paths.specs.StorePath.{full_path}
-use Rattle.paths.specs.Root.{Kind, permanent, user, profile, runtime, Root, in_order}
+use Rattle.paths.specs.Root.{Kind, permanent, user, profile, runtime, temporary, Root, in_order}
 use Rattle.live.specs.Reach.{reaches}
 use Rattle.live.proofs.Members.{found}
 use Rattle.live.proofs.Order.{member_ordered}
@@ -15,8 +15,8 @@ use Rattle.policy.specs.Words.{rule_word}
 use Rattle.policy.specs.declared.kinds.Class.{Class}
 use Rattle.policy.specs.declared.kinds.Rule.{Rule}
 use Rattle.policy.specs.declared.kinds.Rule.TheVariants.{Connect, TrustedImport, TrustedPermanentRoot, TrustedRuntimeRoots, OwnRoot, NoIgnoreLiveness, Live}
-use Rattle.tables.specs.World.{Path, Pair, World, roots_of}
-use Rattle.tables.specs.Sound.{IsSound}
+use Rattle.world.specs.World.{Path, Pair, World, roots_of}
+use Rattle.world.specs.Sound.{IsSound}
 use Rattle.store.specs.Request.{Request}
 use Rattle.store.specs.Reply.{done, denied, refused, failed, Failure, memory, size, disk}
 use Rattle.store.specs.Liveness.{graph_of, keep_of, first_root_of, lives}
@@ -82,6 +82,7 @@ hidden permanent r e h = h
 hidden user r e h = h
 hidden profile r e h = h
 hidden runtime r e h = refl
+hidden temporary r e h = refl
 
 seen_plain : (class : Class) (r : Root) → Unbroken r → Plain (seen_root class r)
 seen_plain class r h = elim (is_trusted class) as (λ b. Plain ((cond b r (censored r)).label, (cond b r (censored r)).target)) [

@@ -6,11 +6,11 @@ use Rattle.std.proofs.lemmas.Option.{same_Some}
 use Rattle.policy.specs.declared.error.KeyWord.{KeyWord}
 use Rattle.policy.specs.declared.error.KeyWord.TheVariants.{Syntax, UnknownKey, StoreDir, AllowedUsers, TrustedUsers, KeepOutputs, KeepDerivations, Groups}
 use Rattle.report.specs.declared.refusal.Refusal.{Refusal}
-use Rattle.report.specs.declared.refusal.Refusal.TheVariants.{Truncated, BadTag, BadPadding, BadName, NotSorted, TooDeep, Trailing, TooLarge, BadDigit, BadLength, Overflow, BadStoreName, BadStoreDir, BadStorePath, BadCa, CaMismatch, BadDerivation, DoubleOutput, BadConfig, BadCaller, BadSchema, OtherStoreDir, NotValid, MissingReference, NarHashMismatch, SelfReference, NoRoot, NoProfile, NoGeneration, CurrentGeneration, NoOlderGeneration, GenerationLimit, TooManyReferences, BadRootName, BadLabel, BadHead, BadBodyLength, BodyTooLarge, NoRoute, BadMethod, BadBodyHead}
+use Rattle.report.specs.declared.refusal.Refusal.TheVariants.{Truncated, BadTag, BadPadding, BadName, NotSorted, TooDeep, Trailing, TooLarge, BadDigit, BadLength, Overflow, BadStoreName, BadStoreDir, BadStorePath, BadCa, CaMismatch, BadDerivation, DoubleOutput, BadConfig, BadCaller, BadSchema, OtherStoreDir, NotValid, MissingReference, NarHashMismatch, SelfReference, NoRoot, NoProfile, NoGeneration, CurrentGeneration, NoOlderGeneration, GenerationLimit, TooManyReferences, BadRootName, BadLabel, BadHead, BadBodyLength, BodyTooLarge, NoRoute, BadMethod, BadBodyHead, BadSession}
 use Rattle.report.specs.Refusals.{number, name, detail, refusal_line}
 use Rattle.report.specs.Laws.{refusals, lacks, RefusalsAreLines, RefusalsDiffer}
 
-pub numbered : map number refusals ≡ range_with_len 1 41
+pub numbered : map number refusals ≡ range_with_len 1 42
 numbered = refl
 
 -- ---- each is one line
@@ -72,6 +72,7 @@ one BodyTooLarge = refl
 one NoRoute = refl
 one BadMethod = refl
 one BadBodyHead = refl
+one BadSession = refl
 
 pub are_lines : RefusalsAreLines
 unfolding front
@@ -121,6 +122,7 @@ every =
     ∷ NoRoute
     ∷ BadMethod
     ∷ BadBodyHead
+    ∷ BadSession
     ∷ BadConfig Syntax
     ∷ BadConfig UnknownKey
     ∷ BadConfig StoreDir
@@ -189,6 +191,7 @@ said_of BodyTooLarge = refl
 said_of NoRoute = refl
 said_of BadMethod = refl
 said_of BadBodyHead = refl
+said_of BadSession = refl
 
 pub differ : RefusalsDiffer
 differ a b e = same_Some a b (sym (said_of a) ∙ ap said e ∙ said_of b)

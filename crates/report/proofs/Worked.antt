@@ -3,8 +3,8 @@ use Rattle.std.proofs.Common.{◌≡◌, ℕ, List, [], map, not, refl, ap}
 use Rattle.std.specs.Fmt.{digits}
 use Rattle.std.specs.List.{filter}
 use Rattle.paths.specs.Base32.{base32, digits_of}
-use Rattle.tables.specs.World.{Path, no_world, all_paths}
-use Rattle.tables.proofs.Empty.{no_entries}
+use Rattle.world.specs.World.{Path, no_world, all_paths}
+use Rattle.world.proofs.Empty.{no_entries}
 use Rattle.store.specs.Reply.{usage}
 use Rattle.store.specs.Liveness.{lives, usage_of}
 use Rattle.report.specs.Replies.{answer_text}
@@ -41,6 +41,7 @@ refusals = record {
   references = refl;
   root_name = refl;
   label = refl;
+  session = refl;
   configuration = refl;
   head = refl;
   body = refl;
@@ -51,7 +52,7 @@ refusals = record {
 
 pub answers : HasWorkedAnswers
 unfolding digits
-answers = record { path = refl; none = refl; two = refl; roots = refl; archive = refl; listing = refl; changed = refl; generation = refl; runtime = refl; nothing = refl; freed = refl }
+answers = record { path = refl; none = refl; two = refl; roots = refl; archive = refl; listing = refl; changed = refl; generation = refl; runtime = refl; temporary = refl; nothing = refl; freed = refl }
 
 pub usages : HasWorkedUsage
 unfolding digits

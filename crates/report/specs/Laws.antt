@@ -1,8 +1,8 @@
 -- Laws of the texts.
 use Rattle.std.specs.Prelude.{◌≡◌, ℕ, Bool, not, ◌&&◌, ◌==◌, List, [], ◌∷◌, ◌++◌, codes, IsTrue, is_some}
 use Rattle.std.specs.List.{list_all}
-use Rattle.tables.specs.World.{Path, Pair, World, no_world}
-use Rattle.tables.specs.Sound.{IsSound}
+use Rattle.world.specs.World.{Path, Pair, World, no_world}
+use Rattle.world.specs.Sound.{IsSound}
 use Rattle.policy.specs.Settings.{Settings}
 use Rattle.policy.specs.Caller.{Caller}
 use Rattle.policy.specs.declared.error.KeyWord.TheVariants.{Syntax}
@@ -13,7 +13,7 @@ use Rattle.store.specs.Step.{Step}
 use Rattle.store.specs.Laws.{IsDone}
 use Rattle.store.specs.Soundness.{IsWellFormed}
 use Rattle.report.specs.declared.refusal.Refusal.{Refusal}
-use Rattle.report.specs.declared.refusal.Refusal.TheVariants.{Truncated, BadTag, BadPadding, BadName, NotSorted, TooDeep, Trailing, TooLarge, BadDigit, BadLength, Overflow, BadStoreName, BadStoreDir, BadStorePath, BadCa, CaMismatch, BadDerivation, DoubleOutput, BadConfig, BadCaller, BadSchema, OtherStoreDir, NotValid, MissingReference, NarHashMismatch, SelfReference, NoRoot, NoProfile, NoGeneration, CurrentGeneration, NoOlderGeneration, GenerationLimit, TooManyReferences, BadRootName, BadLabel, BadHead, BadBodyLength, BodyTooLarge, NoRoute, BadMethod, BadBodyHead}
+use Rattle.report.specs.declared.refusal.Refusal.TheVariants.{Truncated, BadTag, BadPadding, BadName, NotSorted, TooDeep, Trailing, TooLarge, BadDigit, BadLength, Overflow, BadStoreName, BadStoreDir, BadStorePath, BadCa, CaMismatch, BadDerivation, DoubleOutput, BadConfig, BadCaller, BadSchema, OtherStoreDir, NotValid, MissingReference, NarHashMismatch, SelfReference, NoRoot, NoProfile, NoGeneration, CurrentGeneration, NoOlderGeneration, GenerationLimit, TooManyReferences, BadRootName, BadLabel, BadHead, BadBodyLength, BodyTooLarge, NoRoute, BadMethod, BadBodyHead, BadSession}
 use Rattle.report.specs.Refusals.{refusal_line}
 use Rattle.report.specs.Stops.{entry}
 use Rattle.report.specs.Replies.{paths_text, roots_text, answer_text, reply_text}
@@ -64,6 +64,7 @@ refusals =
     ∷ NoRoute
     ∷ BadMethod
     ∷ BadBodyHead
+    ∷ BadSession
     ∷ []
 
 -- two refusals with one line are the same

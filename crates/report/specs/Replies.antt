@@ -2,8 +2,8 @@
 use Rattle.std.specs.Prelude.{ℕ, List, ◌++◌, length, codes, decimal}
 use Rattle.std.specs.List.{flat_map}
 use Rattle.paths.specs.StorePath.{full_path}
-use Rattle.tables.specs.World.{Path, Pair}
-use Rattle.store.specs.Reply.{Answer, path, record_of, archive_of, listing_of, paths, roots, changed, generation, runtime_count, freed, usage, Reply, done, denied, refused, failed}
+use Rattle.world.specs.World.{Path, Pair}
+use Rattle.store.specs.Reply.{Answer, path, record_of, archive_of, listing_of, paths, roots, changed, generation, runtime_count, temporary_count, freed, usage, Reply, done, denied, refused, failed}
 use Rattle.report.specs.Stops.{root_text, denial_text, refused_text, failure_text}
 use Rattle.report.specs.Narinfo.{narinfo}
 use Rattle.report.specs.Usage.{usage_text}
@@ -35,6 +35,7 @@ answer_text dir (roots rs) = roots_text dir rs
 answer_text dir changed = codes "done\n"
 answer_text dir (generation n) = codes "generation " ++ decimal n ++ codes "\n"
 answer_text dir (runtime_count n) = codes "runtime roots " ++ decimal n ++ codes "\n"
+answer_text dir (temporary_count n) = codes "temporary roots " ++ decimal n ++ codes "\n"
 answer_text dir (freed ps n) = paths_text dir ps ++ codes "freed " ++ decimal (length ps) ++ codes " paths " ++ decimal n ++ codes " bytes\n"
 answer_text dir (usage live dead total) = usage_text live dead total
 

@@ -8,8 +8,8 @@ use Rattle.policy.specs.declared.kinds.Rule.{Rule}
 use Rattle.policy.specs.Words.{rule_word}
 use Rattle.drv.specs.declared.error.DrvError.{DrvError}
 use Rattle.drv.specs.declared.error.DrvError.TheVariants as text
-use Rattle.tables.specs.World.{Pair}
-use Rattle.store.specs.Reply.{Refusal as Refused, archive, derivation, ca_mismatch, not_valid, missing_reference, nar_hash_mismatch, self_reference, no_root, no_profile, no_generation, current_generation, no_older_generation, generation_limit, too_many_references, bad_root_name, bad_label, Failure, memory, size, disk}
+use Rattle.world.specs.World.{Pair}
+use Rattle.store.specs.Reply.{Refusal as Refused, archive, derivation, ca_mismatch, not_valid, missing_reference, nar_hash_mismatch, self_reference, no_root, no_profile, no_generation, current_generation, no_older_generation, generation_limit, too_many_references, bad_root_name, bad_label, bad_session, Failure, memory, size, disk}
 use Rattle.report.specs.declared.refusal.Refusal.{Refusal}
 use Rattle.report.specs.declared.refusal.Refusal.TheVariants as table
 use Rattle.report.specs.Refusals.{refusal_line}
@@ -78,6 +78,7 @@ entry generation_limit = Some table.GenerationLimit
 entry too_many_references = Some table.TooManyReferences
 entry bad_root_name = Some table.BadRootName
 entry bad_label = Some table.BadLabel
+entry bad_session = Some table.BadSession
 
 -- The line of the refusal of a reply. What isn't in the table is want of memory, and has its line.
 abbrev pub refused_text : Refused → List ℕ

@@ -5,7 +5,7 @@ use Rattle.drv.specs.declared.error.DrvError.TheVariants.{BadDerivation, DoubleO
 use Rattle.paths.specs.declared.content_address.Method.TheVariants.{Source, Text}
 use Rattle.policy.specs.declared.error.KeyWord.TheVariants.{StoreDir}
 use Rattle.policy.specs.declared.kinds.Rule.TheVariants.{Connect, Live}
-use Rattle.store.specs.Reply.{path, record_of, archive_of, listing_of, paths, roots, changed, generation, runtime_count, freed, usage, done, denied, refused, failed, archive, ca_mismatch, derivation, not_valid, missing_reference, nar_hash_mismatch, self_reference, no_root, no_profile, no_generation, current_generation, no_older_generation, generation_limit, too_many_references, bad_root_name, bad_label, memory, size, disk}
+use Rattle.store.specs.Reply.{path, record_of, archive_of, listing_of, paths, roots, changed, generation, runtime_count, temporary_count, freed, usage, done, denied, refused, failed, archive, ca_mismatch, derivation, not_valid, missing_reference, nar_hash_mismatch, self_reference, no_root, no_profile, no_generation, current_generation, no_older_generation, generation_limit, too_many_references, bad_root_name, bad_label, bad_session, memory, size, disk}
 use Rattle.report.specs.declared.refusal.Refusal.TheVariants.{BadConfig, BadHead, BadBodyLength}
 use Rattle.report.specs.Refusals.{refusal_line}
 use Rattle.report.specs.Narinfo.{narinfo}
@@ -53,6 +53,7 @@ pub record HasWorkedRefusals : Type 0 where
   pub references : reply_text dir (refused too_many_references) ≡ codes "refused: 33 too-many-references\n"
   pub root_name : reply_text dir (refused bad_root_name) ≡ codes "refused: 34 bad-root-name\n"
   pub label : reply_text dir (refused bad_label) ≡ codes "refused: 35 bad-label\n"
+  pub session : reply_text dir (refused bad_session) ≡ codes "refused: 42 bad-session\n"
   pub configuration : refusal_line (BadConfig StoreDir) ≡ codes "refused: 19 bad-config store-dir\n"
   pub head : refusal_line BadHead ≡ codes "refused: 36 bad-head\n"
   pub body : refusal_line BadBodyLength ≡ codes "refused: 37 bad-length\n"
@@ -70,6 +71,7 @@ pub record HasWorkedAnswers : Type 0 where
   pub changed : reply_text dir (done changed) ≡ codes "done\n"
   pub generation : reply_text dir (done (generation 2)) ≡ codes "generation 2\n"
   pub runtime : reply_text dir (done (runtime_count 1)) ≡ codes "runtime roots 1\n"
+  pub temporary : reply_text dir (done (temporary_count 0)) ≡ codes "temporary roots 0\n"
   pub nothing : reply_text dir (done (freed [] 0)) ≡ codes "freed 0 paths 0 bytes\n"
   pub freed : reply_text dir (done (freed (p ∷ x ∷ []) 224)) ≡ codes "/nix/store/00000000000000000000000000000000-p\n/nix/store/11111111111111111111111111111111-x\nfreed 2 paths 224 bytes\n"
 

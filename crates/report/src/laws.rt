@@ -20,9 +20,9 @@ ghost use Rattle.report.specs.Worked.{
   HasWorkedUsage,
 };
 
-/// The refusals of the table are numbered from 1 to 41, in order.
-pub fn numbers_are_one_to_forty_one()
-    ensures { map number refusals ≡ range_with_len 1 41 }
+/// The refusals of the table are numbered from 1 to 42, in order.
+pub fn numbers_are_one_to_forty_two()
+    ensures { map number refusals ≡ range_with_len 1 42 }
 {}
 
 /// Each refusal has a line of its own.

@@ -5,7 +5,7 @@ mod laws;
 mod refusal;
 
 pub use laws::{
-    a_new_store_uses_nothing, listings_lose_nothing, numbers_are_one_to_forty_one,
+    a_new_store_uses_nothing, listings_lose_nothing, numbers_are_one_to_forty_two,
     refusals_are_in_the_table, refusals_differ, stops_are_lines, worked_lines, worked_narinfo,
     worked_usage,
 };

@@ -89,6 +89,8 @@ pub enum Refusal {
     BadMethod,
     /// The head of a message's body is malformed.
     BadBodyHead,
+    /// The number of a session isn't 1 to 4,194,304.
+    BadSession,
 }
 
 impl Refusal {
@@ -138,6 +140,7 @@ impl Refusal {
             Refusal::NoRoute => "refused: 39 no-route\n",
             Refusal::BadMethod => "refused: 40 bad-method\n",
             Refusal::BadBodyHead => "refused: 41 bad-body-head\n",
+            Refusal::BadSession => "refused: 42 bad-session\n",
         }
     }
 }

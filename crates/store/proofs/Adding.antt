@@ -11,7 +11,7 @@ use Rattle.live.proofs.Members.{any_from}
 use Rattle.live.proofs.Order.{contains_key-set_of}
 use Rattle.policy.specs.Settings.{Settings}
 use Rattle.policy.specs.Caller.{Caller}
-use Rattle.tables.specs.World.{Path, World, has}
+use Rattle.world.specs.World.{Path, World, has}
 use Rattle.store.specs.Request.{Imported, Request, add_text, add_source, import_object}
 use Rattle.store.specs.Reply.{path, done, denied, refused, failed}
 use Rattle.store.specs.Adds.{Added, added_at, text_archive}
@@ -46,13 +46,13 @@ gained dir a w = by (has w a.path) refl
       there = λ h. refl;
       fresh = λ h. absurd (false≢true (sym h ∙ e));
       others = λ p other. refl;
-      roots = record { permanent = refl; user_roots = refl; profiles = refl; runtime = refl };
+      roots = record { permanent = refl; user_roots = refl; profiles = refl; runtime = refl; temporary = refl };
     }
     by false e = record {
       there = λ h. absurd (false≢true (sym e ∙ h));
       fresh = λ h. ((added_of dir a).object, at_inserted nat_list_cmp_total bytes_antisymmetric w.objects a.path (added_of dir a).object, as_handed_in dir a);
       others = λ p other. beside_inserted nat_list_cmp_total bytes_antisymmetric w.objects a.path (added_of dir a).object p other;
-      roots = record { permanent = refl; user_roots = refl; profiles = refl; runtime = refl };
+      roots = record { permanent = refl; user_roots = refl; profiles = refl; runtime = refl; temporary = refl };
     }
 
 adds : (s : Settings) (q : Request) (a : HandedIn) → ((w : World) (c : Caller) → answer s w c q ≡ path a.path) → ((w : World) → effect s w q ≡ with_object w (added_of s.store_dir a)) → AddsExactly s q a

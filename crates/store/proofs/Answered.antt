@@ -2,7 +2,7 @@
 use Rattle.std.proofs.Common.{◌≡◌, Some, None, Option, refl}
 use Rattle.policy.specs.Settings.{Settings}
 use Rattle.policy.specs.Caller.{Caller}
-use Rattle.tables.specs.World.{World}
+use Rattle.world.specs.World.{World}
 use Rattle.policy.specs.declared.kinds.Rule.{Rule}
 use Rattle.store.specs.Request.{Request}
 use Rattle.store.specs.Reply.{Reply, done, denied, refused, Refusal}

@@ -9,7 +9,7 @@ use Rattle.std.specs.Cmp.Lexicographic.{nat_list_cmp_total}
 use Rattle.std.proofs.lemmas.Bool.{false≢true}
 use Rattle.paths.specs.Root.{bytes_cmp, Root, place, root_cmp}
 use Rattle.live.proofs.Order.{same_kinds}
-use Rattle.store.specs.Seen.{is_runtime, hidden_label, censored}
+use Rattle.store.specs.Seen.{is_hidden, hidden_label, censored}
 
 hidden_apart : (a b : Bool) (l m : List ℕ) → a ≡ b → bytes_cmp (if a then hidden_label else l) (if b then hidden_label else m) ≡ Less → bytes_cmp l m ≡ Less
 hidden_apart true true l m e h = let t : bytes_cmp hidden_label hidden_label ≡ Equal = tied_itself nat_list_cmp_total hidden_label in absurd (apart (sym t ∙ h))
@@ -32,4 +32,4 @@ then_targets Greater l m f h = h
 
 pub below_hidden : (x y : Root) → root_cmp (censored x) (censored y) ≡ Less → root_cmp x y ≡ Less
 below_hidden x y h =
-    then_targets (nat_cmp (place x.kind) (place y.kind)) _ _ (λ e. then_labels (bytes_cmp x.target y.target) _ _ (hidden_apart (is_runtime x.kind) (is_runtime y.kind) x.label y.label (ap is_runtime (same_kinds x.kind y.kind e)))) h
+    then_targets (nat_cmp (place x.kind) (place y.kind)) _ _ (λ e. then_labels (bytes_cmp x.target y.target) _ _ (hidden_apart (is_hidden x.kind) (is_hidden y.kind) x.label y.label (ap is_hidden (same_kinds x.kind y.kind e)))) h

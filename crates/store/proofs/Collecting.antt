@@ -8,7 +8,7 @@ use Rattle.std.proofs.lemmas.Bool.{false≢true, or_left, or_right}
 use Rattle.live.specs.Graph.{same, holds}
 use Rattle.live.proofs.Reach.{same_itself}
 use Rattle.live.proofs.Live.{live_decided}
-use Rattle.tables.specs.World.{Path, Object, Objects, World, has, all_paths, roots_of}
+use Rattle.world.specs.World.{Path, Object, Objects, World, has, all_paths, roots_of}
 use Rattle.policy.specs.Settings.{Settings}
 use Rattle.policy.specs.Caller.{Caller}
 use Rattle.store.specs.Request.{collect}
@@ -67,7 +67,7 @@ module _ (s : Settings) (w : World) where
       let objects = finite.same_map nat_list_cmp_total bytes_antisymmetric (keeping (keeping w (lives s w)) (lives s (keeping w (lives s w)))).objects (keeping w (lives s w)).objects all_stay in
       λ i. record (keeping w (lives s w)) { objects = objects i }
 
-  once : (c : Caller) (reply : Reply) (last : World) → Step s (keeping w (lives s w)) c (collect false) reply last → IsDone reply → (reply ≡ done (freed [] 0)) × (last ≡ keeping w (lives s w))
+  once : (c : Caller) (reply : Reply) (last : World) → Step s (keeping w (lives s w)) c (collect false None) reply last → IsDone reply → (reply ≡ done (freed [] 0)) × (last ≡ keeping w (lives s w))
   once c (done a) last h d = (ap done (h.2 ∙ ap (λ (ps : List Path). freed ps (bytes_in (keeping w (lives s w)) ps)) none_dead), h.3 ∙ same_world)
   once c (denied rule root) last h d = absurd d
   once c (refused r) last h d = absurd d
@@ -77,7 +77,7 @@ module _ (s : Settings) (w : World) where
   exactly = record {
     kept = λ p h. kept_if w.objects (lives s w) p h;
     gone = λ p h. ap is_some (get-keeping w.objects (lives s w) p) ∙ ap (λ b. is_some (cond b (finite.get w.objects p) None)) h;
-    roots = record { permanent = refl; user_roots = refl; profiles = refl; runtime = refl };
+    roots = record { permanent = refl; user_roots = refl; profiles = refl; runtime = refl; temporary = refl };
     once = once;
   }
 

@@ -4,7 +4,7 @@ use Rattle.std.specs.Prelude.{is_some}
 use Rattle.std.specs.FinMap as finite
 use Rattle.std.proofs.lemmas.Bool.{not_from_false, false_from_ne_true}
 use Rattle.live.proofs.Live.{closure_decided}
-use Rattle.tables.specs.World.{Path, World}
+use Rattle.world.specs.World.{Path, World}
 use Rattle.store.specs.Reply.{done, denied, refused, failed}
 use Rattle.store.specs.Liveness.{graph_of, goes_with}
 use Rattle.store.specs.Effects.{keeping}
@@ -18,7 +18,7 @@ exactly w named = record {
       ∙ ap (λ b. is_some (cond (not b) (finite.get w.objects p) None)) ((closure_decided (graph_of w) named p).1 r);
   kept = λ p other. kept_if w.objects (λ x. not (goes_with w named x)) p
       (not_from_false (goes_with w named p) (false_from_ne_true (goes_with w named p) (λ t. other ((closure_decided (graph_of w) named p).0 t))));
-  roots = record { permanent = refl; user_roots = refl; profiles = refl; runtime = refl };
+  roots = record { permanent = refl; user_roots = refl; profiles = refl; runtime = refl; temporary = refl };
 }
 
 pub deletes : Deletes

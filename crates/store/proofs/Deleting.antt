@@ -7,14 +7,14 @@ use Rattle.live.specs.Graph.{same, holds, references_alone, kept_if_valid, is_va
 use Rattle.live.specs.Reach.{Reaches}
 use Rattle.live.proofs.Reach.{goes_on}
 use Rattle.live.proofs.Live.{closure_decided}
-use Rattle.tables.specs.World.{Path, Object, World, has}
+use Rattle.world.specs.World.{Path, Object, World, has}
 use Rattle.store.specs.Reply.{done, denied, refused, failed}
 use Rattle.store.specs.Liveness.{links_of, graph_of, goes_with}
 use Rattle.store.specs.Effects.{keeping}
 use Rattle.store.specs.Laws.{LeavesNoReference}
 use Rattle.store.proofs.Worlds.{get-graph, valid_is, kept_if, found_in}
 
-reference_edge : (w : World) (p r : Path) (o : Object) → finite.get w.objects p ≡ Some o → IsTrue (finite.contains_key o.references r) → IsTrue (has w r) → IsTrue (is_edge references_alone (graph_of w) p r)
+pub reference_edge : (w : World) (p r : Path) (o : Object) → finite.get w.objects p ≡ Some o → IsTrue (finite.contains_key o.references r) → IsTrue (has w r) → IsTrue (is_edge references_alone (graph_of w) p r)
 reference_edge w p r o e c h =
     and_from (is_valid (graph_of w) r) _ (valid_is w r ∙ h)
     (ap (λ l. holds (kept_if_valid references_alone l) r) (get-graph w p ∙ ap (option_map links_of) e) ∙ plain_list (finite.keys o.references) (sym (finite.contains_key-keys o.references r) ∙ c))

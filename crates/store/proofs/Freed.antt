@@ -1,5 +1,5 @@
 -- What a collection or a deletion tells of what went.
-use Rattle.std.proofs.Common.{◌≡◌, ◌+◌, List, [], ◌∷◌, length, map, Bool, true, false, not, cond, Some, None, Option, refl, sym, ap, ◌∙◌, IsTrue, subst, T}
+use Rattle.std.proofs.Common.{◌≡◌, ℕ, ◌+◌, List, [], ◌∷◌, length, map, Bool, true, false, not, cond, Some, None, Option, refl, sym, ap, ◌∙◌, IsTrue, subst, T}
 use Rattle.std.specs.Prelude.{Contains, is_some, IsFalse}
 use Rattle.std.specs.List.{filter, AllByRecursion}
 use Rattle.std.specs.Option.{option_map_or}
@@ -16,15 +16,16 @@ use Rattle.std.proofs.lemmas.List.Sums.{sum_by-cons}
 use Rattle.paths.specs.Root.{bytes_cmp}
 use Rattle.live.proofs.Members.{at_head, behind, lesser, both_T}
 use Rattle.policy.specs.Settings.{Settings}
-use Rattle.tables.specs.World.{Path, Object, World, has, all_paths}
+use Rattle.world.specs.World.{Path, Object, World, has, all_paths}
 use Rattle.store.specs.Request.{collect, delete}
 use Rattle.store.specs.Reply.{freed}
-use Rattle.store.specs.Liveness.{lives, goes_with, size_of, bytes_in}
+use Rattle.store.specs.Liveness.{lives, goes_with, size_of, bytes_in, collected_paths}
 use Rattle.store.specs.Effects.{keeping}
 use Rattle.store.specs.Changes.{Weigh, TellsWhatWent, FreesAsTold}
 use Rattle.store.proofs.MapMembers.{bytes_antisymmetric, key_listed, listed_key}
 use Rattle.store.proofs.Filtered.{in_filtered, from_filtered}
 use Rattle.store.proofs.Worlds.{get-keeping, kept_if}
+use Rattle.store.proofs.Limited.{leaves, is_taken, told, goes_or_stays}
 
 -- ---- keys in order
 
@@ -59,18 +60,19 @@ weighed w (p ∷ ps) f = by (finite.get w.objects p) refl (f p (at_head p ps)) (
 
 -- ---- what went
 
-module _ (w : World) (test gone : Path → Bool) (opposite : (p : Path) → gone p ≡ not (test p)) where
+module _ (w : World) (test gone : Path → Bool) (opposite : (p : Path) → IsTrue (has w p) → gone p ≡ not (test p)) where
   went : (p : Path) → Contains (filter gone (all_paths w)) p → IsTrue (has w p) × IsFalse (has (keeping w test) p)
   went p c =
       let parts = from_filtered gone (all_paths w) p c in
-      (listed_key nat_list_cmp_total w.objects p parts.0, ap is_some (get-keeping w.objects test p) ∙ by (test p) (sym (opposite p) ∙ parts.1))
+      let valid = listed_key nat_list_cmp_total w.objects p parts.0 in
+      (valid, ap is_some (get-keeping w.objects test p) ∙ by (test p) (sym (opposite p valid) ∙ parts.1))
     where
       by : (b : Bool) → IsTrue (not b) → IsFalse (is_some (cond b (finite.get w.objects p) None))
       by true h = absurd (false≢true h)
       by false h = refl
 
   goes : (p : Path) → IsTrue (has w p) × IsFalse (has (keeping w test) p) → Contains (filter gone (all_paths w)) p
-  goes p h = in_filtered gone (all_paths w) p (key_listed bytes_antisymmetric w.objects p h.0) (opposite p ∙ by (test p) (sym (ap is_some (get-keeping w.objects test p)) ∙ h.1))
+  goes p h = in_filtered gone (all_paths w) p (key_listed bytes_antisymmetric w.objects p h.0) (opposite p h.0 ∙ by (test p) (sym (ap is_some (get-keeping w.objects test p)) ∙ h.1))
     where
       by : (b : Bool) → IsFalse (is_some (cond b (finite.get w.objects p) None)) → IsTrue (not b)
       by true e = absurd (false≢true (sym e ∙ h.0))
@@ -98,12 +100,15 @@ twice_not : (b : Bool) → b ≡ not (not b)
 twice_not true = refl
 twice_not false = refl
 
-pub collection_told : (s : Settings) (ignores : Bool) → FreesAsTold s (collect ignores)
-collection_told s ignores w c a new h =
+pub collection_told : (s : Settings) (ignores : Bool) (limit : Option ℕ) → FreesAsTold s (collect ignores limit)
+collection_told s ignores None w c a new h =
     subst (λ x. TellsWhatWent w new x) (sym h.2) (subst (λ (u : World). TellsWhatWent w u (freed (filter (λ p. not (lives s w p)) (all_paths w)) (bytes_in w (filter (λ p. not (lives s w p)) (all_paths w))))) (sym h.3)
-    (tells w (lives s w) (λ p. not (lives s w p)) (λ p. refl)))
+    (tells w (lives s w) (λ p. not (lives s w p)) (λ p v. refl)))
+collection_told s ignores (Some limit) w c a new h =
+    subst (λ x. TellsWhatWent w new x) (sym h.2) (subst (λ (u : World). TellsWhatWent w u (freed (collected_paths s w (Some limit)) (bytes_in w (collected_paths s w (Some limit))))) (sym h.3)
+    (subst (λ (ps : List Path). TellsWhatWent w (keeping w (leaves s w limit)) (freed ps (bytes_in w ps))) (sym (told s w limit)) (tells w (leaves s w limit) (is_taken s w limit) (goes_or_stays s w limit))))
 
 pub deletion_told : (s : Settings) (named : List Path) (ignores : Bool) → FreesAsTold s (delete named ignores)
 deletion_told s named ignores w c a new h =
     subst (λ x. TellsWhatWent w new x) (sym h.2) (subst (λ (u : World). TellsWhatWent w u (freed (filter (goes_with w named) (all_paths w)) (bytes_in w (filter (goes_with w named) (all_paths w))))) (sym h.3)
-    (tells w (λ p. not (goes_with w named p)) (goes_with w named) (λ p. twice_not (goes_with w named p))))
+    (tells w (λ p. not (goes_with w named p)) (goes_with w named) (λ p v. twice_not (goes_with w named p))))

@@ -6,6 +6,7 @@ pub mod WorldLives
 pub mod Usages
 pub mod Answered
 pub mod Unique
+pub mod Limited
 pub mod Pins
 pub mod Collecting
 pub mod Deleting
@@ -30,3 +31,4 @@ pub mod Numbers
 pub mod ProfileChanges
 pub mod Sights
 pub mod Failing
+pub mod Reliance

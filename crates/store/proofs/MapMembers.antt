@@ -4,14 +4,14 @@ use Rattle.std.specs.Prelude.{Contains, is_some}
 use Rattle.std.specs.declared.cmp.Ordering.{Ordering}
 use Rattle.std.specs.declared.cmp.Ordering.TheVariants.{Less}
 use Rattle.std.specs.Ordering.{eq_by_cmp, is_eq, nat_cmp, ordering_reverse}
-use Rattle.std.specs.Cmp.{IsTotalOrder, Equal-is, tied_itself, then_total}
+use Rattle.std.specs.Cmp.{IsTotalOrder, Equal-is, tied_itself, then_total, on_total, nat_cmp_total}
 use Rattle.std.specs.Cmp.Lexicographic.{on_texts}
 use Rattle.std.specs.FinMap as finite
 use Rattle.std.specs.FinMap.Entries.{find as find_entry, is_sorted, below_all}
 use Rattle.std.proofs.lemmas.Bool.{false≢true}
 use Rattle.std.proofs.lemmas.Option.{same_Some}
 use Rattle.paths.specs.Root.{bytes_cmp, set_of}
-use Rattle.tables.specs.World.{Pair, pair_cmp}
+use Rattle.world.specs.World.{Pair, pair_cmp, Temporary, temporary_cmp}
 use Rattle.live.proofs.Members.{any_from, some_of_any, at_head, behind, cases, no_member, both_T, below}
 use Rattle.live.proofs.Order.{both_equal, contains_key-set_of}
 use Rattle.store.proofs.Filtered.{in_mapped}
@@ -31,6 +31,18 @@ pub pair_antisymmetric : finite.IsAntisymmetric pair_cmp
 pair_antisymmetric x y e =
     let both = both_equal (bytes_cmp x.0 y.0) (bytes_cmp x.1 y.1) e in
     λ i. (bytes_antisymmetric x.0 y.0 both.0 i, bytes_antisymmetric x.1 y.1 both.1 i)
+
+pub temporary_total : IsTotalOrder temporary_cmp
+temporary_total = then_total (on_texts (λ (t : Temporary). t.owner)) (then_total (on_total (λ (t : Temporary). t.session) nat_cmp_total) (on_texts (λ (t : Temporary). t.path)))
+
+pub temporary_antisymmetric : finite.IsAntisymmetric temporary_cmp
+temporary_antisymmetric x y e =
+    let first = both_equal (bytes_cmp x.owner y.owner) _ e in
+    let rest = both_equal (nat_cmp x.session y.session) (bytes_cmp x.path y.path) first.1 in
+    let owner = bytes_antisymmetric x.owner y.owner first.0 in
+    let session = nat_antisymmetric x.session y.session rest.0 in
+    let path = bytes_antisymmetric x.path y.path rest.1 in
+    λ i. record { owner = owner i; session = session i; path = path i }
 
 -- ---- members
 
@@ -123,6 +135,14 @@ module _ {K X : Type 0} {R : K → K → Ordering} (o : IsTotalOrder R) (same : 
 
   pub other_key : (m : finite.FinMap R X) (k q : K) → eq_by_cmp R q k ≡ false → IsTrue (finite.contains_key m q) → IsTrue (finite.contains_key (finite.remove m k) q)
   other_key m k q apart h = ap is_some (finite.get-remove o m k q) ∙ ap (λ b. is_some (cond b None (finite.get m q))) apart ∙ h
+
+-- a key that is retained passes the test, and was there
+pub retained_key : {K X : Type 0} {R : K → K → Ordering} → finite.IsAntisymmetric R → (m : finite.FinMap R X) (test : K → Bool) (k : K) → IsTrue (finite.contains_key (finite.retain_keys m test) k) → IsTrue (test k) × IsTrue (finite.contains_key m k)
+retained_key {K} {X} {R} same m test k h = by (test k) refl (sym (ap is_some (finite.get-retain_keys m test k (λ x e. ap test (sym (same k x e))))) ∙ h)
+  where
+    by : (b : Bool) → test k ≡ b → is_some (cond b (finite.get m k) None) ≡ true → IsTrue (test k) × IsTrue (finite.contains_key m k)
+    by true t e = (t, e)
+    by false t e = absurd (false≢true e)
 
 -- a key of the set of a list is a member of it
 pub set_member : {K : Type 0} {R : K → K → Ordering} → IsTotalOrder R → finite.IsAntisymmetric R → (xs : List K) (k : K) → IsTrue (finite.contains_key (set_of R xs) k) → Contains xs k

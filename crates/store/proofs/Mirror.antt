@@ -7,10 +7,12 @@ use Rattle.std.specs.declared.cmp.Ordering.TheVariants.{Less, Equal, Greater}
 use Rattle.std.specs.Ordering.{ordering_reverse}
 use Rattle.std.specs.FinMap as finite
 use Rattle.paths.specs.Root.{Set, Root, root_cmp, in_order}
+use Rattle.live.specs.Graph.{holds}
 use Rattle.live.specs.Reach.{reaches}
+use Rattle.live.specs.Limited.{limited_paths}
 use Rattle.live.proofs.Members.{found, not_found}
 use Rattle.live.proofs.Order.{root_total, root_antisymmetric, ordered_member, member_ordered, same_order, least_in_order}
-use Rattle.tables.specs.World.{Path, Objects, World, pair_cmp, has, all_paths, lasting_roots, runtime_roots, roots_of}
+use Rattle.world.specs.World.{Path, Objects, World, pair_cmp, has, all_paths, lasting_roots, runtime_roots, temporary_roots, roots_of}
 use Rattle.policy.specs.Settings.{Settings}
 use Rattle.policy.specs.Caller.{Caller}
 use Rattle.policy.specs.Class.{class_of}
@@ -20,7 +22,7 @@ use Rattle.policy.specs.Rules.{is_trusted}
 use Rattle.policy.specs.Rules as rules
 use Rattle.store.specs.Request.{Request, add_text, add_source, import_object, info, list_live, list_dead, list_roots, list_roots_of, replace_runtime, collect, report}
 use Rattle.store.specs.Reply.{Reply, done, denied, refused, failed, paths, roots, freed, usage}
-use Rattle.store.specs.Liveness.{graph_of, keep_of, lives, first_root_of, bytes_in, usage_of}
+use Rattle.store.specs.Liveness.{graph_of, keep_of, lives, first_root_of, size_of, bytes_in, usage_of}
 use Rattle.store.specs.Seen.{plain, censored, each_once, seen_root, seen}
 use Rattle.store.specs.Verdict.{operation_of, named_in, verdict, root_of_first, shown}
 use Rattle.store.specs.Adds.{Added, added_text, added_source, added_import}
@@ -114,9 +116,9 @@ module _ (s : Settings) (w : World) (r1 r2 : Set pair_cmp) (there : TargetsAreIn
 
   all_seen : (c : Caller) → IsFalse (is_trusted (class_of s c)) → seen (class_of s c) (roots_of (with_runtime w r1)) ≡ seen (class_of s c) (roots_of (with_runtime w r2))
   all_seen c other = seen_same c other (roots_of (with_runtime w r1)) (roots_of (with_runtime w r2)) (
-      hidden_all (lasting_roots w ++ runtime_roots (with_runtime w r1))
+      hidden_all (lasting_roots w ++ runtime_roots (with_runtime w r1) ++ temporary_roots w)
       ∙ ap (λ (zs : List Root). each_once (map plain zs)) (same_order (map censored (roots_of (with_runtime w r1))) (map censored (roots_of (with_runtime w r2))) (hidden_member r1 r2 there) (hidden_member r2 r1 back))
-      ∙ sym (hidden_all (lasting_roots w ++ runtime_roots (with_runtime w r2))))
+      ∙ sym (hidden_all (lasting_roots w ++ runtime_roots (with_runtime w r2) ++ temporary_roots w)))
 
   some_seen : (c : Caller) → IsFalse (is_trusted (class_of s c)) → (p : Path)
       → seen (class_of s c) (filter (λ (r : Root). reaches (keep_of s) (graph_of w) r.target p) (roots_of (with_runtime w r1)))
@@ -124,16 +126,17 @@ module _ (s : Settings) (w : World) (r1 r2 : Set pair_cmp) (there : TargetsAreIn
   some_seen c other p =
       let test = λ (r : Root). reaches (keep_of s) (graph_of w) r.target p in
       seen_same c other (filter test (roots_of (with_runtime w r1))) (filter test (roots_of (with_runtime w r2))) (
-      hidden_some test (lasting_roots w ++ runtime_roots (with_runtime w r1))
+      hidden_some test (lasting_roots w ++ runtime_roots (with_runtime w r1) ++ temporary_roots w)
       ∙ ap (λ (zs : List Root). each_once (map plain zs)) (same_order (map censored (filter test (roots_of (with_runtime w r1)))) (map censored (filter test (roots_of (with_runtime w r2)))) (reaching_member r1 r2 there p) (reaching_member r2 r1 back p))
-      ∙ sym (hidden_some test (lasting_roots w ++ runtime_roots (with_runtime w r2))))
+      ∙ sym (hidden_some test (lasting_roots w ++ runtime_roots (with_runtime w r2) ++ temporary_roots w)))
 
   -- ---- answers, denials, effects
 
   answer_same : (c : Caller) → IsFalse (is_trusted (class_of s c)) → (q : Request) → answer s (with_runtime w r1) c q ≡ answer s (with_runtime w r2) c q
   answer_same c other list_live = λ i. paths (filter (λ p. lives_same p i) (all_paths w))
   answer_same c other list_dead = λ i. paths (filter (λ p. not (lives_same p i)) (all_paths w))
-  answer_same c other (collect ignores) = λ i. freed (filter (λ p. not (lives_same p i)) (all_paths w)) (bytes_in w (filter (λ p. not (lives_same p i)) (all_paths w)))
+  answer_same c other (collect ignores (Some limit)) = λ i. freed (limited_paths (graph_of w) (λ p. not (lives_same p i)) (size_of w) limit) (bytes_in w (limited_paths (graph_of w) (λ p. not (lives_same p i)) (size_of w) limit))
+  answer_same c other (collect ignores None) = λ i. freed (filter (λ p. not (lives_same p i)) (all_paths w)) (bytes_in w (filter (λ p. not (lives_same p i)) (all_paths w)))
   answer_same c other report = λ i. usage (usage_of w (filter (λ p. lives_same p i) (all_paths w))) (usage_of w (filter (λ p. not (lives_same p i)) (all_paths w))) (usage_of w (all_paths w))
   answer_same c other list_roots = ap roots (all_seen c other)
   answer_same c other (list_roots_of p) = ap roots (some_seen c other p)
@@ -158,10 +161,10 @@ module _ (s : Settings) (w : World) (r1 r2 : Set pair_cmp) (there : TargetsAreIn
   shown_same c other q _ = refl
 
   itself : DifferInLabels (with_runtime w r1) (with_runtime w r2)
-  itself = record { objects = refl; permanent = refl; user_roots = refl; profiles = refl; there = there; back = back }
+  itself = record { objects = refl; permanent = refl; user_roots = refl; profiles = refl; temporary = refl; there = there; back = back }
 
   with_objects : (a b : Objects) → a ≡ b → DifferInLabels (record w { objects = a; runtime = r1 }) (record w { objects = b; runtime = r2 })
-  with_objects a b e = record { objects = e; permanent = refl; user_roots = refl; profiles = refl; there = there; back = back }
+  with_objects a b e = record { objects = e; permanent = refl; user_roots = refl; profiles = refl; temporary = refl; there = there; back = back }
 
   after_add : (a : Added) → DifferInLabels (with_object (with_runtime w r1) a) (with_object (with_runtime w r2) a)
   after_add a = by (has w a.path)
@@ -174,9 +177,10 @@ module _ (s : Settings) (w : World) (r1 r2 : Set pair_cmp) (there : TargetsAreIn
   effect_same (add_text name refs contents) = after_add (added_text s.store_dir name refs contents)
   effect_same (add_source name refs b) = after_add (added_source s.store_dir name refs b)
   effect_same (import_object i) = after_add (added_import s.store_dir i)
-  effect_same (collect ignores) = with_objects _ _ (λ i. finite.retain_keys w.objects (λ p. lives_same p i))
-  effect_same (replace_runtime pairs) = record { objects = refl; permanent = refl; user_roots = refl; profiles = refl; there = λ l t h. (l, h); back = λ l t h. (l, h) }
-  effect_same _ = record { objects = refl; permanent = refl; user_roots = refl; profiles = refl; there = there; back = back }
+  effect_same (collect ignores (Some limit)) = with_objects _ _ (λ i. finite.retain_keys w.objects (λ p. not (holds (limited_paths (graph_of w) (λ x. not (lives_same x i)) (size_of w) limit) p)))
+  effect_same (collect ignores None) = with_objects _ _ (λ i. finite.retain_keys w.objects (λ p. lives_same p i))
+  effect_same (replace_runtime pairs) = record { objects = refl; permanent = refl; user_roots = refl; profiles = refl; temporary = refl; there = λ l t h. (l, h); back = λ l t h. (l, h) }
+  effect_same _ = record { objects = refl; permanent = refl; user_roots = refl; profiles = refl; temporary = refl; there = there; back = back }
 
   here : (new : World) → new ≡ with_runtime w r1 → DifferInLabels new (with_runtime w r2)
   here new e = subst (λ (u : World). DifferInLabels u (with_runtime w r2)) (sym e) itself
@@ -201,7 +205,7 @@ module _ (s : Settings) (w : World) (r1 r2 : Set pair_cmp) (there : TargetsAreIn
   )
 
 same_world : (w v : World) → DifferInLabels w v → with_runtime w v.runtime ≡ v
-same_world w v d = λ i. record { objects = d.objects i; permanent = d.permanent i; user_roots = d.user_roots i; profiles = d.profiles i; runtime = v.runtime }
+same_world w v d = λ i. record { objects = d.objects i; permanent = d.permanent i; user_roots = d.user_roots i; profiles = d.profiles i; runtime = v.runtime; temporary = d.temporary i }
 
 pub mirrors_steps : MirrorsSteps
 mirrors_steps s w v d c q reply new h =

@@ -1,6 +1,6 @@
 -- Runs in two worlds that differ in runtime labels alone.
 use Rattle.std.proofs.Common.{[], ◌∷◌, refl, sym, ◌∙◌, subst}
-use Rattle.tables.specs.World.{World}
+use Rattle.world.specs.World.{World}
 use Rattle.store.specs.Reply.{Reply, done, denied, refused, failed}
 use Rattle.store.specs.Labels.{DifferInLabels, FailAlike, LookAlike, MirrorsRuns, RunsLookAlike}
 use Rattle.store.proofs.Unique.{unique}

@@ -12,7 +12,7 @@ use Rattle.policy.specs.Class.{class_of}
 use Rattle.policy.specs.Rules.{rules, allows}
 use Rattle.policy.specs.declared.kinds.Rule.{Rule}
 use Rattle.policy.specs.declared.kinds.Rule.TheVariants.{Live}
-use Rattle.tables.specs.World.{Path, World, roots_of}
+use Rattle.world.specs.World.{Path, World, roots_of}
 use Rattle.store.specs.Request.{Request}
 use Rattle.store.specs.Liveness.{graph_of, keep_of, lives}
 use Rattle.store.specs.Seen.{seen_root}

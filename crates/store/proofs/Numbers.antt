@@ -12,7 +12,7 @@ use Rattle.std.proofs.lemmas.Option.{same_Some}
 use Rattle.std.proofs.lemmas.List.Kept.{IsStrictlySortedBy-filter}
 use Rattle.live.proofs.Members.{at_head, behind, cases, no_member}
 use Rattle.live.proofs.Reach.{same_is, same_itself}
-use Rattle.tables.specs.World.{Path, Profile}
+use Rattle.world.specs.World.{Path, Profile}
 use Rattle.store.specs.Profiles.{has_generation, numbers, highest, is_path, is_highest, number_for, previous}
 use Rattle.store.specs.Generations.{IsHighest, IsNumberFor, again, next, first, IsPrevious}
 use Rattle.store.proofs.MapMembers.{nat_antisymmetric, key_listed, listed_key}

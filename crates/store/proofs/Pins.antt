@@ -11,7 +11,7 @@ use Rattle.live.specs.Reach.{Leads, Reaches}
 use Rattle.live.proofs.Members.{any_from, not_found}
 use Rattle.live.proofs.Reach.{goes_on, end_valid, same_is, reach_kept}
 use Rattle.live.proofs.Live.{live_decided, closure_decided}
-use Rattle.tables.specs.World.{Path, World, has, roots_of}
+use Rattle.world.specs.World.{Path, World, has, roots_of}
 use Rattle.policy.specs.Settings.{Settings}
 use Rattle.policy.specs.Caller.{Caller}
 use Rattle.policy.specs.Class.{class_of}
@@ -27,6 +27,7 @@ use Rattle.store.specs.Effects.{with_object, effect}
 use Rattle.store.specs.Step.{Step}
 use Rattle.store.specs.Laws.{Pins, PinsOverRuns}
 use Rattle.store.proofs.Worlds.{get-graph, live_of, live_has, kept_if}
+use Rattle.store.proofs.Limited.{leaves, live_left}
 
 -- the world keeps the live objects
 abbrev pub KeepsLive : Settings → World → World → Type 0
@@ -77,7 +78,8 @@ done_keeps : (s : Settings) (w : World) (c : Caller) (q : Request) → verdict s
 done_keeps s w c (add_text name refs contents) v p h = kept_by_add w (added_text s.store_dir name refs contents) p (live_has s w p h)
 done_keeps s w c (add_source name refs b) v p h = kept_by_add w (added_source s.store_dir name refs b) p (live_has s w p h)
 done_keeps s w c (import_object i) v p h = kept_by_add w (added_import s.store_dir i) p (live_has s w p h)
-done_keeps s w c (collect ignores) v p h = kept_if w.objects (lives s w) p h
+done_keeps s w c (collect ignores None) v p h = kept_if w.objects (lives s w) p h
+done_keeps s w c (collect ignores (Some limit)) v p h = kept_if w.objects (leaves s w limit) p (live_left s w limit p h)
 done_keeps s w c (delete named ignores) v p h = kept_if w.objects (λ x. not (goes_with w named x)) p (not_from_false (goes_with w named p) (stays s w named p (nothing_live s w c named ignores v) h))
 done_keeps s w c _ v p h = refl
 

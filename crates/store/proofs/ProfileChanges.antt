@@ -5,7 +5,7 @@ use Rattle.std.specs.Cmp.{nat_cmp_total}
 use Rattle.std.specs.FinMap as finite
 use Rattle.std.proofs.lemmas.Bool.{false≢true, not-true}
 use Rattle.std.proofs.Math.Dec.{eqb_refl}
-use Rattle.tables.specs.World.{Path, Pair, Profile, World}
+use Rattle.world.specs.World.{Path, Pair, Profile, World}
 use Rattle.store.specs.Request.{rollback, switch, delete_generation}
 use Rattle.store.specs.Reply.{generation}
 use Rattle.store.specs.Profiles.{profile_or_new, profile_at, has_profile, has_generation, highest, is_highest, number_for, previous, set_to, rolled_back, switched, without_generation}
@@ -26,6 +26,7 @@ change w owned now = record {
   permanent = refl;
   user_roots = refl;
   runtime = refl;
+  temporary = refl;
 }
 
 stood : (o : Option Profile) → IsTrue (is_some o) → o ≡ Some (profile_or_new o)

@@ -13,8 +13,8 @@ use Rattle.live.specs.Graph.{same}
 use Rattle.live.proofs.Members.{at_head, not_both, below, both_T}
 use Rattle.live.proofs.Reach.{same_itself}
 use Rattle.live.proofs.Order.{root_total, root_antisymmetric, member_ordered}
-use Rattle.tables.specs.World.{Pair}
-use Rattle.tables.proofs.Empty.{no_entries}
+use Rattle.world.specs.World.{Pair}
+use Rattle.world.proofs.Empty.{no_entries}
 use Rattle.store.specs.Seen.{plain, censored, same_pair, each_once}
 use Rattle.store.proofs.Filtered.{in_mapped, from_mapped, from_filtered}
 use Rattle.store.proofs.Censored.{below_hidden}

@@ -1,37 +1,42 @@
 -- How callers see roots: one, and many in their order.
-use Rattle.std.proofs.Common.{◌≡◌, List, [], ◌∷◌, map, Bool, true, false, ◌&&◌, ◌||◌, not, cond, Some, refl, sym, ap, ◌∙◌, IsTrue, subst, inl, inr}
+use Rattle.std.proofs.Common.{◌≡◌, List, [], ◌∷◌, map, Bool, true, false, ◌&&◌, ◌||◌, not, cond, Some, refl, sym, ap, ◌∙◌, IsTrue, subst, inl, inr, ◌⊎◌}
 use Rattle.std.specs.Prelude.{Contains, if◌then◌else◌}
 use Rattle.std.specs.List.{filter, list_any}
 use Rattle.std.proofs.lemmas.Bool.{false≢true, and_parts, and_from}
-use Rattle.paths.specs.Root.{Kind, permanent, user, profile, runtime, Root}
+use Rattle.paths.specs.Root.{Kind, permanent, user, profile, runtime, temporary, Root}
 use Rattle.live.proofs.Members.{any_from, some_of_any}
 use Rattle.live.proofs.Reach.{same_is, same_itself}
 use Rattle.live.specs.Graph.{same}
 use Rattle.policy.specs.Class.{class_of}
 use Rattle.policy.specs.declared.kinds.Class.{Class}
-use Rattle.tables.specs.World.{Pair}
-use Rattle.store.specs.Seen.{plain, is_runtime, hidden_label, censored, same_pair, each_once}
-use Rattle.store.specs.Sights.{HidesRuntimeLabel, SeesRoot, AreFirsts, SeesRoots, ShowsTheLabel}
+use Rattle.world.specs.World.{Pair}
+use Rattle.store.specs.Seen.{plain, is_hidden, hidden_label, censored, same_pair, each_once}
+use Rattle.store.specs.Sights.{HidesLabel, SeesRoot, AreFirsts, SeesRoots, ShowsTheLabel}
 
 -- ---- one root
 
-label_seen : (r : Root) (k : Kind) → (k ≡ runtime → ⊥) → (if is_runtime k then hidden_label else r.label) ≡ r.label
-label_seen r permanent other = refl
-label_seen r user other = refl
-label_seen r profile other = refl
-label_seen r runtime other = absurd (other refl)
+label_seen : (r : Root) (k : Kind) → (k ≡ runtime → ⊥) → (k ≡ temporary → ⊥) → (if is_hidden k then hidden_label else r.label) ≡ r.label
+label_seen r permanent run temp = refl
+label_seen r user run temp = refl
+label_seen r profile run temp = refl
+label_seen r runtime run temp = absurd (run refl)
+label_seen r temporary run temp = absurd (temp refl)
 
-hides : (r : Root) → HidesRuntimeLabel r (plain (censored r))
+hides : (r : Root) → HidesLabel r (plain (censored r))
 hides r = record {
   target = refl;
-  hidden = λ e. ap (λ k. if is_runtime k then hidden_label else r.label) e;
-  label = λ other. label_seen r r.kind other;
+  hidden = hidden;
+  label = λ run temp. label_seen r r.kind run temp;
 }
+  where
+    hidden : (r.kind ≡ runtime) ⊎ (r.kind ≡ temporary) → (if is_hidden r.kind then hidden_label else r.label) ≡ hidden_label
+    hidden (inl e) = ap (λ k. if is_hidden k then hidden_label else r.label) e
+    hidden (inr e) = ap (λ k. if is_hidden k then hidden_label else r.label) e
 
 pub sees_root : (class : Class) (r : Root) → SeesRoot class r
 sees_root class r = record {
   trusted = λ h. ap (λ b. plain (if b then r else censored r)) h;
-  others = λ h. subst (λ b. HidesRuntimeLabel r (plain (if b then r else censored r))) (sym h) (hides r);
+  others = λ h. subst (λ b. HidesLabel r (plain (if b then r else censored r))) (sym h) (hides r);
 }
 
 -- ---- each pair once

@@ -28,9 +28,9 @@ use Rattle.policy.specs.Settings.{Settings}
 use Rattle.paths.specs.ContentAddress.{ContentAddress, verifies, text_address, source_address}
 use Rattle.drv.specs.declared.error.DrvError.{DrvError}
 use Rattle.drv.specs.Outcome.{outputs_of}
-use Rattle.tables.specs.World.{Path, Object, World, has}
-use Rattle.tables.specs.Objects.{most_references}
-use Rattle.tables.specs.Sound.{IsDerivation, IsSoundObject, IsSound}
+use Rattle.world.specs.World.{Path, Object, World, has}
+use Rattle.world.specs.Objects.{most_references}
+use Rattle.world.specs.Sound.{IsDerivation, IsSoundObject, IsSound}
 use Rattle.store.specs.Request.{Imported, add_text, add_source, import_object}
 use Rattle.store.specs.Reply.{Refusal, archive, ca_mismatch, missing_reference, self_reference, too_many_references}
 use Rattle.store.specs.Adds.{Added, added_at, text_archive, text_archive_size, added_text, added_source, added_import}
@@ -63,6 +63,9 @@ grown_sound dir w a sound fresh = record {
   profiles = λ owned p e. profile_in w (grown w a) owned p (sound.profiles owned p e) (λ n t f. has_still w a t ((sound.profiles owned p e).targets n t f));
   runtime_label = sound.runtime_label;
   runtime_target = λ x h. has_still w a x.1 (sound.runtime_target x h);
+  temporary_owner = sound.temporary_owner;
+  temporary_session = sound.temporary_session;
+  temporary_target = λ t h. has_still w a t.path (sound.temporary_target t h);
 }
   where
     by : (p : Path) (o : Object) → ((p ≡ a.path) × (a.object ≡ o)) ⊎ (finite.get w.objects p ≡ Some o) → IsSoundObject dir (grown w a) p o

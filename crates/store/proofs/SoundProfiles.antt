@@ -10,9 +10,9 @@ use Rattle.std.proofs.lemmas.Option.{same_Some}
 use Rattle.std.proofs.Math.Dec.{eqb_refl}
 use Rattle.paths.specs.Names.{is_plain_name}
 use Rattle.live.proofs.Members.{at_head, behind}
-use Rattle.tables.specs.World.{Path, Pair, Profile, World, has}
-use Rattle.tables.specs.Sound.{IsSoundProfile, IsSound}
-use Rattle.tables.proofs.Empty.{no_key, no_entry}
+use Rattle.world.specs.World.{Path, Pair, Profile, World, has}
+use Rattle.world.specs.Sound.{IsSoundProfile, IsSound}
+use Rattle.world.proofs.Empty.{no_key, no_entry}
 use Rattle.store.specs.Profiles.{last_number, profile_or_new, profile_at, has_profile, has_generation, numbers, highest, is_path, is_highest, number_for, previous, switched, set_to, rolled_back, without_generation}
 use Rattle.store.specs.Effects.{with_profile}
 use Rattle.store.proofs.MapMembers.{nat_antisymmetric, pair_total, pair_antisymmetric, tied_is, listed_key, inserted_key, inserted_entry, contains_key-inserted, removed_key, removed_entry, other_key}
@@ -64,11 +64,12 @@ module _ (dir : List ℕ) (w : World) (sound : IsSound dir w) where
   -- one profile changed for one that is sound
   changed : (owned : Pair) (p : Profile) → IsSoundProfile w owned p → IsSound dir (with_profile w owned p)
   changed owned p is =
-      with_roots dir w sound w.permanent w.user_roots (finite.insert w.profiles owned p) w.runtime
+      with_roots dir w sound w.permanent w.user_roots (finite.insert w.profiles owned p) w.runtime w.temporary
       sound.permanent_name sound.permanent_target
       (λ o h. (sound.user_root_owner o h, sound.user_root_name o h)) sound.user_root_target
       (λ o q e. by o q (inserted_entry pair_total pair_antisymmetric w.profiles owned p o q e))
       (λ x h. (sound.runtime_label x h, sound.runtime_target x h))
+      (λ t h. (sound.temporary_owner t h, sound.temporary_session t h, sound.temporary_target t h))
     where
       by : (o : Pair) (q : Profile) → ((o ≡ owned) × (p ≡ q)) ⊎ (finite.get w.profiles o ≡ Some q) → IsSoundProfile w o q
       by o q (inl e) = subst (λ (x : Pair). IsSoundProfile w x q) (sym e.0) (subst (λ (y : Profile). IsSoundProfile w owned y) e.1 is)

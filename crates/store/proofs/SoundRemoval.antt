@@ -8,14 +8,15 @@ use Rattle.live.proofs.Reach.{goes_on, reach_kept}
 use Rattle.live.proofs.Live.{live_decided}
 use Rattle.policy.specs.Settings.{Settings}
 use Rattle.policy.specs.Caller.{Caller}
-use Rattle.tables.specs.World.{Path, Object, World, has, permanent_root, user_root, generation_root, runtime_root, roots_of}
-use Rattle.tables.specs.Sound.{IsSound}
+use Rattle.world.specs.World.{Path, Object, World, has, permanent_root, user_root, generation_root, runtime_root, temporary_root, roots_of}
+use Rattle.world.specs.Sound.{IsSound}
 use Rattle.store.specs.Request.{delete}
 use Rattle.store.specs.Liveness.{graph_of, keep_of, lives, goes_with}
 use Rattle.store.specs.Verdict.{verdict}
 use Rattle.store.specs.Effects.{keeping}
 use Rattle.store.proofs.Worlds.{valid_is, live_of, kept_if, found_in}
 use Rattle.store.proofs.EveryRoot.{each_root}
+use Rattle.store.proofs.Limited.{leaves, live_left, reference_stays}
 use Rattle.store.proofs.Pins.{stays, nothing_live}
 use Rattle.store.proofs.Deleting.{reference_reached, reference_left}
 use Rattle.store.proofs.SoundParts.{object_in, profile_in}
@@ -40,6 +41,9 @@ module _ (s : Settings) (w : World) (test : Path → Bool) (lasts : (p : Path) �
         profile_in w (keeping w test) owned p (sound.profiles owned p e) (λ n t f. target_left (generation_root owned (n, t)) ((each_root w).generation owned p n t e f) ((sound.profiles owned p e).targets n t f));
     runtime_label = sound.runtime_label;
     runtime_target = λ x h. target_left (runtime_root x) ((each_root w).runtime x h) (sound.runtime_target x h);
+    temporary_owner = sound.temporary_owner;
+    temporary_session = sound.temporary_session;
+    temporary_target = λ t h. target_left (temporary_root t) ((each_root w).temporary t h) (sound.temporary_target t h);
   }
 
 module _ (s : Settings) (w : World) (dir : List ℕ) (sound : IsSound dir w) where
@@ -52,6 +56,9 @@ module _ (s : Settings) (w : World) (dir : List ℕ) (sound : IsSound dir w) whe
 
   pub collected_sound : IsSound dir (keeping w (lives s w))
   collected_sound = removed_sound s w (lives s w) (λ p h. h) live_reference dir sound
+
+  pub limited_sound : (limit : ℕ) → IsSound dir (keeping w (leaves s w limit))
+  limited_sound limit = removed_sound s w (leaves s w limit) (live_left s w limit) (reference_stays s w limit) dir sound
 
   pub deleted_sound : (c : Caller) (named : List Path) (ignores : Bool) → verdict s w c (delete named ignores) ≡ None → IsSound dir (keeping w (λ p. not (goes_with w named p)))
   deleted_sound c named ignores v =

@@ -1,14 +1,14 @@
 -- A sound world stays sound over a step and over a run.
-use Rattle.std.proofs.Common.{◌≡◌, [], ◌∷◌, not, ◌&&◌, None, sym, arith, refl, subst}
+use Rattle.std.proofs.Common.{◌≡◌, [], ◌∷◌, not, ◌&&◌, Some, None, sym, arith, refl, subst}
 use Rattle.std.specs.Prelude.{◌==◌, is_some, nat_le}
 use Rattle.std.specs.List.{list_all}
 use Rattle.paths.specs.Names.{is_plain_name}
-use Rattle.paths.specs.Root.{is_runtime_label}
+use Rattle.paths.specs.Root.{is_runtime_label, is_session}
 use Rattle.policy.specs.Settings.{Settings}
 use Rattle.policy.specs.Caller.{Caller}
-use Rattle.tables.specs.World.{World, has}
-use Rattle.tables.specs.Sound.{IsSound}
-use Rattle.store.specs.Request.{Request, add_text, add_source, import_object, info, set_permanent, drop_permanent, set_user_root, drop_user_root, set_profile, rollback, switch, delete_generation, replace_runtime, collect, delete}
+use Rattle.world.specs.World.{World, has}
+use Rattle.world.specs.Sound.{IsSound}
+use Rattle.store.specs.Request.{Request, add_text, add_source, import_object, info, set_permanent, drop_permanent, set_user_root, drop_user_root, set_profile, rollback, switch, delete_generation, replace_runtime, add_temp, end_session, collect, delete}
 use Rattle.store.specs.Reply.{done, denied, refused, failed}
 use Rattle.store.specs.Verdict.{verdict}
 use Rattle.store.specs.Profiles.{last_number, profile_at, has_profile, has_generation, number_for, previous}
@@ -16,9 +16,9 @@ use Rattle.store.specs.Tests.{tests, refusal}
 use Rattle.store.specs.Effects.{effect}
 use Rattle.store.specs.Soundness.{IsWellFormed, KeepsSound, RunsKeepSound}
 use Rattle.store.proofs.Passed.{met, each_passed}
-use Rattle.store.proofs.SoundRemoval.{collected_sound, deleted_sound}
+use Rattle.store.proofs.SoundRemoval.{collected_sound, deleted_sound, limited_sound}
 use Rattle.store.proofs.SoundAdds.{text_sound, source_sound, import_sound}
-use Rattle.store.proofs.SoundRoots.{permanent_set, permanent_dropped, user_root_set, user_root_dropped, runtime_replaced}
+use Rattle.store.proofs.SoundRoots.{permanent_set, permanent_dropped, user_root_set, user_root_dropped, runtime_replaced, temporary_added, session_ended}
 use Rattle.store.proofs.SoundProfiles.{profile_set, profile_rolled_back, profile_switched, generation_deleted}
 
 module _ (s : Settings) (w : World) (c : Caller) (sound : IsSound s.store_dir w) where
@@ -56,7 +56,14 @@ module _ (s : Settings) (w : World) (c : Caller) (sound : IsSound s.store_dir w)
   done_sound (replace_runtime pairs) v e formed =
       runtime_replaced s.store_dir w sound pairs
       (met (list_all (λ p. is_runtime_label p.0) pairs) _ (each_passed (tests s w (replace_runtime pairs)) e _ (0, omega arith, refl)))
-  done_sound (collect ignores) v e formed = collected_sound s w s.store_dir sound
+  done_sound (add_temp owner session p) v e formed =
+      temporary_added s.store_dir w sound (record { owner = owner; session = session; path = p })
+      (met (is_plain_name owner) _ (each_passed (tests s w (add_temp owner session p)) e _ (0, omega arith, refl)))
+      (met (is_session session) _ (each_passed (tests s w (add_temp owner session p)) e _ (1, omega arith, refl)))
+      (met (has w p) _ (each_passed (tests s w (add_temp owner session p)) e _ (2, omega arith, refl)))
+  done_sound (end_session owner session) v e formed = session_ended s.store_dir w sound owner session
+  done_sound (collect ignores None) v e formed = collected_sound s w s.store_dir sound
+  done_sound (collect ignores (Some limit)) v e formed = limited_sound s w s.store_dir sound limit
   done_sound (delete named ignores) v e formed = deleted_sound s w s.store_dir sound c named ignores v
   done_sound (info p) v e formed = sound
   done_sound _ v e formed = sound

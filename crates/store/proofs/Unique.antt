@@ -1,7 +1,7 @@
 -- One reply, one world: what a step determines once its failures are given.
 use Rattle.std.proofs.Common.{◌≡◌, [], ◌∷◌, Some, None, sym, ap, ◌∙◌, refl, subst}
 use Rattle.std.proofs.lemmas.Option.{same_Some}
-use Rattle.tables.specs.World.{World}
+use Rattle.world.specs.World.{World}
 use Rattle.policy.specs.Settings.{Settings}
 use Rattle.policy.specs.Caller.{Caller}
 use Rattle.policy.specs.declared.kinds.Rule.{Rule}

@@ -7,7 +7,7 @@ use Rattle.paths.specs.Root.{Set, Root}
 use Rattle.live.specs.Reach.{reaches}
 use Rattle.live.proofs.Members.{any_from, some_of_any}
 use Rattle.live.proofs.Order.{ordered_member, member_ordered, same_bools}
-use Rattle.tables.specs.World.{Path, World, pair_cmp, lasting_roots, runtime_root, roots_of}
+use Rattle.world.specs.World.{Path, World, pair_cmp, lasting_roots, runtime_root, temporary_roots, roots_of}
 use Rattle.policy.specs.Settings.{Settings}
 use Rattle.store.specs.Liveness.{graph_of, keep_of, lives}
 use Rattle.store.specs.Seen.{censored}
@@ -19,17 +19,27 @@ use Rattle.store.proofs.Filtered.{in_mapped, from_mapped}
 module _ (w : World) (r1 r2 : Set pair_cmp) where
   -- each root of the one world is a root of the other, but for a runtime label
   pub like : TargetsAreIn r1 r2 → (x : Root) → Contains (roots_of (with_runtime w r1)) x → (y : Root) × Contains (roots_of (with_runtime w r2)) y × (censored x ≡ censored y)
-  like same x c = elim (Contains-append_cases (lasting_roots w) (map runtime_root (finite.keys r1)) x (member_ordered _ x c)) as (λ _. (y : Root) × Contains (roots_of (with_runtime w r2)) y × (censored x ≡ censored y)) [
-    | inl lasting ↦ (x, ordered_member (lasting_roots w ++ map runtime_root (finite.keys r2)) x (Contains-append_left (lasting_roots w) (map runtime_root (finite.keys r2)) x lasting), refl)
-    | inr now ↦
-        let p = from_mapped runtime_root (finite.keys r1) x now in
-        let q = same p.0.0 p.0.1 (listed_key pair_total r1 p.0 p.1) in
-        let other : Root = runtime_root (q.0, p.0.1) in (
-          other,
-          ordered_member (lasting_roots w ++ map runtime_root (finite.keys r2)) other (Contains-append_right (lasting_roots w) (map runtime_root (finite.keys r2)) other (in_mapped runtime_root (finite.keys r2) (q.0, p.0.1) (key_listed pair_antisymmetric r2 (q.0, p.0.1) q.1))),
-          sym (ap censored p.2),
-        )
+  like same x c = elim (Contains-append_cases (lasting_roots w ++ map runtime_root (finite.keys r1)) (temporary_roots w) x (member_ordered _ x c)) as (λ _. (y : Root) × Contains (roots_of (with_runtime w r2)) y × (censored x ≡ censored y)) [
+    | inl early ↦ elim (Contains-append_cases (lasting_roots w) (map runtime_root (finite.keys r1)) x early) as (λ _. (y : Root) × Contains (roots_of (with_runtime w r2)) y × (censored x ≡ censored y)) [
+      | inl lasting ↦ (x, there x (Contains-append_left (lasting_roots w) (map runtime_root (finite.keys r2)) x lasting), refl)
+      | inr now ↦
+          let p = from_mapped runtime_root (finite.keys r1) x now in
+          let q = same p.0.0 p.0.1 (listed_key pair_total r1 p.0 p.1) in
+          let other : Root = runtime_root (q.0, p.0.1) in (
+            other,
+            there other (Contains-append_right (lasting_roots w) (map runtime_root (finite.keys r2)) other (in_mapped runtime_root (finite.keys r2) (q.0, p.0.1) (key_listed pair_antisymmetric r2 (q.0, p.0.1) q.1))),
+            sym (ap censored p.2),
+          )
+    ]
+    | inr temporary ↦ (
+      x,
+      ordered_member (lasting_roots w ++ map runtime_root (finite.keys r2) ++ temporary_roots w) x (Contains-append_right (lasting_roots w ++ map runtime_root (finite.keys r2)) (temporary_roots w) x temporary),
+      refl,
+    )
   ]
+    where
+      there : (y : Root) → Contains (lasting_roots w ++ map runtime_root (finite.keys r2)) y → Contains (roots_of (with_runtime w r2)) y
+      there y m = ordered_member (lasting_roots w ++ map runtime_root (finite.keys r2) ++ temporary_roots w) y (Contains-append_left (lasting_roots w ++ map runtime_root (finite.keys r2)) (temporary_roots w) y m)
 
   still_lives : TargetsAreIn r1 r2 → (s : Settings) (p : Path) → IsTrue (lives s (with_runtime w r1) p) → IsTrue (lives s (with_runtime w r2) p)
   still_lives same s p h =

@@ -2,7 +2,7 @@
 use Rattle.std.proofs.Common.{not, refl}
 use Rattle.std.proofs.lemmas.List.Filters.{length-filter_both, sum_by-filter_both}
 use Rattle.policy.specs.Settings.{Settings}
-use Rattle.tables.specs.World.{World, all_paths}
+use Rattle.world.specs.World.{World, all_paths}
 use Rattle.store.specs.Liveness.{lives, live_paths, dead_paths, size_of, usage_of}
 use Rattle.store.specs.Laws.{UsageAddsUp}
 

@@ -17,12 +17,12 @@ use Rattle.policy.specs.Settings.{Settings}
 use Rattle.policy.specs.Class.{class_of}
 use Rattle.policy.specs.Rules.{is_trusted}
 use Rattle.policy.specs.declared.kinds.Class.{Class}
-use Rattle.tables.specs.World.{Path, Pair, World, has, all_paths, permanent_root, user_root, generation_root, generation_roots, runtime_root, lasting_roots, runtime_roots, roots_of}
-use Rattle.tables.specs.Sound.{IsSound}
+use Rattle.world.specs.World.{Path, Pair, World, has, all_paths, permanent_root, user_root, generation_root, generation_roots, runtime_root, temporary_root, lasting_roots, runtime_roots, temporary_roots, roots_of}
+use Rattle.world.specs.Sound.{IsSound}
 use Rattle.store.specs.Liveness.{graph_of, keep_of, lives, live_paths, dead_paths, roots_that_keep}
 use Rattle.store.specs.Seen.{plain, censored, each_once, seen, seen_root}
 use Rattle.store.specs.Laws.{LivesAsSaid, TargetsLive, FirstIsShownFirst}
-use Rattle.store.proofs.MapMembers.{bytes_antisymmetric, pair_total, key_listed, listed_key, listed_entry}
+use Rattle.store.proofs.MapMembers.{bytes_antisymmetric, pair_total, key_listed, listed_key, listed_entry, temporary_total}
 use Rattle.store.proofs.Filtered.{in_filtered, from_filtered, from_mapped, from_joined}
 use Rattle.store.proofs.Worlds.{valid_is, live_of, live_has}
 
@@ -113,6 +113,11 @@ module _ (dir : List ℕ) (w : World) (sound : IsSound dir w) where
       let x = from_mapped runtime_root (finite.keys w.runtime) r c in
       subst (λ (y : Root). IsTrue (has w y.target)) x.2 (sound.runtime_target x.0 (listed_key pair_total w.runtime x.0 x.1))
 
+  temporaries : (r : Root) → Contains (temporary_roots w) r → IsTrue (has w r.target)
+  temporaries r c =
+      let x = from_mapped temporary_root (finite.keys w.temporary) r c in
+      subst (λ (y : Root). IsTrue (has w y.target)) x.2 (sound.temporary_target x.0 (listed_key temporary_total w.temporary x.0 x.1))
+
   lasting : (r : Root) → Contains (lasting_roots w) r → IsTrue (has w r.target)
   lasting r c = elim (Contains-append_cases (map permanent_root (finite.entries w.permanent) ++ map user_root (finite.entries w.user_roots)) (flat_map generation_roots (finite.entries w.profiles)) r c) as (λ _. IsTrue (has w r.target)) [
     | inl named ↦ elim (Contains-append_cases (map permanent_root (finite.entries w.permanent)) (map user_root (finite.entries w.user_roots)) r named) as (λ _. IsTrue (has w r.target)) [
@@ -123,9 +128,12 @@ module _ (dir : List ℕ) (w : World) (sound : IsSound dir w) where
   ]
 
   pub target_valid : (r : Root) → Contains (roots_of w) r → IsTrue (has w r.target)
-  target_valid r c = elim (Contains-append_cases (lasting_roots w) (runtime_roots w) r (member_ordered (lasting_roots w ++ runtime_roots w) r c)) as (λ _. IsTrue (has w r.target)) [
-    | inl here ↦ lasting r here
-    | inr here ↦ runtimes r here
+  target_valid r c = elim (Contains-append_cases (lasting_roots w ++ runtime_roots w) (temporary_roots w) r (member_ordered (lasting_roots w ++ runtime_roots w ++ temporary_roots w) r c)) as (λ _. IsTrue (has w r.target)) [
+    | inl early ↦ elim (Contains-append_cases (lasting_roots w) (runtime_roots w) r early) as (λ _. IsTrue (has w r.target)) [
+      | inl here ↦ lasting r here
+      | inr here ↦ runtimes r here
+    ]
+    | inr here ↦ temporaries r here
   ]
 
 pub targets_live : TargetsLive
@@ -159,7 +167,7 @@ first_seen class rs = elim (is_trusted class) as (λ b. slice_get (cond b (map p
 
 -- putting the roots of a world in order again changes nothing
 pub ordered_again : (w : World) → in_order (roots_of w) ≡ roots_of w
-ordered_again w = same_order (roots_of w) (lasting_roots w ++ runtime_roots w) (λ r c. member_ordered (lasting_roots w ++ runtime_roots w) r c) (λ r c. ordered_member (lasting_roots w ++ runtime_roots w) r c)
+ordered_again w = same_order (roots_of w) (lasting_roots w ++ runtime_roots w ++ temporary_roots w) (λ r c. member_ordered (lasting_roots w ++ runtime_roots w ++ temporary_roots w) r c) (λ r c. ordered_member (lasting_roots w ++ runtime_roots w ++ temporary_roots w) r c)
 
 pub first_shown : FirstIsShownFirst
 first_shown s w c p =

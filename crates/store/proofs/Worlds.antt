@@ -12,7 +12,7 @@ use Rattle.live.specs.Graph.{is_valid}
 use Rattle.live.specs.Reach.{Reaches}
 use Rattle.live.proofs.Reach.{same_is, end_valid}
 use Rattle.live.proofs.Live.{live_decided}
-use Rattle.tables.specs.World.{Path, Object, Objects, World, has, roots_of}
+use Rattle.world.specs.World.{Path, Object, Objects, World, has, roots_of}
 use Rattle.policy.specs.Settings.{Settings}
 use Rattle.store.specs.Liveness.{links_of, linked, graph_of, keep_of, lives}
 

@@ -6,8 +6,8 @@ use Rattle.nar.specs.Archive.{archive, spelling}
 use Rattle.paths.specs.Root.{bytes_cmp, set_of}
 use Rattle.paths.specs.Path.{text_path, source_path}
 use Rattle.paths.specs.ContentAddress.{ContentAddress, text_address, source_address}
-use Rattle.tables.specs.World.{Path, Object}
-use Rattle.tables.specs.Objects.{outputs_at}
+use Rattle.world.specs.World.{Path, Object}
+use Rattle.world.specs.Objects.{outputs_at}
 use Rattle.store.specs.Request.{Imported}
 
 -- a path with the object that is to stand there

@@ -7,16 +7,16 @@ use Rattle.nar.specs.Tree.{Tree}
 use Rattle.nar.specs.Listing.{listing}
 use Rattle.nar.specs.Outcome.{outcome_of}
 use Rattle.paths.specs.Path.{text_path, source_path}
-use Rattle.tables.specs.World.{Path, Object, World, all_paths, roots_of}
+use Rattle.world.specs.World.{Path, Object, World, all_paths, roots_of}
 use Rattle.policy.specs.Settings.{Settings}
 use Rattle.policy.specs.Caller.{Caller}
 use Rattle.policy.specs.Class.{class_of}
-use Rattle.store.specs.Request.{Request, add_text, add_source, import_object, info, nar, ls, list, list_live, list_dead, list_roots, list_roots_of, set_permanent, drop_permanent, set_user_root, drop_user_root, set_profile, rollback, switch, delete_generation, replace_runtime, collect, delete, report}
-use Rattle.store.specs.Reply.{Info, Answer, path, record_of, archive_of, listing_of, paths, roots, changed, generation, runtime_count, freed, usage}
-use Rattle.store.specs.Liveness.{roots_that_keep, live_paths, dead_paths, deleted_paths, bytes_in, usage_of}
+use Rattle.store.specs.Request.{Request, add_text, add_source, import_object, info, nar, ls, list, list_live, list_dead, list_roots, list_roots_of, set_permanent, drop_permanent, set_user_root, drop_user_root, set_profile, rollback, switch, delete_generation, replace_runtime, add_temp, end_session, collect, delete, report}
+use Rattle.store.specs.Reply.{Info, Answer, path, record_of, archive_of, listing_of, paths, roots, changed, generation, runtime_count, temporary_count, freed, usage}
+use Rattle.store.specs.Liveness.{roots_that_keep, live_paths, dead_paths, collected_paths, deleted_paths, bytes_in, usage_of}
 use Rattle.store.specs.Seen.{seen}
 use Rattle.store.specs.Profiles.{profile_at, number_for, rolled_back}
-use Rattle.store.specs.Effects.{valid_pairs}
+use Rattle.store.specs.Effects.{valid_pairs, of_session}
 
 -- the record of an object
 abbrev pub info_of : Path → Object → Info
@@ -57,6 +57,8 @@ answer s w c (rollback owner name) = generation (rolled_back (profile_at w (owne
 answer s w c (switch owner name n) = generation n
 answer s w c (delete_generation owner name n) = changed
 answer s w c (replace_runtime pairs) = runtime_count (finite.len (valid_pairs w pairs))
-answer s w c (collect ignores) = freed (dead_paths s w) (bytes_in w (dead_paths s w))
+answer s w c (add_temp owner session p) = changed
+answer s w c (end_session owner session) = temporary_count (finite.len (of_session w owner session))
+answer s w c (collect ignores limit) = freed (collected_paths s w limit) (bytes_in w (collected_paths s w limit))
 answer s w c (delete named ignores) = freed (deleted_paths w named) (bytes_in w (deleted_paths w named))
 answer s w c report = usage (usage_of w (live_paths s w)) (usage_of w (dead_paths s w)) (usage_of w (all_paths w))

@@ -8,8 +8,8 @@ use Rattle.paths.specs.Root.{bytes_cmp}
 use Rattle.paths.specs.Path.{text_path, source_path}
 use Rattle.paths.specs.ContentAddress.{ContentAddress, text_address, source_address}
 use Rattle.live.specs.Laws.{RefersToAny}
-use Rattle.tables.specs.World.{Path, Object, World, has}
-use Rattle.tables.specs.Objects.{outputs_at}
+use Rattle.world.specs.World.{Path, Object, World, has}
+use Rattle.world.specs.Objects.{outputs_at}
 use Rattle.policy.specs.Settings.{Settings}
 use Rattle.policy.specs.Caller.{Caller}
 use Rattle.store.specs.Request.{Imported, Request, delete}

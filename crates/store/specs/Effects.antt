@@ -1,12 +1,13 @@
 -- What each request that is done does to the world.
-use Rattle.std.specs.Prelude.{ℕ, Bool, not, if◌then◌else◌, List}
+use Rattle.std.specs.Prelude.{ℕ, Bool, not, ◌&&◌, ◌==◌, if◌then◌else◌, List, Some, None}
 use Rattle.std.specs.List.{filter}
 use Rattle.std.specs.FinMap as finite
 use Rattle.paths.specs.Root.{Set, set_of}
-use Rattle.tables.specs.World.{Path, Pair, pair_cmp, Profile, World, has}
+use Rattle.world.specs.World.{Path, Pair, pair_cmp, Profile, Temporary, temporary_cmp, World, has}
+use Rattle.live.specs.Graph.{same, holds}
 use Rattle.policy.specs.Settings.{Settings}
-use Rattle.store.specs.Request.{Request, add_text, add_source, import_object, set_permanent, drop_permanent, set_user_root, drop_user_root, set_profile, rollback, switch, delete_generation, replace_runtime, collect, delete}
-use Rattle.store.specs.Liveness.{lives, goes_with}
+use Rattle.store.specs.Request.{Request, add_text, add_source, import_object, set_permanent, drop_permanent, set_user_root, drop_user_root, set_profile, rollback, switch, delete_generation, replace_runtime, add_temp, end_session, collect, delete}
+use Rattle.store.specs.Liveness.{lives, collected_paths, goes_with}
 use Rattle.store.specs.Adds.{Added, added_text, added_source, added_import}
 use Rattle.store.specs.Profiles.{profile_at, set_to, switched, rolled_back, without_generation}
 
@@ -40,6 +41,21 @@ valid_pairs w pairs = set_of pair_cmp (filter (λ p. has w p.1) pairs)
 abbrev pub with_runtime : World → Set pair_cmp → World
 with_runtime w pairs = record w { runtime = pairs }
 
+-- a path that a session keeps more
+abbrev pub with_temporary : World → Temporary → World
+with_temporary w t = record w { temporary = finite.insert w.temporary t tt }
+
+-- whether it is this session that keeps it: its owner and its number are these
+abbrev pub is_of_session : List ℕ → ℕ → Temporary → Bool
+is_of_session owner session t = same t.owner owner && t.session == session
+
+-- what a session keeps
+abbrev pub of_session : World → List ℕ → ℕ → Set temporary_cmp
+of_session w owner session = finite.retain_keys w.temporary (is_of_session owner session)
+
+abbrev pub without_session : World → List ℕ → ℕ → World
+without_session w owner session = record w { temporary = finite.retain_keys w.temporary (λ t. not (is_of_session owner session t)) }
+
 -- the world after a request that is done
 abbrev pub effect : Settings → World → Request → World
 effect s w (add_text name refs contents) = with_object w (added_text s.store_dir name refs contents)
@@ -54,6 +70,9 @@ effect s w (rollback owner name) = with_profile w (owner, name) (rolled_back (pr
 effect s w (switch owner name n) = with_profile w (owner, name) (switched (profile_at w (owner, name)) n)
 effect s w (delete_generation owner name n) = with_profile w (owner, name) (without_generation (profile_at w (owner, name)) n)
 effect s w (replace_runtime pairs) = with_runtime w (valid_pairs w pairs)
-effect s w (collect ignores) = keeping w (lives s w)
+effect s w (add_temp owner session p) = with_temporary w (record { owner = owner; session = session; path = p })
+effect s w (end_session owner session) = without_session w owner session
+effect s w (collect ignores None) = keeping w (lives s w)
+effect s w (collect ignores (Some limit)) = keeping w (λ p. not (holds (collected_paths s w (Some limit)) p))
 effect s w (delete named ignores) = keeping w (λ p. not (goes_with w named p))
 effect s w q = w

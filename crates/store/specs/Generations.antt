@@ -1,7 +1,7 @@
 -- Laws of profiles: which generation a request that is done makes or takes, and that all others stay.
 use Rattle.std.specs.Prelude.{◌≡◌, ℕ, ◌+◌, ◌<◌, ◌≤◌, List, Some, IsTrue, IsFalse}
 use Rattle.std.specs.FinMap as finite
-use Rattle.tables.specs.World.{Path, Pair, Profile, World}
+use Rattle.world.specs.World.{Path, Pair, Profile, World}
 use Rattle.policy.specs.Settings.{Settings}
 use Rattle.policy.specs.Caller.{Caller}
 use Rattle.store.specs.Request.{set_profile, rollback, switch, delete_generation}
@@ -17,6 +17,7 @@ pub record ChangesProfile (w new : World) (owned : Pair) (now : Profile) : Type 
   pub permanent : new.permanent ≡ w.permanent
   pub user_roots : new.user_roots ≡ w.user_roots
   pub runtime : new.runtime ≡ w.runtime
+  pub temporary : new.temporary ≡ w.temporary
 
 -- ---- a path is set
 

@@ -2,7 +2,7 @@
 use Rattle.std.specs.Prelude.{◌≡◌, ℕ, List, [], ◌∷◌, IsTrue, IsFalse}
 use Rattle.std.specs.FinMap as finite
 use Rattle.paths.specs.Root.{Set}
-use Rattle.tables.specs.World.{World, pair_cmp}
+use Rattle.world.specs.World.{World, pair_cmp}
 use Rattle.policy.specs.Settings.{Settings}
 use Rattle.policy.specs.Caller.{Caller}
 use Rattle.policy.specs.Class.{class_of}
@@ -21,6 +21,7 @@ pub record DifferInLabels (w v : World) : Type 0 where
   pub permanent : w.permanent ≡ v.permanent
   pub user_roots : w.user_roots ≡ v.user_roots
   pub profiles : w.profiles ≡ v.profiles
+  pub temporary : w.temporary ≡ v.temporary
   pub there : TargetsAreIn w.runtime v.runtime
   pub back : TargetsAreIn v.runtime w.runtime
 

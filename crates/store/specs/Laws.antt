@@ -5,8 +5,8 @@ use Rattle.paths.specs.Root.{Root}
 use Rattle.live.specs.Reach.{Reaches}
 use Rattle.live.specs.Live.{IsLive, IsDead, IsFirstRoot}
 use Rattle.live.specs.Laws.{HasFirstRoot}
-use Rattle.tables.specs.World.{Path, Pair, Object, Profile, World, has, permanent_root, user_root, generation_root, runtime_root, roots_of, all_paths}
-use Rattle.tables.specs.Sound.{IsSound}
+use Rattle.world.specs.World.{Path, Pair, Object, Profile, Temporary, World, has, permanent_root, user_root, generation_root, runtime_root, temporary_root, roots_of, all_paths}
+use Rattle.world.specs.Sound.{IsSound}
 use Rattle.policy.specs.Settings.{Settings}
 use Rattle.policy.specs.Caller.{Caller}
 use Rattle.policy.specs.Class.{class_of}
@@ -38,6 +38,7 @@ pub data IsEntry (w : World) (r : Root) : Type 0 where
   of_generation : (owned : Pair) (p : Profile) (n : ℕ) (t : Path) → finite.get w.profiles owned ≡ Some p → finite.get p.generations n ≡ Some t
       → generation_root owned (n, t) ≡ r → IsEntry w r
   of_runtime : (pair : Pair) → IsTrue (finite.contains_key w.runtime pair) → runtime_root pair ≡ r → IsEntry w r
+  of_temporary : (t : Temporary) → IsTrue (finite.contains_key w.temporary t) → temporary_root t ≡ r → IsEntry w r
 
 -- each entry of a table of roots is a root of the world, and no other root is
 pub record HasEachRoot (w : World) : Type 0 where
@@ -46,6 +47,7 @@ pub record HasEachRoot (w : World) : Type 0 where
   pub generation : (owned : Pair) (p : Profile) (n : ℕ) (t : Path) → finite.get w.profiles owned ≡ Some p → finite.get p.generations n ≡ Some t
       → Contains (roots_of w) (generation_root owned (n, t))
   pub runtime : (r : Pair) → IsTrue (finite.contains_key w.runtime r) → Contains (roots_of w) (runtime_root r)
+  pub temporary : (t : Temporary) → IsTrue (finite.contains_key w.temporary t) → Contains (roots_of w) (temporary_root t)
   pub no_other : (r : Root) → Contains (roots_of w) r → IsEntry w r
 
 -- a call that isn't done leaves the world
@@ -120,6 +122,7 @@ pub record KeepsRoots (w new : World) : Type 0 where
   pub user_roots : new.user_roots ≡ w.user_roots
   pub profiles : new.profiles ≡ w.profiles
   pub runtime : new.runtime ≡ w.runtime
+  pub temporary : new.temporary ≡ w.temporary
 
 -- From the one world to the other exactly the dead paths went: each live object stands unchanged, no other path is valid,
 -- roots and profiles are the same, and a further collection frees nothing.
@@ -127,11 +130,25 @@ pub record CollectsExactly (s : Settings) (w new : World) : Type 0 where
   pub kept : (p : Path) → IsTrue (lives s w p) → finite.get new.objects p ≡ finite.get w.objects p
   pub gone : (p : Path) → IsFalse (lives s w p) → IsFalse (has new p)
   pub roots : KeepsRoots w new
-  pub once : (c : Caller) (reply : Reply) (last : World) → Step s new c (collect false) reply last → IsDone reply → (reply ≡ done (freed [] 0)) × (last ≡ new)
+  pub once : (c : Caller) (reply : Reply) (last : World) → Step s new c (collect false None) reply last → IsDone reply → (reply ≡ done (freed [] 0)) × (last ≡ new)
 
 abbrev pub Collects : Type 0
 Collects = (s : Settings) (w : World) (c : Caller) (ignores : Bool) (reply : Reply) (new : World)
-    → Step s w c (collect ignores) reply new → IsDone reply → CollectsExactly s w new
+    → Step s w c (collect ignores None) reply new → IsDone reply → CollectsExactly s w new
+
+-- With a limit some dead paths go, and none that another path refers to which is left: each live object stands unchanged, and so
+-- does each other that is left; roots and profiles are the same. A limit of no bytes removes nothing.
+pub record CollectsSome (s : Settings) (w : World) (limit : ℕ) (new : World) : Type 0 where
+  pub kept : (p : Path) → IsTrue (lives s w p) → finite.get new.objects p ≡ finite.get w.objects p
+  pub left : (p : Path) → IsTrue (has new p) → finite.get new.objects p ≡ finite.get w.objects p
+  pub references : (p : Path) (o : Object) → finite.get new.objects p ≡ Some o
+      → (r : Path) → IsTrue (finite.contains_key o.references r) → IsTrue (has w r) → IsTrue (has new r)
+  pub roots : KeepsRoots w new
+  pub none : limit ≡ 0 → (p : Path) → finite.get new.objects p ≡ finite.get w.objects p
+
+abbrev pub CollectsUpToALimit : Type 0
+CollectsUpToALimit = (s : Settings) (w : World) (c : Caller) (ignores : Bool) (limit : ℕ) (reply : Reply) (new : World)
+    → Step s w c (collect ignores (Some limit)) reply new → IsDone reply → CollectsSome s w limit new
 
 -- After a deletion no reference of an object that is left points at a path that went.
 abbrev pub LeavesNoReference : Type 0

@@ -15,3 +15,4 @@ pub mod Soundness
 pub mod Changes
 pub mod Generations
 pub mod Sights
+pub mod Reliance

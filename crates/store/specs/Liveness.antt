@@ -1,5 +1,5 @@
 -- What lives in a world.
-use Rattle.std.specs.Prelude.{ℕ, Bool, not, List, length, map, Option}
+use Rattle.std.specs.Prelude.{ℕ, Bool, not, List, length, map, Option, Some, None}
 use Rattle.std.specs.List.{filter, sum_by}
 use Rattle.std.specs.Option.{option_map_or}
 use Rattle.std.specs.FinMap as finite
@@ -7,7 +7,8 @@ use Rattle.paths.specs.Root.{Root}
 use Rattle.live.specs.Graph.{Links, Graph, Keep}
 use Rattle.live.specs.Reach.{refers_to_any}
 use Rattle.live.specs.Live.{is_live, first_root, roots_that_reach}
-use Rattle.tables.specs.World.{Path, Object, Objects, World, all_paths, roots_of}
+use Rattle.live.specs.Limited.{limited_paths}
+use Rattle.world.specs.World.{Path, Object, Objects, World, all_paths, roots_of}
 use Rattle.policy.specs.Settings.{Settings}
 use Rattle.store.specs.Reply.{Usage}
 
@@ -62,3 +63,11 @@ bytes_in w ps = sum_by (size_of w) ps
 
 abbrev pub usage_of : World → List Path → Usage
 usage_of w ps = record { paths = length ps; bytes = bytes_in w ps }
+
+-- ---- collection
+
+-- The paths that a collection removes, in order: all dead ones; with a limit those of the groups that go one after another until
+-- so many bytes are free.
+abbrev pub collected_paths : Settings → World → Option ℕ → List Path
+collected_paths s w None = dead_paths s w
+collected_paths s w (Some limit) = limited_paths (graph_of w) (λ p. not (lives s w p)) (size_of w) limit

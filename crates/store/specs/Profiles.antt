@@ -3,7 +3,7 @@ use Rattle.std.specs.Prelude.{ℕ, ◌+◌, Bool, false, nat_lt, if◌then◌els
 use Rattle.std.specs.List.{filter, last_or}
 use Rattle.std.specs.FinMap as finite
 use Rattle.live.specs.Graph.{same}
-use Rattle.tables.specs.World.{Path, Pair, Profile, World}
+use Rattle.world.specs.World.{Path, Pair, Profile, World}
 
 -- the greatest number of a generation
 abbrev pub last_number : ℕ

@@ -3,7 +3,7 @@ use Rattle.std.specs.Prelude.{ℕ, List, Option}
 use Rattle.nar.specs.declared.error.NarError.{NarError}
 use Rattle.drv.specs.declared.error.DrvError.{DrvError}
 use Rattle.paths.specs.ContentAddress.{ContentAddress}
-use Rattle.tables.specs.World.{Path, Pair}
+use Rattle.world.specs.World.{Path, Pair}
 use Rattle.policy.specs.declared.kinds.Rule.{Rule}
 
 -- why a request is refused
@@ -36,6 +36,8 @@ pub data Refusal : Type 0 where
   bad_root_name : Refusal
   -- a label that isn't a runtime label
   bad_label : Refusal
+  -- a number that no session has
+  bad_session : Refusal
 
 -- what a call may want
 pub data Failure : Type 0 where
@@ -67,12 +69,14 @@ pub data Answer : Type 0 where
   paths : List Path → Answer
   -- labels and targets
   roots : List Pair → Answer
-  -- set, dropped or deleted
+  -- set, added, dropped or deleted
   changed : Answer
   -- the number of a generation
   generation : ℕ → Answer
   -- how many runtime roots there are
   runtime_count : ℕ → Answer
+  -- how many temporary roots a session had
+  temporary_count : ℕ → Answer
   -- the paths that went, and the sum of the bytes of their archives
   freed : List Path → ℕ → Answer
   -- of the live, the dead and all paths

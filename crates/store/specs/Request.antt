@@ -1,7 +1,7 @@
 -- What is asked of a store.
 use Rattle.std.specs.Prelude.{ℕ, Bool, List, Option}
 use Rattle.paths.specs.ContentAddress.{ContentAddress}
-use Rattle.tables.specs.World.{Path, Pair}
+use Rattle.world.specs.World.{Path, Pair}
 
 -- an object that is handed in with its path: the digest that its archive is said to have, the references, the deriver
 -- and the content address if they are given, and the archive
@@ -43,7 +43,11 @@ pub data Request : Type 0 where
   delete_generation : List ℕ → List ℕ → ℕ → Request
   -- labels and targets
   replace_runtime : List Pair → Request
-  -- whether liveness is to be ignored
-  collect : Bool → Request
+  -- an owner, the number of a session, and a path that it is to keep
+  add_temp : List ℕ → ℕ → Path → Request
+  end_session : List ℕ → ℕ → Request
+  -- whether liveness is to be ignored, and the bytes that are to be freed, if there is a limit
+  collect : Bool → Option ℕ → Request
+  -- paths, and whether liveness is to be ignored
   delete : List Path → Bool → Request
   report : Request

@@ -1,7 +1,7 @@
 -- Laws of roots as callers see them.
 use Rattle.std.specs.Prelude.{◌≡◌, ◌⊎◌, List, [], ◌∷◌, map, codes, Some, IsTrue, IsFalse, Contains}
-use Rattle.paths.specs.Root.{runtime, Root}
-use Rattle.tables.specs.World.{Pair, World}
+use Rattle.paths.specs.Root.{runtime, temporary, Root}
+use Rattle.world.specs.World.{Pair, World}
 use Rattle.policy.specs.Settings.{Settings}
 use Rattle.policy.specs.Caller.{Caller}
 use Rattle.policy.specs.Class.{class_of}
@@ -13,16 +13,16 @@ use Rattle.store.specs.Seen.{seen_root, seen}
 use Rattle.store.specs.Verdict.{shown}
 use Rattle.store.specs.Laws.{NamesTheLiving}
 
--- a root without the label of a runtime root: its target, and any other label
-pub record HidesRuntimeLabel (r : Root) (p : Pair) : Type 0 where
+-- a root without the label of a runtime or a temporary root: its target, and any other label
+pub record HidesLabel (r : Root) (p : Pair) : Type 0 where
   pub target : p.1 ≡ r.target
-  pub hidden : r.kind ≡ runtime → p.0 ≡ codes "{censored}"
-  pub label : (r.kind ≡ runtime → ⊥) → p.0 ≡ r.label
+  pub hidden : (r.kind ≡ runtime) ⊎ (r.kind ≡ temporary) → p.0 ≡ codes "{censored}"
+  pub label : (r.kind ≡ runtime → ⊥) → (r.kind ≡ temporary → ⊥) → p.0 ≡ r.label
 
--- one root: a trusted caller sees its label and its target, and any other the same but for a runtime label
+-- one root: a trusted caller sees its label and its target, and any other the same but for a runtime or temporary label
 pub record SeesRoot (class : Class) (r : Root) : Type 0 where
   pub trusted : IsTrue (is_trusted class) → seen_root class r ≡ (r.label, r.target)
-  pub others : IsFalse (is_trusted class) → HidesRuntimeLabel r (seen_root class r)
+  pub others : IsFalse (is_trusted class) → HidesLabel r (seen_root class r)
 
 -- the third list has the items of the second in their order, each once, and none that is in the first
 abbrev pub AreFirsts : List Pair → List Pair → List Pair → Type 0

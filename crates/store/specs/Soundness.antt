@@ -5,8 +5,8 @@ use Rattle.paths.specs.Names.{is_store_name}
 use Rattle.paths.specs.StorePath.{is_base_name}
 use Rattle.policy.specs.Settings.{Settings}
 use Rattle.policy.specs.Caller.{Caller}
-use Rattle.tables.specs.World.{Path, World}
-use Rattle.tables.specs.Sound.{IsSound}
+use Rattle.world.specs.World.{Path, World}
+use Rattle.world.specs.Sound.{IsSound}
 use Rattle.store.specs.Request.{Imported, Request, add_text, add_source, import_object}
 use Rattle.store.specs.Reply.{Reply}
 use Rattle.store.specs.Step.{Step, Run}

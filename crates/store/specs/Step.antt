@@ -1,6 +1,6 @@
 -- One step of a store, and runs of steps.
 use Rattle.std.specs.Prelude.{◌≡◌, List, [], ◌∷◌, Option, Some, None}
-use Rattle.tables.specs.World.{World}
+use Rattle.world.specs.World.{World}
 use Rattle.policy.specs.Settings.{Settings}
 use Rattle.policy.specs.Caller.{Caller}
 use Rattle.policy.specs.declared.kinds.Rule.{Rule}

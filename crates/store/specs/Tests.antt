@@ -5,7 +5,7 @@ use Rattle.std.specs.FinMap as finite
 use Rattle.sha2.specs.Sha256.{sha256}
 use Rattle.paths.specs.Names.{is_plain_name}
 use Rattle.paths.specs.StorePath.{is_derivation}
-use Rattle.paths.specs.Root.{is_runtime_label}
+use Rattle.paths.specs.Root.{is_runtime_label, is_session}
 use Rattle.live.specs.Graph.{same, holds}
 use Rattle.nar.specs.declared.error.NarError.{NarError}
 use Rattle.nar.specs.declared.error.NarError.TheVariants.{TooLarge}
@@ -17,11 +17,11 @@ use Rattle.paths.specs.ContentAddress.{ContentAddress, verifies}
 use Rattle.drv.specs.declared.error.DrvError.{DrvError}
 use Rattle.drv.specs.declared.error.DrvError.TheVariants.{BadDerivation}
 use Rattle.drv.specs.Outcome.{outputs_of}
-use Rattle.tables.specs.World.{Path, Object, World, has}
-use Rattle.tables.specs.Objects.{most_references}
+use Rattle.world.specs.World.{Path, Object, World, has}
+use Rattle.world.specs.Objects.{most_references}
 use Rattle.policy.specs.Settings.{Settings}
-use Rattle.store.specs.Request.{Imported, Request, add_text, add_source, import_object, info, nar, ls, list, list_live, list_dead, list_roots, list_roots_of, set_permanent, drop_permanent, set_user_root, drop_user_root, set_profile, rollback, switch, delete_generation, replace_runtime, collect, delete, report}
-use Rattle.store.specs.Reply.{Refusal, archive, ca_mismatch, derivation, not_valid, missing_reference, nar_hash_mismatch, self_reference, no_root, no_profile, no_generation, current_generation, no_older_generation, generation_limit, too_many_references, bad_root_name, bad_label}
+use Rattle.store.specs.Request.{Imported, Request, add_text, add_source, import_object, info, nar, ls, list, list_live, list_dead, list_roots, list_roots_of, set_permanent, drop_permanent, set_user_root, drop_user_root, set_profile, rollback, switch, delete_generation, replace_runtime, add_temp, end_session, collect, delete, report}
+use Rattle.store.specs.Reply.{Refusal, archive, ca_mismatch, derivation, not_valid, missing_reference, nar_hash_mismatch, self_reference, no_root, no_profile, no_generation, current_generation, no_older_generation, generation_limit, too_many_references, bad_root_name, bad_label, bad_session}
 use Rattle.store.specs.Adds.{added_import, text_archive_size}
 use Rattle.store.specs.Profiles.{last_number, profile_at, has_profile, has_generation, number_for, previous}
 
@@ -148,7 +148,16 @@ tests s w (delete_generation owner name n) =
     ∷ unless (not ((profile_at w (owner, name)).current == n)) current_generation
     ∷ []
 tests s w (replace_runtime pairs) = unless (list_all (λ p. is_runtime_label p.0) pairs) bad_label ∷ []
-tests s w (collect ignores) = []
+tests s w (add_temp owner session p) =
+    unless (is_plain_name owner) bad_root_name
+    ∷ unless (is_session session) bad_session
+    ∷ unless (has w p) not_valid
+    ∷ []
+tests s w (end_session owner session) =
+    unless (is_plain_name owner) bad_root_name
+    ∷ unless (is_session session) bad_session
+    ∷ []
+tests s w (collect ignores limit) = []
 tests s w (delete named ignores) = unless (list_all (has w) named) not_valid ∷ []
 tests s w report = []
 

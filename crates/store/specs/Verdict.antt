@@ -2,7 +2,7 @@
 use Rattle.std.specs.Prelude.{List, [], Option, Some, None, is_some, option_map}
 use Rattle.std.specs.List.{find, list_any}
 use Rattle.paths.specs.Root.{Root}
-use Rattle.tables.specs.World.{Path, Pair, World}
+use Rattle.world.specs.World.{Path, Pair, World}
 use Rattle.policy.specs.Settings.{Settings}
 use Rattle.policy.specs.Caller.{Caller}
 use Rattle.policy.specs.Class.{class_of}
@@ -11,7 +11,7 @@ use Rattle.policy.specs.declared.kinds.Rule.TheVariants.{Live}
 use Rattle.policy.specs.Operation.{Operation, plain}
 use Rattle.policy.specs.Operation as operations
 use Rattle.policy.specs.Rules as rules
-use Rattle.store.specs.Request.{Request, import_object, set_permanent, drop_permanent, set_user_root, drop_user_root, set_profile, rollback, switch, delete_generation, replace_runtime, collect, delete}
+use Rattle.store.specs.Request.{Request, import_object, set_permanent, drop_permanent, set_user_root, drop_user_root, set_profile, rollback, switch, delete_generation, replace_runtime, add_temp, end_session, collect, delete}
 use Rattle.store.specs.Liveness.{lives, first_root_of}
 use Rattle.store.specs.Seen.{seen_root}
 
@@ -27,7 +27,9 @@ operation_of (rollback owner name) = operations.rollback owner
 operation_of (switch owner name n) = operations.switch owner
 operation_of (delete_generation owner name n) = operations.delete_generation owner
 operation_of (replace_runtime pairs) = operations.replace_runtime
-operation_of (collect ignores) = operations.collect ignores
+operation_of (add_temp owner session p) = operations.add_temp owner
+operation_of (end_session owner session) = operations.end_session owner
+operation_of (collect ignores limit) = operations.collect ignores
 operation_of (delete named ignores) = operations.delete ignores
 operation_of _ = plain
 

@@ -1,11 +1,12 @@
 //! Laws of the definitions: each is the contract of a function that does nothing.
-ghost use Rattle.std.specs.Prelude.{Bool, List, ℕ};
+ghost use Rattle.std.specs.Prelude.{Bool, List, Option, ℕ};
 ghost use Rattle.paths.specs.Root.{Root};
 ghost use Rattle.policy.specs.Settings.{Settings};
 ghost use Rattle.policy.specs.declared.kinds.Class.{Class};
-ghost use Rattle.tables.specs.World.{Path, World, all_paths};
+ghost use Rattle.world.specs.World.{Path, World, all_paths};
 ghost use Rattle.store.specs.Liveness.{dead_paths, live_paths, usage_of};
-ghost use Rattle.store.specs.Laws.{Collects, DenialsNameTheLiving, FailsPastTheRules, FirstIsShownFirst, HasEachRoot, IsAnswered, IsFunctional, LeavesNoReference, LeavesUnlessDone, LivesAsSaid, Pins, PinsOverRuns, RunsEndAlike, TargetsLive, UsageAddsUp};
+ghost use Rattle.store.specs.Laws.{Collects, CollectsUpToALimit, DenialsNameTheLiving, FailsPastTheRules, FirstIsShownFirst, HasEachRoot, IsAnswered, IsFunctional, LeavesNoReference, LeavesUnlessDone, LivesAsSaid, Pins, PinsOverRuns, RunsEndAlike, TargetsLive, UsageAddsUp};
+ghost use Rattle.store.specs.Reliance.{NobodyPlants, NothingIsReplaced, RootsAreTheirOwners, StrangersAreDenied};
 ghost use Rattle.store.specs.Labels.{MirrorsRuns, MirrorsSteps, RunsLookAlike};
 ghost use Rattle.store.specs.Soundness.{KeepsSound, RunsKeepSound};
 ghost use Rattle.store.specs.Request.{Imported, add_source, add_text, collect, delete, import_object};
@@ -77,7 +78,7 @@ pub fn deletions_are_exact()
 
 /// What a collection or a deletion answers is exactly what went.
 pub fn the_freed_are_told()
-    ensures collection { (s : Settings) (ignores : Bool) → FreesAsTold s (collect ignores) }
+    ensures collection { (s : Settings) (ignores : Bool) (limit : Option ℕ) → FreesAsTold s (collect ignores limit) }
     ensures deletion { (s : Settings) (named : List Path) (ignores : Bool) → FreesAsTold s (delete named ignores) }
 {}
 
@@ -96,9 +97,11 @@ pub fn roots_are_seen_in_order()
     ensures denial { ShowsTheLabel }
 {}
 
-/// A collection keeps exactly what lives, and a second one frees nothing.
+/// A collection keeps exactly what lives, and a second one frees nothing; with a limit some dead paths go, and no reference that is
+/// left points at one of them.
 pub fn collection_is_exact()
-    ensures { Collects }
+    ensures all { Collects }
+    ensures limited { CollectsUpToALimit }
 {}
 
 /// After a deletion no reference that is left points at a path that went.
@@ -123,4 +126,13 @@ pub fn runtime_labels_do_not_show()
 pub fn soundness_is_kept()
     ensures step { KeepsSound }
     ensures run { RunsKeepSound }
+{}
+
+/// A stranger changes nothing and is told nothing but the denial. A caller who isn't trusted adds nothing but what its content
+/// address says, and changes no root but his own. What stands is never replaced.
+pub fn people_can_rely_on()
+    ensures strangers { StrangersAreDenied }
+    ensures objects { NothingIsReplaced }
+    ensures plants { NobodyPlants }
+    ensures roots { RootsAreTheirOwners }
 {}

@@ -4,7 +4,7 @@ use Rattle.std.specs.Ordering.{nat_cmp}
 use Rattle.std.specs.FinMap as finite
 use Rattle.paths.specs.Root.{generation_label}
 use Rattle.paths.specs.Root as roots
-use Rattle.tables.specs.World.{generation_root}
+use Rattle.world.specs.World.{generation_root}
 use Rattle.model.specs.Maps.{pair_bytes}
 use Rattle.model.specs.View.{root_set}
 use Rattle.model.proofs.Trees.{listed}

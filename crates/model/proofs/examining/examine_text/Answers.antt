@@ -5,7 +5,7 @@ use Rattle.std.proofs.lemmas.Bool.{leb-true}
 use Rattle.nar.specs.declared.error.NarError.{NarError}
 use Rattle.nar.specs.Tree.{IsBytes}
 use Rattle.paths.specs.StorePath.{is_derivation}
-use Rattle.tables.specs.Objects.{tree_outputs}
+use Rattle.world.specs.Objects.{tree_outputs}
 use Rattle.store.specs.Tests.{if_derivation, tree_fault}
 use Rattle.store.proofs.Passed.{met}
 use Rattle.model.proofs.Tested.{pass}

@@ -4,7 +4,7 @@ use borrow.Author.Tests.{tests}
 use Rattle.std.proofs.lemmas.Iterator.{YieldsList-from_slice}
 use Rattle.std.proofs.lemmas.Iterator.Search.{all_from_yields_List}
 use Rattle.live.specs.Graph.{same}
-use Rattle.tables.specs.World.{has}
+use Rattle.world.specs.World.{has}
 use Rattle.model.specs.View.{world_view}
 use Rattle.model.proofs.references.is_complete.Goals as goal
 

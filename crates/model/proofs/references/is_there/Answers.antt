@@ -1,7 +1,7 @@
 use Rattle.std.proofs.Common.{◌||◌, sym, ap, ◌∙◌}
 use Rattle.std.specs.Cmp.Lexicographic.{texts_ties}
 use Rattle.live.specs.Graph.{same}
-use Rattle.tables.specs.World.{has}
+use Rattle.world.specs.World.{has}
 use Rattle.model.specs.View.{world_view}
 use Rattle.model.proofs.references.is_there.Goals as goal
 

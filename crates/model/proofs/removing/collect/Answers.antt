@@ -1,6 +1,6 @@
 use Rattle.std.proofs.Common.{List, map, not, string_bytes, refl, ap, ap₂, ◌∙◌}
 use Rattle.live.specs.Graph.{holds}
-use Rattle.tables.specs.World.{Path}
+use Rattle.world.specs.World.{Path}
 use Rattle.store.specs.Reply.{freed}
 use Rattle.store.specs.Liveness.{lives, bytes_in}
 use Rattle.store.specs.Effects.{keeping}

@@ -1,7 +1,7 @@
 use Rattle.std.proofs.Common.{◌≡◌, true, [], ◌∷◌, List, map, not, string_bytes, refl, sym, ap, ap₂, ◌∙◌}
 use Rattle.std.specs.List.{list_all}
 use Rattle.live.specs.Graph.{holds}
-use Rattle.tables.specs.World.{Path, has}
+use Rattle.world.specs.World.{Path, has}
 use Rattle.store.specs.Reply.{freed, not_valid}
 use Rattle.store.specs.Tests.{first_failing, unless}
 use Rattle.store.specs.Liveness.{goes_with, deleted_paths, bytes_in}

@@ -1,7 +1,4 @@
-use Rattle.std.proofs.Common.{◌≡◌, rules}
-use Rattle.paths.specs.Path as spec
 use Rattle.paths.proofs.computed_path.text_path.Goals as goal
 
 pub returns-clause-value : goal.returns-clause-value
-unfolding spec.text_path
-returns-clause-value c = search rules
+returns-clause-value c = c.text_path_of.ensures.value c.args.contents.now c.digest.ensures

@@ -2,7 +2,7 @@ use Rattle.std.proofs.Common.{map, string_bytes, refl, sym, ap, ◌∙◌}
 use Rattle.std.specs.Cmp.Lexicographic.{nat_list_cmp_total}
 use Rattle.paths.specs.Root.{bytes_cmp, permanent_label}
 use Rattle.paths.specs.Root as roots
-use Rattle.tables.specs.World.{permanent_root}
+use Rattle.world.specs.World.{permanent_root}
 use Rattle.store.proofs.MapMembers.{bytes_antisymmetric}
 use Rattle.model.specs.View.{root_set}
 use Rattle.model.proofs.Trees.{listed}

@@ -1,6 +1,6 @@
 use Rattle.std.proofs.Common.{map, string_bytes}
 use Rattle.paths.specs.Root.{root_cmp}
-use Rattle.tables.specs.World.{permanent_root}
+use Rattle.world.specs.World.{permanent_root}
 use Rattle.model.specs.View.{root_set}
 use Rattle.model.proofs.Sets.{Fills}
 use Rattle.model.proofs.world.World.add_permanent.Given as goal

@@ -1,6 +1,6 @@
 use Rattle.std.specs.List.{flat_map}
 use Rattle.paths.specs.Root.{root_cmp}
-use Rattle.tables.specs.World.{generation_roots}
+use Rattle.world.specs.World.{generation_roots}
 use Rattle.model.specs.Maps.{pair_bytes}
 use Rattle.model.specs.View.{root_set, profile_view}
 use Rattle.model.proofs.Sets.{Fills}

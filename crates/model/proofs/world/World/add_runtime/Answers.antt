@@ -1,6 +1,6 @@
 use Rattle.std.proofs.Common.{map, string_bytes, refl, sym, ap, ◌∙◌}
 use Rattle.paths.specs.Root as roots
-use Rattle.tables.specs.World.{pair_cmp, runtime_root}
+use Rattle.world.specs.World.{pair_cmp, runtime_root}
 use Rattle.store.proofs.MapMembers.{pair_total, pair_antisymmetric}
 use Rattle.model.specs.Maps.{pair_bytes}
 use Rattle.model.specs.View.{root_set}

@@ -1,7 +1,7 @@
 use Rattle.std.proofs.Common.{map, string_bytes, refl, sym, ap, ap₂, ◌∙◌}
 use Rattle.paths.specs.Root.{user_label}
 use Rattle.paths.specs.Root as roots
-use Rattle.tables.specs.World.{pair_cmp, user_root}
+use Rattle.world.specs.World.{pair_cmp, user_root}
 use Rattle.store.proofs.MapMembers.{pair_total, pair_antisymmetric}
 use Rattle.model.specs.Maps.{pair_bytes}
 use Rattle.model.specs.View.{root_set}

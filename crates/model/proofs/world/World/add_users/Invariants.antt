@@ -1,6 +1,6 @@
 use Rattle.std.proofs.Common.{map, string_bytes}
 use Rattle.paths.specs.Root.{root_cmp}
-use Rattle.tables.specs.World.{user_root}
+use Rattle.world.specs.World.{user_root}
 use Rattle.model.specs.Maps.{pair_bytes}
 use Rattle.model.specs.View.{root_set}
 use Rattle.model.proofs.Sets.{Fills}

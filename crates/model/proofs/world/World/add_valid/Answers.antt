@@ -1,5 +1,5 @@
 use Rattle.std.proofs.Common.{[], ◌∷◌, cond, ap, ◌∙◌, subst, rules}
-use Rattle.tables.specs.World.{pair_cmp, has}
+use Rattle.world.specs.World.{pair_cmp, has}
 use Rattle.store.proofs.MapMembers.{pair_total}
 use Rattle.model.specs.Maps.{pair_bytes, seen_set, Gains}
 use Rattle.model.specs.View.{world_view}

@@ -2,7 +2,7 @@ use Rattle.std.proofs.Common.{◌≡◌, Bool, false, String, string_bytes, take
 use Rattle.std.specs.declared.alloc.Global.{Global}
 use Rattle.std.specs.List.{list_all}
 use Rattle.std.proofs.lemmas.List.Folds.{list_all-map, list_all_at}
-use Rattle.tables.specs.World.{has}
+use Rattle.world.specs.World.{has}
 use Rattle.model.specs.View.{world_view}
 use Rattle.model.proofs.world.World.has_all.Goals as goal
 

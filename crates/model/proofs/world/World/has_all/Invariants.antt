@@ -1,6 +1,6 @@
 use Rattle.std.proofs.Common.{◌≡◌, true, string_bytes, take}
 use Rattle.std.specs.List.{list_all}
-use Rattle.tables.specs.World.{has}
+use Rattle.world.specs.World.{has}
 use Rattle.model.specs.View.{world_view}
 use Rattle.model.proofs.world.World.has_all.Given as goal
 

@@ -1,7 +1,7 @@
 use Rattle.std.proofs.Common.{is_some, sym, ap, ◌∙◌}
 use Rattle.std.specs.Ordering.{nat_cmp}
 use Rattle.std.specs.FinMap as finite
-use Rattle.tables.specs.World.{Path}
+use Rattle.world.specs.World.{Path}
 use Rattle.store.specs.Profiles.{has_generation, profile_or_new}
 use Rattle.model.proofs.world.World.has_generation.Goals as goal
 

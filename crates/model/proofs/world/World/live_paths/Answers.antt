@@ -2,7 +2,7 @@ use Rattle.std.proofs.Common.{Bool, map, string_bytes, sym, ap, ◌∙◌}
 use Rattle.std.specs.List.{filter}
 use Rattle.std.specs.Cmp.Lexicographic.{nat_list_cmp_total}
 use Rattle.paths.specs.Root.{bytes_cmp}
-use Rattle.tables.specs.World.{Path}
+use Rattle.world.specs.World.{Path}
 use Rattle.store.specs.Liveness.{lives}
 use Rattle.store.proofs.MapMembers.{bytes_antisymmetric}
 use Rattle.model.specs.View.{object_view, world_view}

@@ -2,7 +2,7 @@ use Rattle.std.proofs.Common.{Bool, not, ap, ◌∙◌}
 use Rattle.std.specs.Prelude.{◌==◌}
 use Rattle.paths.specs.Root as roots
 use Rattle.live.specs.Reach.{reaches}
-use Rattle.tables.specs.World.{roots_of}
+use Rattle.world.specs.World.{roots_of}
 use Rattle.store.specs.Liveness.{graph_of, keep_of}
 use Rattle.model.specs.View.{root_view, world_view}
 use Rattle.model.proofs.Kept.{some_kept}

@@ -1,7 +1,7 @@
 use Rattle.std.proofs.Common.{◌≡◌, string_bytes, ap, ◌∙◌}
 use Rattle.std.specs.Ordering.{nat_cmp}
 use Rattle.std.specs.FinMap as finite
-use Rattle.tables.specs.World.{Profile, pair_cmp}
+use Rattle.world.specs.World.{Profile, pair_cmp}
 use Rattle.store.specs.Profiles.{new_profile}
 use Rattle.store.proofs.MapMembers.{pair_total, pair_antisymmetric}
 use Rattle.model.specs.Maps.{seen_map, pair_bytes}

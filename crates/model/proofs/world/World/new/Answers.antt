@@ -1,6 +1,7 @@
 use Rattle.std.proofs.Common.{string_bytes}
+use Rattle.std.specs.FinMap as finite
 use Rattle.paths.specs.Root.{bytes_cmp}
-use Rattle.tables.specs.World.{pair_cmp}
+use Rattle.world.specs.World.{pair_cmp}
 use Rattle.model.specs.Maps.{seen_map, seen_set, pair_bytes}
 use Rattle.model.specs.View.{object_view, profile_view}
 use Rattle.model.proofs.world.World.new.Goals as goal
@@ -12,4 +13,5 @@ returns c = λ i. record {
   user_roots = seen_map pair_cmp pair_bytes string_bytes (c.new-user_roots.ensures.empty i);
   profiles = seen_map pair_cmp pair_bytes profile_view (c.new-profiles.ensures.empty i);
   runtime = seen_set pair_cmp pair_bytes (c.new-runtime.ensures.empty i);
+  temporary = finite.empty;
 }

@@ -1,5 +1,5 @@
 use Rattle.std.proofs.Common.{string_bytes, ap, ◌∙◌}
-use Rattle.tables.specs.World.{Profile}
+use Rattle.world.specs.World.{Profile}
 use Rattle.store.proofs.MapMembers.{pair_total, pair_antisymmetric}
 use Rattle.model.specs.Numbers.{put_at}
 use Rattle.model.specs.Maps.{pair_bytes}

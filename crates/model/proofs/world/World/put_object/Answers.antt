@@ -3,7 +3,7 @@ use Rattle.std.specs.Prelude.{if◌then◌else◌}
 use Rattle.std.specs.Cmp.Lexicographic.{nat_list_cmp_total}
 use Rattle.std.specs.FinMap as finite
 use Rattle.paths.specs.Root.{bytes_cmp}
-use Rattle.tables.specs.World.{has}
+use Rattle.world.specs.World.{has}
 use Rattle.store.proofs.MapMembers.{bytes_antisymmetric}
 use Rattle.model.specs.Maps.{seen_map}
 use Rattle.model.specs.View.{object_view, world_view}

@@ -1,5 +1,5 @@
 use Rattle.std.proofs.Common.{string_bytes, ap, ◌∙◌}
-use Rattle.tables.specs.World.{pair_cmp}
+use Rattle.world.specs.World.{pair_cmp}
 use Rattle.store.proofs.MapMembers.{pair_total, pair_antisymmetric}
 use Rattle.model.specs.Maps.{seen_map, pair_bytes}
 use Rattle.model.specs.View.{world_view}

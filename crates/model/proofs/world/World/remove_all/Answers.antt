@@ -5,7 +5,7 @@ use Rattle.std.specs.FinMap as finite
 use Rattle.std.proofs.lemmas.List.{take_more}
 use Rattle.std.specs.Cmp.Lexicographic.{nat_list_cmp_total}
 use Rattle.paths.specs.Root.{bytes_cmp}
-use Rattle.tables.specs.World.{World}
+use Rattle.world.specs.World.{World}
 use Rattle.store.proofs.MapMembers.{bytes_antisymmetric}
 use Rattle.model.specs.Maps.{seen_map}
 use Rattle.model.specs.View.{object_view, world_view}

@@ -1,9 +1,10 @@
-use Rattle.std.proofs.Common.{[], ◌++◌, map, ◌||◌, sym, ap, ◌∙◌, subst}
+use Rattle.std.proofs.Common.{List, [], append-nil, ◌++◌, map, ◌||◌, sym, ap, ◌∙◌, subst}
 use Rattle.std.specs.List.{flat_map}
 use Rattle.std.specs.FinMap as finite
-use Rattle.paths.specs.Root.{root_cmp, set_of}
+use Rattle.paths.specs.Root.{Root, root_cmp, set_of}
 use Rattle.live.proofs.Order.{root_total, root_antisymmetric, same_set, contains_key-set_of}
-use Rattle.tables.specs.World.{permanent_root, user_root, generation_roots, lasting_roots, runtime_roots}
+use Rattle.world.specs.World.{permanent_root, user_root, generation_roots, lasting_roots, runtime_roots, Temporary, temporary_cmp, temporary_root}
+use Rattle.world.proofs.Empty.{no_entries}
 use Rattle.model.specs.Maps.{has_tied, Gains}
 use Rattle.model.specs.View.{root_set, world_view}
 use Rattle.model.proofs.Sets.{gains_both}
@@ -20,5 +21,6 @@ returns c =
     let second = gains_both root_cmp (root_set []) (root_set c.add_permanent.new.roots.keys) (root_set c.add_users.new.roots.keys) permanent users first c.in_ok-add_users.ensures in
     let third = gains_both root_cmp (root_set []) (root_set c.add_users.new.roots.keys) (root_set c.add_profiles.new.roots.keys) (permanent ++ users) generations second c.in_ok-add_profiles.ensures in
     let all = gains_both root_cmp (root_set []) (root_set c.add_profiles.new.roots.keys) (root_set c.add_runtime.new.roots.keys) (permanent ++ users ++ generations) (runtime_roots w) third c.in_ok-add_runtime.ensures in
-    same_set root_total root_antisymmetric (root_set c.add_runtime.new.roots.keys) (set_of root_cmp (lasting_roots w ++ runtime_roots w))
-    (λ q. all q ∙ ap (λ b. b || has_tied root_cmp q (lasting_roots w ++ runtime_roots w)) (contains_key-set_of root_total [] q) ∙ sym (contains_key-set_of root_total (lasting_roots w ++ runtime_roots w) q))
+    let same = same_set root_total root_antisymmetric (root_set c.add_runtime.new.roots.keys) (set_of root_cmp (lasting_roots w ++ runtime_roots w))
+    (λ q. all q ∙ ap (λ b. b || has_tied root_cmp q (lasting_roots w ++ runtime_roots w)) (contains_key-set_of root_total [] q) ∙ sym (contains_key-set_of root_total (lasting_roots w ++ runtime_roots w) q)) in
+    same ∙ ap (set_of root_cmp) (sym (append-nil (lasting_roots w ++ runtime_roots w)) ∙ ap (λ (rs : List Root). lasting_roots w ++ runtime_roots w ++ rs) (sym (ap (λ (es : List (Temporary × Unit {0})). map temporary_root (map (λ (e : Temporary × Unit {0}). e.0) es)) (no_entries (Unit {0}) temporary_cmp))))

@@ -5,7 +5,7 @@ use Rattle.paths.specs.Root.{in_order, root_cmp}
 use Rattle.paths.specs.Root as roots
 use Rattle.live.specs.Reach.{reaches}
 use Rattle.live.proofs.Order.{root_total, root_antisymmetric}
-use Rattle.tables.specs.World.{roots_of}
+use Rattle.world.specs.World.{roots_of}
 use Rattle.store.specs.Liveness.{graph_of}
 use Rattle.model.specs.Keeping.{keep_view}
 use Rattle.model.specs.View.{root_view, world_view}

@@ -2,7 +2,7 @@ use Rattle.std.proofs.Common.{ℕ, length, Option, option_map, string_bytes, sym
 use Rattle.std.specs.Option.{option_map_or}
 use Rattle.std.specs.Cmp.Lexicographic.{nat_list_cmp_total}
 use Rattle.paths.specs.Root.{bytes_cmp}
-use Rattle.tables.specs.World.{Object}
+use Rattle.world.specs.World.{Object}
 use Rattle.store.proofs.MapMembers.{bytes_antisymmetric}
 use Rattle.model.specs.View.{object_view}
 use Rattle.model.proofs.Trees.{get_seen}

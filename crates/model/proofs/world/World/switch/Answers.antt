@@ -1,5 +1,5 @@
 use Rattle.std.proofs.Common.{ap}
-use Rattle.tables.specs.World.{Profile}
+use Rattle.world.specs.World.{Profile}
 use Rattle.store.specs.Profiles.{switched}
 use Rattle.model.specs.Maps.{pair_bytes}
 use Rattle.model.specs.View.{world_view}

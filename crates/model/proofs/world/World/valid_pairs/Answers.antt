@@ -4,7 +4,7 @@ use Rattle.std.specs.FinMap as finite
 use Rattle.std.proofs.lemmas.List.{nil_from_length}
 use Rattle.std.proofs.lemmas.List.Elements.{filter-append}
 use Rattle.live.proofs.Order.{same_set, contains_key-set_of}
-use Rattle.tables.specs.World.{Pair, pair_cmp, has}
+use Rattle.world.specs.World.{Pair, pair_cmp, has}
 use Rattle.store.specs.Effects.{valid_pairs}
 use Rattle.store.proofs.MapMembers.{pair_total, pair_antisymmetric}
 use Rattle.model.specs.Maps.{pair_bytes, seen_set, has_tied}

@@ -1,6 +1,6 @@
 use Rattle.std.proofs.Common.{[], map}
 use Rattle.std.specs.List.{filter}
-use Rattle.tables.specs.World.{pair_cmp, has}
+use Rattle.world.specs.World.{pair_cmp, has}
 use Rattle.model.specs.Maps.{pair_bytes, seen_set}
 use Rattle.model.specs.View.{world_view}
 use Rattle.model.proofs.Sets.{Fills}

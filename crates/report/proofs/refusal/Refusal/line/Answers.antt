@@ -162,3 +162,7 @@ returns-in-BadMethod c = ap refusal_line (sym c.in-BadMethod.is)
 pub returns-in-BadBodyHead : goal.returns-in-BadBodyHead
 unfolding digits
 returns-in-BadBodyHead c = ap refusal_line (sym c.in-BadBodyHead.is)
+
+pub returns-in-BadSession : goal.returns-in-BadSession
+unfolding digits
+returns-in-BadSession c = ap refusal_line (sym c.in-BadSession.is)

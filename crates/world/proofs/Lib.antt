@@ -1,0 +1,6 @@
+pub mod Empty
+pub mod NewWorld
+pub mod NewRows
+pub mod Cuts
+pub mod Columns
+mod Migrating

@@ -1,0 +1,50 @@
+-- Laws of rows: how archives are cut, what rows tell, and that a migration keeps it.
+use Rattle.std.specs.Prelude.{◌≡◌, ℕ, ℤ, pos, List, ◌++◌, Some, None, IsTrue}
+use Rattle.std.specs.FinMap as finite
+use Rattle.table_statements.specs.Contents.{Stored}
+use Rattle.world.specs.World.{Path, Pair, Object, Profile, Temporary, World}
+use Rattle.world.specs.Pieces.{piece_size, joined, IsCut, row_part, further_pieces}
+use Rattle.world.specs.Rows.{Schema, three, Rows, pieces_in, address_in, world_of, IsSoundRows, migrated}
+
+-- Each archive can be cut the right way, and in one way alone: a row and pieces that are cut right are those of the archive that
+-- they tell.
+pub record CutsOneWay (nar : List ℕ) : Type 0 where
+  pub size : piece_size ≡ 65536
+  pub right : IsCut (row_part nar) (further_pieces nar)
+  pub whole : row_part nar ++ joined (further_pieces nar) ≡ nar
+  pub one : (row : List ℕ) (pieces : List (ℤ × List ℕ)) → IsCut row pieces → row ++ joined pieces ≡ nar
+      → (row ≡ row_part nar) × (pieces ≡ further_pieces nar)
+
+-- What an object is, by the rows that have its path: a reference for each row of `refs`, an output for each of `outs`.
+pub record TellsObject (c : Rows) (p : Path) (o : Stored) (x : Object) : Type 0 where
+  pub archive : x.nar ≡ o.nar ++ joined (finite.entries (pieces_in c p))
+  pub piece : (n : ℤ) → finite.get (pieces_in c p) n ≡ finite.get c.pieces (p, n)
+  pub reference : (r : Path) → finite.contains_key x.references r ≡ finite.contains_key c.refs (p, r)
+  pub output : (name : List ℕ) → finite.get x.outputs name ≡ finite.get c.outs (p, name)
+  pub deriver : x.deriver ≡ o.deriver
+  pub address : x.ca ≡ address_in o.ca
+
+-- what a profile is: a generation for each row of `generation` that has its owner and its name
+pub record TellsProfile (c : Rows) (owner name : List ℕ) (x : Profile) : Type 0 where
+  pub generation : (n : ℕ) → finite.get x.generations n ≡ finite.get c.generations (owner, name, pos n)
+  pub current : finite.get c.profiles (owner, name) ≡ Some (pos x.current)
+
+-- what sound rows tell, entry by entry
+pub record TellsWorld (c : Rows) (w : World) : Type 0 where
+  pub no_object : (p : Path) → finite.get c.objects p ≡ None → finite.get w.objects p ≡ None
+  pub object : (p : Path) (o : Stored) → finite.get c.objects p ≡ Some o → (x : Object) × (finite.get w.objects p ≡ Some x) × TellsObject c p o x
+  pub no_profile : (owned : Pair) → finite.get c.profiles owned ≡ None → finite.get w.profiles owned ≡ None
+  pub profile : (owner name : List ℕ) → IsTrue (finite.contains_key c.profiles (owner, name))
+      → (x : Profile) × (finite.get w.profiles (owner, name) ≡ Some x) × TellsProfile c owner name x
+  pub permanent : (name : List ℕ) → finite.get w.permanent name ≡ finite.get c.permanent name
+  pub user_root : (owned : Pair) → finite.get w.user_roots owned ≡ finite.get c.user_roots owned
+  pub runtime : (pair : Pair) → finite.contains_key w.runtime pair ≡ finite.contains_key c.runtime pair
+  pub temporary : (t : Temporary) → finite.contains_key w.temporary t ≡ finite.contains_key c.temp_roots (t.owner, pos t.session, t.path)
+
+abbrev pub RowsTellTheWorld : Type 0
+RowsTellTheWorld = (schema : Schema) (dir : List ℕ) (c : Rows) → IsSoundRows schema dir c → TellsWorld c (world_of c)
+
+-- rows that are sound by a schema are sound by the third once they are migrated, and tell the same world
+abbrev pub MigratesSoundly : Type 0
+MigratesSoundly = (schema : Schema) (dir : List ℕ) (c : Rows) → IsSoundRows schema dir c
+    → IsSoundRows three dir (migrated schema dir c) × (world_of (migrated schema dir c) ≡ world_of c)

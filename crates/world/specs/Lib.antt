@@ -1,0 +1,6 @@
+pub mod World
+pub mod Objects
+pub mod Sound
+pub mod Pieces
+pub mod Rows
+pub mod Laws

@@ -1,0 +1,33 @@
+//! Laws of the definitions: each is the contract of a function that does nothing.
+ghost use Rattle.std.specs.Prelude.{◌≡◌, List, ℕ, IsTrue};
+ghost use Rattle.paths.specs.Names.{is_store_dir};
+ghost use Rattle.world.specs.World.{no_world};
+ghost use Rattle.world.specs.Sound.{IsSound};
+ghost use Rattle.world.specs.Rows.{Schema, IsSoundRows, new_rows, world_of};
+ghost use Rattle.world.specs.Laws.{CutsOneWay, MigratesSoundly, RowsTellTheWorld};
+
+/// The world of a database that was just made is sound in every store directory.
+pub fn the_new_world_is_sound()
+    ensures { (dir : List ℕ) → IsSound dir no_world }
+{}
+
+/// The rows of a database that was just made are sound by their schema, and tell the new world.
+pub fn new_rows_are_sound()
+    ensures sound { (schema : Schema) (dir : List ℕ) → IsTrue (is_store_dir dir) → IsSoundRows schema dir (new_rows schema dir) }
+    ensures world { (schema : Schema) (dir : List ℕ) → world_of (new_rows schema dir) ≡ no_world }
+{}
+
+/// Each archive can be cut the right way, and in one way alone.
+pub fn archives_are_cut_one_way()
+    ensures { (nar : List ℕ) → CutsOneWay nar }
+{}
+
+/// Sound rows tell the world entry by entry: what stands in each column.
+pub fn rows_tell_the_world()
+    ensures { RowsTellTheWorld }
+{}
+
+/// A migration keeps the world, and what was sound by its schema is sound by the third.
+pub fn migration_keeps_the_world()
+    ensures { MigratesSoundly }
+{}

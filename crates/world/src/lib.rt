@@ -1,0 +1,9 @@
+//! The world that the tables hold, what rows tell of it, and when both are sound.
+#![tactic(auto)]
+
+mod laws;
+
+pub use laws::{
+    archives_are_cut_one_way, migration_keeps_the_world, new_rows_are_sound, rows_tell_the_world,
+    the_new_world_is_sound,
+};
