@@ -1,3 +1,11 @@
-pub mod Empty
-pub mod NewWorld
-mod NewRows
+pub mod Lists
+pub mod Transactions
+pub mod Kept
+pub mod RootChanges
+pub mod PutRoots
+pub mod ReadArchives
+pub mod Made
+pub mod Free
+pub mod Parts
+pub mod Inserted
+pub mod AddedObjects

@@ -1,4 +1,3 @@
-pub mod World
-pub mod Objects
-pub mod Sound
-pub mod Rows
+pub mod Told
+pub mod Kept
+pub mod Rewritten

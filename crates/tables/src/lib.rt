@@ -1,6 +1,14 @@
-//! The world that the tables hold, what rows tell of it, and when both are sound.
+//! The tables of a store, kept in memory but for their archives, and changed one transaction a call.
 #![tactic(auto)]
 
-mod laws;
+mod change;
+mod keeping;
+mod objects;
+mod opening;
+mod permanent;
+mod reading;
+mod roots;
+mod texts;
+mod user_roots;
 
-pub use laws::{new_rows_are_sound, the_new_world_is_sound};
+pub use keeping::Tables;

@@ -1,0 +1,4 @@
+pub mod Maps
+pub mod Outline
+pub mod Summary
+pub mod Index

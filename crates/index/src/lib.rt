@@ -1,0 +1,12 @@
+//! What is kept in memory of a store: all that its tables tell but the bytes of archives.
+#![tactic(auto)]
+
+mod objects;
+mod outline;
+mod profiles;
+mod roots;
+mod summary;
+
+pub use outline::Index;
+pub use profiles::Profile;
+pub use summary::Summary;

@@ -1,0 +1,51 @@
+//! Objects in an index.
+
+ghost use Rattle.std.specs.Prelude.{◌≡◌, OnOk, OnErr, option_map};
+ghost use Rattle.std.specs.FinMap as finite;
+
+use crate::outline::Index;
+use crate::summary::Summary;
+use paths::StorePath;
+use std::alloc::AllocError;
+use std::collections::BTreeMap;
+
+impl Index {
+    /// Whether this path is an object's.
+    pub fn has(&self, path: &StorePath) -> bool
+        ensures { result ≡ finite.contains_key self.now.objects path.now }
+    {
+        self.objects.contains_key(path)
+    }
+
+    /// The object of this path, if there is one.
+    pub fn object(&self, path: &StorePath) -> Option<&Summary>
+        ensures { option_map (λ o. o.now) result ≡ finite.get self.now.objects path.now }
+    {
+        self.objects.get(path)
+    }
+
+    /// All objects, lent, in the order of their paths.
+    pub fn objects(&self) -> &BTreeMap<StorePath, Summary>
+        ensures { result.now.entries ≡ finite.entries self.now.objects }
+    {
+        // Paths rise.
+        let _count = self.objects.len();
+        &self.objects
+    }
+
+    /// Puts an object. If memory is refused, nothing changes.
+    pub fn insert_object(&mut self, path: StorePath, object: Summary) -> Result<(), AllocError>
+        ensures done { OnOk result (self.new ≡ record self.old { objects = finite.insert self.old.objects path object }) }
+        ensures failed { OnErr result (self.new ≡ self.old) }
+    {
+        self.objects.insert(path, object)?;
+        Ok(())
+    }
+
+    /// Takes an object away, if it is there. It takes no memory.
+    pub fn remove_object(&mut self, path: &StorePath)
+        ensures { self.new ≡ record self.old { objects = finite.remove self.old.objects path.now } }
+    {
+        self.objects.remove(path);
+    }
+}

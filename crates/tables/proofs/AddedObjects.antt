@@ -1,0 +1,136 @@
+-- An object that is added to tables.
+use Rattle.std.proofs.Common.{◌≡◌, ℕ, false, List, length, Some, None, Bool, Option, option_map, is_some, cond, refl, sym, ap, ap₂, subst, ◌∙◌, IsTrue, String, Global, string_bytes}
+use Rattle.std.specs.Prelude.{IsSome}
+use Rattle.std.specs.Cmp.{eq_by_cmp_equiv}
+use Rattle.std.specs.FinMap as finite
+use Rattle.std.proofs.lemmas.Bool.{false≢true}
+use Rattle.sha2.specs.Sha256.{sha256}
+use Rattle.sqlite_trees.specs.declared.store.Store.{Ghosts}
+use Rattle.sqlite.specs.State.{HasCleanDisk, Survives}
+use Rattle.sqlite.specs.Held.{Held, state}
+use Rattle.paths.specs.Root.{bytes_cmp, Set, set_of}
+use Rattle.paths.specs.ContentAddress.{address_of}
+use Rattle.rows.specs.Contents.{Contents, Stored, contents_of}
+use Rattle.rows.specs.Entries.{stored}
+use Rattle.rows.specs.Calls.{Leaves}
+use Rattle.world.specs.World.{Path, Object, World}
+use Rattle.world.specs.Sound.{IsSound}
+use Rattle.world.specs.Rows.{address_in, object_in}
+use Rattle.tables.specs.Told.{rows_of, world_in}
+use Rattle.index.specs.Outline.{Outline, Outlined, outlined, outline_of, with_archive}
+use Rattle.index.proofs.Orders.{bytes_total, bytes_antisymmetric}
+use Rattle.index.proofs.Puts.{unput_put}
+use Rattle.index.proofs.Told.{get-told}
+use Rattle.tables.specs.Rewritten.{put_object}
+use Rattle.tables.specs.Kept.{Kept, Agrees, Tells, IsWritten, LeavesWorld}
+use Rattle.tables.proofs.Inserted.{AreNew, object_of, object_follows, outline_follows, no_output, get-set_of}
+use Rattle.tables.proofs.Parts.{same}
+use Rattle.tables.proofs.Kept.{Follows, agrees_done, told_done, survives_told}
+
+some_unit : (o : Option (Unit {0})) → cond (is_some o) (Some tt) None ≡ o
+some_unit None = refl
+some_unit (Some x) = refl
+
+-- the keys of a set make it
+set_again : (m : Set bytes_cmp) → set_of bytes_cmp (finite.keys m) ≡ m
+set_again m = finite.same_map bytes_total bytes_antisymmetric _ _ (λ q.
+    get-set_of (finite.keys m) q ∙ ap (λ (b : Bool). cond b (Some tt) None) (sym (finite.contains_key-keys m q)) ∙ some_unit (finite.get m q))
+
+-- the entries of a map make it
+map_again : (m : finite.FinMap bytes_cmp Path) → finite.from_entries (finite.entries m) ≡ m
+map_again m = finite.same_map bytes_total bytes_antisymmetric _ _ (λ q. finite.get-from_entries bytes_total (finite.entries m) q ∙ sym (finite.get-entries m q))
+
+none_told : {X Y : Type 0} (f : X → Y) (g : Option X) → option_map f g ≡ None → g ≡ None
+none_told f None h = refl
+none_told f (Some x) h = absurd (false≢true (ap is_some (sym h)))
+
+-- an object that the outline hasn't is in no row
+pub unstored : (c : Contents) (outline : Outline) (p : Path) → outline_of (world_in c) ≡ outline → finite.get outline.objects p ≡ None → finite.get c.objects p ≡ None
+unstored c outline p same none =
+    none_told (object_in (rows_of c) p) (finite.get c.objects p) (sym (get-told bytes_total bytes_antisymmetric (object_in (rows_of c)) c.objects p)
+    ∙ none_told outlined (finite.get (world_in c).objects p) (sym (get-told bytes_total bytes_antisymmetric (λ _ x. outlined x) (world_in c).objects p) ∙ ap (λ (o : Outline). finite.get o.objects p) same ∙ none))
+
+-- what is found at the path of an object that was put
+pub found_put : (old put : Outline) (path key : Path) (given : Outlined) (found : Option Outlined) → key ≡ path → put ≡ record old { objects = finite.insert old.objects key given } → found ≡ finite.get put.objects path → found ≡ Some given
+found_put old put path key given found same is at =
+    at ∙ ap (λ (o : Outline). finite.get o.objects path) is ∙ ap (λ k. finite.get (finite.insert old.objects k given) path) same
+    ∙ finite.get-insert bytes_total old.objects path given path ∙ ap (λ b. cond b (Some given) (finite.get old.objects path)) ((eq_by_cmp_equiv bytes_total).refl path)
+
+-- one that was put is taken away again
+pub object_undone : (old put undone : Outline) (path key : Path) (given : Outlined) → key ≡ path → put ≡ record old { objects = finite.insert old.objects key given } → finite.get old.objects path ≡ None → undone ≡ record put { objects = finite.remove put.objects path } → undone ≡ old
+object_undone old put undone path key given same is none back =
+    back ∙ ap (λ (o : Outline). record o { objects = finite.remove o.objects path }) (is ∙ ap (λ k. record old { objects = finite.insert old.objects k given }) same)
+    ∙ ap (λ m. record old { objects = m }) (unput_put bytes_total bytes_antisymmetric old.objects path given None (sym none))
+
+module _ {S : Type 0} (g : Ghosts S) (k now : Kept S) (view : k ≡ now) (conn : Held S) (put : Outline) (path key nar : List ℕ) (given found : Outlined) (deriver ca : Option (String Global))
+    (agrees : Agrees g k)
+    (new : finite.get now.outline.objects path ≡ None)
+    (size : given.size ≡ length nar)
+    (hash : given.hash ≡ sha256 nar)
+    (deriver_is : option_map string_bytes deriver ≡ given.deriver)
+    (ca_is : address_in (option_map string_bytes ca) ≡ given.ca)
+    (address : (text : List ℕ) → option_map string_bytes ca ≡ Some text → IsSome (address_of text))
+    (found_is : found ≡ given)
+    (sound : (w : World) → Tells g now w → IsSound now.dir (record w { objects = finite.insert w.objects path (with_archive nar given) }))
+  where
+    abbrev row : Stored
+    row = stored nar found.hash deriver ca
+
+    abbrev change : Contents → Contents
+    change = put_object path row (finite.keys found.references) (finite.entries found.outputs)
+
+    abbrev object : Object
+    object = with_archive nar given
+
+    object_is : object_of row (finite.keys found.references) (finite.entries found.outputs) ≡ object
+    object_is = λ i. record {
+      nar = nar;
+      references = (set_again found.references ∙ ap (λ (o : Outlined). o.references) found_is) i;
+      deriver = deriver_is i;
+      ca = ca_is i;
+      outputs = (map_again found.outputs ∙ ap (λ (o : Outlined). o.outputs) found_is) i;
+    }
+
+    outlined_is : outlined object ≡ given
+    outlined_is = ap₂ (λ s h. record given { size = s; hash = h }) (sym size) (sym hash)
+
+    none : finite.get k.outline.objects path ≡ None
+    none = ap (λ (n : Kept S). finite.get n.outline.objects path) view ∙ new
+
+    are_new : HasCleanDisk (state g k.connection) → IsTrue (state g k.connection).is_open → AreNew path row (finite.entries found.outputs) (contents_of (state g k.connection).now)
+    are_new clean is_open = record {
+      object = unstored (contents_of (state g k.connection).now) k.outline path (agrees.rows clean is_open).same none;
+      hash = ap (λ (o : Outlined). o.hash) found_is ∙ hash;
+      address = address;
+      sorted = finite.entries_sorted found.outputs;
+    }
+
+    pub object_fits : HasCleanDisk (state g k.connection) → IsTrue (state g k.connection).is_open → (finite.get (contents_of (state g k.connection).now).objects path ≡ None) × ((name : List ℕ) → finite.get (contents_of (state g k.connection).now).outs (path, name) ≡ None)
+    object_fits clean is_open = ((are_new clean is_open).object, no_output k.dir path row (finite.keys found.references) (finite.entries found.outputs) (contents_of (state g k.connection).now) (agrees.rows clean is_open).sound (are_new clean is_open))
+
+    follows : HasCleanDisk (state g k.connection) → IsTrue (state g k.connection).is_open → Follows k.dir change (λ (w : World). record w { objects = finite.insert w.objects path object }) (contents_of (state g k.connection).now)
+    follows clean is_open =
+        let c = contents_of (state g k.connection).now in
+        subst (λ (x : Object). Follows k.dir change (λ (w : World). record w { objects = finite.insert w.objects path x }) c) object_is
+        (object_follows k.dir path row (finite.keys found.references) (finite.entries found.outputs) c (agrees.rows clean is_open).sound (are_new clean is_open))
+
+    abbrev outline_with : Outline → Outline
+    outline_with o = record o { objects = finite.insert o.objects path (outlined object) }
+
+    law : (w : World) → outline_of (record w { objects = finite.insert w.objects path object }) ≡ outline_with (outline_of w)
+    law w = outline_follows path object w
+
+    put_is : key ≡ path → put ≡ record k.outline { objects = finite.insert k.outline.objects key given } → put ≡ outline_with k.outline
+    put_is same is = is ∙ ap₂ (λ p v. record k.outline { objects = finite.insert k.outline.objects p v }) same (sym outlined_is)
+
+    module _ (survives : Survives (state g k.connection) (state g conn) (λ db. IsTrue (state g k.connection).is_open × Leaves (state g k.connection).now db (change (contents_of (state g k.connection).now)))) where
+      pub object_agrees : (HasCleanDisk (state g conn) → IsWritten (state g k.connection) (state g conn) change) → key ≡ path → put ≡ record k.outline { objects = finite.insert k.outline.objects key given } → conn.in_transaction ≡ false
+          → Agrees g (record { connection = conn; dir = k.dir; outline = put })
+      object_agrees written same is alone = agrees_done g k now view conn put change (λ (w : World). record w { objects = finite.insert w.objects path object }) outline_with law follows agrees sound _ survives written (put_is same is) alone
+
+      pub object_told : (HasCleanDisk (state g conn) → IsWritten (state g k.connection) (state g conn) change) → key ≡ path → put ≡ record k.outline { objects = finite.insert k.outline.objects key given }
+          → (w : World) → Tells g now w → Tells g (record { connection = conn; dir = k.dir; outline = put }) (record w { objects = finite.insert w.objects path object })
+      object_told written same is = told_done g k now view conn put change (λ (w : World). record w { objects = finite.insert w.objects path object }) outline_with law follows agrees sound _ survives written (put_is same is)
+
+      pub object_survives : (w : World) → Tells g now w → Survives (state g now.connection) (state g conn) (λ db. LeavesWorld now.dir (state g now.connection).now db (record w { objects = finite.insert w.objects path object }))
+      object_survives = survives_told g k now view conn put change (λ (w : World). record w { objects = finite.insert w.objects path object }) outline_with law follows agrees sound survives

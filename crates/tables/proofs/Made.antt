@@ -1,0 +1,59 @@
+-- Tables that were just made.
+use Rattle.std.proofs.Common.{◌≡◌, ℕ, false, List, [], refl, sym, ap, subst, ◌∙◌, IsTrue}
+use Rattle.std.specs.Prelude.{codes}
+use Rattle.sqlite_schema.specs.declared.schema.Schema.{Schema}
+use Rattle.sqlite_trees.specs.declared.store.Store.{Ghosts}
+use Rattle.sqlite.specs.State.{State, HasCleanDisk}
+use Rattle.sqlite.specs.Held.{Held, state}
+use Rattle.rows.specs.Contents.{Contents}
+use Rattle.table_forms.specs.Finding.{HasNone, IsFree}
+use Rattle.table_making.specs.Making.{IsMade, first_contents}
+use Rattle.paths.specs.Names.{is_store_dir}
+use Rattle.world.specs.World.{no_world}
+use Rattle.world.specs.Rows.{one}
+use Rattle.world.proofs.NewRows.{tells_nothing, new_rows_sound}
+use Rattle.world.proofs.NewWorld.{new_world_sound}
+use Rattle.tables.specs.Told.{IsSoundContents, world_in}
+use Rattle.tables.specs.Kept.{Agrees, Tells}
+use Rattle.index.specs.Outline.{Outline, outline_of}
+
+abbrev no_schema : Schema
+no_schema = record { tables = []; indexes = []; views = [] }
+
+free : (name : List ℕ) → IsFree no_schema name
+free name = record { table = refl; index = refl; view = refl; unawaited = refl }
+
+-- where there is nothing, there is nothing of ours
+pub empty_has_none : (s : Schema) → s ≡ record { tables = []; indexes = []; views = [] } → HasNone s
+empty_has_none s is = subst HasNone (sym is) (record {
+  free = (free (codes "meta"), (free (codes "object"), (free (codes "refs"), (free (codes "outs"), (free (codes "permanent"), (free (codes "user_root"), (free (codes "profile"), (free (codes "generation"), (free (codes "runtime"), tt)))))))));
+  counted = refl;
+})
+
+sound_first : (dir : List ℕ) → IsTrue (is_store_dir dir) → IsSoundContents dir (first_contents dir)
+sound_first dir h = new_rows_sound one dir h
+
+tells_first : (dir : List ℕ) → world_in (first_contents dir) ≡ no_world
+tells_first dir = tells_nothing one dir
+
+module _ {S : Type 0} (g : Ghosts S) (conn : Held S) (old : State) (dir : List ℕ) (outline : Outline) (valid : IsTrue (is_store_dir dir)) (is : outline ≡ outline_of no_world)
+    (made : HasCleanDisk (state g conn) → IsMade dir old (state g conn))
+  where
+    pub made_agrees : conn.in_transaction ≡ false → Agrees g (record { connection = conn; dir = dir; outline = outline })
+    made_agrees alone = record {
+      alone = alone;
+      rows = λ clean _.
+          let it = made clean in
+          record {
+            ready = it.ready;
+            sound = subst (IsSoundContents dir) (sym it.contents) (sound_first dir valid);
+            same = ap (λ (c : Contents). outline_of (world_in c)) it.contents ∙ ap outline_of (tells_first dir) ∙ sym is;
+          };
+    }
+
+    pub made_tells : Tells g (record { connection = conn; dir = dir; outline = outline }) no_world
+    made_tells = record {
+      outline = sym is;
+      rows = λ clean _. ap world_in (made clean).contents ∙ tells_first dir;
+      sound = new_world_sound dir;
+    }

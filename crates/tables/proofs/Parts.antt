@@ -1,0 +1,105 @@
+-- What maps of rows say of one path.
+use Rattle.std.proofs.Common.{◌≡◌, ℕ, List, [], ◌∷◌, ◌++◌, map, Bool, true, false, ◌&&◌, ◌||◌, not, cond, Some, None, Option, refl, sym, ap, ◌∙◌, T}
+use Rattle.std.specs.declared.cmp.Ordering.{Ordering}
+use Rattle.std.specs.declared.cmp.Ordering.TheVariants.{Less, Equal, Greater}
+use Rattle.std.specs.Ordering.{eq_by_cmp, int_cmp, is_eq, is_lt, ordering_then}
+use Rattle.std.specs.Prelude.{ℤ}
+use Rattle.std.specs.List.{filter, list_any}
+use Rattle.std.specs.FinMap as finite
+use Rattle.std.proofs.lemmas.List.{append-nil}
+use Rattle.std.specs.FinMap.Entries.{find as find_entry, is_sorted, below_all}
+use Rattle.paths.specs.Root.{bytes_cmp}
+use Rattle.rows.specs.Contents.{Contents, Stored, PairSet, pair_cmp}
+use Rattle.table_statements.proofs.Orders.{pair_total}
+use Rattle.world.specs.World.{Path}
+use Rattle.world.specs.Pieces.{joined}
+use Rattle.world.specs.Rows.{Piece, piece_cmp, references_in, outputs_in, pieces_in, archive_in}
+use Rattle.world.proofs.Columns.{get_part}
+use Rattle.world.proofs.Empty.{no_entries}
+use Rattle.tables.specs.Told.{rows_of}
+use Rattle.tables.specs.Rewritten.{put_references, put_outputs}
+use Rattle.index.proofs.Orders.{bytes_total, bytes_antisymmetric}
+use Rattle.index.proofs.Puts.{tied_is}
+use Rattle.tables.proofs.Free.{both_T, lesser}
+
+abbrev pub same : List ℕ → List ℕ → Bool
+same = eq_by_cmp bytes_cmp
+
+pub both_tied : (r s : Ordering) → is_eq (ordering_then r s) ≡ (is_eq r && is_eq s)
+both_tied Less s = refl
+both_tied Equal s = refl
+both_tied Greater s = refl
+
+pair_tied : (p r : List ℕ) (k : List ℕ × List ℕ) → eq_by_cmp pair_cmp (p, r) k ≡ (same p k.0 && same r k.1)
+pair_tied p r k = both_tied (bytes_cmp p k.0) (bytes_cmp r k.1)
+
+-- a reference of a path is a row
+pub get-reference : (c : Contents) (p r : Path) → finite.get (references_in (rows_of c) p) r ≡ finite.get c.refs (p, r)
+get-reference c p r = get_part bytes_cmp pair_cmp bytes_total pair_tied c.refs p r
+
+-- and so is an output
+pub get-output : (c : Contents) (p name : Path) → finite.get (outputs_in (rows_of c) p) name ≡ finite.get c.outs (p, name)
+get-output c p name = get_part bytes_cmp pair_cmp bytes_total pair_tied c.outs p name
+
+-- there is no further piece
+pub whole : (c : Contents) (p : Path) (x : Stored) → archive_in (rows_of c) p x ≡ x.nar
+whole c p x = ap (λ (es : List (ℤ × List ℕ)). x.nar ++ joined es) nothing ∙ append-nil x.nar
+  where
+    nothing : finite.entries (pieces_in (rows_of c) p) ≡ []
+    nothing =
+        ap (λ (es : List (Piece × List ℕ)). finite.entries (finite.from_entries {R = int_cmp} (map (λ (e : Piece × List ℕ). let d : ℤ × List ℕ = (e.0.1, e.1) in d) (filter (λ (e : Piece × List ℕ). eq_by_cmp bytes_cmp p e.0.0) es)))) (no_entries (List ℕ) piece_cmp)
+        ∙ no_entries (List ℕ) int_cmp
+
+-- ---- rows that are put
+
+seen_by : (b r a : Bool) (g : Option (Unit {0})) → cond (b && a) (Some tt) (cond (b && r) (Some tt) g) ≡ cond (b && (r || a)) (Some tt) g
+seen_by true true true g = refl
+seen_by true true false g = refl
+seen_by true false true g = refl
+seen_by true false false g = refl
+seen_by false r a g = refl
+
+none_by : (b : Bool) (g : Option (Unit {0})) → g ≡ cond (b && false) (Some tt) g
+none_by true g = refl
+none_by false g = refl
+
+pub get-put_references : (p : Path) (rs : List Path) (m : PairSet) (q r : Path) → finite.get (put_references p rs m) (q, r) ≡ cond (same q p && list_any (same r) rs) (Some tt) (finite.get m (q, r))
+get-put_references p [] m q r = none_by (same q p) (finite.get m (q, r))
+get-put_references p (x ∷ rs) m q r =
+    get-put_references p rs (finite.insert m (p, x) tt) q r
+    ∙ ap (cond (same q p && list_any (same r) rs) (Some tt)) (finite.get-insert pair_total m (p, x) tt (q, r) ∙ ap (λ b. cond b (Some tt) (finite.get m (q, r))) (pair_tied q r (p, x)))
+    ∙ seen_by (same q p) (same r x) (list_any (same r) rs) (finite.get m (q, r))
+
+abbrev pub either : {X : Type 0} → Option X → Option X → Option X
+either (Some x) o = Some x
+either None o = o
+
+below_none : {X : Type 0} (x : Path) (es : List (Path × X)) → T (below_all bytes_cmp x es) → find_entry bytes_cmp x es ≡ None
+below_none x [] h = refl
+below_none x (e ∷ es) h =
+    let parts = both_T (is_lt (bytes_cmp x e.0)) (below_all bytes_cmp x es) h in
+    ap (λ r. cond (is_eq r) (Some e.1) (find_entry bytes_cmp x es)) (lesser (bytes_cmp x e.0) parts.0) ∙ below_none x es parts.1
+
+pub get-put_outputs : (p : Path) (es : List (List ℕ × Path)) (m : finite.FinMap pair_cmp Path) → T (is_sorted bytes_cmp es) → (q n : Path)
+    → finite.get (put_outputs p es m) (q, n) ≡ cond (same q p) (either (find_entry bytes_cmp n es) (finite.get m (q, n))) (finite.get m (q, n))
+get-put_outputs p [] m h q n = alike (same q p) (finite.get m (q, n))
+  where
+    alike : (b : Bool) (g : Option Path) → g ≡ cond b g g
+    alike true g = refl
+    alike false g = refl
+get-put_outputs p (e ∷ es) m h q n =
+    let parts = both_T (below_all bytes_cmp e.0 es) (is_sorted bytes_cmp es) h in
+    let at : finite.get (finite.insert m (p, e.0) e.1) (q, n) ≡ cond (same q p && same n e.0) (Some e.1) (finite.get m (q, n)) = finite.get-insert pair_total m (p, e.0) e.1 (q, n) ∙ ap (λ b. cond b (Some e.1) (finite.get m (q, n))) (pair_tied q n (p, e.0)) in
+    get-put_outputs p es (finite.insert m (p, e.0) e.1) parts.1 q n
+    ∙ ap (λ g. cond (same q p) (either (find_entry bytes_cmp n es) g) g) at
+    ∙ by (same q p) (same n e.0) refl (below_none e.0 es parts.0)
+  where
+    by : (b s : Bool) → same n e.0 ≡ s → find_entry bytes_cmp e.0 es ≡ None
+        → cond b (either (find_entry bytes_cmp n es) (cond (b && s) (Some e.1) (finite.get m (q, n)))) (cond (b && s) (Some e.1) (finite.get m (q, n))) ≡ cond b (either (cond s (Some e.1) (find_entry bytes_cmp n es)) (finite.get m (q, n))) (finite.get m (q, n))
+    by false s t none = refl
+    by true true t none = ap (λ o. either o (Some e.1)) (ap (λ x. find_entry bytes_cmp x es) (tied_is bytes_antisymmetric n e.0 t) ∙ none)
+    by true false t none = refl
+
+-- an entry of two texts is taken away by a test of each text
+pub without_pair : {X : Type 0} (m : finite.FinMap pair_cmp X) (a b : List ℕ) → finite.retain_keys m (λ k. not (same k.0 a && same k.1 b)) ≡ finite.retain_keys m (λ k. not (eq_by_cmp pair_cmp k (a, b)))
+without_pair m a b = λ i. finite.retain_keys m (λ k. not (sym (both_tied (bytes_cmp k.0 a) (bytes_cmp k.1 b)) i))

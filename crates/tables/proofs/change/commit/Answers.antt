@@ -1,0 +1,16 @@
+use Rattle.std.proofs.Common.{◌≡◌, subst, rules, IsTrue}
+use Rattle.sqlite.specs.State.{Survives}
+use Rattle.sqlite.specs.Held.{state}
+use Rattle.rows.specs.Contents.{contents_of}
+use Rattle.rows.specs.Calls.{Leaves}
+use Rattle.table_statements.proofs.Transactions.{survives_all}
+use Rattle.tables.proofs.change.commit.Goals as goal
+
+pub returns-clause-survives : goal.returns-clause-survives
+returns-clause-survives g c =
+    let f = g.C.Change.change c.args.change.now in
+    let old = state g.S.Store c.args.conn.now in
+    let same : c.commit.new.tx.0 ≡ c.conn-2-1.given.0 = search rules in
+    subst (λ h. Survives old (state g.S.Store h) (λ db. IsTrue old.is_open × Leaves old.now db (f (contents_of old.now)))) same
+    (survives_all g.S.Store c.args.conn.now c.begin-tx.result.conn.now (state g.S.Store c.write.new.tx.conn.now) (state g.S.Store c.commit.new.tx.0) f
+    c.begin-tx.ensures.begun c.begin-tx.ensures.under_way c.in_ok-write.ensures.done c.write.ensures.survives c.commit.ensures.leaves)

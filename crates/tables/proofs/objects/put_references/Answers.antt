@@ -1,0 +1,33 @@
+use Rattle.std.proofs.Common.{◌≡◌, ◌+◌, ◌∷◌, drop, sym, ap, ◌∙◌, List}
+use Rattle.std.specs.FinMap as finite
+use Rattle.sqlite.specs.Held.{state}
+use Rattle.rows.specs.Contents.{Contents, contents_of}
+use Rattle.world.specs.World.{Path}
+use Rattle.tables.specs.Rewritten.{put_references}
+use Rattle.table_statements.proofs.Going.{goes_next}
+use Rattle.tables.proofs.Kept.{clean_before}
+use Rattle.tables.proofs.Lists.{left_at}
+use Rattle.tables.proofs.Transactions.{survives_both}
+use Rattle.tables.proofs.objects.put_references.Goals as goal
+
+pub targets-preserved : goal.targets-preserved
+targets-preserved g c =
+    let base = c.args.base.now in
+    let first = state g.S.Store c.args.tx.now.conn.now in
+    let now = state g.S.Store c.targets.tx.conn.now in
+    let next = state g.S.Store c.insert.new.tx.conn.now in
+    let change : List Path → Contents → Contents = λ rs x. record x { refs = put_references base rs x.refs } in
+    let was = contents_of now.now in
+    let all = c.args.targets.now in
+    let item = c.target-item.result in
+    let left = drop c.targets.target-index all in
+    let rest = drop (c.targets.target-index + 1) all in
+    let split : left ≡ item ∷ rest = left_at all c.targets.target-index item c.targets-test.true c.target-item.is in
+    let same : change left was ≡ change rest (record was { refs = finite.insert was.refs (base, c.as_str.result.now) tt }) =
+    ap (λ (xs : List Path). change xs was) split
+    ∙ ap (λ t. change rest (record was { refs = finite.insert was.refs (base, t) tt })) (sym c.as_str.ensures.value) in
+    record {
+      same_reference = c.in_ok-insert.ensures.same_reference ∙ c.targets.invariant.same_reference;
+      goes = λ clean. goes_next change all first now next left rest _ (c.targets.invariant.goes (clean_before now next _ c.insert.ensures.survives clean)) (c.in_ok-insert.ensures.done clean) same;
+      survives = survives_both first now next c.targets.invariant.survives c.insert.ensures.survives;
+    }

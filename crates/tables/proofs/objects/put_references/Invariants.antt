@@ -1,0 +1,15 @@
+use Rattle.std.proofs.Common.{◌≡◌, drop}
+use Rattle.sqlite.specs.State.{HasCleanDisk, Survives}
+use Rattle.sqlite.specs.Held.{state}
+use Rattle.rows.specs.Contents.{Contents}
+use Rattle.tables.specs.Rewritten.{put_references}
+use Rattle.table_statements.proofs.Going.{Goes}
+use Rattle.tables.proofs.objects.put_references.Given as goal
+
+-- what is left to write
+abbrev pub invariant-targets : goal.invariant-targets
+invariant-targets g l = record {
+  same_reference : l.tx.conn.ghost_name ≡ l.fn.tx.conn.ghost_name;
+  goes : HasCleanDisk (state g.S.Store l.tx.conn.now) → Goes (λ rs (c : Contents). record c { refs = put_references l.base rs c.refs }) l.targets (state g.S.Store l.fn.tx.conn.now) (state g.S.Store l.tx.conn.now) (drop l.target-index l.targets);
+  survives : Survives (state g.S.Store l.fn.tx.conn.now) (state g.S.Store l.tx.conn.now) (λ _. ⊥);
+}

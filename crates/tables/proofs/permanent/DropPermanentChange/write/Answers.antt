@@ -1,0 +1,11 @@
+use Rattle.std.proofs.Common.{ap}
+use Rattle.sqlite.specs.Held.{state}
+use Rattle.rows.specs.Contents.{Contents}
+use Rattle.index.proofs.Orders.{bytes_total, bytes_antisymmetric}
+use Rattle.index.proofs.Puts.{retained}
+use Rattle.tables.proofs.Transactions.{done_as}
+use Rattle.tables.proofs.permanent.DropPermanentChange.write.Goals as goal
+
+pub returns-clause-done : goal.returns-clause-done
+returns-clause-done g c clean =
+    done_as (state g.S.Store c.args.tx.now.conn.now) (state g.S.Store c.delete.new.tx.conn.now) _ _ (λ (x : Contents). ap (λ m. record x { permanent = m }) (retained bytes_total bytes_antisymmetric x.permanent c.args.self.now.name.now)) c.delete.result (c.delete.ensures.done clean)

@@ -1,0 +1,25 @@
+use Rattle.std.proofs.Common.{not, refl, ap, ◌∙◌}
+use Rattle.std.specs.Ordering.{eq_by_cmp}
+use Rattle.std.specs.FinMap as finite
+use Rattle.sqlite.specs.Held.{state}
+use Rattle.rows.specs.Contents.{Contents, contents_of, texts_cmp}
+use Rattle.index.proofs.Orders.{bytes_total, bytes_antisymmetric}
+use Rattle.index.proofs.Puts.{put_over}
+use Rattle.table_statements.proofs.Transactions.{done_both, failed_next}
+use Rattle.tables.proofs.Transactions.{survives_both}
+use Rattle.tables.proofs.permanent.PutPermanentChange.write.Goals as goal
+
+pub returns-clause-done : goal.returns-clause-done
+returns-clause-done g c =
+    let name = c.args.self.now.name.now in
+    done_both (state g.S.Store c.args.tx.now.conn.now) (state g.S.Store c.delete.new.tx.conn.now) (state g.S.Store c.insert.new.tx.conn.now) _ _ c.in_ok-delete.ensures.done c.insert.ensures.survives
+    c.insert.result _ (λ (x : Contents). ap (λ m. record x { permanent = m }) (put_over bytes_total bytes_antisymmetric x.permanent name c.args.self.now.target.now)) c.insert.ensures.done
+
+pub returns-clause-failed : goal.returns-clause-failed
+returns-clause-failed g c =
+    failed_next (state g.S.Store c.args.tx.now.conn.now) (state g.S.Store c.delete.new.tx.conn.now) (state g.S.Store c.insert.new.tx.conn.now) _ (λ x. x) c.in_ok-delete.ensures.done c.insert.ensures.survives
+    c.insert.result c.insert.ensures.failed
+
+pub returns-clause-survives : goal.returns-clause-survives
+returns-clause-survives g c =
+    survives_both (state g.S.Store c.args.tx.now.conn.now) (state g.S.Store c.delete.new.tx.conn.now) (state g.S.Store c.insert.new.tx.conn.now) c.delete.ensures.survives c.insert.ensures.survives

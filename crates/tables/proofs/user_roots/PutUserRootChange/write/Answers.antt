@@ -1,0 +1,26 @@
+use Rattle.std.proofs.Common.{ℕ, List, ap, ◌∙◌}
+use Rattle.std.specs.FinMap as finite
+use Rattle.sqlite.specs.Held.{state}
+use Rattle.rows.specs.Contents.{Contents, contents_of}
+use Rattle.index.proofs.Orders.{pair_total, pair_antisymmetric}
+use Rattle.index.proofs.Puts.{put_over, get-gone}
+use Rattle.tables.proofs.Parts.{without_pair}
+use Rattle.table_statements.proofs.Transactions.{done_both, failed_next}
+use Rattle.tables.proofs.Transactions.{survives_both}
+use Rattle.tables.proofs.user_roots.PutUserRootChange.write.Goals as goal
+
+pub returns-clause-done : goal.returns-clause-done
+returns-clause-done g c =
+    let owned : List ℕ × List ℕ = (c.args.self.now.owner.now, c.args.self.now.name.now) in
+    done_both (state g.S.Store c.args.tx.now.conn.now) (state g.S.Store c.delete.new.tx.conn.now) (state g.S.Store c.insert.new.tx.conn.now) _ _ c.in_ok-delete.ensures.done c.insert.ensures.survives
+    c.insert.result _ (λ (x : Contents). ap (λ m. record x { user_roots = m })
+    (ap (λ m. finite.insert m owned c.args.self.now.target.now) (without_pair x.user_roots owned.0 owned.1) ∙ put_over pair_total pair_antisymmetric x.user_roots owned c.args.self.now.target.now)) c.insert.ensures.done
+
+pub returns-clause-failed : goal.returns-clause-failed
+returns-clause-failed g c =
+    failed_next (state g.S.Store c.args.tx.now.conn.now) (state g.S.Store c.delete.new.tx.conn.now) (state g.S.Store c.insert.new.tx.conn.now) _ (λ x. x) c.in_ok-delete.ensures.done c.insert.ensures.survives
+    c.insert.result c.insert.ensures.failed
+
+pub returns-clause-survives : goal.returns-clause-survives
+returns-clause-survives g c =
+    survives_both (state g.S.Store c.args.tx.now.conn.now) (state g.S.Store c.delete.new.tx.conn.now) (state g.S.Store c.insert.new.tx.conn.now) c.delete.ensures.survives c.insert.ensures.survives

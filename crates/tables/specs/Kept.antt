@@ -1,0 +1,60 @@
+-- What the tables keep: a connection, a store directory and an outline, which agree.
+use Rattle.std.specs.Prelude.{◌≡◌, ℕ, false, List, IsTrue, refl}
+use Rattle.std.specs.Coded.{Coded, code_by, coded×}
+use Rattle.sqlite_trees.specs.declared.store.Store.{Ghosts}
+use Rattle.sqlite.specs.Effect.{Database}
+use Rattle.sqlite.specs.State.{State, HasCleanDisk}
+use Rattle.sqlite.specs.Held.{Held, held_code, state}
+use Rattle.sqlite_trees.specs.Tree.{Trees}
+use Rattle.rows.specs.Contents.{Contents, contents_of}
+use Rattle.rows.specs.Frozen.{KeepsUnshown}
+use Rattle.rows.specs.Calls.{IsReady, KeepsTheirs}
+use Rattle.world.specs.World.{World}
+use Rattle.world.specs.Sound.{IsSound}
+use Rattle.tables.specs.Told.{IsSoundContents, world_in}
+use Rattle.index.specs.Outline.{Outline, outline_of, outline_code, bytes_code}
+
+pub record Kept (S : Type 0) : Type 0 where
+  pub connection : Held S
+  pub dir : List ℕ
+  pub outline : Outline
+
+abbrev pub kept_code : {S : Type 0} → Coded S → Coded (Kept S)
+kept_code {S} store =
+    code_by (Held S × (List ℕ × Outline)) (coded× (held_code store) (coded× bytes_code outline_code))
+    (λ k. (k.connection, (k.dir, k.outline))) (λ p. record { connection = p.0; dir = p.1.0; outline = p.1.1 }) (λ _. refl)
+
+-- sound rows, of which this is the outline
+pub record AreOutlined (s : State) (dir : List ℕ) (outline : Outline) : Type 0 where
+  pub ready : IsReady s
+  pub sound : IsSoundContents dir (contents_of s.now)
+  pub same : outline_of (world_in (contents_of s.now)) ≡ outline
+
+module _ {S : Type 0} (g : Ghosts S) where
+  -- between calls: no transaction, and unless a fault has shut the connection its rows are sound and outlined
+  pub record Agrees (k : Kept S) : Type 0 where
+    pub alone : k.connection.in_transaction ≡ false
+    pub rows : HasCleanDisk (state g k.connection) → IsTrue (state g k.connection).is_open → AreOutlined (state g k.connection) k.dir k.outline
+
+  -- A world that the tables tell: the one of the rows; or, once a fault has shut the connection, any with the outline.
+  pub record Tells (k : Kept S) (w : World) : Type 0 where
+    pub outline : outline_of w ≡ k.outline
+    pub rows : HasCleanDisk (state g k.connection) → IsTrue (state g k.connection).is_open → world_in (contents_of (state g k.connection).now) ≡ w
+    pub sound : IsSound k.dir w
+
+-- ---- what a write does to the connection
+
+-- The change was committed: our tables hold what it makes, the others the rows that they had, and the connection is ready again.
+pub record IsWritten (old new : State) (change : Contents → Contents) : Type 0 where
+  pub was_open : IsTrue old.is_open
+  pub is_open : IsTrue new.is_open
+  pub contents : contents_of new.now ≡ change (contents_of old.now)
+  pub theirs : KeepsTheirs old.now new.now
+  pub unshown : KeepsUnshown old.now new.now.trees
+  pub ready : IsReady new
+
+-- What a crash may leave of a write: sound rows that tell this world, and the rows of the others.
+pub record LeavesWorld (dir : List ℕ) (old : Database) (trees : Trees) (w : World) : Type 0 where
+  pub sound : IsSoundContents dir (contents_of (record old { trees = trees }))
+  pub world : world_in (contents_of (record old { trees = trees })) ≡ w
+  pub theirs : KeepsTheirs old (record old { trees = trees })

@@ -1,0 +1,95 @@
+//! Objects, as the rows have them.
+
+ghost use Rattle.std.specs.Prelude.{◌≡◌, IsTrue, List, ℕ, None, OnOk, OnErr, length, map, string_bytes};
+ghost use Rattle.std.specs.List.{zip};
+ghost use Rattle.std.specs.FinMap as finite;
+ghost use Rattle.std.specs.FinMap.Entries.{is_sorted};
+ghost use Rattle.paths.specs.Root.{bytes_cmp};
+ghost use Rattle.sqlite.specs.State.{HasCleanDisk, KeepsCommit, Survives};
+ghost use Rattle.sqlite.specs.Held.{state};
+ghost use Rattle.rows.specs.Calls.{IsUnderWay, Changes};
+ghost use Rattle.rows.specs.Contents.{contents_of};
+ghost use Rattle.tables.specs.Rewritten.{put_references, put_outputs};
+
+use crate::change::Change;
+use crate::texts::Texts;
+use index::Summary;
+use paths::StorePath;
+use rows::{objects, outputs, references};
+use sqlite::{Alter, Transaction};
+use table_statements::failure::Failure;
+
+/// Adds rows for the references of one path.
+pub(crate) fn put_references<S: Alter>(
+    tx: &mut Transaction<'_, S>,
+    base: &str,
+    targets: &[StorePath],
+) -> Result<(), Failure>
+    requires under_way { HasCleanDisk (state S.Store tx.old.conn.now) → IsUnderWay (state S.Store tx.old.conn.now) }
+    requires is_open { HasCleanDisk (state S.Store tx.old.conn.now) → IsTrue (state S.Store tx.old.conn.now).is_open }
+    ensures same_reference { tx.new.conn.ghost_name ≡ tx.old.conn.ghost_name }
+    ensures done { HasCleanDisk (state S.Store tx.new.conn.now) → OnOk result (Changes (state S.Store tx.old.conn.now) (state S.Store tx.new.conn.now)
+        (λ c. record c { refs = put_references base.now targets.now c.refs })) }
+    ensures failed { HasCleanDisk (state S.Store tx.new.conn.now) → OnErr result (KeepsCommit (state S.Store tx.old.conn.now) (state S.Store tx.new.conn.now)) }
+    ensures survives { Survives (state S.Store tx.old.conn.now) (state S.Store tx.new.conn.now) (λ _. ⊥) }
+{
+    'targets: for target in targets {
+        references::insert(tx, base, target.as_str())?;
+    }
+    Ok(())
+}
+
+/// Adds rows for the outputs of one path that has none: each name beside the path at the same place, in the order of names.
+pub(crate) fn put_outputs<S: Alter>(
+    tx: &mut Transaction<'_, S>,
+    base: &str,
+    names: &[String],
+    outputs: &[StorePath],
+) -> Result<(), Failure>
+    requires under_way { HasCleanDisk (state S.Store tx.old.conn.now) → IsUnderWay (state S.Store tx.old.conn.now) }
+    requires is_open { HasCleanDisk (state S.Store tx.old.conn.now) → IsTrue (state S.Store tx.old.conn.now).is_open }
+    requires count { length outputs.now ≡ length names.now }
+    requires ordered { IsTrue (is_sorted bytes_cmp (zip (map string_bytes names.now) outputs.now)) }
+    requires free { HasCleanDisk (state S.Store tx.old.conn.now) → (name : List ℕ) → finite.get (contents_of (state S.Store tx.old.conn.now).now).outs (base.now, name) ≡ None }
+    ensures same_reference { tx.new.conn.ghost_name ≡ tx.old.conn.ghost_name }
+    ensures done { HasCleanDisk (state S.Store tx.new.conn.now) → OnOk result (Changes (state S.Store tx.old.conn.now) (state S.Store tx.new.conn.now)
+        (λ c. record c { outs = put_outputs base.now (zip (map string_bytes names.now) outputs.now) c.outs })) }
+    ensures failed { HasCleanDisk (state S.Store tx.new.conn.now) → OnErr result (KeepsCommit (state S.Store tx.old.conn.now) (state S.Store tx.new.conn.now)) }
+    ensures survives { Survives (state S.Store tx.old.conn.now) (state S.Store tx.new.conn.now) (λ _. ⊥) }
+{
+    'outputs: for i in 0..names.len() {
+        outputs::insert(tx, base, names[i].as_str(), outputs[i].as_str())?;
+    }
+    Ok(())
+}
+
+/// An object is added, with its references and outputs.
+#[derive(Drop)]
+pub(crate) struct InsertObject<'a> {
+    pub(crate) base: &'a str,
+    pub(crate) nar: &'a [u8],
+    pub(crate) object: &'a Summary,
+    pub(crate) texts: &'a Texts,
+}
+
+impl<'a> Change for InsertObject<'a> {
+    ghost use Rattle.rows.specs.Entries.{stored};
+    ghost use Rattle.tables.specs.Rewritten.{put_object};
+
+    ghost change = { λ o c. put_object o.base.now (stored o.nar.now o.object.now.hash o.texts.now.deriver o.texts.now.ca) (finite.keys o.object.now.references) (finite.entries o.object.now.outputs) c };
+
+    ghost fits = { λ o c. (finite.get c.objects o.base.now ≡ None) × ((name : List ℕ) → finite.get c.outs (o.base.now, name) ≡ None) };
+
+    fn write<S: Alter>(&self, tx: &mut Transaction<'_, S>) -> Result<(), Failure> {
+        objects::insert(
+            tx,
+            self.base,
+            self.nar,
+            self.object.hash(),
+            &self.texts.deriver,
+            &self.texts.ca,
+        )?;
+        put_references(tx, self.base, self.object.references())?;
+        put_outputs(tx, self.base, self.object.names(), self.object.outputs())
+    }
+}

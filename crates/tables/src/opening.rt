@@ -1,0 +1,33 @@
+//! Tables that are made.
+
+ghost use Rattle.std.specs.Prelude.{◌≡◌, IfOk};
+ghost use Rattle.sqlite.specs.Steps.{over_memory};
+ghost use Rattle.world.specs.World.{no_world};
+ghost use Rattle.tables.specs.Kept.{Tells};
+
+use crate::keeping::Tables;
+use index::Index;
+use paths::StoreDir;
+use sqlite::{Connection, MemStore};
+use std::alloc::Global;
+use table_making::making;
+use table_statements::failure::Failure;
+
+impl Tables<MemStore> {
+    /// The tables of a store in memory, in which there is nothing yet.
+    pub fn open_in_memory(alloc: Global, dir: &StoreDir) -> Result<Tables<MemStore>, Failure>
+        ensures dir { IfOk result (λ t. t.dir ≡ dir.now) }
+        ensures told { IfOk result (λ t. Tells over_memory t no_world) }
+    {
+        let kept = dir.clone()?;
+        let mut connection = Connection::open_in_memory(alloc)?;
+        making::make(&mut connection, dir.as_str())?;
+        let index = Index::new(alloc);
+        Ok(Tables {
+            alloc,
+            connection,
+            dir: kept,
+            index,
+        })
+    }
+}

@@ -1,0 +1,61 @@
+//! User roots, as the rows have them.
+
+ghost use Rattle.std.specs.Prelude.{◌≡◌, IfOk};
+ghost use Rattle.index.specs.Maps.{pair_bytes};
+
+use crate::change::Change;
+use rows::user_roots;
+use sqlite::{Alter, Transaction};
+use std::alloc::{AllocError, Global};
+use table_statements::failure::Failure;
+
+/// An owner and a name, kept.
+pub(crate) fn owned(alloc: Global, owner: &str, name: &str) -> Result<(String, String), AllocError>
+    ensures { IfOk result (λ owned. pair_bytes owned ≡ (owner.now, name.now)) }
+{
+    let owner = String::from_str(alloc, owner)?;
+    let name = String::from_str(alloc, name)?;
+    Ok((owner, name))
+}
+
+/// A user root gets a target, whether it had one or not.
+#[derive(Drop)]
+pub(crate) struct PutUserRoot<'a> {
+    pub(crate) owner: &'a str,
+    pub(crate) name: &'a str,
+    pub(crate) target: &'a str,
+}
+
+impl<'a> Change for PutUserRoot<'a> {
+    ghost use Rattle.std.specs.Prelude.{⊤};
+    ghost use Rattle.std.specs.FinMap as finite;
+
+    ghost change = { λ p c. record c { user_roots = finite.insert c.user_roots (p.owner.now, p.name.now) p.target.now } };
+
+    ghost fits = { λ p c. ⊤ };
+
+    fn write<S: Alter>(&self, tx: &mut Transaction<'_, S>) -> Result<(), Failure> {
+        user_roots::delete(tx, self.owner, self.name)?;
+        user_roots::insert(tx, self.owner, self.name, self.target)
+    }
+}
+
+/// A user root goes, if it is there.
+#[derive(Drop)]
+pub(crate) struct DropUserRoot<'a> {
+    pub(crate) owner: &'a str,
+    pub(crate) name: &'a str,
+}
+
+impl<'a> Change for DropUserRoot<'a> {
+    ghost use Rattle.std.specs.Prelude.{⊤};
+    ghost use Rattle.std.specs.FinMap as finite;
+
+    ghost change = { λ p c. record c { user_roots = finite.remove c.user_roots (p.owner.now, p.name.now) } };
+
+    ghost fits = { λ p c. ⊤ };
+
+    fn write<S: Alter>(&self, tx: &mut Transaction<'_, S>) -> Result<(), Failure> {
+        user_roots::delete(tx, self.owner, self.name)
+    }
+}
