@@ -1,0 +1,23 @@
+//! The bodies of requests: lines with keys and values, an empty line, and a payload.
+#![tactic(auto)]
+
+mod collect;
+mod entries;
+mod error;
+mod heads;
+mod import;
+mod lines;
+mod roots;
+mod values;
+mod whole;
+
+pub use collect::{CollectHead, collect_head};
+pub use error::BodyError;
+pub use heads::{DeleteHead, NamedHead, delete_head, named_head, path_head};
+pub use import::{ImportHead, import_body, import_head};
+pub use lines::{Body, body_of};
+pub use roots::runtime_head;
+pub use whole::{collect_body, delete_body, is_blank, path_body, runtime_body};
+
+#[cfg(test)]
+mod tests;

@@ -1,0 +1,6 @@
+pub mod Heads
+pub mod Named
+pub mod Longer
+pub mod Reading
+pub mod Once
+pub mod Whole

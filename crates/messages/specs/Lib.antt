@@ -1,0 +1,4 @@
+pub mod Heads
+pub mod Fields
+pub mod Messages
+pub mod Division

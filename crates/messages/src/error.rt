@@ -1,0 +1,27 @@
+//! Why the front of an input is no message, and why none was received.
+use thiserror::Error;
+
+/// What is wrong with the front of an input.
+#[derive(Clone, Copy, Debug, PartialEq, Eq, Error)]
+pub enum Fault {
+    /// It is no request head of at most 16,384 bytes and 64 fields.
+    #[error("bad-head")]
+    BadHead,
+    /// The length of its body is malformed, stands twice or is coded otherwise, or the input ends inside the body.
+    #[error("bad-length")]
+    BadLength,
+    /// Its body would have more than 20,971,520 bytes.
+    #[error("too-large")]
+    TooLarge,
+}
+
+/// Why nothing was received.
+#[derive(Clone, Copy, Debug, PartialEq, Eq, Error)]
+pub enum ReceiveError {
+    /// The reader failed.
+    #[error("input")]
+    Read,
+    /// Memory was refused.
+    #[error("memory")]
+    Memory,
+}

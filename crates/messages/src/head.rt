@@ -1,0 +1,64 @@
+//! The head of a message at the front of a buffer.
+ghost use Rattle.std.specs.Prelude.{◌≡◌, ◌≤◌, ◌<◌, take, length};
+ghost use Rattle.httparse.specs.Grammar.{HasNoRequest};
+ghost use Rattle.messages.specs.Heads.{Tells};
+
+use httparse::Status;
+use httparse::spans::{EMPTY_HEADER_SPAN, HeaderSpan, RequestSpans, parse_request};
+
+/// How many bytes a head has at most.
+pub const MAX_HEAD: usize = 16_384;
+
+/// Where the parts of a head stand in a buffer that begins with it.
+#[derive(Clone, Copy)]
+pub struct Head {
+    pub spans: RequestSpans,
+    /// The places of the fields, of which `spans.headers` are there.
+    pub fields: [HeaderSpan; 64],
+}
+
+/// What the bytes tell that have come so far.
+#[derive(Clone, Copy)]
+pub enum Look {
+    /// They begin with a head.
+    Whole(Head),
+    /// There is no head yet.
+    Unfinished,
+    /// No head begins them, whatever follows.
+    Faulty,
+}
+
+/// Looks for a head at the front of a buffer, whose first `seen` bytes were found to have none.
+pub fn look_for_head(buf: &[u8], seen: usize) -> Look
+    requires within { seen ≤ length buf.now }
+    requires none { HasNoRequest (take seen buf.now) }
+    ensures { Tells buf.now result }
+{
+    if !buf[seen..].contains(&b'\n') {
+        return without_head(buf);
+    }
+    let mut fields = [EMPTY_HEADER_SPAN; 64];
+    match parse_request(buf, &mut fields) {
+        Ok(Status::Complete(spans)) => {
+            if spans.len <= MAX_HEAD {
+                Look::Whole(Head { spans, fields })
+            } else {
+                Look::Faulty
+            }
+        }
+        Ok(Status::Partial) => without_head(buf),
+        Err(_) => Look::Faulty,
+    }
+}
+
+/// What bytes tell that begin with no head: more of them can't where they are too many.
+fn without_head(buf: &[u8]) -> Look
+    requires { HasNoRequest buf.now }
+    ensures { Tells buf.now result }
+{
+    if buf.len() < MAX_HEAD {
+        Look::Unfinished
+    } else {
+        Look::Faulty
+    }
+}

@@ -1,0 +1,5 @@
+pub mod Methods
+pub mod Patterns
+pub mod Table
+pub mod Parts
+pub mod Rows
