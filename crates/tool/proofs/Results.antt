@@ -2,49 +2,36 @@
 use Rattle.std.proofs.Common.{◌≡◌, ℕ, ◌⊎◌, ◌≤◌, List, [], arith, take, Option, Some, None, Result, Ok, Err, String, Global, ap, sym, subst, inl, inr}
 use Rattle.std.specs.Prelude.{IfOk, IfErr, IfSome, string_bytes}
 use Rattle.report.specs.declared.refusal.Refusal.{Refusal}
-use Rattle.tool.specs.declared.stops.Failure.TheVariants.{Memory}
+use Rattle.tool.specs.declared.stops.Failure.TheVariants.{Memory, File, Input, Output}
 use Rattle.tool.specs.declared.stops.Stop.{Stop}
 use Rattle.tool.specs.declared.stops.Stop.TheVariants.{Refused, Failed}
-use Rattle.tool.specs.Stream.{Answers, AnswersTo, IsFailure, IsResultOf, IsStopAt, ReadsFor, TakesAtMost, result_text}
-use Rattle.std.specs.Io.KnownBytes.{Keeps}
+use Rattle.streams.specs.Reads.{TakesAtMost}
+use Rattle.tool.specs.Stream.{Answers, AnswersBy, AnswersTo, GivesUp, IsFailure, IsResultOf, IsStopAt, ReadsFor, result_text}
 use Rattle.std.proofs.KnownBytes.{Consumes-nil, Consumes-kept, Keeps-refl}
-
--- an answer with status 1 that leaves the first writer alone is one to any input
-pub ended : (fault : Option Refusal) (answer : List ℕ → Result (List ℕ) Stop) (known : Option (List ℕ))
-    → (out out' err err' : Option (List ℕ)) (status : ℕ) → status ≡ 1 → Keeps out out' → AnswersTo fault answer known out out' err err' status
-ended fault answer known out out' err err' status one kept = to fault known
-  where
-    any : (r : Result (List ℕ) Stop) → Answers r out out' err err' status
-    any (Ok text) = inl one
-    any (Err stop) = (kept, inl one)
-
-    to : (fault : Option Refusal) (known : Option (List ℕ)) → AnswersTo fault answer known out out' err err' status
-    to (Some fault) known = (kept, inl one)
-    to None None = ([], any (answer []))
-    to None (Some bytes) = any (answer bytes)
 
 -- the answer of a result by its fault or its input
 by_result : (fault : Option Refusal) (answer : List ℕ → Result (List ℕ) Stop) (known : Option (List ℕ)) (result : Result (List ℕ) Stop)
     → (out out' err err' : Option (List ℕ)) (status : ℕ) → IsResultOf fault answer known result → Answers result out out' err err' status
-    → AnswersTo fault answer known out out' err err' status
+    → AnswersBy fault answer known out out' err err' status
 by_result (Some fault) answer known result out out' err err' status is given = subst (λ r. Answers r out out' err err' status) is given
 by_result None answer None result out out' err err' status is given = (is.0, subst (λ r. Answers r out out' err err' status) is.1 given)
 by_result None answer (Some bytes) result out out' err err' status is given = subst (λ r. Answers r out out' err err' status) is given
 
--- a failure has status 1, and leaves the first writer alone
-failed : (result : Result (List ℕ) Stop) (out out' err err' : Option (List ℕ)) (status : ℕ) → IsFailure result → Answers result out out' err err' status
-    → (status ≡ 1) × Keeps out out'
-failed (Ok text) out out' err err' status fails given = absurd fails
-failed (Err (Refused refusal)) out out' err err' status fails given = absurd fails
-failed (Err (Failed failure)) out out' err err' status fails (kept, inl one) = (one, kept)
-failed (Err (Failed failure)) out out' err err' status fails (kept, inr said) = (said.0, kept)
+-- memory or the input gave out, and that was said
+gave_up : (result : Result (List ℕ) Stop) (out out' err err' : Option (List ℕ)) (status : ℕ) → IsFailure result → Answers result out out' err err' status
+    → GivesUp out out' err err' status
+gave_up (Ok text) out out' err err' status fails given = absurd fails
+gave_up (Err (Refused refusal)) out out' err err' status fails given = absurd fails
+gave_up (Err (Failed Memory)) out out' err err' status fails given = inl given
+gave_up (Err (Failed Input)) out out' err err' status fails given = inr given
+gave_up (Err (Failed File)) out out' err err' status fails given = absurd fails
+gave_up (Err (Failed Output)) out out' err err' status fails given = absurd fails
 
 pub answers_to : (fault : Option Refusal) (answer : List ℕ → Result (List ℕ) Stop) (known : Option (List ℕ)) (result : Result (List ℕ) Stop)
     → (out out' err err' : Option (List ℕ)) (status : ℕ) → IsFailure result ⊎ IsResultOf fault answer known result → Answers result out out' err err' status
     → AnswersTo fault answer known out out' err err' status
-answers_to fault answer known result out out' err err' status (inl fails) given =
-    let is = failed result out out' err err' status fails given in ended fault answer known out out' err err' status is.0 is.1
-answers_to fault answer known result out out' err err' status (inr is) given = by_result fault answer known result out out' err err' status is given
+answers_to fault answer known result out out' err err' status (inl fails) given = inl (gave_up result out out' err err' status fails given)
+answers_to fault answer known result out out' err err' status (inr is) given = inr (by_result fault answer known result out out' err err' status is given)
 
 -- a stop by a fault that is there before the input is read, or for want of memory or of the input
 pub stopped_at : (fault : Option Refusal) (answer : List ℕ → Result (List ℕ) Stop) (known : Option (List ℕ)) (stop : Stop)

@@ -1,29 +1,48 @@
 -- What a command line answers, by the text of its configuration.
-use Rattle.std.specs.Prelude.{◌≡◌, ◌⊎◌, ⊤, ℕ, List, [], map, Option, None, Result, Ok, Err}
+use Rattle.std.specs.Prelude.{◌≡◌, ◌⊎◌, ℕ, Bool, true, false, MatchBool, List, [], map, Option, None, IsSome, Result, Ok, Err}
 use Rattle.std.specs.Io.KnownBytes.{Keeps}
+use Rattle.clap.specs.Values.{kind_of}
+use Rattle.clap.specs.declared.error.ErrorKind.TheVariants.{DisplayHelp, DisplayVersion}
 use Rattle.paths.specs.StorePath.{base_of}
 use Rattle.policy.specs.Settings.{Settings}
 use Rattle.policy.specs.Toml.{config_of}
 use Rattle.policy.specs.declared.error.KeyWord.{KeyWord}
 use Rattle.report.specs.declared.refusal.Refusal.TheVariants.{BadConfig}
-use Rattle.tool.specs.declared.stops.Stop.TheVariants.{Refused}
+use Rattle.command_line.specs.declared.error.CommandError.{CommandError}
+use Rattle.command_line.specs.declared.error.CommandError.TheVariants.{Usage, Misuse, Memory}
+use Rattle.command_line.specs.Asked.{Asked, who, ls, text_path, source_path}
+use Rattle.command_line.specs.Line.{Line}
+use Rattle.tool.specs.declared.stops.Failure.TheVariants.{Memory as NoMemory, File}
+use Rattle.tool.specs.declared.stops.Stop.{Stop}
+use Rattle.tool.specs.declared.stops.Stop.TheVariants.{Refused, Failed}
 use Rattle.tool.specs.Archive.{ls_answer}
-use Rattle.clap.specs.Kinds.{IsAmong}
-use Rattle.clap.specs.Values.{kind_of}
-use Rattle.clap.specs.declared.error.ErrorKind.TheVariants.{DisplayHelp, DisplayVersion}
-use Rattle.tool.specs.declared.error.CommandError.{CommandError}
-use Rattle.tool.specs.declared.error.CommandError.TheVariants.{Usage, NoSubcommand, Memory}
-use Rattle.tool.specs.Line.{Asked, who, ls, text_path, source_path, Line, faults_of}
 use Rattle.tool.specs.Object.{object_fault, text_path_answer, source_path_answer}
-use Rattle.tool.specs.Stream.{Answers, AnswersTo}
+use Rattle.tool.specs.Stream.{Answers, AnswersTo, Prints, Says}
 use Rattle.tool.specs.Who.{AnswersWho, verdict_of}
 
--- an answer under the settings of a configuration, or the line of its first key word
+-- an answer under the settings of a configuration, or the line of its first key word; or memory gave out
 abbrev pub AnswersUnder : Result Settings KeyWord → (Settings → Type 0) → Option (List ℕ) → Option (List ℕ) → Option (List ℕ) → Option (List ℕ) → ℕ → Type 0
 AnswersUnder (Ok s) answered out out' err err' status = answered s
-AnswersUnder (Err word) answered out out' err err' status = Answers (Err (Refused (BadConfig word))) out out' err err' status
+AnswersUnder (Err word) answered out out' err err' status =
+    Answers (Err (Refused (BadConfig word))) out out' err err' status ⊎ Answers (Err (Failed NoMemory)) out out' err err' status
 
--- what a subcommand answers by the text of the configuration: `who` all on the first writer
+-- a text went to the second writer, with the status of a usage fault
+abbrev pub RefusesWords : Option (List ℕ) → Option (List ℕ) → Option (List ℕ) → Option (List ℕ) → ℕ → Type 0
+RefusesWords out out' err err' status = Keeps out out' × ((text : List ℕ) × Prints text 2 err err' status)
+
+-- the same, or memory gave out
+abbrev pub Refuses : Option (List ℕ) → Option (List ℕ) → Option (List ℕ) → Option (List ℕ) → ℕ → Type 0
+Refuses out out' err err' status = RefusesWords out out' err err' status ⊎ Answers (Err (Failed NoMemory)) out out' err err' status
+
+-- whether a subcommand is there yet
+abbrev pub is_served : Asked → Bool
+is_served who = true
+is_served ls = true
+is_served (text_path o) = true
+is_served (source_path o) = true
+is_served _ = false
+
+-- what a subcommand answers by the text of the configuration: `who` all on the first writer; one that isn't there yet is a usage fault
 abbrev pub AnswersAsked : List ℕ → Option (List ℕ) → Option (List ℕ) → Asked → Option (List ℕ) → Option (List ℕ) → Option (List ℕ) → Option (List ℕ) → Option (List ℕ) → ℕ → Type 0
 AnswersAsked config user group who known out out' err err' status = AnswersWho (verdict_of config user group) out out' status × Keeps err err'
 AnswersAsked config user group ls known out out' err err' status =
@@ -34,35 +53,50 @@ AnswersAsked config user group (text_path o) known out out' err err' status =
 AnswersAsked config user group (source_path o) known out out' err err' status =
     AnswersUnder (config_of config) (λ s. AnswersTo (object_fault s.store_dir o.0 o.1) (source_path_answer s.store_dir o.0 (map (base_of s.store_dir) o.1)) known out out' err err' status)
     out out' err err' status
+AnswersAsked config user group _ known out out' err err' status = Refuses out out' err err' status
 
 -- what a command line answers by the text of its configuration
 abbrev pub AnswersLine : List ℕ → Line → Option (List ℕ) → Option (List ℕ) → Option (List ℕ) → Option (List ℕ) → Option (List ℕ) → ℕ → Type 0
 AnswersLine config line known out out' err err' status = AnswersAsked config line.user line.group line.asked known out out' err err' status
 
--- a subcommand other than `who` leaves the first writer alone
-abbrev pub KeepsUnlessWho : Asked → Option (List ℕ) → Option (List ℕ) → Type 0
-KeepsUnlessWho who out out' = ⊤
-KeepsUnlessWho ls out out' = Keeps out out'
-KeepsUnlessWho (text_path o) out out' = Keeps out out'
-KeepsUnlessWho (source_path o) out out' = Keeps out out'
+-- a stop before there is anything to answer by is said by `who` on the first writer, and else on the second
+abbrev pub Stops : Asked → Stop → Option (List ℕ) → Option (List ℕ) → Option (List ℕ) → Option (List ℕ) → ℕ → Type 0
+Stops who stop out out' err err' status = Says stop out out' status × Keeps err err'
+Stops ls stop out out' err err' status = Answers (Err stop) out out' err err' status
+Stops (text_path o) stop out out' err err' status = Answers (Err stop) out out' err err' status
+Stops (source_path o) stop out out' err err' status = Answers (Err stop) out out' err err' status
+Stops _ stop out out' err err' status = Answers (Err stop) out out' err err' status
 
--- What running a command line does: the answer by some configuration, which is the empty one where no file is named; or
--- memory or the file gave out before there was one, with status 1.
-abbrev pub RunsLine : Line → Option (List ℕ) → Option (List ℕ) → Option (List ℕ) → Option (List ℕ) → Option (List ℕ) → ℕ → Type 0
-RunsLine line known out out' err err' status =
-    ((status ≡ 1) × KeepsUnlessWho line.asked out out')
+-- there is a file of the configuration, and memory or that file gave out before its text was there
+abbrev pub LacksFile : Line → Option (List ℕ) → Option (List ℕ) → Option (List ℕ) → Option (List ℕ) → ℕ → Type 0
+LacksFile line out out' err err' status =
+    IsSome line.config × (Stops line.asked (Failed NoMemory) out out' err err' status ⊎ Stops line.asked (Failed File) out out' err err' status)
+
+-- What running a command line of a subcommand that is there does: the answer by some configuration, which is the empty one
+-- where no file is named; or there is none to answer by.
+abbrev pub RunsServed : Line → Option (List ℕ) → Option (List ℕ) → Option (List ℕ) → Option (List ℕ) → Option (List ℕ) → ℕ → Type 0
+RunsServed line known out out' err err' status = LacksFile line out out' err err' status
     ⊎ ((config : List ℕ) × (line.config ≡ None → config ≡ []) × AnswersLine config line known out out' err err' status)
+
+-- What running a command line does: that; or a usage fault, where the subcommand isn't there yet; or memory gave out while
+-- the words were read.
+abbrev pub RunsLine : Line → Option (List ℕ) → Option (List ℕ) → Option (List ℕ) → Option (List ℕ) → Option (List ℕ) → ℕ → Type 0
+RunsLine line known out out' err err' status = Answers (Err (Failed NoMemory)) out out' err err' status
+    ⊎ MatchBool (is_served line.asked) (RunsServed line known out out' err err' status) (Refuses out out' err err' status)
 
 -- the fault of the words is that they ask for help or for the version
 abbrev pub AsksHelp : CommandError → Type 0
 AsksHelp (Usage fault) = (kind_of fault ≡ DisplayHelp) ⊎ (kind_of fault ≡ DisplayVersion)
-AsksHelp NoSubcommand = ⊥
+AsksHelp (Misuse fault) = ⊥
 AsksHelp Memory = ⊥
 
--- `clap` finds in words that they ask for help or for the version
-abbrev pub AskHelp : List (List ℕ) → Type 0
-AskHelp words = IsAmong DisplayHelp (faults_of words) ⊎ IsAmong DisplayVersion (faults_of words)
+-- a text went to the first writer, as an answer does
+abbrev pub Helps : Option (List ℕ) → Option (List ℕ) → Option (List ℕ) → Option (List ℕ) → ℕ → Type 0
+Helps out out' err err' status = (text : List ℕ) × Answers (Ok text) out out' err err' status
 
--- words were refused: standard output got nothing, and the status is that of a usage fault, or that something gave out
-abbrev pub RefusesWords : Option (List ℕ) → Option (List ℕ) → ℕ → Type 0
-RefusesWords out out' status = Keeps out out' × ((status ≡ 1) ⊎ (status ≡ 2))
+-- what is said of words that stand for no command line, by their fault: help, a usage fault, or want of memory
+abbrev pub Explains : CommandError → Option (List ℕ) → Option (List ℕ) → Option (List ℕ) → Option (List ℕ) → ℕ → Type 0
+Explains (Usage fault) out out' err err' status = Answers (Err (Failed NoMemory)) out out' err err' status
+    ⊎ ((AsksHelp (Usage fault) → Helps out out' err err' status) × (¬ AsksHelp (Usage fault) → RefusesWords out out' err err' status))
+Explains (Misuse fault) out out' err err' status = Refuses out out' err err' status
+Explains Memory out out' err err' status = Answers (Err (Failed NoMemory)) out out' err err' status

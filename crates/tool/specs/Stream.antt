@@ -1,32 +1,27 @@
 -- What is taken from an input, and an answer to the two outputs.
-use Rattle.std.specs.Prelude.{◌≡◌, ◌⊎◌, ◌≤◌, ◌++◌, ⊤, ℕ, Bool, false, List, length, Option, Some, None, Result, Ok, Err, OnOk, String, string_bytes, option_map}
-use Rattle.std.specs.Io.KnownBytes.{Appends, Consumes, IsAtEnd, Keeps}
+use Rattle.std.specs.Prelude.{◌≡◌, ◌⊎◌, ⊤, ℕ, List, Option, Some, None, Result, Ok, Err, String, string_bytes, option_map}
+use Rattle.std.specs.Io.KnownBytes.{Appends, Keeps}
 use Rattle.std.specs.declared.alloc.Global.{Global}
-use Rattle.std.specs.declared.io.Error.{Error}
-use Rattle.tool.specs.declared.stops.Failure.TheVariants.{Memory, File, Input, Output}
+use Rattle.streams.specs.Sends.{AppendsFront}
+use Rattle.streams.specs.Reads.{TakesAtMost}
 use Rattle.report.specs.declared.refusal.Refusal.{Refusal}
+use Rattle.tool.specs.declared.stops.Failure.TheVariants.{Memory, File, Input, Output}
 use Rattle.tool.specs.declared.stops.Stop.{Stop}
 use Rattle.tool.specs.declared.stops.Stop.TheVariants.{Refused, Failed}
 use Rattle.tool.specs.Stop.{stop_text, stop_status}
-
--- no more than some number of bytes were taken from an input
-abbrev pub TakesAtMost : ℕ → Option (List ℕ) → Option (List ℕ) → Type 0
-TakesAtMost most old new = (bs : List ℕ) × Consumes old new bs × (length bs ≤ most)
 
 -- an input is read to a bound, and not at all where a fault is there before
 abbrev pub ReadsFor : Option Refusal → ℕ → Option (List ℕ) → Option (List ℕ) → Type 0
 ReadsFor (Some fault) most old new = Keeps old new
 ReadsFor None most old new = TakesAtMost most old new
 
--- One more read: what it took from the input, which has room, is appended to what was held; where nothing more may come,
--- the input is at its end.
-pub record ReadsOn (room : ℕ) (old new : Option (List ℕ)) (held held' : List ℕ) (result : Result Bool Error) : Type 0 where
-  pub taken : (bs : List ℕ) × Consumes old new bs × (length bs ≤ room) × OnOk result (held' ≡ held ++ bs)
-  pub at_end : result ≡ Ok false → IsAtEnd new
+-- a text went to the writer whole, with this status; or the writer failed: a front of it went there, with status 1
+abbrev pub Prints : List ℕ → ℕ → Option (List ℕ) → Option (List ℕ) → ℕ → Type 0
+Prints text done old new status = ((status ≡ done) × Appends old new text) ⊎ ((status ≡ 1) × AppendsFront old new text)
 
--- the line that says why went to the writer, with its status; or the writer gave out, with status 1
+-- the line that says why went to the writer
 abbrev pub Says : Stop → Option (List ℕ) → Option (List ℕ) → ℕ → Type 0
-Says stop old new status = (status ≡ 1) ⊎ ((status ≡ stop_status stop) × Appends old new (stop_text stop))
+Says stop old new status = Prints (stop_text stop) (stop_status stop) old new status
 
 -- a text went to the first writer and nothing to the second, with status 0
 pub record Gives (text : List ℕ) (out out' err err' : Option (List ℕ)) (status : ℕ) : Type 0 where
@@ -34,11 +29,19 @@ pub record Gives (text : List ℕ) (out out' err err' : Option (List ℕ)) (stat
   pub printed : Appends out out' text
   pub silent : Keeps err err'
 
--- The answer was given; or memory, the input or a writer gave out, with status 1. Where the answer is a stop, nothing went to
--- the first writer.
+-- the first writer failed: it holds a front of the text, and the second is told so
+pub record GivesOut (text : List ℕ) (out out' err err' : Option (List ℕ)) (status : ℕ) : Type 0 where
+  pub front : AppendsFront out out' text
+  pub told : Says (Failed Output) err err' status ⊎ Says (Failed Memory) err err' status
+
+-- the answer was given, a text to the first writer or a stop to the second; or the writer that it went to failed
 abbrev pub Answers : Result (List ℕ) Stop → Option (List ℕ) → Option (List ℕ) → Option (List ℕ) → Option (List ℕ) → ℕ → Type 0
-Answers (Ok text) out out' err err' status = (status ≡ 1) ⊎ Gives text out out' err err' status
+Answers (Ok text) out out' err err' status = Gives text out out' err err' status ⊎ GivesOut text out out' err err' status
 Answers (Err stop) out out' err err' status = Keeps out out' × Says stop err err' status
+
+-- memory or the input gave out before there was an answer
+abbrev pub GivesUp : Option (List ℕ) → Option (List ℕ) → Option (List ℕ) → Option (List ℕ) → ℕ → Type 0
+GivesUp out out' err err' status = Answers (Err (Failed Memory)) out out' err err' status ⊎ Answers (Err (Failed Input)) out out' err err' status
 
 -- what was found, as bytes
 abbrev pub result_text : Result (String Global) Stop → Result (List ℕ) Stop
@@ -47,11 +50,16 @@ result_text (Err stop) = Err stop
 
 -- The answer to an input was given: a fault that is there before it is read, or what its bytes say. Those are some bytes,
 -- where the input doesn't tell them.
+abbrev pub AnswersBy : Option Refusal → (List ℕ → Result (List ℕ) Stop) → Option (List ℕ)
+    → Option (List ℕ) → Option (List ℕ) → Option (List ℕ) → Option (List ℕ) → ℕ → Type 0
+AnswersBy (Some fault) answer known out out' err err' status = Answers (Err (Refused fault)) out out' err err' status
+AnswersBy None answer None out out' err err' status = (bytes : List ℕ) × Answers (answer bytes) out out' err err' status
+AnswersBy None answer (Some bytes) out out' err err' status = Answers (answer bytes) out out' err err' status
+
+-- the answer to an input was given; or memory or the input gave out before
 abbrev pub AnswersTo : Option Refusal → (List ℕ → Result (List ℕ) Stop) → Option (List ℕ)
     → Option (List ℕ) → Option (List ℕ) → Option (List ℕ) → Option (List ℕ) → ℕ → Type 0
-AnswersTo (Some fault) answer known out out' err err' status = Answers (Err (Refused fault)) out out' err err' status
-AnswersTo None answer None out out' err err' status = (bytes : List ℕ) × Answers (answer bytes) out out' err err' status
-AnswersTo None answer (Some bytes) out out' err err' status = Answers (answer bytes) out out' err err' status
+AnswersTo fault answer known out out' err err' status = GivesUp out out' err err' status ⊎ AnswersBy fault answer known out out' err err' status
 
 -- a result for want of memory, or of the input
 abbrev pub IsFailure : Result (List ℕ) Stop → Type 0

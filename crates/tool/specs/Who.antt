@@ -1,6 +1,5 @@
 -- What `who` answers: the class of the caller, and whether it may connect.
 use Rattle.std.specs.Prelude.{◌≡◌, ◌⊎◌, ℕ, List, ◌++◌, if◌then◌else◌, codes, Option, Some, None, Result, Ok, Err}
-use Rattle.std.specs.Io.KnownBytes.{Appends}
 use Rattle.policy.specs.Settings.{Settings}
 use Rattle.policy.specs.Caller.{Caller, caller_of, is_caller}
 use Rattle.policy.specs.Class.{class_of}
@@ -16,6 +15,7 @@ use Rattle.tool.specs.declared.stops.Stop.{Stop}
 use Rattle.tool.specs.declared.stops.Stop.TheVariants.{Refused, Failed}
 use Rattle.tool.specs.declared.verdicts.Verdict.{Verdict}
 use Rattle.tool.specs.Stop.{stop_text, stop_status}
+use Rattle.tool.specs.Stream.{Prints, Says}
 
 -- the class of a caller, with the first rule that a plain request of his breaks
 abbrev pub verdict_on : Settings → Caller → Verdict
@@ -59,9 +59,9 @@ abbrev pub who_status : Result Verdict Stop → ℕ
 who_status (Ok verdict) = denial_status verdict.denial
 who_status (Err stop) = stop_status stop
 
--- the answer went to the writer and gave its status; or memory or the writer gave out, with status 1
+-- the answer went to the writer and gave its status, or the writer failed; or memory gave out before there was an answer
 abbrev pub AnswersWho : Result Verdict Stop → Option (List ℕ) → Option (List ℕ) → ℕ → Type 0
-AnswersWho answer old new status = (status ≡ 1) ⊎ ((status ≡ who_status answer) × Appends old new (who_text answer))
+AnswersWho answer old new status = Prints (who_text answer) (who_status answer) old new status ⊎ Says (Failed Memory) old new status
 
 -- why no verdict was found: want of memory, or what the definition says
 abbrev pub StopsWho : Result Verdict Stop → Stop → Type 0

@@ -2,17 +2,18 @@
 ghost use Rattle.std.specs.Prelude.{None};
 ghost use Rattle.tool.specs.Answer.{AnswersAsked, AnswersLine};
 ghost use Rattle.tool.specs.Archive.{max_front};
-ghost use Rattle.tool.specs.Line as asked;
-ghost use Rattle.tool.specs.Line.{line_view};
-ghost use Rattle.tool.specs.Stream.{TakesAtMost};
+ghost use Rattle.command_line.specs.Asked as asked;
+ghost use Rattle.command_line.specs.Line.{line_view};
+ghost use Rattle.streams.specs.Reads.{TakesAtMost};
 
 use crate::configuration::settings;
-use crate::line::{CommandLine, Task};
 use crate::listings::ls;
 use crate::sources::source_path;
 use crate::stream::say;
 use crate::texts::text_path;
+use crate::usage::refuse_task;
 use crate::verdicts::who;
+use command_line::{CommandLine, Task};
 use policy::store_dir;
 use std::alloc::Global;
 use std::io::{Read, Write};
@@ -35,7 +36,7 @@ fn ls_under<R: Read, W: Write, E: Write>(
 }
 
 /// Answers a command line by the text of its configuration, and gives the exit status: 0 done, 1
-/// failed, 3 refused, 4 denied.
+/// failed, 2 a subcommand that isn't there yet, 3 refused, 4 denied.
 ///
 /// Results go to `output`; refusals and failures go to `errors`, but for `who`, which puts everything
 /// on `output`. The file that the command line names isn't read. No more than 16,777,224 bytes of the input
@@ -68,5 +69,6 @@ pub fn answer<R: Read, W: Write, E: Write>(
             }
             Err(stop) => say(stop, errors),
         },
+        _ => refuse_task(alloc, errors),
     }
 }

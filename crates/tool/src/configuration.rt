@@ -1,9 +1,8 @@
 //! The configuration: its file, and its settings.
-ghost use Rattle.std.specs.Prelude.{◌≡◌, ◌⊎◌, IfOk, IfErr, Ok, None, []};
+ghost use Rattle.std.specs.Prelude.{◌≡◌, ◌⊎◌, IfOk, IfErr, OnErr, IsSome, Ok, None, []};
 ghost use Rattle.policy.specs.Toml.{config_of};
 ghost use Rattle.tool.specs.Who.{StopsFor};
 
-use crate::input::read_at_most;
 use crate::stops::{Failure, Stop};
 use crate::stream::stop_for;
 use policy::{Config, ConfigError, MAX_CONFIG_BYTES};
@@ -12,6 +11,7 @@ use std::alloc::Global;
 use std::fs::File;
 use std::io;
 use std::rt::Files;
+use streams::read_at_most;
 
 /// One byte more than a configuration has at most.
 const MOST_READ: usize = MAX_CONFIG_BYTES + 1;
@@ -21,6 +21,7 @@ const MOST_READ: usize = MAX_CONFIG_BYTES + 1;
 pub(crate) fn text<Rt: Files + AllocGlobal>(rt: &Rt, path: Option<&str>) -> Result<Vec<u8>, Stop>
     ensures none { IfOk result (λ text. path.entry ≡ None → text.items ≡ []) }
     ensures err { IfErr result (λ e. (e ≡ Stop.Failed Failure.Memory) ⊎ (e ≡ Stop.Failed Failure.File)) }
+    ensures named { OnErr result (IsSome path.entry) }
 {
     match path {
         None => Ok(Vec::new(rt.alloc())),

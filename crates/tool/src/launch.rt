@@ -1,28 +1,24 @@
 //! Runs a command line over any reader and two writers.
-ghost use Rattle.std.specs.Prelude.{◌≡◌, ◌≤◌, ◌⊎◌, map};
+ghost use Rattle.std.specs.Prelude.{◌≡◌, ◌≢◌, ℕ, List, map, true, false};
 ghost use Rattle.std.specs.IoError.{error_kind};
-ghost use Rattle.tool.specs.Answer.{AskHelp, AsksHelp, RefusesWords, RunsLine};
+ghost use Rattle.tool.specs.Answer.{Explains, Helps, RefusesWords, RunsLine};
 ghost use Rattle.tool.specs.Archive.{max_front};
-ghost use Rattle.tool.specs.Line.{IsLine, Line, line_view};
-ghost use Rattle.tool.specs.Stream.{TakesAtMost};
+ghost use Rattle.command_line.specs.Line.{IsLine, IsUsageFault, Line, line_view};
+ghost use Rattle.streams.specs.Reads.{TakesAtMost};
+ghost use Rattle.tool.specs.Stream.{Prints, Says};
+ghost use Rattle.command_line.specs.declared.error.CommandError.{CommandError};
 
 use crate::answers::answer;
 use crate::configuration;
-use crate::error::CommandError;
-use crate::line::{CommandLine, Task};
-use crate::parse::command;
 use crate::stops::{Failure, Stop};
-use crate::stream::{say, stop_for};
+use crate::stream::{give, print, say};
+use crate::usage::{USAGE, is_served, refuse, refuse_task};
+use command_line::{CommandError, CommandLine, Task, command};
+use std::alloc::Global;
 use std::convert::AsStr;
 use std::io;
 use std::io::{ErrorKind, Read, Write};
 use std::rt::Files;
-
-/// The exit status of words that are no command line.
-const USAGE: u8 = 2;
-
-const NO_SUBCOMMAND: &str =
-    "error: no subcommand is named\n\nUsage: nixkeep [OPTIONS] [COMMAND]\n\nFor more information, try '--help'.\n";
 
 const NOT_UTF8: &str = "error: a word of the command line isn't UTF-8\n";
 
@@ -41,14 +37,13 @@ pub fn run<Rt: Files + AllocGlobal, S: AsStr, R: Read, W: Write, E: Write>(
 ) -> u8
     ensures line { (line : Line) → IsLine (map S.text words.now) line
         → RunsLine line (R.remaining input.old) (W.contents output.old) (W.contents output.new) (E.contents errors.old) (E.contents errors.new) result }
-    ensures usage { ¬ ((line : Line) × IsLine (map S.text words.now) line) → ¬ AskHelp (map S.text words.now)
-        → RefusesWords (W.contents output.old) (W.contents output.new) result }
-    ensures help { ¬ ((line : Line) × IsLine (map S.text words.now) line) → result ≤ 2 }
+    ensures words { ¬ ((line : Line) × IsLine (map S.text words.now) line)
+        → (fault : CommandError) × IsUsageFault (map S.text words.now) fault × Explains fault (W.contents output.old) (W.contents output.new) (E.contents errors.old) (E.contents errors.new) result }
     ensures reads { TakesAtMost max_front (R.remaining input.old) (R.remaining input.new) }
 {
     match command(rt.alloc(), words) {
         Ok(line) => execute(rt, &line, input, output, errors),
-        Err(fault) => explain(&fault, output, errors),
+        Err(fault) => explain(rt.alloc(), &fault, output, errors),
     }
 }
 
@@ -62,6 +57,9 @@ fn execute<Rt: Files + AllocGlobal, R: Read, W: Write, E: Write>(
     ensures answer { RunsLine (line_view line.now) (R.remaining input.old) (W.contents output.old) (W.contents output.new) (E.contents errors.old) (E.contents errors.new) result }
     ensures reads { TakesAtMost max_front (R.remaining input.old) (R.remaining input.new) }
 {
+    if !is_served(&line.task) {
+        return refuse_task(rt.alloc(), errors);
+    }
     match configuration::text(rt, line.config) {
         Ok(text) => answer(rt.alloc(), text.as_slice(), line, input, output, errors),
         Err(stop) => match line.task {
@@ -72,40 +70,48 @@ fn execute<Rt: Files + AllocGlobal, R: Read, W: Write, E: Write>(
 }
 
 /// Says why words are no command line, or gives the help that they ask for.
-fn explain<W: Write, E: Write>(fault: &CommandError, output: &mut W, errors: &mut E) -> u8
-    ensures usage { ¬ AsksHelp fault.now → RefusesWords (W.contents output.old) (W.contents output.new) result }
-    ensures help { result ≤ 2 }
-    ensures memory { fault.now ≡ CommandError.Memory → result ≡ 1 }
+fn explain<W: Write, E: Write>(
+    alloc: Global,
+    fault: &CommandError,
+    output: &mut W,
+    errors: &mut E,
+) -> u8
+    ensures { Explains fault.now (W.contents output.old) (W.contents output.new) (E.contents errors.old) (E.contents errors.new) result }
 {
     match fault {
-        CommandError::Usage(help) if !help.use_stderr() => match write!(output, "{help}") {
-            Ok(()) => 0,
-            Err(fault) => say(stop_for(&fault, Failure::Output), errors),
+        CommandError::Usage(fault) => match format!(in alloc; "{fault}") {
+            Ok(text) => explain_by(fault.use_stderr(), text, output, errors),
+            Err(_) => say(Stop::Failed(Failure::Memory), errors),
         },
-        CommandError::Usage(fault) => usage(write!(errors, "{fault}")),
-        CommandError::NoSubcommand => usage(errors.write_all(NO_SUBCOMMAND.as_bytes())),
+        CommandError::Misuse(fault) => refuse(alloc, fault.text(), errors),
         CommandError::Memory => say(Stop::Failed(Failure::Memory), errors),
     }
 }
 
-/// The exit status of a usage fault, by whether it could be told.
-fn usage(told: io::Result<()>) -> u8
-    ensures { (result ≡ 1) ⊎ (result ≡ 2) }
+/// Gives a text as that of a usage fault, or as help.
+fn explain_by<W: Write, E: Write>(
+    is_fault: bool,
+    text: String,
+    output: &mut W,
+    errors: &mut E,
+) -> u8
+    ensures fault { is_fault ≡ true → RefusesWords (W.contents output.old) (W.contents output.new) (E.contents errors.old) (E.contents errors.new) result }
+    ensures help { is_fault ≡ false → Helps (W.contents output.old) (W.contents output.new) (E.contents errors.old) (E.contents errors.new) result }
 {
-    match told {
-        Ok(()) => USAGE,
-        Err(_) => 1,
+    if is_fault {
+        return print(text.as_str(), USAGE, errors);
     }
+    give(Ok(text), output, errors)
 }
 
 /// Says that the words of the program could not be had, and gives the exit status: 1 where memory
 /// was refused, else 2, since a word isn't UTF-8.
 pub fn refuse_words<E: Write>(fault: &io::Error, errors: &mut E) -> u8
-    ensures status { (result ≡ 1) ⊎ (result ≡ 2) }
-    ensures memory { error_kind fault.now ≡ ErrorKind.OutOfMemory → result ≡ 1 }
+    ensures memory { error_kind fault.now ≡ ErrorKind.OutOfMemory → Says (Stop.Failed Failure.Memory) (E.contents errors.old) (E.contents errors.new) result }
+    ensures other { error_kind fault.now ≢ ErrorKind.OutOfMemory → (text : List ℕ) × Prints text 2 (E.contents errors.old) (E.contents errors.new) result }
 {
     if fault.kind() == ErrorKind::OutOfMemory {
         return say(Stop::Failed(Failure::Memory), errors);
     }
-    usage(errors.write_all(NOT_UTF8.as_bytes()))
+    print(NOT_UTF8, USAGE, errors)
 }

@@ -4,26 +4,25 @@
 mod answers;
 mod archive;
 mod configuration;
-mod error;
-mod grammar;
 mod input;
 mod launch;
-mod line;
 mod listings;
 mod object;
-mod parse;
 mod sources;
 mod stops;
 mod stream;
 mod texts;
+mod usage;
 mod verdicts;
 
 pub use answers::answer;
-pub use error::CommandError;
+pub use command_line::{
+    CommandError, CommandLine, DeleteArguments, GcArguments, ObjectArguments, ProfileAction,
+    ProfileArguments, RootArguments, RootKind, ServeArguments, Task, TempAction, TempArguments,
+    UnrootArguments, Unrooted, UsageFault, command,
+};
 pub use launch::{refuse_words, run};
-pub use line::{CommandLine, ObjectArguments, Task};
 pub use listings::ls;
-pub use parse::command;
 pub use report::Refusal;
 pub use sources::source_path;
 pub use stops::{Failure, Stop};

@@ -1,7 +1,8 @@
 //! `ls`: the listing of an archive.
 ghost use Rattle.std.specs.Prelude.{◌≡◌, ◌⊎◌, IfOk, IfErr, Ok, Err, None, string_bytes};
 ghost use Rattle.tool.specs.Archive.{max_front, ls_answer};
-ghost use Rattle.tool.specs.Stream.{AnswersTo, TakesAtMost, IsFailure, IsResultOf, result_text};
+ghost use Rattle.streams.specs.Reads.{TakesAtMost};
+ghost use Rattle.tool.specs.Stream.{AnswersTo, IsFailure, IsResultOf, result_text};
 
 use crate::archive::{MOST_READ, read_archive};
 use crate::input::read_input;

@@ -1,10 +1,11 @@
 //! An answer to the two outputs.
 ghost use Rattle.std.specs.Prelude.{◌≡◌, ◌⊎◌};
-ghost use Rattle.tool.specs.Stream.{Says, result_text, Answers};
+ghost use Rattle.tool.specs.Stream.{Says, Prints, result_text, Answers};
 
 use crate::stops::{Failure, Stop};
 use std::io;
 use std::io::{ErrorKind, Write};
+use streams::send_bytes;
 
 /// What a fault of a stream ends a command with: refused memory, or the failure of the stream.
 pub(crate) fn stop_for(fault: &io::Error, failure: Failure) -> Stop
@@ -29,7 +30,7 @@ pub(crate) fn give<W: Write, E: Write>(
     ensures { Answers (result_text answer) (W.contents output.old) (W.contents output.new) (E.contents errors.old) (E.contents errors.new) result }
 {
     match answer {
-        Ok(text) => match output.write_all(text.as_str().as_bytes()) {
+        Ok(text) => match send_bytes(output, text.as_str().as_bytes()) {
             Ok(()) => 0,
             Err(fault) => say(stop_for(&fault, Failure::Output), errors),
         },
@@ -37,12 +38,19 @@ pub(crate) fn give<W: Write, E: Write>(
     }
 }
 
-/// Says on standard error why a command ends without its result, and answers the exit status.
-pub(crate) fn say<E: Write>(stop: Stop, errors: &mut E) -> u8
-    ensures { Says stop (E.contents errors.old) (E.contents errors.new) result }
+/// Says why a command ends without its result, and answers the exit status.
+pub(crate) fn say<W: Write>(stop: Stop, writer: &mut W) -> u8
+    ensures { Says stop (W.contents writer.old) (W.contents writer.new) result }
 {
-    match errors.write_all(stop.text().as_bytes()) {
-        Ok(()) => stop.status(),
+    print(stop.text(), stop.status(), writer)
+}
+
+/// Gives a text to a writer and answers its exit status, or 1 where the writer fails.
+pub(crate) fn print<W: Write>(text: &str, status: u8, writer: &mut W) -> u8
+    ensures { Prints text.now status (W.contents writer.old) (W.contents writer.new) result }
+{
+    match send_bytes(writer, text.as_bytes()) {
+        Ok(()) => status,
         Err(_) => 1,
     }
 }

@@ -1,14 +1,13 @@
 //! `who`: from a configuration and a caller to a verdict.
-ghost use Rattle.std.specs.Prelude.{◌≡◌, OnOk, IfOk, IfErr, Ok, option_map};
-ghost use Rattle.std.specs.Io.KnownBytes.{Appends};
+ghost use Rattle.std.specs.Prelude.{◌≡◌, ◌++◌, OnOk, IfOk, IfErr, Ok, option_map, string_bytes};
 ghost use Rattle.tool.specs.Who.{AnswersWho, StopsWho, verdict_of, verdict_text, denial_text, denial_status};
 
 use crate::configuration::settings;
 use crate::stops::{Failure, Stop};
+use crate::stream::{print, say};
 use policy::{Caller, CallerError, Class, Op, Rule, class, decide};
 use report::Refusal;
-use std::alloc::Global;
-use std::io;
+use std::alloc::{AllocError, Global};
 use std::io::Write;
 
 /// What a caller is told of himself.
@@ -31,23 +30,28 @@ impl Verdict {
         }
     }
 
-    fn print<W: Write>(&self, out: &mut W) -> io::Result<()>
-        ensures { OnOk result (Appends (W.contents out.old) (W.contents out.new) (verdict_text self.now)) }
+    /// The two lines that say it.
+    fn text(&self, alloc: Global) -> Result<String, AllocError>
+        ensures { IfOk result (λ text. string_bytes text ≡ verdict_text self.now) }
     {
-        let class = self.class.as_str();
-        writeln!(out, "class: {class}")?;
-        print_denial(self.denial, out)
+        let mut text = String::from_str(alloc, "class: ")?;
+        text.push_str(self.class.as_str())?;
+        text.push_str("\n")?;
+        push_denial(self.denial, &mut text)?;
+        Ok(text)
     }
 }
 
-fn print_denial<W: Write>(denial: Option<Rule>, out: &mut W) -> io::Result<()>
-    ensures { OnOk result (Appends (W.contents out.old) (W.contents out.new) (denial_text denial)) }
+/// Appends the line that says whether a caller may connect.
+fn push_denial(denial: Option<Rule>, text: &mut String) -> Result<(), AllocError>
+    ensures { OnOk result (string_bytes text.new ≡ string_bytes text.old ++ denial_text denial) }
 {
     match denial {
-        None => writeln!(out, "connect: yes"),
+        None => text.push_str("connect: yes\n"),
         Some(rule) => {
-            let word = rule.as_str();
-            writeln!(out, "denied: {word}")
+            text.push_str("denied: ")?;
+            text.push_str(rule.as_str())?;
+            text.push_str("\n")
         }
     }
 }
@@ -88,7 +92,7 @@ pub fn judge(
 ///
 /// Everything goes to the one writer: the two lines with status 0 or 4, or the one line of a bad
 /// configuration or caller with status 3, or of refused memory with status 1. Where the writer
-/// fails, the status is 1 and nothing more is written.
+/// fails, the status is 1 and nothing more is written: it holds a front of these lines.
 pub fn who<W: Write>(
     alloc: Global,
     config: &[u8],
@@ -99,13 +103,10 @@ pub fn who<W: Write>(
     ensures { AnswersWho (verdict_of config.now (option_map (λ s. s.now) user.entry) (option_map (λ s. s.now) group.entry)) (W.contents out.old) (W.contents out.new) result }
 {
     match judge(alloc, config, user, group) {
-        Ok(verdict) => match verdict.print(out) {
-            Ok(()) => verdict.status(),
-            Err(_) => 1,
+        Ok(verdict) => match verdict.text(alloc) {
+            Ok(text) => print(text.as_str(), verdict.status(), out),
+            Err(_) => say(Stop::Failed(Failure::Memory), out),
         },
-        Err(stop) => match out.write_all(stop.text().as_bytes()) {
-            Ok(()) => stop.status(),
-            Err(_) => 1,
-        },
+        Err(stop) => say(stop, out),
     }
 }

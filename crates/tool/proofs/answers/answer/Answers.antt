@@ -1,7 +1,7 @@
 use Rattle.std.proofs.Common.{None, arith}
 use Rattle.tool.proofs.Answered.{text_stopped, source_stopped}
 use Rattle.tool.proofs.Results.{within}
-use Rattle.tool.specs.Line.{object_view}
+use Rattle.command_line.specs.Asked.{object_view}
 use Rattle.tool.proofs.answers.answer.Goals as goal
 
 pub returns-in-Ok-clause-reads : goal.returns-in-Ok-clause-reads

@@ -1,0 +1,21 @@
+//! The command line of `nixkeep`: its grammar, and what its words stand for.
+#![tactic(auto)]
+
+mod actions;
+mod arguments;
+mod error;
+mod grammar;
+mod line;
+mod parse;
+mod subcommands;
+mod tasks;
+mod values;
+mod verb;
+
+pub use error::{CommandError, UsageFault};
+pub use line::{
+    CommandLine, DeleteArguments, GcArguments, ObjectArguments, ProfileAction, ProfileArguments,
+    RootArguments, RootKind, ServeArguments, Task, TempAction, TempArguments, UnrootArguments,
+    Unrooted,
+};
+pub use parse::command;

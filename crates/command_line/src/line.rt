@@ -1,0 +1,186 @@
+//! What a command line asks for. Names, paths and labels stand as they are written: none is tested yet.
+
+/// The options that stand before the subcommand, and the subcommand.
+#[derive(Debug, Drop)]
+pub struct CommandLine<'a> {
+    /// The file of the database. Without one it is in memory, for this run.
+    pub db: Option<&'a str>,
+    /// The file of the configuration. Without one the configuration is the empty text.
+    pub config: Option<&'a str>,
+    /// The name of the caller.
+    pub user: Option<&'a str>,
+    /// The primary group of the caller.
+    pub group: Option<&'a str>,
+    /// What is to be done.
+    pub task: Task<'a>,
+}
+
+/// A subcommand with its values.
+#[derive(Debug, Drop)]
+pub enum Task<'a> {
+    /// The class of the caller, and whether it may connect.
+    Who,
+    /// The store path of the text object with the contents on standard input.
+    TextPath(ObjectArguments<'a>),
+    /// The store path of the source object with the archive on standard input.
+    SourcePath(ObjectArguments<'a>),
+    /// The listing of the archive on standard input.
+    Ls,
+    /// The text object with the contents on standard input is added.
+    AddText(ObjectArguments<'a>),
+    /// The source object with the archive on standard input is added.
+    AddSource(ObjectArguments<'a>),
+    /// The object on standard input is imported, with what is said of it.
+    Import,
+    /// The runtime roots are those on standard input.
+    Runtime,
+    /// The record of the object at this path.
+    Info(&'a str),
+    /// The archive of the object at this path.
+    CatNar(&'a str),
+    /// The roots that keep this path alive.
+    Why(&'a str),
+    /// All paths.
+    List,
+    /// All roots.
+    Roots,
+    /// The live paths.
+    Live,
+    /// The dead paths.
+    Dead,
+    /// How many paths are live and dead, and their bytes.
+    Report,
+    /// A root is set.
+    Root(RootArguments<'a>),
+    /// A root is dropped.
+    Unroot(UnrootArguments<'a>),
+    /// A profile is changed.
+    Profile(ProfileArguments<'a>),
+    /// A session's temporary roots are changed.
+    Temp(TempArguments<'a>),
+    /// Dead objects are collected.
+    Gc(GcArguments),
+    /// Objects are deleted.
+    Delete(DeleteArguments<'a>),
+    /// The store is served over HTTP.
+    Serve(ServeArguments),
+}
+
+/// What is said of a store object beside its contents or its archive.
+#[derive(Debug, Drop)]
+pub struct ObjectArguments<'a> {
+    /// The name of the store object.
+    pub name: &'a str,
+    /// The path texts of its references.
+    pub references: Vec<&'a str>,
+}
+
+/// A root that has a name.
+#[derive(Clone, Copy, PartialEq, Eq, Debug)]
+pub enum RootKind {
+    /// Nobody's own.
+    Permanent,
+    /// The caller's.
+    User,
+}
+
+/// A root that is set.
+#[derive(Debug, Drop)]
+pub struct RootArguments<'a> {
+    /// Its kind.
+    pub kind: RootKind,
+    /// Its name.
+    pub name: &'a str,
+    /// The path that it keeps alive.
+    pub path: &'a str,
+}
+
+/// Whose root is dropped.
+#[derive(Debug, Drop)]
+pub enum Unrooted<'a> {
+    /// Nobody's: a permanent root.
+    Permanent,
+    /// That of the user who is named, else the caller's.
+    User(Option<&'a str>),
+}
+
+/// A root that is dropped.
+#[derive(Debug, Drop)]
+pub struct UnrootArguments<'a> {
+    /// Whose it is.
+    pub root: Unrooted<'a>,
+    /// Its name.
+    pub name: &'a str,
+}
+
+/// What happens to a profile. Generations are numbered from 1 to 9,999; 0 stands for a text that is no such number.
+#[derive(Debug, Drop)]
+pub enum ProfileAction<'a> {
+    /// A path becomes its current generation.
+    Set(&'a str),
+    /// The generation below the current one becomes current.
+    Rollback,
+    /// The generation of this number becomes current.
+    Switch(u64),
+    /// The generation of this number goes.
+    Delete(u64),
+}
+
+/// A profile that is changed.
+#[derive(Debug, Drop)]
+pub struct ProfileArguments<'a> {
+    /// Whose it is: the caller's, where nobody is named.
+    pub owner: Option<&'a str>,
+    /// Its name.
+    pub name: &'a str,
+    /// What happens to it.
+    pub action: ProfileAction<'a>,
+}
+
+/// What happens to a session's temporary roots.
+#[derive(Debug, Drop)]
+pub enum TempAction<'a> {
+    /// This path becomes one of them.
+    Add(&'a str),
+    /// They all go.
+    End,
+}
+
+/// A session whose temporary roots are changed.
+#[derive(Debug, Drop)]
+pub struct TempArguments<'a> {
+    /// Whose it is: the caller's, where nobody is named.
+    pub owner: Option<&'a str>,
+    /// Its number, 1 to 4,194,304; 0 stands for a text that is no such number.
+    pub session: u64,
+    /// What happens to its roots.
+    pub action: TempAction<'a>,
+}
+
+/// A collection.
+#[derive(Debug, Drop)]
+pub struct GcArguments {
+    /// Whether liveness is to be ignored.
+    pub ignore_liveness: bool,
+    /// After how many bytes it may stop.
+    pub max_freed: Option<u64>,
+}
+
+/// Objects to be deleted.
+#[derive(Debug, Drop)]
+pub struct DeleteArguments<'a> {
+    /// Whether liveness is to be ignored.
+    pub ignore_liveness: bool,
+    /// The path texts, one at least.
+    pub paths: Vec<&'a str>,
+}
+
+/// Where requests come from.
+#[derive(Clone, Copy, PartialEq, Eq, Debug)]
+pub enum ServeArguments {
+    /// One connection, on standard input and output.
+    Streams,
+    /// Connections to a port of this machine, one after another: the port, 1 to 65,535, and how many
+    /// connections, 1 to 1,000,000.
+    Port(u16, u32),
+}

@@ -1,0 +1,44 @@
+//! What is said of words that are no command line, and of subcommands that aren't there yet.
+ghost use Rattle.std.specs.Prelude.{◌≡◌, ◌⊎◌, ℕ, List};
+ghost use Rattle.command_line.specs.Asked.{asked_view};
+ghost use Rattle.tool.specs.Answer as spec;
+ghost use Rattle.tool.specs.Stream.{Prints, Says};
+
+use crate::stops::{Failure, Stop};
+use crate::stream::{print, say};
+use command_line::Task;
+use std::alloc::Global;
+use std::io::Write;
+
+/// The exit status of words that are no command line.
+pub(crate) const USAGE: u8 = 2;
+
+/// Says what is wrong with words, and gives the exit status.
+pub(crate) fn refuse<W: Write>(alloc: Global, fault: &str, errors: &mut W) -> u8
+    ensures { ((text : List ℕ) × Prints text 2 (W.contents errors.old) (W.contents errors.new) result) ⊎ Says (Stop.Failed Failure.Memory) (W.contents errors.old) (W.contents errors.new) result }
+{
+    let text = format!(in alloc;
+        "error: {fault}\n\nUsage: nixkeep [OPTIONS] [COMMAND]\n\nFor more information, try '--help'.\n"
+    );
+    match text {
+        Ok(text) => print(text.as_str(), USAGE, errors),
+        Err(_) => say(Stop::Failed(Failure::Memory), errors),
+    }
+}
+
+/// Whether a subcommand is there yet.
+pub(crate) fn is_served(task: &Task<'_>) -> bool
+    ensures { result ≡ spec.is_served (asked_view task.now) }
+{
+    matches!(
+        task,
+        Task::Who | Task::Ls | Task::TextPath(_) | Task::SourcePath(_)
+    )
+}
+
+/// Says that a subcommand isn't there yet, and gives the exit status.
+pub(crate) fn refuse_task<W: Write>(alloc: Global, errors: &mut W) -> u8
+    ensures { ((text : List ℕ) × Prints text 2 (W.contents errors.old) (W.contents errors.new) result) ⊎ Says (Stop.Failed Failure.Memory) (W.contents errors.old) (W.contents errors.new) result }
+{
+    refuse(alloc, "this subcommand isn't there yet", errors)
+}
