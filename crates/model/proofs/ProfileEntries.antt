@@ -16,7 +16,7 @@ use Rattle.world.specs.World.{Path, Pair, Profile, pair_cmp}
 use Rattle.world.proofs.Empty.{no_entries}
 use Rattle.store.specs.Profiles.{highest, is_path, is_highest, number_for, set_to, switched, new_profile, profile_or_new, previous}
 use Rattle.store.proofs.MapMembers.{bytes_antisymmetric, pair_total, pair_antisymmetric, tied_is}
-use Rattle.model.specs.declared.world.Profile.{Profile as InMemory}
+use Rattle.model.specs.declared.plain_world.Profile.{Profile as InMemory}
 use Rattle.model.specs.Maps.{seen_map, pair_bytes}
 use Rattle.model.specs.View.{profile_view}
 use Rattle.model.specs.Numbers.{put_at}

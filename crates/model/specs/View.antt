@@ -8,9 +8,9 @@ use Rattle.world.specs.World.{pair_cmp}
 use Rattle.world.specs.World as tables
 use Rattle.store.specs.Request as asked
 use Rattle.store.specs.Reply as replied
-use Rattle.model.specs.declared.world.Object.{Object}
-use Rattle.model.specs.declared.world.Profile.{Profile}
-use Rattle.model.specs.declared.world.World.{World}
+use Rattle.model.specs.declared.plain_world.Object.{Object}
+use Rattle.model.specs.declared.plain_world.Profile.{Profile}
+use Rattle.model.specs.declared.plain_world.World.{World}
 use Rattle.model.specs.declared.root.Kind.{Kind}
 use Rattle.model.specs.declared.root.Kind.TheVariants.{Permanent, User, Profile as OfProfile, Runtime}
 use Rattle.model.specs.declared.root.Root.{Root}

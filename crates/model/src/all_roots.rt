@@ -8,8 +8,8 @@ ghost use Rattle.model.specs.Maps.{Gains, pair_bytes};
 ghost use Rattle.model.specs.View.{profile_view, root_set, world_view};
 
 use crate::labels::{generation_label, permanent_label, user_label};
+use crate::plain_world::{Pair, Profile, World};
 use crate::root::{Kind, Root, add};
-use crate::world::{Pair, Profile, World};
 use std::alloc::{AllocError, Global};
 use std::collections::BTreeSet;
 

@@ -1,5 +1,5 @@
 //! What is asked of a store.
-use crate::world::Pair;
+use crate::plain_world::Pair;
 use paths::{Ca, Name, StorePath};
 
 /// An object that is handed in with its path.

@@ -6,7 +6,7 @@ ghost use Rattle.store.specs.Effects.{with_permanent, with_user_root, without_pe
 ghost use Rattle.model.specs.Maps.{pair_bytes};
 ghost use Rattle.model.specs.View.{world_view};
 
-use crate::world::{Pair, World};
+use crate::plain_world::{Pair, World};
 use std::alloc::AllocError;
 
 impl World {

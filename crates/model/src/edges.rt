@@ -7,7 +7,7 @@ ghost use Rattle.model.specs.Keeping.{keep_view};
 ghost use Rattle.model.specs.View.{object_view, world_view};
 
 use crate::keep::Keep;
-use crate::world::{Object, World};
+use crate::plain_world::{Object, World};
 
 impl Object {
     fn has_output(&self, path: &str) -> bool

@@ -4,7 +4,7 @@ ghost use Rattle.store.specs.Profiles.{has_generation, highest, is_highest, last
 ghost use Rattle.model.specs.Numbers.{put_at};
 ghost use Rattle.model.specs.View.{profile_view};
 
-use crate::world::Profile;
+use crate::plain_world::Profile;
 use std::alloc::AllocError;
 
 /// The greatest number of a generation.

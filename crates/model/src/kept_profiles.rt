@@ -5,7 +5,7 @@ ghost use Rattle.store.specs.Profiles.{has_generation, has_profile, last_number,
 ghost use Rattle.model.specs.Maps.{pair_bytes};
 ghost use Rattle.model.specs.View.{profile_view, world_view};
 
-use crate::world::{Pair, Profile, World};
+use crate::plain_world::{Pair, Profile, World};
 
 impl World {
     fn profile(&self, owned: &Pair) -> Option<&Profile>

@@ -6,7 +6,7 @@ ghost use Rattle.world.specs.World.{has};
 ghost use Rattle.store.specs.Effects.{keeping};
 ghost use Rattle.model.specs.View.{world_view};
 
-use crate::world::World;
+use crate::plain_world::World;
 
 impl World {
     /// Whether all of some paths are valid.

@@ -21,6 +21,7 @@ mod liveness;
 mod living;
 mod objects;
 mod owned_names;
+mod plain_world;
 mod profile_changes;
 mod profiles;
 mod reach;
@@ -37,9 +38,8 @@ mod runtime;
 mod runtime_pairs;
 mod seen;
 mod sizes;
-mod world;
 
 pub use acts::step;
 pub use asking::{Imported, Request};
+pub use plain_world::{Object, Pair, Profile, World};
 pub use replying::{Answer, Info, Refusal, Reply, Usage};
-pub use world::{Object, Pair, Profile, World};

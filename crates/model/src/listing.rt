@@ -3,8 +3,8 @@ ghost use Rattle.std.specs.Prelude.{◌≡◌, IfOk, map, string_bytes};
 ghost use Rattle.world.specs.World.{all_paths, roots_of};
 ghost use Rattle.model.specs.View.{root_view, world_view};
 
+use crate::plain_world::World;
 use crate::root::Root;
-use crate::world::World;
 use std::alloc::{AllocError, Global};
 
 impl World {

@@ -4,8 +4,8 @@ ghost use Rattle.store.specs.Liveness as spec;
 ghost use Rattle.model.specs.View.{root_view, world_view};
 
 use crate::keep::keep_of;
+use crate::plain_world::World;
 use crate::root::Root;
-use crate::world::World;
 use policy::Config;
 use std::alloc::{AllocError, Global};
 

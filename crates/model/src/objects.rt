@@ -5,7 +5,7 @@ ghost use Rattle.std.specs.FinMap as finite;
 ghost use Rattle.store.specs.Effects.{with_object};
 ghost use Rattle.model.specs.View.{object_view, world_view};
 
-use crate::world::{Object, World};
+use crate::plain_world::{Object, World};
 use std::alloc::AllocError;
 
 impl World {

@@ -6,7 +6,7 @@ ghost use Rattle.model.specs.Maps.{pair_bytes};
 ghost use Rattle.model.specs.Numbers.{put_at};
 ghost use Rattle.model.specs.View.{world_view};
 
-use crate::world::{Pair, Profile, World};
+use crate::plain_world::{Pair, Profile, World};
 use std::alloc::{AllocError, Global};
 use std::collections::BTreeMap;
 

@@ -6,7 +6,7 @@ ghost use Rattle.model.specs.Keeping.{keep_view};
 ghost use Rattle.model.specs.View.{world_view};
 
 use crate::keep::{Keep, references_alone};
-use crate::world::World;
+use crate::plain_world::World;
 use std::alloc::{AllocError, Global};
 
 impl World {

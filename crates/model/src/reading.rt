@@ -5,9 +5,9 @@ ghost use Rattle.store.specs.Request as asked;
 ghost use Rattle.model.specs.View.{world_view};
 ghost use Rattle.model.specs.Meets.{Meets};
 
+use crate::plain_world::World;
 use crate::records::{listing, record};
 use crate::replying::{Answer, Refusal, Stop};
-use crate::world::World;
 use std::alloc::Global;
 
 /// The record of an object.

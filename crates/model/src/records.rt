@@ -6,8 +6,8 @@ ghost use Rattle.store.specs.Answers.{info_of, listing_at};
 ghost use Rattle.model.specs.Parts.{references_view};
 ghost use Rattle.model.specs.View.{info_view, object_view};
 
+use crate::plain_world::Object;
 use crate::replying::Info;
-use crate::world::Object;
 use nar::NarError;
 use sha2::{Digest, Sha256};
 use std::alloc::{AllocError, Global};

@@ -12,8 +12,8 @@ ghost use Rattle.model.specs.Tested.{Tested};
 ghost use Rattle.model.specs.Parts.{references_view};
 ghost use Rattle.model.specs.View.{world_view};
 
+use crate::plain_world::World;
 use crate::replying::{Refusal, Stop};
-use crate::world::World;
 use paths::StorePath;
 use std::alloc::{AllocError, Global};
 use std::collections::BTreeSet;

@@ -7,9 +7,9 @@ ghost use Rattle.model.specs.View.{request_view, world_view};
 ghost use Rattle.model.specs.Meets.{IsDenial, Meets};
 
 use crate::asking::Request;
+use crate::plain_world::{Pair, World};
 use crate::replying::{Answer, Refusal, Stop};
 use crate::seen::seen_root;
-use crate::world::{Pair, World};
 use policy::{Caller, Config, class};
 use std::alloc::{AllocError, Global};
 

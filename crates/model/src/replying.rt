@@ -2,7 +2,7 @@
 ghost use Rattle.std.specs.Prelude.{◌≡◌};
 ghost use Rattle.model.specs.declared.replying.Stop.TheVariants.{Memory as memory};
 
-use crate::world::Pair;
+use crate::plain_world::Pair;
 use drv::DrvError;
 use nar::NarError;
 use paths::{Ca, StorePath};

@@ -3,9 +3,9 @@ ghost use Rattle.store.specs.Request as asked;
 ghost use Rattle.model.specs.View.{world_view};
 ghost use Rattle.model.specs.Meets.{Meets};
 
+use crate::plain_world::World;
 use crate::replying::{Answer, Stop};
 use crate::seen::seen_roots;
-use crate::world::World;
 use policy::{Caller, Config, class};
 use std::alloc::Global;
 

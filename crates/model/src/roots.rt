@@ -7,8 +7,8 @@ ghost use Rattle.model.specs.View.{world_view};
 ghost use Rattle.model.specs.Meets.{Meets};
 
 use crate::owned_names::are_plain;
+use crate::plain_world::World;
 use crate::replying::{Answer, Refusal, Stop};
-use crate::world::World;
 use paths::is_plain_name;
 
 /// A permanent root is set or replaced.

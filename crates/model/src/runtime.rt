@@ -7,9 +7,9 @@ ghost use Rattle.model.specs.Maps.{pair_bytes};
 ghost use Rattle.model.specs.View.{world_view};
 ghost use Rattle.model.specs.Meets.{Meets};
 
+use crate::plain_world::{Pair, World};
 use crate::replying::{Answer, Refusal, Stop};
 use crate::runtime_pairs::are_runtime_labels;
-use crate::world::{Pair, World};
 use std::alloc::Global;
 
 /// The runtime roots are replaced.

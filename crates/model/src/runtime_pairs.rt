@@ -8,7 +8,7 @@ ghost use Rattle.store.specs.Effects.{valid_pairs, with_runtime};
 ghost use Rattle.model.specs.Maps.{Gains, pair_bytes, seen_set};
 ghost use Rattle.model.specs.View.{world_view};
 
-use crate::world::{Pair, World};
+use crate::plain_world::{Pair, World};
 use std::alloc::{AllocError, Global};
 use std::collections::BTreeSet;
 

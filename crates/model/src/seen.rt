@@ -7,8 +7,8 @@ ghost use Rattle.store.specs.Seen as spec;
 ghost use Rattle.model.specs.Maps.{pair_bytes};
 ghost use Rattle.model.specs.View.{kind_view, root_view};
 
+use crate::plain_world::Pair;
 use crate::root::{Kind, Root};
-use crate::world::Pair;
 use policy::Class;
 use std::alloc::{AllocError, Global};
 

@@ -3,8 +3,8 @@ ghost use Rattle.std.specs.Prelude.{◌≡◌, map, string_bytes};
 ghost use Rattle.store.specs.Liveness as spec;
 ghost use Rattle.model.specs.View.{usage_view, world_view};
 
+use crate::plain_world::World;
 use crate::replying::Usage;
-use crate::world::World;
 
 impl World {
     fn size_of(&self, path: &str) -> usize

@@ -1,0 +1,18 @@
+use Rattle.std.proofs.Common.{Bool, not, map, string_bytes, sym, ap, ◌∙◌}
+use Rattle.std.specs.List.{filter}
+use Rattle.std.specs.Cmp.Lexicographic.{nat_list_cmp_total}
+use Rattle.paths.specs.Root.{bytes_cmp}
+use Rattle.world.specs.World.{Path}
+use Rattle.store.specs.Liveness.{lives}
+use Rattle.store.proofs.MapMembers.{bytes_antisymmetric}
+use Rattle.model.specs.View.{object_view, world_view}
+use Rattle.model.proofs.Kept.{all_kept}
+use Rattle.model.proofs.Trees.{keys_seen}
+use Rattle.model.proofs.plain_world.World.dead_paths.Goals as goal
+
+pub returns : goal.returns
+returns c =
+    let test : Path → Bool = λ p. not (lives c.args.config.now (world_view c.args.self.now) p) in
+    all_kept string_bytes test c.loop-path.dead.items c.loop-path.path-iterator (filter test (map string_bytes c.into_iter-path-iterator.result)) c.in-None.ensures.steps.0 c.loop-path.invariant
+    ∙ ap (filter test) (ap (map string_bytes) (c.into_iter-path-iterator.ensures.into_iter_gives ∙ c.keys-path-items.ensures.rest)
+    ∙ sym (keys_seen bytes_cmp string_bytes object_view nat_list_cmp_total bytes_antisymmetric c.args.self.now.objects.entries c.keys-path-items.ensures.ordered))
