@@ -72,7 +72,7 @@ impl Summary {
     }
 
     /// The SHA-256 of the archive.
-    pub fn hash(&self) -> &[u8]
+    pub fn hash(&self) -> &[u8; 32]
         ensures { result.now ≡ self.now.hash }
     {
         &self.hash

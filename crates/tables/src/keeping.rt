@@ -78,6 +78,7 @@ impl<S: Alter> Tables<S> {
         requires size { object.size ≡ length nar.now }
         requires hash { object.hash ≡ sha256 nar.now }
         requires sound { (w : World) → Tells S.Store self.old w → IsSound self.old.dir (record w { objects = finite.insert w.objects path.now (with_archive nar.now object) }) }
+        ensures dir { self.new.dir ≡ self.old.dir }
         ensures done { OnOk result ((w : World) → Tells S.Store self.old w → Tells S.Store self.new (record w { objects = finite.insert w.objects path.now (with_archive nar.now object) })) }
         ensures failed { OnErr result ((w : World) → Tells S.Store self.old w → Tells S.Store self.new w) }
         ensures durable { OnOk result (IsTrue (state S.Store self.new.connection).is_open → IsDurable (state S.Store self.new.connection)) }

@@ -22,6 +22,7 @@ impl<S: Alter> Tables<S> {
     /// Puts a permanent root, whether one of this name was there or not.
     pub fn put_permanent(&mut self, name: &str, target: &StorePath) -> Result<(), Failure>
         requires sound { (w : World) → Tells S.Store self.old w → IsSound self.old.dir (record w { permanent = finite.insert w.permanent name.now target.now }) }
+        ensures dir { self.new.dir ≡ self.old.dir }
         ensures done { OnOk result ((w : World) → Tells S.Store self.old w → Tells S.Store self.new (record w { permanent = finite.insert w.permanent name.now target.now })) }
         ensures failed { OnErr result ((w : World) → Tells S.Store self.old w → Tells S.Store self.new w) }
         ensures durable { OnOk result (IsTrue (state S.Store self.new.connection).is_open → IsDurable (state S.Store self.new.connection)) }
@@ -50,6 +51,7 @@ impl<S: Alter> Tables<S> {
     /// Drops a permanent root, if it is there.
     pub fn drop_permanent(&mut self, name: &str) -> Result<(), Failure>
         requires sound { (w : World) → Tells S.Store self.old w → IsSound self.old.dir (record w { permanent = finite.remove w.permanent name.now }) }
+        ensures dir { self.new.dir ≡ self.old.dir }
         ensures done { OnOk result ((w : World) → Tells S.Store self.old w → Tells S.Store self.new (record w { permanent = finite.remove w.permanent name.now })) }
         ensures failed { OnErr result ((w : World) → Tells S.Store self.old w → Tells S.Store self.new w) }
         ensures durable { OnOk result (IsTrue (state S.Store self.new.connection).is_open → IsDurable (state S.Store self.new.connection)) }
@@ -73,6 +75,7 @@ impl<S: Alter> Tables<S> {
         target: &StorePath,
     ) -> Result<(), Failure>
         requires sound { (w : World) → Tells S.Store self.old w → IsSound self.old.dir (record w { user_roots = finite.insert w.user_roots (owner.now, name.now) target.now }) }
+        ensures dir { self.new.dir ≡ self.old.dir }
         ensures done { OnOk result ((w : World) → Tells S.Store self.old w → Tells S.Store self.new (record w { user_roots = finite.insert w.user_roots (owner.now, name.now) target.now })) }
         ensures failed { OnErr result ((w : World) → Tells S.Store self.old w → Tells S.Store self.new w) }
         ensures durable { OnOk result (IsTrue (state S.Store self.new.connection).is_open → IsDurable (state S.Store self.new.connection)) }
@@ -103,6 +106,7 @@ impl<S: Alter> Tables<S> {
     /// Drops a user root, if it is there.
     pub fn drop_user_root(&mut self, owner: &str, name: &str) -> Result<(), Failure>
         requires sound { (w : World) → Tells S.Store self.old w → IsSound self.old.dir (record w { user_roots = finite.remove w.user_roots (owner.now, name.now) }) }
+        ensures dir { self.new.dir ≡ self.old.dir }
         ensures done { OnOk result ((w : World) → Tells S.Store self.old w → Tells S.Store self.new (record w { user_roots = finite.remove w.user_roots (owner.now, name.now) })) }
         ensures failed { OnErr result ((w : World) → Tells S.Store self.old w → Tells S.Store self.new w) }
         ensures durable { OnOk result (IsTrue (state S.Store self.new.connection).is_open → IsDurable (state S.Store self.new.connection)) }
