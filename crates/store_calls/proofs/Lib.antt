@@ -1,0 +1,4 @@
+pub mod Verdicts
+pub mod Untouched
+pub mod Outlined
+pub mod Replied

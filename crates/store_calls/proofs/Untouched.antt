@@ -1,0 +1,36 @@
+-- Tables that a request leaves as they were.
+use Rattle.std.proofs.Common.{◌≡◌, Result, refl, sym, ◌∙◌, inl, inr}
+use Rattle.sqlite_trees.specs.declared.store.Store.{Ghosts}
+use Rattle.sqlite_trees.specs.Tree.{Trees}
+use Rattle.sqlite.specs.State.{State, Survives}
+use Rattle.sqlite.specs.Held.{state}
+use Rattle.table_statements.proofs.Transactions.{survives_none}
+use Rattle.policy.specs.Settings.{Settings}
+use Rattle.policy.specs.Caller.{Caller}
+use Rattle.index.specs.Outline.{Outline}
+use Rattle.store.specs.Request.{Request}
+use Rattle.tables.specs.Kept.{Kept}
+use Rattle.store_calls.specs.declared.replies.Answer.{Answer}
+use Rattle.store_calls.specs.declared.replies.Stop.{Stop}
+use Rattle.store_calls.specs.Lasting.{Lasts}
+use Rattle.store_calls.specs.Meets.{Reads, IsMet}
+
+-- nothing happened
+pub survives_still : (s : State) (P : Trees → Type 0) → Survives s s P
+survives_still s P =
+    let none = survives_none s in
+    record { clean = none.clean; shield = none.shield; counts = none.counts; limit = none.limit; closes = none.closes; crash = λ clean db left. inl left }
+
+pub lasts_still : (s : State) → Lasts s s
+lasts_still s clean is_open = inr (refl, λ h. h)
+
+module _ {S : Type 0} (g : Ghosts S) where
+  -- what is answered from the outline alone
+  pub met_by_reading : (s : Settings) (c : Caller) (q : Request) (r : Result Answer Stop) (k : Kept S) (o : Outline) → o ≡ k.outline → Reads s c o q r → IsMet g s c q r k k
+  met_by_reading s c q r k o same h = record {
+    dir = refl;
+    world = λ w t. (w, h w (t.outline ∙ sym same), t);
+    still = λ _. refl;
+    lasts = λ _. lasts_still (state g k.connection);
+    survives = λ w t. survives_still (state g k.connection) _;
+  }

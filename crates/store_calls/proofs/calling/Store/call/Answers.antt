@@ -1,0 +1,32 @@
+use Rattle.std.proofs.Common.{◌≡◌, Some, None, sym, ap, ap₂, subst, ◌∙◌}
+use Rattle.policy.specs.Class.{class_of}
+use Rattle.policy.specs.Rules.{first_broken}
+use Rattle.policy.specs.Operation.{Operation}
+use Rattle.policy.specs.declared.kinds.Class.{Class}
+use Rattle.store.specs.Verdict.{operation_of}
+use Rattle.store_calls.specs.View.{request_view, reply_view}
+use Rattle.store_calls.specs.Meets.{IsMet}
+use Rattle.store_calls.specs.Standing.{Standing}
+use Rattle.store_calls.proofs.Replied.{names_none, step_denied, step_met}
+use Rattle.store_calls.proofs.calling.Store.call.Goals as goal
+
+pub returns-in-Some-clause-step : goal.returns-in-Some-clause-step
+returns-in-Some-clause-step g c =
+    let q = request_view c.args.request in
+    let broken : first_broken (class_of c.args.self.now.settings c.args.caller.now) c.args.caller.now (operation_of q) ≡ Some c.in-Some.rule =
+    sym (c.in-Some.ensures ∙ ap₂ (λ (class : Class) (op : Operation). first_broken class c.args.caller.now op) (c.class.ensures ∙ ap (λ (st : Standing g.row.S.Denot). class_of st.settings c.args.caller.now) c.self.view_is) c.operation.ensures) in
+    step_denied g.S.Store c.args.self.now.settings c.args.caller.now q c.in-Some.rule c.args.self.now.tables broken
+
+pub returns-clause-step : goal.returns-clause-step
+returns-clause-step g c =
+    let q = request_view c.args.request in
+    let allowed : first_broken (class_of c.args.self.now.settings c.args.caller.now) c.args.caller.now (operation_of q) ≡ None =
+    sym (c.in_default.ensures ∙ ap₂ (λ (class : Class) (op : Operation). first_broken class c.args.caller.now op) (c.class.ensures ∙ ap (λ (st : Standing g.row.S.Denot). class_of st.settings c.args.caller.now) c.self.view_is) c.operation.ensures) in
+    step_met g.S.Store c.args.self.now.settings c.args.caller.now q c.act-met.result (reply_view c.reply.result) c.args.self.now.tables c.act-met.new.tables allowed (names_none c.args.request) c.reply.ensures
+    (subst (λ (st : Standing g.row.S.Denot). IsMet g.S.Store st.settings c.args.caller.now q c.act-met.result st.tables c.act-met.new.tables) c.self.view_is c.act-met.ensures)
+
+pub returns-clause-survives : goal.returns-clause-survives
+returns-clause-survives g c =
+    let q = request_view c.args.request in
+    let met = subst (λ (st : Standing g.row.S.Denot). IsMet g.S.Store st.settings c.args.caller.now q c.act-met.result st.tables c.act-met.new.tables) c.self.view_is c.act-met.ensures in
+    met.survives

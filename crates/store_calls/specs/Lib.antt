@@ -1,0 +1,5 @@
+pub mod View
+pub mod Told
+pub mod Standing
+pub mod Lasting
+pub mod Meets

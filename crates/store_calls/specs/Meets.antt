@@ -1,0 +1,57 @@
+-- What becomes of a request that no rule forbids.
+use Rattle.std.specs.Prelude.{◌≡◌, Some, None, Result, Ok, Err}
+use Rattle.sqlite_trees.specs.declared.store.Store.{Ghosts}
+use Rattle.sqlite.specs.State.{Survives}
+use Rattle.sqlite.specs.Held.{state}
+use Rattle.policy.specs.Settings.{Settings}
+use Rattle.policy.specs.Caller.{Caller}
+use Rattle.world.specs.World.{World}
+use Rattle.index.specs.Outline.{Outline, outline_of}
+use Rattle.store.specs.Request.{Request}
+use Rattle.store.specs.Reply as replied
+use Rattle.store.specs.Tests.{refusal}
+use Rattle.store.specs.Effects.{effect}
+use Rattle.store.specs.Answers.{answer}
+use Rattle.tables.specs.Kept.{Kept, Tells, LeavesWorld}
+use Rattle.store_calls.specs.declared.replies.Answer.{Answer}
+use Rattle.store_calls.specs.declared.replies.Stop.{Stop}
+use Rattle.store_calls.specs.declared.replies.Stop.TheVariants.{Refused, Failed}
+use Rattle.store_calls.specs.View.{answer_view, refusal_view, failure_view}
+use Rattle.store_calls.specs.Lasting.{Lasts}
+
+-- the answer and the effect where no test fails; the refusal of the first that does; and nothing changes where the call failed
+abbrev pub Meets : Settings → World → Caller → Request → Result Answer Stop → World → Type 0
+Meets s w c q (Ok a) new = (refusal s w q ≡ None) × (answer_view a ≡ answer s w c q) × (new ≡ effect s w q)
+Meets s w c q (Err (Refused r)) new = (refusal s w q ≡ Some (refusal_view r)) × (new ≡ w)
+Meets s w c q (Err (Failed f)) new = new ≡ w
+
+-- a request that changes nothing, in each world of an outline
+abbrev pub Reads : Settings → Caller → Outline → Request → Result Answer Stop → Type 0
+Reads s c o q r = (w : World) → outline_of w ≡ o → Meets s w c q r w
+
+-- what is replied
+abbrev pub reply_to : Result Answer Stop → replied.Reply
+reply_to (Ok a) = replied.done (answer_view a)
+reply_to (Err (Refused r)) = replied.refused (refusal_view r)
+reply_to (Err (Failed f)) = replied.failed (failure_view f)
+
+abbrev pub IsAnswered : Result Answer Stop → Type 0
+IsAnswered (Ok a) = Unit {0}
+IsAnswered (Err stop) = ⊥
+
+abbrev pub IsRefused : Result Answer Stop → Type 0
+IsRefused (Err (Refused r)) = Unit {0}
+IsRefused _ = ⊥
+
+module _ {S : Type 0} (g : Ghosts S) where
+  -- a request over tables
+  pub record IsMet (s : Settings) (c : Caller) (q : Request) (r : Result Answer Stop) (old new : Kept S) : Type 0 where
+    pub dir : new.dir ≡ old.dir
+    -- of each world that they told, what becomes of it is told now
+    pub world : (w : World) → Tells g old w → (next : World) × Meets s w c q r next × Tells g new next
+    -- a refusal leaves them as they were
+    pub still : IsRefused r → new ≡ old
+    -- what is done outlives a crash
+    pub lasts : IsAnswered r → Lasts (state g old.connection) (state g new.connection)
+    pub survives : (w : World) → Tells g old w → Survives (state g old.connection) (state g new.connection)
+        (λ db. LeavesWorld old.dir (state g old.connection).now db (effect s w q))

@@ -1,0 +1,96 @@
+//! The store: its tables, its settings, and the one way of a call.
+
+ghost use Rattle.std.specs.Prelude.{◌≡◌};
+ghost use Rattle.sqlite.specs.State.{Survives};
+ghost use Rattle.sqlite.specs.Held.{state};
+ghost use Rattle.world.specs.World.{World};
+ghost use Rattle.store.specs.Effects.{effect};
+ghost use Rattle.store.specs.Step.{Step};
+ghost use Rattle.tables.specs.Kept.{Tells, LeavesWorld};
+ghost use Rattle.store_calls.specs.Lasting.{Lasts};
+ghost use Rattle.store_calls.specs.View.{request_view, reply_view};
+ghost use Rattle.store_calls.specs.Standing.{IsDone, IsStill};
+
+use crate::acting::{act, reply};
+use crate::replies::Reply;
+use crate::requests::Request;
+use crate::rules::operation;
+use policy::{Caller, Config, class, decide};
+use sqlite::Alter;
+use std::alloc::Global;
+use std::marker::Model;
+use tables::Tables;
+
+/// A store. Contracts see it as its tables and its settings.
+pub struct Store<S: Alter> {
+    alloc: Global,
+    config: Config,
+    tables: Tables<S>,
+}
+
+impl<S: Alter> Model for Store<S> {
+    ghost use Rattle.std.specs.Prelude.{◌≡◌};
+    ghost use Rattle.store_calls.specs.Standing.{Standing, standing_code};
+
+    ghost Value = { Standing S };
+
+    ghost coded = { standing_code S.code };
+
+    ghost view = { λ t. record { tables = t.tables; settings = t.config } };
+
+    ghost invariant = { λ t. t.tables.dir ≡ t.config.store_dir };
+}
+
+impl<S: Alter> Store<S> {
+    /// The store of these tables, under these settings. They are of one store directory.
+    pub fn new(alloc: Global, config: Config, tables: Tables<S>) -> Store<S>
+        requires { tables.dir ≡ config.store_dir }
+        ensures { result ≡ record { tables = tables; settings = config } }
+    {
+        Store {
+            alloc,
+            config,
+            tables,
+        }
+    }
+
+    /// Its settings.
+    pub fn config(&self) -> &Config
+        ensures { result.now ≡ self.now.settings }
+    {
+        &self.config
+    }
+
+    /// Its tables, given up.
+    pub fn release(self) -> Tables<S>
+        ensures { result ≡ self.tables }
+    {
+        let Store {
+            alloc: _alloc,
+            config: _config,
+            tables,
+        } = self;
+        tables
+    }
+
+    /// Does what a caller asks, or says why not: the first rule that forbids it, or else the first of its tests that
+    /// fails. What isn't done changes nothing, and neither a denial nor a refusal touches the tables. Only a call that no
+    /// rule forbids fails.
+    pub fn call(&mut self, caller: &Caller, request: Request) -> Reply
+        ensures settings { self.new.settings ≡ self.old.settings }
+        // Of each world that the tables told, a step to one that they tell now.
+        ensures step { (w : World) → Tells S.Store self.old.tables w
+            → (next : World) × Step self.old.settings w caller.now (request_view request) (reply_view result) next × Tells S.Store self.new.tables next }
+        ensures still { IsStill (reply_view result) → self.new ≡ self.old }
+        ensures lasts { IsDone (reply_view result) → Lasts (state S.Store self.old.tables.connection) (state S.Store self.new.tables.connection) }
+        // At any exit a crash leaves what it could leave before, or the tables of the request that is done.
+        ensures survives { (w : World) → Tells S.Store self.old.tables w → Survives (state S.Store self.old.tables.connection) (state S.Store self.new.tables.connection)
+            (λ db. LeavesWorld self.old.tables.dir (state S.Store self.old.tables.connection).now db (effect self.old.settings w (request_view request))) }
+    {
+        if let Some(rule) = decide(class(&self.config, caller), caller, &operation(&request)) {
+            return Reply::Denied(rule, None);
+        }
+        let met = act(self.alloc, &self.config, caller, &mut self.tables, request);
+        reply(met)
+    }
+}

@@ -1,0 +1,34 @@
+//! What is read of the index alone.
+
+ghost use Rattle.policy.specs.Settings.{Settings};
+ghost use Rattle.policy.specs.Caller.{Caller};
+ghost use Rattle.store.specs.Request as asked;
+ghost use Rattle.store_calls.specs.Meets.{Reads};
+
+use crate::records::record;
+use crate::replies::{Answer, Refusal, Stop};
+use index::Index;
+use paths::StorePath;
+use std::alloc::Global;
+
+/// The record of an object.
+pub(crate) fn info(alloc: Global, index: &Index, path: StorePath) -> Result<Answer, Stop>
+    ensures { (s : Settings) (c : Caller) → Reads s c index.now (asked.info path) result }
+{
+    let Some(object) = index.object(&path) else {
+        return Err(Stop::Refused(Refusal::NotValid));
+    };
+    Ok(Answer::Record(record(alloc, path, object)?))
+}
+
+/// All paths.
+pub(crate) fn list(alloc: Global, index: &Index) -> Result<Answer, Stop>
+    ensures { (s : Settings) (c : Caller) → Reads s c index.now asked.list result }
+{
+    let objects = index.objects();
+    let mut paths = Vec::new(alloc);
+    for path in objects.keys() {
+        paths.push(path.clone()?)?;
+    }
+    Ok(Answer::Paths(paths))
+}
