@@ -16,6 +16,10 @@ pub record IsNamed (dir : List ℕ) (es : List Entry) (head : NamedHead) : Type 
   pub name : single name_text (values (codes "name") es) ≡ Some head.name
   pub references : each (path_text dir) (values (codes "reference") es) ≡ Some head.references.items
 
+-- the body of an add: its entries, an empty line, and the contents
+abbrev pub IsNamedBody : List ℕ → List ℕ → NamedHead → List ℕ → Type 0
+IsNamedBody dir body head contents = (es : List Entry) × Reads (spelled body) es contents × IsNamed dir es head
+
 -- the entries of an import
 pub record IsImport (dir : List ℕ) (es : List Entry) (head : ImportHead) : Type 0 where
   pub known : are_known (codes "path" ∷ codes "nar-hash" ∷ codes "reference" ∷ codes "deriver" ∷ codes "ca" ∷ []) es ≡ true

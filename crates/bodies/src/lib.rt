@@ -1,6 +1,7 @@
 //! The bodies of requests: lines with keys and values, an empty line, and a payload.
 #![tactic(auto)]
 
+mod add;
 mod collect;
 mod entries;
 mod error;
@@ -11,6 +12,7 @@ mod roots;
 mod values;
 mod whole;
 
+pub use add::named_body;
 pub use collect::{CollectHead, collect_head};
 pub use error::BodyError;
 pub use heads::{DeleteHead, NamedHead, delete_head, named_head, path_head};
