@@ -16,7 +16,7 @@ use Rattle.rows.specs.Calls.{Leaves}
 use Rattle.world.specs.World.{Path, Object, World}
 use Rattle.world.specs.Sound.{IsSound}
 use Rattle.world.specs.Rows.{address_in, object_in}
-use Rattle.tables.specs.Told.{rows_of, world_in}
+use Rattle.world.specs.Told.{rows_of, world_in}
 use Rattle.index.specs.Outline.{Outline, Outlined, outlined, outline_of, with_archive}
 use Rattle.index.proofs.Orders.{bytes_total, bytes_antisymmetric}
 use Rattle.index.proofs.Puts.{unput_put}

@@ -15,12 +15,13 @@ use Rattle.world.specs.World.{Path, Object, World}
 use Rattle.world.specs.Sound.{IsSound}
 use Rattle.world.specs.Rows.{piece_cmp, references_in, outputs_in, archive_in, object_in, address_in}
 use Rattle.world.proofs.Empty.{no_key}
-use Rattle.tables.specs.Told.{IsSoundContents, rows_of, world_in}
+use Rattle.world.specs.Told.{IsSoundContents, rows_of, world_in}
 use Rattle.index.specs.Outline.{outlined, outline_of}
 use Rattle.tables.specs.Rewritten.{put_object}
 use Rattle.index.proofs.Orders.{bytes_total, bytes_antisymmetric}
 use Rattle.index.proofs.Puts.{tied_is}
-use Rattle.tables.proofs.Parts.{same, whole, either, get-reference, get-output, get-put_references, get-put_outputs}
+use Rattle.world.proofs.Told.{whole, get-reference, get-output}
+use Rattle.tables.proofs.Parts.{same, either, get-put_references, get-put_outputs}
 use Rattle.index.proofs.Told.{get-told, told_insert}
 use Rattle.tables.proofs.Kept.{Follows}
 

@@ -10,7 +10,7 @@ use Rattle.rows.specs.Calls.{KeepsShown, Leaves}
 use Rattle.table_statements.proofs.Steps.{ready_after}
 use Rattle.world.specs.World.{World}
 use Rattle.world.specs.Sound.{IsSound}
-use Rattle.tables.specs.Told.{IsSoundContents, world_in}
+use Rattle.world.specs.Told.{IsSoundContents, world_in}
 use Rattle.index.specs.Outline.{Outline, outline_of}
 use Rattle.tables.specs.Kept.{Kept, AreOutlined, Agrees, Tells, IsWritten, LeavesWorld}
 

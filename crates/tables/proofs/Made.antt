@@ -13,7 +13,7 @@ use Rattle.world.specs.World.{no_world}
 use Rattle.world.specs.Rows.{one}
 use Rattle.world.proofs.NewRows.{tells_nothing, new_rows_sound}
 use Rattle.world.proofs.NewWorld.{new_world_sound}
-use Rattle.tables.specs.Told.{IsSoundContents, world_in}
+use Rattle.world.specs.Told.{IsSoundContents, world_in}
 use Rattle.tables.specs.Kept.{Agrees, Tells}
 use Rattle.index.specs.Outline.{Outline, outline_of}
 

@@ -16,7 +16,7 @@ use Rattle.world.specs.Pieces.{joined}
 use Rattle.world.specs.Rows.{Piece, piece_cmp, references_in, outputs_in, pieces_in, archive_in}
 use Rattle.world.proofs.Columns.{get_part}
 use Rattle.world.proofs.Empty.{no_entries}
-use Rattle.tables.specs.Told.{rows_of}
+use Rattle.world.specs.Told.{rows_of}
 use Rattle.tables.specs.Rewritten.{put_references, put_outputs}
 use Rattle.index.proofs.Orders.{bytes_total, bytes_antisymmetric}
 use Rattle.index.proofs.Puts.{tied_is}
@@ -32,23 +32,6 @@ both_tied Greater s = refl
 
 pair_tied : (p r : List ℕ) (k : List ℕ × List ℕ) → eq_by_cmp pair_cmp (p, r) k ≡ (same p k.0 && same r k.1)
 pair_tied p r k = both_tied (bytes_cmp p k.0) (bytes_cmp r k.1)
-
--- a reference of a path is a row
-pub get-reference : (c : Contents) (p r : Path) → finite.get (references_in (rows_of c) p) r ≡ finite.get c.refs (p, r)
-get-reference c p r = get_part bytes_cmp pair_cmp bytes_total pair_tied c.refs p r
-
--- and so is an output
-pub get-output : (c : Contents) (p name : Path) → finite.get (outputs_in (rows_of c) p) name ≡ finite.get c.outs (p, name)
-get-output c p name = get_part bytes_cmp pair_cmp bytes_total pair_tied c.outs p name
-
--- there is no further piece
-pub whole : (c : Contents) (p : Path) (x : Stored) → archive_in (rows_of c) p x ≡ x.nar
-whole c p x = ap (λ (es : List (ℤ × List ℕ)). x.nar ++ joined es) nothing ∙ append-nil x.nar
-  where
-    nothing : finite.entries (pieces_in (rows_of c) p) ≡ []
-    nothing =
-        ap (λ (es : List (Piece × List ℕ)). finite.entries (finite.from_entries {R = int_cmp} (map (λ (e : Piece × List ℕ). let d : ℤ × List ℕ = (e.0.1, e.1) in d) (filter (λ (e : Piece × List ℕ). eq_by_cmp bytes_cmp p e.0.0) es)))) (no_entries (List ℕ) piece_cmp)
-        ∙ no_entries (List ℕ) int_cmp
 
 -- ---- rows that are put
 

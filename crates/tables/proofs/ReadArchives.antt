@@ -10,10 +10,10 @@ use Rattle.rows.specs.Entries.{IsStored, stored_of}
 use Rattle.table_entries.specs.declared.objects.Object.{Object as Row}
 use Rattle.world.specs.World.{Path, Object, World}
 use Rattle.world.specs.Rows.{object_in}
-use Rattle.tables.specs.Told.{rows_of, world_in}
+use Rattle.world.specs.Told.{rows_of, world_in}
 use Rattle.index.proofs.Orders.{bytes_total, bytes_antisymmetric}
 use Rattle.index.proofs.Told.{get-told}
-use Rattle.tables.proofs.Parts.{whole}
+use Rattle.world.proofs.Told.{whole}
 use Rattle.tables.specs.Kept.{Kept, Tells}
 
 abbrev nar_of : Object → List ℕ

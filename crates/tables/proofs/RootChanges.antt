@@ -9,7 +9,7 @@ use Rattle.rows.specs.Calls.{Leaves}
 use Rattle.paths.specs.Root.{bytes_cmp, Set}
 use Rattle.world.specs.World.{World, Path, pair_cmp}
 use Rattle.world.specs.Sound.{IsSound}
-use Rattle.tables.specs.Told.{IsSoundContents}
+use Rattle.world.specs.Told.{IsSoundContents}
 use Rattle.index.specs.Outline.{Outline}
 use Rattle.tables.specs.Kept.{Kept, Agrees, Tells, IsWritten, LeavesWorld}
 use Rattle.tables.proofs.Kept.{Follows, agrees_done, told_done, survives_told}

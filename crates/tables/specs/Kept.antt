@@ -11,7 +11,7 @@ use Rattle.rows.specs.Frozen.{KeepsUnshown}
 use Rattle.rows.specs.Calls.{IsReady, KeepsTheirs}
 use Rattle.world.specs.World.{World}
 use Rattle.world.specs.Sound.{IsSound}
-use Rattle.tables.specs.Told.{IsSoundContents, world_in}
+use Rattle.world.specs.Told.{IsSoundContents, world_in}
 use Rattle.index.specs.Outline.{Outline, outline_of, outline_code, bytes_code}
 
 pub record Kept (S : Type 0) : Type 0 where

@@ -1,5 +1,5 @@
 -- What is read off rows, entry by entry.
-use Rattle.std.proofs.Common.{◌≡◌, ℕ, List, [], ◌∷◌, ◌++◌, map, Bool, true, false, ◌&&◌, cond, Some, None, Option, option_map, refl, sym, ap, ap₂, ◌∙◌, IsTrue, inl, inr, ◌⊎◌}
+use Rattle.std.proofs.Common.{◌≡◌, ℕ, List, [], ◌∷◌, map, Bool, true, false, ◌&&◌, cond, Some, None, Option, option_map, refl, sym, ap, ap₂, ◌∙◌, IsTrue, inl, inr, ◌⊎◌}
 use Rattle.std.specs.Prelude.{ℤ, pos, is_some}
 use Rattle.std.specs.List.{filter, list_any}
 use Rattle.std.specs.declared.cmp.Ordering.{Ordering}
@@ -129,15 +129,17 @@ module _ (c : Rows) where
   pub output_at : (p : Path) (name : List ℕ) → finite.get (outputs_in c p) name ≡ finite.get c.outs (p, name)
   output_at p name = get_part bytes_cmp pair_cmp nat_list_cmp_total (λ x q y. tied_both (bytes_cmp x y.0) (bytes_cmp q y.1)) c.outs p name
 
-module _ (schema : Schema) (dir : List ℕ) (c : Rows) (sound : IsSoundRows schema dir c) where
+module _ (c : Rows) where
   triple_total : IsTotalOrder triple_cmp
   triple_total = then_total (on_texts (λ (t : List ℕ × List ℕ × ℤ). t.0)) (then_total (on_texts (λ (t : List ℕ × List ℕ × ℤ). t.1)) (on_total (λ (t : List ℕ × List ℕ × ℤ). t.2) int_cmp_total))
 
   kept_total : IsTotalOrder kept_cmp
   kept_total = then_total (on_texts (λ (t : Kept). t.0)) (then_total (on_total (λ (t : Kept). t.1) int_cmp_total) (on_texts (λ (t : Kept). t.2)))
 
-  generation_at : (owner name : List ℕ) (n : ℕ) → finite.get (generations_in c (owner, name)) n ≡ finite.get c.generations (owner, name, pos n)
-  generation_at owner name n =
+  -- where no number is negative
+  pub generation_at : ((owner name : List ℕ) (n : ℤ) → IsTrue (finite.contains_key c.generations (owner, name, n)) → (m : ℕ) × (n ≡ pos m))
+      → (owner name : List ℕ) (n : ℕ) → finite.get (generations_in c (owner, name)) n ≡ finite.get c.generations (owner, name, pos n)
+  generation_at numbers owner name n =
       finite.get-from_entries nat_cmp_total (map (λ (e : (List ℕ × List ℕ × ℤ) × Path). (number_in e.0.2, e.1))
       (filter (λ (e : (List ℕ × List ℕ × ℤ) × Path). eq_by_cmp bytes_cmp owner e.0.0 && eq_by_cmp bytes_cmp name e.0.1) (finite.entries c.generations))) n
       ∙ find_part triple_cmp nat_cmp (λ (x : List ℕ × List ℕ × ℤ). eq_by_cmp bytes_cmp owner x.0 && eq_by_cmp bytes_cmp name x.1) (λ (x : List ℕ × List ℕ × ℤ). number_in x.2) n (owner, name, pos n) (finite.entries c.generations) agree
@@ -146,24 +148,25 @@ module _ (schema : Schema) (dir : List ℕ) (c : Rows) (sound : IsSoundRows sche
       agree : (e : (List ℕ × List ℕ × ℤ) × Path) → In e (finite.entries c.generations)
           → eq_by_cmp triple_cmp (owner, name, pos n) e.0 ≡ (eq_by_cmp bytes_cmp owner e.0.0 && eq_by_cmp bytes_cmp name e.0.1 && eq_by_cmp nat_cmp n (number_in e.0.2))
       agree e h =
-          let m = sound.numbers e.0.0 e.0.1 e.0.2 (entry_key triple_total c.generations e h) in
+          let m = numbers e.0.0 e.0.1 e.0.2 (entry_key triple_total c.generations e h) in
           tied_three (bytes_cmp owner e.0.0) (bytes_cmp name e.0.1) (int_cmp (pos n) e.0.2)
           ∙ ap (λ (z : ℤ). eq_by_cmp bytes_cmp owner e.0.0 && eq_by_cmp bytes_cmp name e.0.1 && is_eq (int_cmp (pos n) z)) m.1
           ∙ ap (λ b. eq_by_cmp bytes_cmp owner e.0.0 && eq_by_cmp bytes_cmp name e.0.1 && b) (numbers_tie n m.0)
           ∙ sym (ap (λ (z : ℤ). eq_by_cmp bytes_cmp owner e.0.0 && eq_by_cmp bytes_cmp name e.0.1 && eq_by_cmp nat_cmp n (number_in z)) m.1)
 
-  any_kept : (t : Temporary) (es : List (Kept × Unit {0})) → ((e : Kept × Unit {0}) → In e es → IsTrue (finite.contains_key c.temp_roots e.0))
+  any_kept : ((k : Kept) → IsTrue (finite.contains_key c.temp_roots k) → (m : ℕ) × (k.1 ≡ pos m))
+      → (t : Temporary) (es : List (Kept × Unit {0})) → ((e : Kept × Unit {0}) → In e es → IsTrue (finite.contains_key c.temp_roots e.0))
       → is_some (find_entry temporary_cmp t (map with_unit (map temporary_in (map (λ (e : Kept × Unit {0}). e.0) es)))) ≡ is_some (find_entry kept_cmp (t.owner, pos t.session, t.path) es)
-  any_kept t [] h = refl
-  any_kept t (e ∷ es) h =
-      let m = sound.sessions e.0 (h e (inl refl)) in
+  any_kept sessions t [] h = refl
+  any_kept sessions t (e ∷ es) h =
+      let m = sessions e.0 (h e (inl refl)) in
       let same : eq_by_cmp temporary_cmp t (temporary_in e.0) ≡ eq_by_cmp kept_cmp (t.owner, pos t.session, t.path) e.0 =
       ap (λ (z : ℤ). eq_by_cmp temporary_cmp t (temporary_in (e.0.0, z, e.0.2))) m.1
       ∙ tied_three (bytes_cmp t.owner e.0.0) (nat_cmp t.session m.0) (bytes_cmp t.path e.0.2)
       ∙ ap (λ b. eq_by_cmp bytes_cmp t.owner e.0.0 && b && eq_by_cmp bytes_cmp t.path e.0.2) (sym (numbers_tie t.session m.0))
       ∙ sym (tied_three (bytes_cmp t.owner e.0.0) (int_cmp (pos t.session) (pos m.0)) (bytes_cmp t.path e.0.2))
       ∙ sym (ap (λ (z : ℤ). eq_by_cmp kept_cmp (t.owner, pos t.session, t.path) (e.0.0, z, e.0.2)) m.1) in
-      by (eq_by_cmp kept_cmp (t.owner, pos t.session, t.path) e.0) (eq_by_cmp temporary_cmp t (temporary_in e.0)) same (any_kept t es (λ d k. h d (inr k)))
+      by (eq_by_cmp kept_cmp (t.owner, pos t.session, t.path) e.0) (eq_by_cmp temporary_cmp t (temporary_in e.0)) same (any_kept sessions t es (λ d k. h d (inr k)))
     where
       by : (a b : Bool) → b ≡ a
           → is_some (find_entry temporary_cmp t (map with_unit (map temporary_in (map (λ (d : Kept × Unit {0}). d.0) es)))) ≡ is_some (find_entry kept_cmp (t.owner, pos t.session, t.path) es)
@@ -176,39 +179,41 @@ module _ (schema : Schema) (dir : List ℕ) (c : Rows) (sound : IsSoundRows sche
   temporary_total : IsTotalOrder temporary_cmp
   temporary_total = then_total (on_texts (λ (t : Temporary). t.owner)) (then_total (on_total (λ (t : Temporary). t.session) nat_cmp_total) (on_texts (λ (t : Temporary). t.path)))
 
-  temporary_at : (t : Temporary) → finite.contains_key (world_of c).temporary t ≡ finite.contains_key c.temp_roots (t.owner, pos t.session, t.path)
-  temporary_at t =
+  pub temporary_at : ((k : Kept) → IsTrue (finite.contains_key c.temp_roots k) → (m : ℕ) × (k.1 ≡ pos m))
+      → (t : Temporary) → finite.contains_key (world_of c).temporary t ≡ finite.contains_key c.temp_roots (t.owner, pos t.session, t.path)
+  temporary_at sessions t =
       ap is_some (finite.get-from_entries temporary_total (map with_unit (map temporary_in (finite.keys c.temp_roots))) t)
-      ∙ any_kept t (finite.entries c.temp_roots) (λ e h. entry_key kept_total c.temp_roots e h)
+      ∙ any_kept sessions t (finite.entries c.temp_roots) (λ e h. entry_key kept_total c.temp_roots e h)
       ∙ ap is_some (sym (finite.get-entries c.temp_roots (t.owner, pos t.session, t.path)))
 
-  object_at : (p : Path) → finite.get (world_of c).objects p ≡ option_map (object_in c p) (finite.get c.objects p)
+  pub object_at : (p : Path) → finite.get (world_of c).objects p ≡ option_map (object_in c p) (finite.get c.objects p)
   object_at p = get_changed nat_list_cmp_total bytes_antisymmetric (object_in c) c.objects p
 
-  profile_at : (owned : Pair) → finite.get (world_of c).profiles owned ≡ option_map (profile_in c owned) (finite.get c.profiles owned)
+  pub profile_at : (owned : Pair) → finite.get (world_of c).profiles owned ≡ option_map (profile_in c owned) (finite.get c.profiles owned)
   profile_at owned = get_changed pair_total pair_antisymmetric (profile_in c) c.profiles owned
 
+module _ (schema : Schema) (dir : List ℕ) (c : Rows) (sound : IsSoundRows schema dir c) where
   told_profile : (owner name : List ℕ) (o : Option ℤ) → finite.get c.profiles (owner, name) ≡ o → is_some o ≡ true → (x : Profile) × (finite.get (world_of c).profiles (owner, name) ≡ Some x) × TellsProfile c owner name x
   told_profile owner name None e h = absurd (false≢true h)
   told_profile owner name (Some n) e h =
       let m = sound.current (owner, name) n e in (
         profile_in c (owner, name) n,
-        profile_at (owner, name) ∙ ap (option_map (profile_in c (owner, name))) e,
-        record { generation = generation_at owner name; current = e ∙ ap Some (m.1 ∙ ap (λ (z : ℤ). pos (number_in z)) (sym m.1)) },
+        profile_at c (owner, name) ∙ ap (option_map (profile_in c (owner, name))) e,
+        record { generation = generation_at c sound.numbers owner name; current = e ∙ ap Some (m.1 ∙ ap (λ (z : ℤ). pos (number_in z)) (sym m.1)) },
       )
 
   pub tells_world : TellsWorld c (world_of c)
   tells_world = record {
-    no_object = λ p e. object_at p ∙ ap (option_map (object_in c p)) e;
+    no_object = λ p e. object_at c p ∙ ap (option_map (object_in c p)) e;
     object = λ p o e. (
       object_in c p o,
-      object_at p ∙ ap (option_map (object_in c p)) e,
+      object_at c p ∙ ap (option_map (object_in c p)) e,
       record { archive = refl; piece = piece_at c p; reference = reference_at c p; output = output_at c p; deriver = refl; address = refl },
     );
-    no_profile = λ owned e. profile_at owned ∙ ap (option_map (profile_in c owned)) e;
+    no_profile = λ owned e. profile_at c owned ∙ ap (option_map (profile_in c owned)) e;
     profile = λ owner name h. told_profile owner name (finite.get c.profiles (owner, name)) refl h;
     permanent = λ name. refl;
     user_root = λ owned. refl;
     runtime = λ pair. refl;
-    temporary = temporary_at;
+    temporary = temporary_at c sound.sessions;
   }

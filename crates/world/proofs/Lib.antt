@@ -4,3 +4,5 @@ pub mod NewRows
 pub mod Cuts
 pub mod Columns
 mod Migrating
+pub mod SoundParts
+pub mod Told

@@ -4,3 +4,5 @@ pub mod Sound
 pub mod Pieces
 pub mod Rows
 pub mod Laws
+pub mod Parts
+pub mod Told

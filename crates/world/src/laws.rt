@@ -5,6 +5,7 @@ ghost use Rattle.world.specs.World.{no_world};
 ghost use Rattle.world.specs.Sound.{IsSound};
 ghost use Rattle.world.specs.Rows.{Schema, IsSoundRows, new_rows, world_of};
 ghost use Rattle.world.specs.Laws.{CutsOneWay, MigratesSoundly, RowsTellTheWorld};
+ghost use Rattle.world.specs.Parts.{AreSoundByParts};
 
 /// The world of a database that was just made is sound in every store directory.
 pub fn the_new_world_is_sound()
@@ -30,4 +31,9 @@ pub fn rows_tell_the_world()
 /// A migration keeps the world, and what was sound by its schema is sound by the third.
 pub fn migration_keeps_the_world()
     ensures { MigratesSoundly }
+{}
+
+/// Rows are sound exactly where each of them is, beside the others: what an opening tests, row by row.
+pub fn sound_rows_are_sound_parts()
+    ensures { AreSoundByParts }
 {}

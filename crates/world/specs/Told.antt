@@ -1,7 +1,7 @@
--- The world that the contents of the tables tell, and when they are sound.
+-- The world that the contents of today's nine tables tell, and when they are sound.
 use Rattle.std.specs.Prelude.{List, ℕ}
 use Rattle.std.specs.FinMap as finite
-use Rattle.rows.specs.Contents.{Contents}
+use Rattle.table_statements.specs.Contents.{Contents}
 use Rattle.world.specs.World.{World}
 use Rattle.world.specs.Rows.{one, Rows, IsSoundRows, world_of}
 
