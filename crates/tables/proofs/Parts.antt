@@ -1,24 +1,17 @@
 -- What maps of rows say of one path.
-use Rattle.std.proofs.Common.{◌≡◌, ℕ, List, [], ◌∷◌, ◌++◌, map, Bool, true, false, ◌&&◌, ◌||◌, not, cond, Some, None, Option, refl, sym, ap, ◌∙◌, T}
+use Rattle.std.proofs.Common.{◌≡◌, ℕ, List, [], ◌∷◌, Bool, true, false, ◌&&◌, ◌||◌, not, cond, Some, None, Option, refl, sym, ap, ◌∙◌, T}
 use Rattle.std.specs.declared.cmp.Ordering.{Ordering}
 use Rattle.std.specs.declared.cmp.Ordering.TheVariants.{Less, Equal, Greater}
-use Rattle.std.specs.Ordering.{eq_by_cmp, int_cmp, is_eq, is_lt, ordering_then}
-use Rattle.std.specs.Prelude.{ℤ}
-use Rattle.std.specs.List.{filter, list_any}
+use Rattle.std.specs.Ordering.{eq_by_cmp, is_eq, is_lt, ordering_then}
+use Rattle.std.specs.List.{list_any}
 use Rattle.std.specs.FinMap as finite
-use Rattle.std.proofs.lemmas.List.{append-nil}
 use Rattle.std.specs.FinMap.Entries.{find as find_entry, is_sorted, below_all}
 use Rattle.paths.specs.Root.{bytes_cmp}
-use Rattle.rows.specs.Contents.{Contents, Stored, PairSet, pair_cmp}
+use Rattle.rows.specs.Contents.{PairSet, pair_cmp}
 use Rattle.table_statements.proofs.Orders.{pair_total}
 use Rattle.world.specs.World.{Path}
-use Rattle.world.specs.Pieces.{joined}
-use Rattle.world.specs.Rows.{Piece, piece_cmp, references_in, outputs_in, pieces_in, archive_in}
-use Rattle.world.proofs.Columns.{get_part}
-use Rattle.world.proofs.Empty.{no_entries}
-use Rattle.world.specs.Told.{rows_of}
 use Rattle.tables.specs.Rewritten.{put_references, put_outputs}
-use Rattle.index.proofs.Orders.{bytes_total, bytes_antisymmetric}
+use Rattle.index.proofs.Orders.{bytes_antisymmetric}
 use Rattle.index.proofs.Puts.{tied_is}
 use Rattle.tables.proofs.Free.{both_T, lesser}
 

@@ -1,7 +1,7 @@
 -- An archive is cut in one right way.
 use Rattle.std.proofs.Common.{◌≡◌, ℕ, ◌+◌, ◌≤◌, List, [], ◌∷◌, ◌++◌, length, take, drop, refl, sym, ap, ◌∙◌, arith, length-append}
-use Rattle.std.specs.Prelude.{ℤ, pos}
-use Rattle.std.proofs.lemmas.List.{nil_from_length, append-nil, length-take, length-drop, take-append-drop}
+use Rattle.std.specs.Prelude.{ℤ}
+use Rattle.std.proofs.lemmas.List.{append-nil, length-take, length-drop, take-append-drop}
 use Rattle.world.specs.Pieces.{piece_size, joined, GoOn, IsCut, row_part, pieces_by, further_pieces}
 use Rattle.world.specs.Laws.{CutsOneWay}
 

@@ -1,5 +1,5 @@
 -- A migration keeps the world, and leaves rows that are sound by the third schema.
-use Rattle.std.proofs.Common.{◌≡◌, ℕ, ◌+◌, ◌<◌, ◌≤◌, List, [], ◌∷◌, ◌++◌, map, take, drop, Bool, true, false, ◌&&◌, cond, Some, None, Option, option_map, refl, sym, ap, arith, ◌∙◌, IsTrue, subst, inl, inr, ◌⊎◌}
+use Rattle.std.proofs.Common.{◌≡◌, ℕ, ◌+◌, ◌<◌, List, [], ◌∷◌, ◌++◌, map, drop, Bool, true, false, ◌&&◌, cond, Some, None, Option, option_map, refl, sym, ap, arith, ◌∙◌, IsTrue, subst}
 use Rattle.std.specs.Prelude.{ℤ, pos, ◌<ℤ◌, is_some}
 use Rattle.std.specs.List.{flat_map}
 use Rattle.std.specs.declared.cmp.Ordering.{Ordering}
@@ -16,10 +16,10 @@ use Rattle.std.proofs.lemmas.Option.{same_Some}
 use Rattle.sha2.specs.Sha256.{sha256}
 use Rattle.paths.specs.Root.{bytes_cmp}
 use Rattle.table_statements.specs.Contents.{Stored}
-use Rattle.world.specs.World.{Path, Object, World}
+use Rattle.world.specs.World.{Path}
 use Rattle.world.specs.Sound.{IsSound}
 use Rattle.world.specs.Pieces.{piece_size, joined, IsCut, row_part, pieces_by, further_pieces}
-use Rattle.world.specs.Rows.{Schema, one, two, three, Piece, piece_cmp, Rows, pieces_in, archive_in, object_in, world_of, IsSoundRows, cut_row, cut_pieces, migrated}
+use Rattle.world.specs.Rows.{one, two, three, Piece, piece_cmp, Rows, pieces_in, archive_in, object_in, world_of, IsSoundRows, cut_row, cut_pieces, migrated}
 use Rattle.world.specs.Laws.{MigratesSoundly}
 use Rattle.world.proofs.Cuts.{cut_right, cut_whole}
 use Rattle.world.proofs.Columns.{bytes_antisymmetric, get_changed, piece_at}

@@ -1,5 +1,5 @@
 -- How an archive is cut: the bytes of its object's row, and its further pieces, which are numbered from 1.
-use Rattle.std.specs.Prelude.{◌≡◌, ℕ, ◌+◌, ◌≤◌, ℤ, pos, List, [], ◌∷◌, ◌++◌, length, take, drop}
+use Rattle.std.specs.Prelude.{◌≡◌, ℕ, ◌+◌, ◌≤◌, ℤ, pos, List, [], ◌∷◌, length, take, drop}
 use Rattle.std.specs.List.{flat_map}
 
 -- the most bytes of an archive in one row

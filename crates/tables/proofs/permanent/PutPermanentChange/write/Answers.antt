@@ -1,8 +1,6 @@
-use Rattle.std.proofs.Common.{not, refl, ap, ◌∙◌}
-use Rattle.std.specs.Ordering.{eq_by_cmp}
-use Rattle.std.specs.FinMap as finite
+use Rattle.std.proofs.Common.{ap}
 use Rattle.sqlite.specs.Held.{state}
-use Rattle.rows.specs.Contents.{Contents, contents_of, texts_cmp}
+use Rattle.rows.specs.Contents.{Contents}
 use Rattle.index.proofs.Orders.{bytes_total, bytes_antisymmetric}
 use Rattle.index.proofs.Puts.{put_over}
 use Rattle.table_statements.proofs.Transactions.{done_both, failed_next}

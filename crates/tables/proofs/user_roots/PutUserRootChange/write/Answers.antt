@@ -1,9 +1,9 @@
 use Rattle.std.proofs.Common.{ℕ, List, ap, ◌∙◌}
 use Rattle.std.specs.FinMap as finite
 use Rattle.sqlite.specs.Held.{state}
-use Rattle.rows.specs.Contents.{Contents, contents_of}
+use Rattle.rows.specs.Contents.{Contents}
 use Rattle.index.proofs.Orders.{pair_total, pair_antisymmetric}
-use Rattle.index.proofs.Puts.{put_over, get-gone}
+use Rattle.index.proofs.Puts.{put_over}
 use Rattle.tables.proofs.Parts.{without_pair}
 use Rattle.table_statements.proofs.Transactions.{done_both, failed_next}
 use Rattle.tables.proofs.Transactions.{survives_both}
