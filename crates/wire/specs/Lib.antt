@@ -1,1 +1,2 @@
 pub mod ReplyHead
+pub mod Responses
