@@ -3,6 +3,7 @@ pub mod Transactions
 pub mod Kept
 pub mod RootChanges
 pub mod PutRoots
+pub mod PutPairs
 pub mod ReadArchives
 pub mod Made
 pub mod Free

@@ -8,6 +8,7 @@ mod opening;
 mod permanent;
 mod reading;
 mod roots;
+mod runtime;
 mod texts;
 mod user_roots;
 

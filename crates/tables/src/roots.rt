@@ -6,16 +6,19 @@ ghost use Rattle.std.specs.FinMap as finite;
 ghost use Rattle.sqlite.specs.State.{Survives};
 ghost use Rattle.sqlite.specs.Held.{state};
 ghost use Rattle.rows.specs.Calls.{IsDurable};
-ghost use Rattle.world.specs.World.{World};
+ghost use Rattle.world.specs.World.{World, pair_cmp};
 ghost use Rattle.world.specs.Sound.{IsSound};
+ghost use Rattle.index.specs.Maps.{labelled_bytes, seen_set};
 ghost use Rattle.tables.specs.Kept.{Tells, LeavesWorld};
 
 use crate::change;
 use crate::keeping::Tables;
 use crate::permanent::{DropPermanent, PutPermanent};
+use crate::runtime::ReplaceRuntime;
 use crate::user_roots::{DropUserRoot, PutUserRoot, owned};
 use paths::StorePath;
 use sqlite::Alter;
+use std::collections::BTreeSet;
 use table_statements::failure::Failure;
 
 impl<S: Alter> Tables<S> {
@@ -120,6 +123,28 @@ impl<S: Alter> Tables<S> {
                 Ok(())
             }
             Err(failure) => Err(failure),
+        }
+    }
+
+    /// Makes the runtime roots these, each a label and a target, in place of all that there were.
+    pub fn replace_runtime(&mut self, roots: BTreeSet<(String, StorePath)>) -> Result<(), Failure>
+        requires sound { (w : World) → Tells S.Store self.old w → IsSound self.old.dir (record w { runtime = seen_set pair_cmp labelled_bytes roots.keys }) }
+        ensures dir { self.new.dir ≡ self.old.dir }
+        ensures done { OnOk result ((w : World) → Tells S.Store self.old w → Tells S.Store self.new (record w { runtime = seen_set pair_cmp labelled_bytes roots.keys })) }
+        ensures failed { OnErr result ((w : World) → Tells S.Store self.old w → Tells S.Store self.new w) }
+        ensures durable { OnOk result (IsTrue (state S.Store self.new.connection).is_open → IsDurable (state S.Store self.new.connection)) }
+        ensures survives { (w : World) → Tells S.Store self.old w → Survives (state S.Store self.old.connection) (state S.Store self.new.connection)
+            (λ db. LeavesWorld self.old.dir (state S.Store self.old.connection).now db (record w { runtime = seen_set pair_cmp labelled_bytes roots.keys })) }
+    {
+        match change::commit(&mut self.connection, &ReplaceRuntime { roots: &roots }) {
+            Ok(()) => {
+                self.index.replace_runtime(roots);
+                Ok(())
+            }
+            Err(failure) => {
+                drop(roots);
+                Err(failure)
+            }
         }
     }
 }

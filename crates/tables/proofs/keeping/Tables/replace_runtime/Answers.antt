@@ -1,0 +1,36 @@
+use Rattle.std.proofs.Common.{refl}
+use Rattle.std.specs.FinMap as finite
+use Rattle.paths.specs.Root.{bytes_cmp, Set}
+use Rattle.world.specs.World.{Path, pair_cmp}
+use Rattle.index.specs.Maps.{labelled_bytes, seen_set}
+use Rattle.tables.proofs.RootChanges.{roots_agree, roots_told, roots_survive}
+use Rattle.tables.proofs.Kept.{agrees_failed, told_failed}
+use Rattle.tables.proofs.keeping.Tables.replace_runtime.Goals as goal
+
+pub invariant_of-self : goal.invariant_of-self
+invariant_of-self g c =
+    roots_agree (λ (m : finite.FinMap bytes_cmp Path). m) (λ (m : finite.FinMap pair_cmp Path). m) (λ (m : Set pair_cmp). seen_set pair_cmp labelled_bytes c.args.roots.keys) g.S.Store _ c.args.self.now c.self.view_is c.commit.new.conn c.replace_runtime.new.self c.self.invariant c.requires.sound c.commit.ensures.survives (λ clean. c.in-Ok.ensures.done clean)
+    c.replace_runtime.ensures c.commit.ensures.alone
+
+pub invariant_of-self-in-Err : goal.invariant_of-self-in-Err
+invariant_of-self-in-Err g c =
+    agrees_failed g.S.Store _ c.args.self.now c.self.view_is c.commit.new.conn c.self.inside.index c.self.invariant _ c.commit.ensures.survives (λ clean. c.in-Err.ensures.failed clean)
+    refl c.commit.ensures.alone
+
+pub returns-in-Ok-clause-done : goal.returns-in-Ok-clause-done
+returns-in-Ok-clause-done g c =
+    roots_told (λ (m : finite.FinMap bytes_cmp Path). m) (λ (m : finite.FinMap pair_cmp Path). m) (λ (m : Set pair_cmp). seen_set pair_cmp labelled_bytes c.args.roots.keys) g.S.Store _ c.args.self.now c.self.view_is c.commit.new.conn c.replace_runtime.new.self c.self.invariant c.requires.sound c.commit.ensures.survives (λ clean. c.in-Ok.ensures.done clean)
+    c.replace_runtime.ensures
+
+pub returns-in-Ok-clause-survives : goal.returns-in-Ok-clause-survives
+returns-in-Ok-clause-survives g c =
+    roots_survive (λ (m : finite.FinMap bytes_cmp Path). m) (λ (m : finite.FinMap pair_cmp Path). m) (λ (m : Set pair_cmp). seen_set pair_cmp labelled_bytes c.args.roots.keys) g.S.Store _ c.args.self.now c.self.view_is c.commit.new.conn c.replace_runtime.new.self c.self.invariant c.requires.sound c.commit.ensures.survives
+
+pub returns-in-Err-clause-failed : goal.returns-in-Err-clause-failed
+returns-in-Err-clause-failed g c =
+    told_failed g.S.Store _ c.args.self.now c.self.view_is c.commit.new.conn c.self.inside.index c.self.invariant _ c.commit.ensures.survives (λ clean. c.in-Err.ensures.failed clean)
+    refl
+
+pub returns-in-Err-clause-survives : goal.returns-in-Err-clause-survives
+returns-in-Err-clause-survives g c =
+    roots_survive (λ (m : finite.FinMap bytes_cmp Path). m) (λ (m : finite.FinMap pair_cmp Path). m) (λ (m : Set pair_cmp). seen_set pair_cmp labelled_bytes c.args.roots.keys) g.S.Store _ c.args.self.now c.self.view_is c.commit.new.conn c.self.inside.index c.self.invariant c.requires.sound c.commit.ensures.survives

@@ -1,0 +1,22 @@
+use Rattle.std.proofs.Common.{map, ap}
+use Rattle.sqlite.specs.Held.{state}
+use Rattle.rows.specs.Contents.{Contents}
+use Rattle.index.specs.Maps.{labelled_bytes}
+use Rattle.table_statements.proofs.Transactions.{done_both, failed_next}
+use Rattle.tables.proofs.PutPairs.{all_put}
+use Rattle.tables.proofs.Transactions.{survives_both}
+use Rattle.tables.proofs.runtime.ReplaceRuntimeChange.write.Goals as goal
+
+pub returns-clause-done : goal.returns-clause-done
+returns-clause-done g c =
+    done_both (state g.S.Store c.args.tx.now.conn.now) (state g.S.Store c.delete_all.new.tx.conn.now) (state g.S.Store c.put_runtime.new.tx.conn.now) _ _ c.in_ok-delete_all.ensures.done c.put_runtime.ensures.survives
+    c.put_runtime.result _ (λ (x : Contents). ap (λ m. record x { runtime = m }) (all_put (map labelled_bytes c.args.self.now.roots.now.keys))) c.put_runtime.ensures.done
+
+pub returns-clause-failed : goal.returns-clause-failed
+returns-clause-failed g c =
+    failed_next (state g.S.Store c.args.tx.now.conn.now) (state g.S.Store c.delete_all.new.tx.conn.now) (state g.S.Store c.put_runtime.new.tx.conn.now) _ (λ x. x) c.in_ok-delete_all.ensures.done c.put_runtime.ensures.survives
+    c.put_runtime.result c.put_runtime.ensures.failed
+
+pub returns-clause-survives : goal.returns-clause-survives
+returns-clause-survives g c =
+    survives_both (state g.S.Store c.args.tx.now.conn.now) (state g.S.Store c.delete_all.new.tx.conn.now) (state g.S.Store c.put_runtime.new.tx.conn.now) c.delete_all.ensures.survives c.put_runtime.ensures.survives

@@ -1,0 +1,16 @@
+use Rattle.std.proofs.Common.{◌≡◌, map}
+use Rattle.sqlite.specs.State.{HasCleanDisk, Survives}
+use Rattle.sqlite.specs.Held.{state}
+use Rattle.rows.specs.Contents.{Contents}
+use Rattle.index.specs.Maps.{labelled_bytes}
+use Rattle.tables.specs.Rewritten.{put_pairs}
+use Rattle.table_statements.proofs.Going.{Goes}
+use Rattle.tables.proofs.runtime.put_runtime.Given as goal
+
+-- what is left to write
+abbrev pub invariant-roots : goal.invariant-roots
+invariant-roots g l = record {
+  same_reference : l.tx.conn.ghost_name ≡ l.fn.tx.conn.ghost_name;
+  goes : HasCleanDisk (state g.S.Store l.tx.conn.now) → Goes (λ ps (c : Contents). record c { runtime = put_pairs ps c.runtime }) (map labelled_bytes l.initial.root-iterator) (state g.S.Store l.fn.tx.conn.now) (state g.S.Store l.tx.conn.now) (map labelled_bytes l.root-iterator);
+  survives : Survives (state g.S.Store l.fn.tx.conn.now) (state g.S.Store l.tx.conn.now) (λ _. ⊥);
+}

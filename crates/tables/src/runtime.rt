@@ -1,0 +1,55 @@
+//! Runtime roots, as the rows have them.
+
+ghost use Rattle.std.specs.Prelude.{◌≡◌, IsTrue, OnOk, OnErr, map};
+ghost use Rattle.sqlite.specs.State.{HasCleanDisk, KeepsCommit, Survives};
+ghost use Rattle.sqlite.specs.Held.{state};
+ghost use Rattle.rows.specs.Calls.{IsUnderWay, Changes};
+ghost use Rattle.index.specs.Maps.{labelled_bytes};
+ghost use Rattle.tables.specs.Rewritten.{put_pairs};
+
+use crate::change::Change;
+use paths::StorePath;
+use rows::runtime;
+use sqlite::{Alter, Transaction};
+use std::collections::BTreeSet;
+use table_statements::failure::Failure;
+
+/// Adds rows for these runtime roots.
+pub(crate) fn put_runtime<S: Alter>(
+    tx: &mut Transaction<'_, S>,
+    roots: &BTreeSet<(String, StorePath)>,
+) -> Result<(), Failure>
+    requires under_way { HasCleanDisk (state S.Store tx.old.conn.now) → IsUnderWay (state S.Store tx.old.conn.now) }
+    requires is_open { HasCleanDisk (state S.Store tx.old.conn.now) → IsTrue (state S.Store tx.old.conn.now).is_open }
+    ensures same_reference { tx.new.conn.ghost_name ≡ tx.old.conn.ghost_name }
+    ensures done { HasCleanDisk (state S.Store tx.new.conn.now) → OnOk result (Changes (state S.Store tx.old.conn.now) (state S.Store tx.new.conn.now)
+        (λ c. record c { runtime = put_pairs (map labelled_bytes roots.now.keys) c.runtime })) }
+    ensures failed { HasCleanDisk (state S.Store tx.new.conn.now) → OnErr result (KeepsCommit (state S.Store tx.old.conn.now) (state S.Store tx.new.conn.now)) }
+    ensures survives { Survives (state S.Store tx.old.conn.now) (state S.Store tx.new.conn.now) (λ _. ⊥) }
+{
+    'roots: for root in roots.iter() {
+        runtime::insert(tx, root.0.as_str(), root.1.as_str())?;
+    }
+    Ok(())
+}
+
+/// All runtime roots are replaced.
+#[derive(Drop)]
+pub(crate) struct ReplaceRuntime<'a> {
+    pub(crate) roots: &'a BTreeSet<(String, StorePath)>,
+}
+
+impl<'a> Change for ReplaceRuntime<'a> {
+    ghost use Rattle.std.specs.Prelude.{⊤};
+    ghost use Rattle.world.specs.World.{pair_cmp};
+    ghost use Rattle.index.specs.Maps.{seen_set};
+
+    ghost change = { λ p c. record c { runtime = seen_set pair_cmp labelled_bytes p.roots.now.keys } };
+
+    ghost fits = { λ p c. ⊤ };
+
+    fn write<S: Alter>(&self, tx: &mut Transaction<'_, S>) -> Result<(), Failure> {
+        runtime::delete_all(tx)?;
+        put_runtime(tx, self.roots)
+    }
+}
