@@ -1,6 +1,6 @@
 -- That a write to one of our tables leaves each other table as it was, ours and theirs.
 use Rattle.std.proofs.Common.{◌≡◌, ◌≢◌, ℕ, List, [], ◌∷◌, Bool, true, false, not, ◌||◌, ◌==◌, Some, refl, sym, ap, subst, subst₂, ◌∙◌, ◌+◌, ◌<◌, length, slice_get, bytes_eq}
-use Rattle.std.specs.Prelude.{option_and_then, option_map, unwrap_or}
+use Rattle.std.specs.Prelude.{cond, find, option_and_then, option_map, unwrap_or}
 use Rattle.std.specs.List.{AllByRecursion, list_all}
 use Rattle.std.proofs.lemmas.Slice.Eq.{bytes_eq-Decides}
 use Rattle.std.proofs.lemmas.Bool.{eq-eqb}
@@ -9,14 +9,14 @@ use Rattle.sqlite_trees.proofs.ListLemmas.{all-slice_get}
 use Rattle.sqlite_schema.specs.declared.schema.Schema.{Schema}
 use Rattle.sqlite_schema.specs.declared.schema.Table.{Table}
 use Rattle.sqlite_schema.specs.declared.schema.Column.{Column}
-use Rattle.sqlite_schema.specs.Names.{table_named}
+use Rattle.sqlite_schema.specs.Names.{same_name, table_named}
 use Rattle.sqlite_rules.specs.Lists.{Has}
 use Rattle.sqlite.specs.State.{State}
-use Rattle.table_forms.specs.Forms.{our_tables, is_our_name}
+use Rattle.table_forms.specs.Forms.{our_tables, piece, temp_root, is_our_name}
 use Rattle.table_forms.specs.Standing.{Stands, HasTables, tree_named}
-use Rattle.table_statements.specs.Contents.{Contents, contents_of, rows_named}
+use Rattle.table_statements.specs.Contents.{Contents, contents_of, rows_named, rows_if_any}
 use Rattle.table_statements.specs.Texts.{IsReadable, AreReadableRows, HasReadableRows}
-use Rattle.table_statements.specs.Calls.{IsKeyed, IsOurs, KeepsTheirs, Changes}
+use Rattle.table_statements.specs.Calls.{IsKeyed, IsOurs, HasFurther, KeepsFurther, KeepsTheirs, Changes}
 use Rattle.table_statements.proofs.Writes.{SetsRows}
 use Rattle.table_statements.proofs.Truths.{and_so}
 
@@ -78,6 +78,29 @@ module _ (a : Table) (old new : State) (rows : List Row) (stands : Stands old.no
       ap (λ s. new.now.trees (tree_named s b.name)) sets.schema
       ∙ at_tree old.now.schema a stands (λ tree. new.now.trees tree ≡ old.now.trees tree) b other sets.others (apart old.now.schema a stands b other names)
 
+  -- and so has one of another name, if there is one
+  pub if_any_kept : (name : List ℕ) → same_name a.name name ≡ false → rows_if_any new.now name ≡ rows_if_any old.now name
+  unfolding rows_if_any
+  if_any_kept name names =
+      ap (λ (s : Schema). unwrap_or (option_map (λ (t : Table). new.now.trees t.tree) (find (λ (t : Table). same_name t.name name) s.tables)) []) sets.schema
+      ∙ walk old.now.schema.tables stands.alone sets.others
+    where
+      other : (t : Table) → (not (t.tree == tree_named old.now.schema a.name) || bytes_eq t.name a.name) ≡ true → same_name t.name name ≡ true → t.tree ≢ tree_named old.now.schema a.name
+      other t alone is e =
+          let named : bytes_eq t.name a.name ≡ true = let f = alone in rw (eq-eqb _ _ e) at f in
+          absurd (let f = sym is ∙ ap (λ n. same_name n name) (bytes_same _ _ named) ∙ names in cc)
+
+      walk : (ts : List Table) → list_all (λ t. not (t.tree == tree_named old.now.schema a.name) || bytes_eq t.name a.name) ts ≡ true → AllByRecursion (λ t. t.tree ≢ tree_named old.now.schema a.name → new.now.trees t.tree ≡ old.now.trees t.tree) ts
+          → unwrap_or (option_map (λ (t : Table). new.now.trees t.tree) (find (λ (t : Table). same_name t.name name) ts)) [] ≡ unwrap_or (option_map (λ (t : Table). old.now.trees t.tree) (find (λ (t : Table). same_name t.name name) ts)) []
+      walk [] alone others = refl
+      walk (t ∷ ts) alone others = go (same_name t.name name) refl (walk ts (and_so _ _ alone).1 others.1)
+        where
+          go : (b : Bool) → same_name t.name name ≡ b
+              → unwrap_or (option_map (λ (t : Table). new.now.trees t.tree) (find (λ (t : Table). same_name t.name name) ts)) [] ≡ unwrap_or (option_map (λ (t : Table). old.now.trees t.tree) (find (λ (t : Table). same_name t.name name) ts)) []
+              → unwrap_or (option_map (λ (t : Table). new.now.trees t.tree) (cond b (Some t) (find (λ (t : Table). same_name t.name name) ts))) [] ≡ unwrap_or (option_map (λ (t : Table). old.now.trees t.tree) (cond b (Some t) (find (λ (t : Table). same_name t.name name) ts))) []
+          go true is later = others.0 (other t (and_so _ _ alone).0 is)
+          go false is later = later
+
   -- and so has each of theirs
   pub theirs_kept : is_our_name a.name ≡ true → KeepsTheirs old.now new.now
   theirs_kept = kept old.now.schema a stands (λ t. new.now.trees t.tree ≡ old.now.trees t.tree) old.now.schema.tables stands.alone sets.others
@@ -103,8 +126,17 @@ module _ (a : Table) (old new : State) (rows : List Row) (stands : Stands old.no
     readable = after (λ columns rs. (row : Row) (at : ℕ) → Has rs row → at < length columns → IsReadable (column row (at + 1))) readable our_tables ours.has ours.readable;
   }
 
+  -- a further table that stood stands still
+  pub further_kept : (IsKeyed (rows_named old.now a.name) → IsKeyed rows) → (AreReadableRows a (rows_named old.now a.name) → AreReadableRows a rows) → (t : Table) → HasFurther old.now t → HasFurther new.now t
+  further_kept keyed readable t there = record {
+    stands = subst (λ (s : Schema). Stands s t) (sym sets.schema) there.stands;
+    keyed = (after (λ columns rs. IsKeyed rs) keyed (t ∷ []) (there.stands, tt) (there.keyed, tt)).0;
+    readable = (after (λ columns rs. (row : Row) (at : ℕ) → Has rs row → at < length columns → IsReadable (column row (at + 1))) readable (t ∷ []) (there.stands, tt) (there.readable, tt)).0;
+  }
+
   -- what the write makes of what our tables hold
   pub changed : (change : Contents → Contents) → IsOurs old.now → (IsKeyed (rows_named old.now a.name) → IsKeyed rows) → (AreReadableRows a (rows_named old.now a.name) → AreReadableRows a rows) → is_our_name a.name ≡ true → contents_of new.now ≡ change (contents_of old.now) → Changes old new change
+  unfolding KeepsFurther
   changed change ours keyed readable named contents = record {
     was_open = sets.was_open;
     is_open = sets.is_open;
@@ -113,6 +145,7 @@ module _ (a : Table) (old new : State) (rows : List Row) (stands : Stands old.no
     theirs = theirs_kept named;
     unshown = sets.unshown;
     ours = ours_kept ours keyed readable;
+    further = (further_kept keyed readable piece, (further_kept keyed readable temp_root, tt));
     committed = sets.committed;
     mode = sets.mode;
     marks = sets.marks;

@@ -5,7 +5,7 @@ use Rattle.sqlite_schema.specs.declared.schema.Schema.{Schema}
 use Rattle.sqlite_schema.specs.declared.schema.Table.{Table}
 use Rattle.sqlite_schema.specs.Names.{same_name, table_named, index_named, view_named}
 use Rattle.sqlite.specs.Does.{lacks_sequence}
-use Rattle.table_forms.specs.Forms.{our_tables}
+use Rattle.table_forms.specs.Forms.{our_tables, further_tables}
 use Rattle.table_forms.specs.Standing.{is_unreferred, is_alone, is_unguarded}
 
 -- the table has the form, and is found by its tree too, which is below the numbers that a query gives to tables of its own
@@ -39,4 +39,5 @@ pub record IsFree (s : Schema) (name : List ℕ) : Type 0 where
 -- none of our names is taken, and a table that counts its rowids has its counter
 pub record HasNone (s : Schema) : Type 0 where
   pub free : AllByRecursion (λ t. IsFree s t.name) our_tables
+  pub further : AllByRecursion (λ t. IsFree s t.name) further_tables
   pub counted : lacks_sequence s ≡ false

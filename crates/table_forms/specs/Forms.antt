@@ -1,5 +1,5 @@
--- The nine tables, as the texts that make them say.
-use Rattle.std.specs.Prelude.{ℕ, true, false, Bool, List, [], ◌∷◌, None, codes, bytes_eq}
+-- The eleven tables, as the texts that make them say.
+use Rattle.std.specs.Prelude.{ℕ, true, false, Bool, List, [], ◌∷◌, ◌++◌, None, codes, bytes_eq}
 use Rattle.std.specs.List.{list_any}
 use Rattle.sqlite_value.specs.declared.value.Value.TheVariants.{Null}
 use Rattle.sqlite_value.specs.declared.keys.Collation.TheVariants.{Binary}
@@ -57,10 +57,20 @@ generation = strict (codes "generation") (col (codes "owner") Text true ∷ col 
 abbrev pub runtime : Table
 runtime = strict (codes "runtime") (col (codes "label") Text true ∷ col (codes "target") Text true ∷ []) (1 ∷ 2 ∷ [])
 
--- the nine, in the order in which they are made
+abbrev pub piece : Table
+piece = strict (codes "piece") (col (codes "base") Text true ∷ col (codes "num") Integer true ∷ col (codes "bytes") Blob true ∷ []) (1 ∷ 2 ∷ [])
+
+abbrev pub temp_root : Table
+temp_root = strict (codes "temp_root") (col (codes "owner") Text true ∷ col (codes "session") Integer true ∷ col (codes "target") Text true ∷ []) (1 ∷ 2 ∷ 3 ∷ [])
+
+-- the nine that every schema has, in the order in which they are made
 abbrev pub our_tables : List Table
 our_tables = meta ∷ object ∷ refs ∷ outs ∷ permanent ∷ user_root ∷ profile ∷ generation ∷ runtime ∷ []
 
--- one of the nine has this name
+-- the two that later schemas have besides: the second schema has the first of them, and the third both
+abbrev pub further_tables : List Table
+further_tables = piece ∷ temp_root ∷ []
+
+-- one of the eleven has this name
 abbrev pub is_our_name : List ℕ → Bool
-is_our_name name = list_any (λ t. bytes_eq t.name name) our_tables
+is_our_name name = list_any (λ t. bytes_eq t.name name) (our_tables ++ further_tables)

@@ -1,11 +1,11 @@
 //! What a schema holds of ours: all nine tables, nothing at all, or anything else.
 
 ghost use Rattle.std.specs.Prelude.{◌≡◌, ◌↔◌, not, IsTrue, codes};
-ghost use Rattle.std.specs.List.{list_all, list_any};
+ghost use Rattle.std.specs.List.{list_all, list_any, AllByRecursion};
 ghost use Rattle.sqlite_schema.specs.Names.{same_name};
 ghost use Rattle.sqlite.specs.Does.{lacks_sequence};
 ghost use Rattle.table_forms.specs.Standing.{Stands, HasTables};
-ghost use Rattle.table_forms.specs.Forms.{meta, object, refs, outs, permanent, user_root, profile, generation, runtime};
+ghost use Rattle.table_forms.specs.Forms.{meta, object, refs, outs, permanent, user_root, profile, generation, runtime, further_tables};
 ghost use Rattle.table_forms.specs.Finding.{IsFree, HasNone};
 ghost use Rattle.table_forms.specs.declared.finding.Finding.TheVariants.{Ours, Nothing};
 
@@ -117,6 +117,12 @@ fn lacks_sequence(schema: &Schema) -> bool
         }
 }
 
+fn further_are_free(schema: &Schema) -> bool
+    ensures { IsTrue result ↔ AllByRecursion (λ t. IsFree schema.now t.name) further_tables }
+{
+    is_free(schema, b"piece") && is_free(schema, b"temp_root")
+}
+
 fn has_none(schema: &Schema) -> bool
     ensures { IsTrue result ↔ HasNone schema.now }
 {
@@ -129,5 +135,6 @@ fn has_none(schema: &Schema) -> bool
         && is_free(schema, b"profile")
         && is_free(schema, b"generation")
         && is_free(schema, b"runtime")
+        && further_are_free(schema)
         && !lacks_sequence(schema)
 }

@@ -1,6 +1,6 @@
 -- What our tables hold once they are made, and that they stand.
 use Rattle.std.proofs.Common.{◌≡◌, List, [], ◌∷◌, codes, Bool, true, false, refl, sym, ap, subst, ◌∙◌}
-use Rattle.std.specs.Prelude.{IsUtf8}
+use Rattle.std.specs.Prelude.{IsUtf8, find, Option, None, option_map, unwrap_or}
 use Rattle.std.specs.declared.cmp.Ordering.{Ordering}
 use Rattle.std.specs.FinMap as finite
 use Rattle.std.specs.Fmt.{digits}
@@ -10,13 +10,14 @@ use Rattle.sqlite_trees.specs.Tree.{Trees}
 use Rattle.sqlite_trees.proofs.ListLemmas.{all-append, all_weaker}
 use Rattle.sqlite_schema.specs.declared.schema.Schema.{Schema}
 use Rattle.sqlite_schema.specs.declared.schema.Table.{Table}
+use Rattle.sqlite_schema.specs.Names.{same_name}
 use Rattle.sqlite_catalog.specs.Change.{created, next_tree}
 use Rattle.sqlite_tied.specs.Compute.{everything}
 use Rattle.sqlite.specs.Effect.{Database, IsDatabase}
 use Rattle.sqlite.specs.State.{State}
-use Rattle.table_forms.specs.Forms.{meta, object, refs, outs, permanent, user_root, profile, generation, runtime, our_tables, is_our_name}
+use Rattle.table_forms.specs.Forms.{meta, object, refs, outs, permanent, user_root, profile, generation, runtime, piece, temp_root, our_tables, further_tables, is_our_name}
 use Rattle.table_forms.specs.Finding.{HasNone}
-use Rattle.table_statements.specs.Contents.{Bytes, contents_of, texts_cmp, pair_cmp, triple_cmp, is_pair, pair_of, is_object, object_of, member_of, is_triple, target_of, is_profile, profile_of, is_generation, generation_of, map_of, rows_named}
+use Rattle.table_statements.specs.Contents.{Bytes, contents_of, texts_cmp, pair_cmp, triple_cmp, is_pair, pair_of, is_object, object_of, member_of, is_triple, target_of, is_profile, profile_of, is_generation, generation_of, numbered_cmp, is_piece, piece_of, kept_cmp, is_kept, kept_of, map_of, rows_named, rows_if_any}
 use Rattle.table_statements.specs.Texts.{AreReadableRows, HasReadableRows}
 use Rattle.table_statements.specs.Calls.{IsKeyed, IsOurs}
 use Rattle.table_making.specs.Making.{IsMade, IsMadeIn, IsMadeOf, LeavesMade, AreSettings, first_contents, placed, ours_created, others_placed}
@@ -24,7 +25,7 @@ use Rattle.table_making.proofs.FrozenThen.{frozen_before}
 use Rattle.table_entries.proofs.ReadableMaps.{ours_readable}
 use Rattle.table_making.proofs.Creates.{tables_after}
 use Rattle.table_making.proofs.Settles.{keyed_none}
-use Rattle.table_making.proofs.Stood.{Parts, StandsAs, tree_is, all_stand, each_stands, by_names, are_low}
+use Rattle.table_making.proofs.Stood.{Parts, StandsAs, tree_is, all_stand, each_stands, by_names, are_low, unnamed_after}
 
 abbrev others : List Parts
 others = (codes "object", (object.columns, object.primary)) ∷ (codes "refs", (refs.columns, refs.primary)) ∷ (codes "outs", (outs.columns, outs.primary)) ∷ (codes "permanent", (permanent.columns, permanent.primary)) ∷ (codes "user_root", (user_root.columns, user_root.primary)) ∷ (codes "profile", (profile.columns, profile.primary)) ∷ (codes "generation", (generation.columns, generation.primary)) ∷ (codes "runtime", (runtime.columns, runtime.primary)) ∷ []
@@ -37,6 +38,18 @@ standing : (old : Database) → IsDatabase old → HasNone old.schema → AllByR
 unfolding ours_created digits everything
 standing old sound none = all_stand old.schema (meta_parts ∷ others) refl none.free (are_low old sound)
 
+-- neither further table is there
+abbrev AreAbsent : Schema → Type 0
+AreAbsent s = AllByRecursion (λ t. find (λ u. same_name u.name t.name) s.tables ≡ None) further_tables
+
+absent_after : (s : Schema) → HasNone s → AreAbsent (ours_created s)
+unfolding ours_created same_name
+absent_after s none = (unnamed_after s piece.name none.further.0.table (meta_parts ∷ others) refl, (unnamed_after s temp_root.name none.further.1.0.table (meta_parts ∷ others) refl, tt))
+
+none_there : (d : Database) (name : Bytes) → find (λ u. same_name u.name name) d.schema.tables ≡ None → rows_if_any d name ≡ []
+unfolding rows_if_any
+none_there d name none = ap (λ (o : Option Table). unwrap_or (option_map (λ (t : Table). d.trees t.tree) o) []) none
+
 nothing : {K X : Type 0} {R : K → K → Ordering} (kind : Row → Bool) (entry : Row → K × X) → map_of R kind entry [] ≡ finite.from_entries []
 unfolding map_of
 nothing kind entry = refl
@@ -44,7 +57,7 @@ nothing kind entry = refl
 no_rows : (t : Table) (rows : List Row) → rows ≡ [] → AreReadableRows t rows
 no_rows t rows is = subst (AreReadableRows t) (sym is) (λ row at there low. absurd there)
 
-module _ (dir : Bytes) (s : Schema) (d : Database) (stand : AllByRecursion (StandsAs d.schema) (placed s our_tables)) (settings : AreSettings dir (d.trees (next_tree s))) (empty : AllByRecursion (λ t. d.trees t.tree ≡ []) (others_placed s)) where
+module _ (dir : Bytes) (s : Schema) (d : Database) (stand : AllByRecursion (StandsAs d.schema) (placed s our_tables)) (settings : AreSettings dir (d.trees (next_tree s))) (empty : AllByRecursion (λ t. d.trees t.tree ≡ []) (others_placed s)) (absent : AreAbsent d.schema) where
   own : rows_named d (codes "meta") ≡ d.trees (next_tree s)
   own = ap d.trees (tree_is d.schema _ stand.0.at stand.0.named)
 
@@ -62,6 +75,8 @@ module _ (dir : Bytes) (s : Schema) (d : Database) (stand : AllByRecursion (Stan
         profiles = (ap (map_of pair_cmp is_profile profile_of) none.1.1.1.1.1.0 ∙ nothing is_profile profile_of) i;
         generations = (ap (map_of triple_cmp is_generation generation_of) none.1.1.1.1.1.1.0 ∙ nothing is_generation generation_of) i;
         runtime = (ap (map_of pair_cmp is_pair member_of) none.1.1.1.1.1.1.1.0 ∙ nothing is_pair member_of) i;
+        pieces = (ap (map_of numbered_cmp is_piece piece_of) (none_there d piece.name absent.0) ∙ nothing is_piece piece_of) i;
+        temp_roots = (ap (map_of kept_cmp is_kept kept_of) (none_there d temp_root.name absent.1.0) ∙ nothing is_kept kept_of) i;
       }
 
   pub keyed_made : AllByRecursion (λ t. IsKeyed (rows_named d t.name)) our_tables
@@ -91,18 +106,19 @@ ours_placed s = (refl, (refl, (refl, (refl, (refl, (refl, (refl, (refl, (refl, t
 pub made_is : (dir : Bytes) (old new : State) → IsDatabase old.now → HasNone old.now.schema → IsUtf8 dir → IsMadeIn dir old new → IsMade dir old new
 made_is dir old new sound none utf8 h =
     let stand = subst (λ (s : Schema). AllByRecursion (StandsAs s) (placed old.now.schema our_tables)) (sym h.schema) (standing old.now sound none) in
+    let absent = subst AreAbsent (sym h.schema) (absent_after old.now.schema none) in
     let has = each_stands new.now h.sound old.now.schema (meta_parts ∷ others) stand in
     let ours : IsOurs new.now = record {
       sound = h.sound;
       has = has;
-      keyed = keyed_made dir old.now.schema new.now stand h.made.settings h.made.empty;
-      readable = readable_made dir old.now.schema new.now stand h.made.settings h.made.empty utf8;
+      keyed = keyed_made dir old.now.schema new.now stand h.made.settings h.made.empty absent;
+      readable = readable_made dir old.now.schema new.now stand h.made.settings h.made.empty absent utf8;
     } in
     record {
       was_open = h.was_open;
       is_open = h.is_open;
       schema = h.schema;
-      contents = contents_made dir old.now.schema new.now stand h.made.settings h.made.empty;
+      contents = contents_made dir old.now.schema new.now stand h.made.settings h.made.empty absent;
       theirs = theirs_of old.now new.now.trees old.now.schema.tables h.made.kept;
       frozen = h.made.frozen sound;
       readable = ours_readable new.now ours;
@@ -114,13 +130,14 @@ unfolding ours_created
 leaves_made dir old trees sound none utf8 h =
     let d : Database = record { schema = ours_created old.schema; trees = trees } in
     let stand = standing old sound none in
+    let absent = absent_after old.schema none in
     let has = each_stands d h.sound old.schema (meta_parts ∷ others) stand in
-    let ours : IsOurs d = record { sound = h.sound; has = has; keyed = keyed_made dir old.schema d stand h.settings h.empty; readable = readable_made dir old.schema d stand h.settings h.empty utf8 } in
+    let ours : IsOurs d = record { sound = h.sound; has = has; keyed = keyed_made dir old.schema d stand h.settings h.empty absent; readable = readable_made dir old.schema d stand h.settings h.empty absent utf8 } in
     record {
       ours = ours;
       readable = ours_readable d ours;
       left = record {
-        ours = contents_made dir old.schema d stand h.settings h.empty;
+        ours = contents_made dir old.schema d stand h.settings h.empty absent;
         theirs = subst (AllByRecursion (λ (t : Table). is_our_name t.name ≡ false → trees t.tree ≡ old.trees t.tree)) (sym (tables_after old.schema our_tables))
             (all-append (λ (t : Table). is_our_name t.name ≡ false → trees t.tree ≡ old.trees t.tree) old.schema.tables _ (theirs_of old trees old.schema.tables h.kept)
             (all_weaker (λ (t : Table). is_our_name t.name ≡ true) (λ t. is_our_name t.name ≡ false → trees t.tree ≡ old.trees t.tree) (λ t ours other. absurd (let e = sym ours ∙ other in cc)) (placed old.schema our_tables) (ours_placed old.schema)));

@@ -62,6 +62,8 @@ first_contents dir = record {
   profiles = finite.from_entries [];
   generations = finite.from_entries [];
   runtime = finite.from_entries [];
+  pieces = finite.from_entries [];
+  temp_roots = finite.from_entries [];
 }
 
 -- the rows of `meta` say these, and can be told apart; a directory whose bytes are UTF-8 can be read

@@ -11,7 +11,7 @@ use Rattle.sqlite.proofs.StateLemmas.{survives_then}
 use Rattle.table_forms.specs.Forms.{is_our_name}
 use Rattle.table_statements.specs.Contents.{Contents, contents_of}
 use Rattle.table_statements.specs.Frozen.{IsUnshown, KeepsUnshown}
-use Rattle.table_statements.specs.Calls.{IsOurs, IsReady, IsUnderWay, IsCommitted, KeepsTheirs, Leaves, Changes, KeepsShown}
+use Rattle.table_statements.specs.Calls.{IsOurs, IsReady, IsUnderWay, IsCommitted, KeepsTheirs, Leaves, Changes, KeepsShown, KeepsFurther}
 use Rattle.table_statements.proofs.Frozen.{frozen_next, frozen_of}
 
 theirs_walk : (a b c : Database) (ts : List Table) → AllByRecursion (λ t. is_our_name t.name ≡ false → b.trees t.tree ≡ a.trees t.tree) ts → AllByRecursion (λ t. is_our_name t.name ≡ false → c.trees t.tree ≡ b.trees t.tree) ts
@@ -24,6 +24,7 @@ theirs_then a b c is h k = theirs_walk a b c a.schema.tables h (subst (λ (s : S
 
 -- two changes in a row are one
 pub changes_then : (a b c : State) (f g : Contents → Contents) → Changes a b f → Changes b c g → Changes a c (λ x. g (f x))
+unfolding KeepsFurther
 changes_then a b c f g h k = record {
   was_open = h.was_open;
   is_open = k.is_open;
@@ -32,6 +33,7 @@ changes_then a b c f g h k = record {
   theirs = theirs_then a.now b.now c.now h.schema h.theirs k.theirs;
   unshown = λ tree hidden. k.unshown tree (subst (λ (s : Schema). IsUnshown s tree) (sym h.schema) hidden) ∙ h.unshown tree hidden;
   ours = k.ours;
+  further = (λ there. k.further.0 (h.further.0 there), (λ there. k.further.1.0 (h.further.1.0 there), tt));
   committed = k.committed ∙ h.committed;
   mode = k.mode;
   marks = k.marks ∙ h.marks;
@@ -47,6 +49,7 @@ changes_by a b f g same h = record {
   theirs = h.theirs;
   unshown = h.unshown;
   ours = h.ours;
+  further = h.further;
   committed = h.committed;
   mode = h.mode;
   marks = h.marks;
@@ -54,6 +57,7 @@ changes_by a b f g same h = record {
 
 -- no change is a change
 pub changes_none : (s : State) → IsUnderWay s → IsTrue s.is_open → Changes s s (λ c. c)
+unfolding KeepsFurther
 changes_none s under is_open = record {
   was_open = is_open;
   is_open = is_open;
@@ -62,6 +66,7 @@ changes_none s under is_open = record {
   theirs = all_of (λ (t : Table). is_our_name t.name ≡ false → s.now.trees t.tree ≡ s.now.trees t.tree) (λ t other. refl) s.now.schema.tables;
   unshown = λ tree hidden. refl;
   ours = under.ours is_open;
+  further = (λ there. there, (λ there. there, tt));
   committed = refl;
   mode = under.mode;
   marks = refl;

@@ -8,11 +8,12 @@ use Rattle.sqlite_trees.specs.View.{is_int}
 use Rattle.sqlite_trees.specs.Tree.{Trees, rowid}
 use Rattle.sqlite.specs.Effect.{Database, IsDatabase}
 use Rattle.sqlite.specs.State.{State}
-use Rattle.table_forms.specs.Forms.{our_tables, is_our_name}
-use Rattle.table_forms.specs.Standing.{HasTables}
+use Rattle.sqlite_schema.specs.declared.schema.Table.{Table}
+use Rattle.table_forms.specs.Forms.{our_tables, further_tables, is_our_name}
+use Rattle.table_forms.specs.Standing.{HasTables, Stands}
 use Rattle.table_statements.specs.Contents.{Contents, contents_of, rows_named}
 use Rattle.table_statements.specs.Frozen.{KeepsUnshown, KeepsFrozen}
-use Rattle.table_statements.specs.Texts.{HasReadableRows}
+use Rattle.table_statements.specs.Texts.{AreReadableRows, HasReadableRows}
 
 -- each row has a rowid of its own, an integer: the list of rowids has no value twice, so no row stands there twice
 pub record IsKeyed (rows : List Row) : Type 0 where
@@ -25,6 +26,16 @@ pub record IsOurs (db : Database) : Type 0 where
   pub has : HasTables db.schema
   pub keyed : AllByRecursion (λ t. IsKeyed (rows_named db t.name)) our_tables
   pub readable : HasReadableRows db
+
+-- a further table stands too, with the same of its rows
+pub record HasFurther (db : Database) (t : Table) : Type 0 where
+  pub stands : Stands db.schema t
+  pub keyed : IsKeyed (rows_named db t.name)
+  pub readable : AreReadableRows t (rows_named db t.name)
+
+-- each further table that stood so does still
+unfoldable pub KeepsFurther : Database → Database → Type 0
+KeepsFurther old new = AllByRecursion (λ t. HasFurther old t → HasFurther new t) further_tables
 
 -- what the connection shows is ours, and so did the last commit leave it
 pub record IsReady (s : State) : Type 0 where
@@ -55,6 +66,7 @@ pub record Changes (old new : State) (change : Contents → Contents) : Type 0 w
   pub theirs : KeepsTheirs old.now new.now
   pub unshown : KeepsUnshown old.now new.now.trees
   pub ours : IsOurs new.now
+  pub further : KeepsFurther old.now new.now
   pub committed : new.committed ≡ old.committed
   pub mode : new.in_transaction ≡ true
   pub marks : new.marks ≡ old.marks

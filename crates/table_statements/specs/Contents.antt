@@ -1,10 +1,11 @@
--- What our tables hold: nine finite maps over bytes and numbers. A set is a map to the unit.
-use Rattle.std.specs.Prelude.{Bool, true, false, ◌&&◌, filter, ℤ, Option, Some, None, ℕ, List, map, codes}
+-- What our tables hold: eleven finite maps over bytes and numbers. A set is a map to the unit.
+use Rattle.std.specs.Prelude.{Bool, true, false, ◌&&◌, filter, find, ℤ, Option, Some, None, option_map, unwrap_or, ℕ, List, [], map, codes}
 use Rattle.std.specs.declared.cmp.Ordering.{Ordering}
 use Rattle.std.specs.Ordering.{on, then_cmp, nat_cmp, int_cmp}
 use Rattle.std.specs.Cmp.Lexicographic.{slice_cmp}
 use Rattle.std.specs.FinMap as finite
 use Rattle.sqlite_value.specs.Order.{Row, column, bytes}
+use Rattle.sqlite_schema.specs.Names.{same_name}
 use Rattle.sqlite_value.specs.declared.value.Value.{Value}
 use Rattle.sqlite_value.specs.declared.value.Value.TheVariants.{Null, Int, Real, Text, Blob}
 use Rattle.sqlite_trees.specs.View.{is_int}
@@ -24,6 +25,14 @@ Pair = Bytes × Bytes
 abbrev pub Triple : Type 0
 Triple = Bytes × Bytes × ℤ
 
+-- an object's path and the number of a piece of its archive
+abbrev pub Numbered : Type 0
+Numbered = Bytes × ℤ
+
+-- the owner and the number of a session, and a path that it keeps
+abbrev pub Kept : Type 0
+Kept = Bytes × ℤ × Bytes
+
 abbrev pub texts_cmp : Bytes → Bytes → Ordering
 texts_cmp = slice_cmp nat_cmp
 
@@ -34,10 +43,16 @@ pair_cmp = then_cmp (on (λ p. p.0) texts_cmp) (on (λ p. p.1) texts_cmp)
 abbrev pub triple_cmp : Triple → Triple → Ordering
 triple_cmp = then_cmp (on (λ t. t.0) texts_cmp) (then_cmp (on (λ t. t.1) texts_cmp) (on (λ t. t.2) int_cmp))
 
+abbrev pub numbered_cmp : Numbered → Numbered → Ordering
+numbered_cmp = then_cmp (on (λ n. n.0) texts_cmp) (on (λ n. n.1) int_cmp)
+
+abbrev pub kept_cmp : Kept → Kept → Ordering
+kept_cmp = then_cmp (on (λ k. k.0) texts_cmp) (then_cmp (on (λ k. k.1) int_cmp) (on (λ k. k.2) texts_cmp))
+
 abbrev pub PairSet : Type 0
 PairSet = finite.FinMap pair_cmp (Unit {0})
 
--- ---- the nine maps
+-- ---- the eleven maps
 
 -- what an object's row holds beside its path
 pub record Stored : Type 0 where
@@ -75,6 +90,10 @@ pub record Contents : Type 0 where
   pub generations : finite.FinMap triple_cmp Bytes
   -- a label and a target
   pub runtime : PairSet
+  -- an object's path and a number, and the bytes of that piece of its archive; none, where there is no such table
+  pub pieces : finite.FinMap numbered_cmp Bytes
+  -- a user, the number of a session and a target; none, where there is no such table
+  pub temp_roots : finite.FinMap kept_cmp (Unit {0})
 
 -- ---- how they are read off the rows, whose first column is the rowid; a row of another kind, which STRICT keeps out, says nothing
 
@@ -143,6 +162,18 @@ is_generation row = is_pair row && is_int (column row 3) && is_text (column row 
 abbrev pub generation_of : Row → Triple × Bytes
 generation_of row = ((bytes (column row 1), bytes (column row 2), id_in (column row 3)), bytes (column row 4))
 
+abbrev pub is_piece : Row → Bool
+is_piece row = is_text (column row 1) && is_int (column row 2) && is_blob (column row 3)
+
+abbrev pub piece_of : Row → Numbered × Bytes
+piece_of row = ((bytes (column row 1), id_in (column row 2)), bytes (column row 3))
+
+abbrev pub is_kept : Row → Bool
+is_kept row = is_text (column row 1) && is_int (column row 2) && is_text (column row 3)
+
+abbrev pub kept_of : Row → Kept × Unit {0}
+kept_of row = ((bytes (column row 1), id_in (column row 2), bytes (column row 3)), tt)
+
 -- the map that the rows of one kind make
 unfoldable pub map_of : {K X : Type 0} (R : K → K → Ordering) → (Row → Bool) → (Row → K × X) → List Row → finite.FinMap R X
 map_of R kind entry rows = finite.from_entries (map entry (filter kind rows))
@@ -150,6 +181,10 @@ map_of R kind entry rows = finite.from_entries (map entry (filter kind rows))
 -- the rows of the table of a name
 abbrev pub rows_named : Database → Bytes → List Row
 rows_named db name = db.trees (tree_named db.schema name)
+
+-- the same, where there may be no such table
+unfoldable pub rows_if_any : Database → Bytes → List Row
+rows_if_any db name = unwrap_or (option_map (λ t. db.trees t.tree) (find (λ t. same_name t.name name) db.schema.tables)) []
 
 -- what our tables hold in this database
 abbrev pub contents_of : Database → Contents
@@ -163,4 +198,6 @@ contents_of db = record {
   profiles = map_of pair_cmp is_profile profile_of (rows_named db (codes "profile"));
   generations = map_of triple_cmp is_generation generation_of (rows_named db (codes "generation"));
   runtime = map_of pair_cmp is_pair member_of (rows_named db (codes "runtime"));
+  pieces = map_of numbered_cmp is_piece piece_of (rows_if_any db (codes "piece"));
+  temp_roots = map_of kept_cmp is_kept kept_of (rows_if_any db (codes "temp_root"));
 }

@@ -27,6 +27,7 @@ free name = record { table = refl; index = refl; view = refl; unawaited = refl }
 pub empty_has_none : (s : Schema) → s ≡ record { tables = []; indexes = []; views = [] } → HasNone s
 empty_has_none s is = subst HasNone (sym is) (record {
   free = (free (codes "meta"), (free (codes "object"), (free (codes "refs"), (free (codes "outs"), (free (codes "permanent"), (free (codes "user_root"), (free (codes "profile"), (free (codes "generation"), (free (codes "runtime"), tt)))))))));
+  further = (free (codes "piece"), (free (codes "temp_root"), tt));
   counted = refl;
 })
 

@@ -1,14 +1,24 @@
-use Rattle.std.proofs.Common.{◌≡◌, ◌+◌, ◌∷◌, drop, sym, ap, ◌∙◌, List}
+use Rattle.std.proofs.Common.{◌≡◌, ◌+◌, ◌∷◌, drop, refl, sym, ap, ◌∙◌, List}
 use Rattle.std.specs.FinMap as finite
 use Rattle.sqlite.specs.Held.{state}
 use Rattle.rows.specs.Contents.{Contents, contents_of}
 use Rattle.world.specs.World.{Path}
 use Rattle.tables.specs.Rewritten.{put_references}
-use Rattle.table_statements.proofs.Going.{goes_next}
+use Rattle.table_statements.proofs.Going.{goes_first, goes_next}
+use Rattle.table_statements.proofs.Transactions.{survives_none}
 use Rattle.tables.proofs.Kept.{clean_before}
 use Rattle.tables.proofs.Lists.{left_at}
 use Rattle.tables.proofs.Transactions.{survives_both}
 use Rattle.tables.proofs.objects.put_references.Goals as goal
+
+pub targets-init : goal.targets-init
+targets-init g c =
+    let first = state g.S.Store c.args.tx.now.conn.now in
+    record {
+      same_reference = refl;
+      goes = λ clean. goes_first (λ rs (x : Contents). record x { refs = put_references c.args.base.now rs x.refs }) c.args.targets.now first (c.requires.under_way clean) (c.requires.is_open clean);
+      survives = survives_none first;
+    }
 
 pub targets-preserved : goal.targets-preserved
 targets-preserved g c =

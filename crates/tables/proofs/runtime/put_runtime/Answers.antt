@@ -1,13 +1,23 @@
-use Rattle.std.proofs.Common.{◌≡◌, ◌∷◌, map, sym, ap, ap₂, ◌∙◌, List}
+use Rattle.std.proofs.Common.{◌≡◌, ◌∷◌, map, refl, sym, ap, ap₂, ◌∙◌, List}
 use Rattle.std.specs.FinMap as finite
 use Rattle.sqlite.specs.Held.{state}
 use Rattle.rows.specs.Contents.{Contents, contents_of, Pair}
 use Rattle.index.specs.Maps.{labelled_bytes}
 use Rattle.tables.specs.Rewritten.{put_pairs}
-use Rattle.table_statements.proofs.Going.{goes_next}
+use Rattle.table_statements.proofs.Going.{goes_first, goes_next}
+use Rattle.table_statements.proofs.Transactions.{survives_none}
 use Rattle.tables.proofs.Kept.{clean_before}
 use Rattle.tables.proofs.Transactions.{survives_both}
 use Rattle.tables.proofs.runtime.put_runtime.Goals as goal
+
+pub roots-init : goal.roots-init
+roots-init g c =
+    let first = state g.S.Store c.args.tx.now.conn.now in
+    record {
+      same_reference = refl;
+      goes = λ clean. goes_first (λ ps (x : Contents). record x { runtime = put_pairs ps x.runtime }) (map labelled_bytes c.into_iter-root-iterator.result) first (c.requires.under_way clean) (c.requires.is_open clean);
+      survives = survives_none first;
+    }
 
 pub roots-preserved : goal.roots-preserved
 roots-preserved g c =
