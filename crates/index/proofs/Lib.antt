@@ -1,5 +1,7 @@
 pub mod Orders
 pub mod Trees
+mod SetTrees
+mod Generations
 pub mod Puts
 pub mod Written
 pub mod Told

@@ -2,3 +2,4 @@ pub mod Maps
 pub mod Outline
 pub mod Summary
 pub mod Index
+pub mod Filling

@@ -1,6 +1,7 @@
 //! What is kept in memory of a store: all that its tables tell but the bytes of archives.
 #![tactic(auto)]
 
+mod filling;
 mod objects;
 mod outline;
 mod profiles;
