@@ -20,6 +20,3 @@ pub use import::{ImportHead, import_body, import_head};
 pub use lines::{Body, body_of};
 pub use roots::runtime_head;
 pub use whole::{collect_body, delete_body, is_blank, path_body, runtime_body};
-
-#[cfg(test)]
-mod tests;

@@ -12,6 +12,3 @@ mod string;
 
 pub use error::DrvError;
 pub use recording::outputs;
-
-#[cfg(test)]
-mod tests;

@@ -14,6 +14,3 @@ mod text;
 pub use arriving::Arrived;
 pub use reading::{file_contents, list};
 pub use taking::Intake;
-
-#[cfg(test)]
-mod tests;

@@ -11,6 +11,3 @@ pub use error::{Fault, ReceiveError};
 pub use fields::{Values, closes, length_of_body, values_of};
 pub use head::{Head, Look, MAX_HEAD, look_for_head};
 pub use receive::{Received, Start, receive_body, receive_message, receive_start};
-
-#[cfg(test)]
-mod tests;

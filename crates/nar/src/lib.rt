@@ -24,6 +24,3 @@ pub use node::{Entry, Node};
 pub use pieces::Pieces;
 pub use reading::read;
 pub use writing::write;
-
-#[cfg(test)]
-mod tests;

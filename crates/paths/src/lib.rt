@@ -26,6 +26,3 @@ pub use plain_name::is_plain_name;
 pub use store_dir::{StoreDir, StoreDirError};
 pub use store_name::{Name, NameError};
 pub use store_path::{StorePath, StorePathError};
-
-#[cfg(test)]
-mod tests;

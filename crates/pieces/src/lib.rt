@@ -4,6 +4,3 @@
 mod bytes;
 
 pub use bytes::Pieces;
-
-#[cfg(test)]
-mod tests;

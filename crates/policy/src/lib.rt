@@ -12,8 +12,6 @@ mod keys;
 mod kinds;
 pub mod laws;
 mod rules;
-#[cfg(test)]
-mod tests;
 
 pub use caller::Caller;
 pub use classes::class;

@@ -12,6 +12,3 @@ pub use method::Method;
 pub use parts::part;
 pub use requests::Requests;
 pub use router::Routes;
-
-#[cfg(test)]
-mod tests;

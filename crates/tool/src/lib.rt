@@ -28,6 +28,3 @@ pub use sources::source_path;
 pub use stops::{Failure, Stop};
 pub use texts::text_path;
 pub use verdicts::{Verdict, judge, who};
-
-#[cfg(test)]
-mod tests;

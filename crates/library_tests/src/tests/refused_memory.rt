@@ -1,42 +1,22 @@
 //! Memory that is refused: run with each allocation refused in turn.
-use super::{MY_FILE, fault_of, spelled};
-use crate::{Checker, Entry, NarError, Node, is_writable, list, read, write};
+use super::archives::{MY_FILE, fault_of, front, spelled};
+use super::derivation_texts::{ONE, TWICE};
+use drv::{DrvError, outputs};
+use nar::{Checker, Entry, NarError, Node, is_writable, list, read, write};
+use paths::StoreDir;
+use policy::{Caller, CallerError, Class, Config, ConfigError, KeyWord, class};
 use std::alloc::{AllocError, Global};
 
-/// A directory with a file and a link whose names are 300 bytes long, so that a checker holds much.
-fn archive_of_two(alloc: Global, long: &[u8]) -> Result<Vec<u8>, AllocError> {
-    spelled(
-        alloc,
-        &[
-            b"nix-archive-1",
-            b"(",
-            b"type",
-            b"directory",
-            b"entry",
-            b"(",
-            b"name",
-            b"a",
-            b"node",
-            b"(",
-            b"type",
-            b"directory",
-            b")",
-            b")",
-            b"entry",
-            b"(",
-            b"name",
-            long,
-            b"node",
-            b"(",
-            b"type",
-            b"symlink",
-            b"target",
-            b"a",
-            b")",
-            b")",
-            b")",
-        ],
-    )
+/// A directory with a directory and a link whose name is 300 bytes long, so that a checker holds much.
+fn archive_of_two(alloc: Global) -> Result<Vec<u8>, AllocError> {
+    let words =
+        "nix-archive-1 ( type directory entry ( name a node ( type directory ) ) entry ( name";
+    let mut out = spelled(alloc, words)?;
+    out.extend_from_slice(&300u64.to_le_bytes())?;
+    out.extend_from_slice(&[b'n'; 300])?;
+    out.extend_from_slice(&[0; 4])?;
+    out.extend_from_slice(&spelled(alloc, "node ( type symlink target a ) ) )")?)?;
+    Ok(out)
 }
 
 fn tree_of_two<'a>(alloc: Global, long: &'a [u8]) -> Result<Node<'a>, AllocError> {
@@ -56,7 +36,7 @@ fn tree_of_two<'a>(alloc: Global, long: &'a [u8]) -> Result<Node<'a>, AllocError
 #[test]
 fn refused_while_reading(rt: HostRuntime) {
     let alloc = rt.alloc();
-    let Ok(bytes) = archive_of_two(alloc, &[b'n'; 300]) else {
+    let Ok(bytes) = archive_of_two(alloc) else {
         return;
     };
     match read(alloc, &bytes) {
@@ -66,7 +46,7 @@ fn refused_while_reading(rt: HostRuntime) {
         Err(e) => assert_eq!(rt; e, NarError::Memory),
     }
     // A fault behind directories is told, or `Memory`.
-    let faulty = super::front(&bytes, 600);
+    let faulty = front(&bytes, 600);
     let fault = fault_of(read(alloc, faulty));
     assert!(rt; fault == Some(NarError::Truncated) || fault == Some(NarError::Memory));
 }
@@ -76,7 +56,7 @@ fn refused_while_reading(rt: HostRuntime) {
 fn refused_while_writing(rt: HostRuntime) {
     let alloc = rt.alloc();
     let long = [b'n'; 300];
-    let Ok(bytes) = archive_of_two(alloc, &long) else {
+    let Ok(bytes) = archive_of_two(alloc) else {
         return;
     };
     let Ok(node) = tree_of_two(alloc, &long) else {
@@ -116,7 +96,7 @@ fn refused_while_listing(rt: HostRuntime) {
 #[test]
 fn refused_while_checking(rt: HostRuntime) {
     let alloc = rt.alloc();
-    let Ok(bytes) = archive_of_two(alloc, &[b'n'; 300]) else {
+    let Ok(bytes) = archive_of_two(alloc) else {
         return;
     };
     for size in [1, 7, 100, 1_000] {
@@ -137,4 +117,48 @@ fn refused_while_checking(rt: HostRuntime) {
     let told = fault_of(checker.feed(MY_FILE));
     assert!(rt; told == Some(NarError::Trailing) || told == Some(NarError::Memory));
     assert_eq!(rt; fault_of(checker.finish()), told);
+}
+
+// What is given are the outputs or the fault, or the answer is `Memory`: run with each allocation refused in turn.
+#[test]
+fn refused_while_reading_derivations(rt: HostRuntime) {
+    let alloc = rt.alloc();
+    let Ok(dir) = StoreDir::parse(alloc, "/nix/store") else {
+        return;
+    };
+    let malformed = front(ONE.as_bytes(), 90);
+    let rows = [
+        (ONE.as_bytes(), None),
+        (TWICE.as_bytes(), Some(DrvError::DoubleOutput)),
+        (malformed, Some(DrvError::BadDerivation)),
+    ];
+    for (text, want) in rows {
+        match outputs(alloc, text, &dir) {
+            Ok(found) => assert!(rt; want.is_none() && found.len() == 1),
+            Err(e) => assert!(rt; e == DrvError::Memory || Some(e) == want),
+        }
+    }
+}
+
+// Where an allocation is refused, the answer is `Memory` or what it is otherwise: run with one refused in turn.
+#[test]
+fn refused_while_reading_settings(rt: HostRuntime) {
+    let text =
+        "store-dir = \"/s\"\nallowed-users = [\"bob\", \"@users\"]\ntrusted-users = [\"@wheel\"]\ngroups = { users = [\"eve\"], wheel = [\"ann\", \"dan\"] }";
+    let caller = Caller::new(rt.alloc(), "dan", Some("users"));
+    assert!(rt; !matches!(&caller, Err(CallerError::BadCaller)));
+    let config = Config::from_toml(rt.alloc(), text.as_bytes());
+    assert!(rt; !matches!(&config, Err(ConfigError::Bad(_))));
+    if let (Ok(config), Ok(caller)) = (&config, &caller) {
+        assert_eq!(rt; class(config, caller), Class::Trusted);
+    }
+    let defaults = Config::from_toml(rt.alloc(), b"");
+    assert!(rt; !matches!(&defaults, Err(ConfigError::Bad(_))));
+    let refused = Config::from_toml(rt.alloc(), b"groups = { wheel = [\"ann\", \"*\"] }");
+    assert!(rt;
+        matches!(
+            &refused,
+            Err(ConfigError::Memory | ConfigError::Bad(KeyWord::Groups))
+        )
+    );
 }

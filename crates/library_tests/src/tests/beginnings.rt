@@ -1,5 +1,5 @@
 //! Inputs, each in one piece and in pieces of one byte.
-use crate::{Fault, ReceiveError, Received, closes, receive_message};
+use messages::{Fault, ReceiveError, Received, closes, receive_message};
 use std::alloc::{AllocError, Global};
 use std::io;
 use std::io::{ErrorKind, Read};

@@ -1,5 +1,5 @@
 //! Targets and methods, by the table of the server's routes.
-use crate::{Kind, Method, Requests, Routes, part};
+use routes::{Kind, Method, Requests, Routes, part};
 
 const ROUTES: [(&str, &str, Kind); 25] = [
     ("POST", "/text", Kind::AddText),

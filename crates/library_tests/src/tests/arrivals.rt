@@ -1,18 +1,11 @@
-//! Archives at the seams of pieces and at the limit, and bytes that come one by one.
-use super::*;
+//! Bytes in pieces, and archives on their way in: at the seams of pieces, at the limit, and in steps of any size.
+use super::archives::{MY_FILE, front};
+use intake::{Arrived, Intake, file_contents, list};
 use nar::NarError;
+use pieces::Pieces;
 use sha2::{Digest, Sha256};
 use std::alloc::{AllocError, Global};
 use std::test::Fail;
-
-/// The archive of a file whose contents are `mycontent` and a line feed.
-const MY_FILE: &[u8] = b"\x0d\0\0\0\0\0\0\0nix-archive-1\0\0\0\
-\x01\0\0\0\0\0\0\0(\0\0\0\0\0\0\0\
-\x04\0\0\0\0\0\0\0type\0\0\0\0\
-\x07\0\0\0\0\0\0\0regular\0\
-\x08\0\0\0\0\0\0\0contents\
-\x0a\0\0\0\0\0\0\0mycontent\n\0\0\0\0\0\0\
-\x01\0\0\0\0\0\0\0)\0\0\0\0\0\0\0";
 
 /// An archive that comes so many bytes at a time.
 fn in_steps(alloc: Global, bytes: &[u8], step: usize) -> Result<Arrived, AllocError> {
@@ -74,5 +67,46 @@ fn a_listing_of_pieces(rt: HostRuntime) -> Result<(), Fail> {
     let mut text = String::new(alloc);
     list(alloc, &in_steps(alloc, MY_FILE, 100)?.pieces, &mut text)?;
     assert_eq!(rt; text.as_str(), "r 10 .\n");
+    Ok(())
+}
+
+/// The lengths of the pieces.
+fn cut(rt: &HostRuntime, pieces: &Pieces) -> Result<Vec<usize>, Fail> {
+    let mut lengths = Vec::new(rt.alloc());
+    for i in 0..pieces.count() {
+        lengths.push(pieces.piece(i).len())?;
+    }
+    Ok(lengths)
+}
+
+/// Bytes that come so many at a time.
+fn pieces_in_steps(alloc: Global, bytes: &[u8], step: usize) -> Result<Pieces, AllocError> {
+    let mut pieces = Pieces::new(alloc);
+    for piece in bytes.chunks(step.max(1)) {
+        pieces.push(piece)?;
+    }
+    Ok(pieces)
+}
+
+#[test]
+fn pieces_at_the_seams(rt: HostRuntime) -> Result<(), Fail> {
+    let alloc = rt.alloc();
+    let bytes = vec![in alloc; 7u8; 131_080]?;
+    for (len, lengths) in [
+        (0, [].as_slice()),
+        (1, [1].as_slice()),
+        (65_536, [65_536].as_slice()),
+        (65_544, [65_536, 8].as_slice()),
+        (131_072, [65_536, 65_536].as_slice()),
+        (131_080, [65_536, 65_536, 8].as_slice()),
+    ] {
+        for step in [100, 4_096, 65_536, 131_080] {
+            let whole = front(bytes.as_slice(), len);
+            let pieces = pieces_in_steps(alloc, whole, step)?;
+            assert_eq!(rt; pieces.len(), len);
+            assert_eq!(rt; cut(&rt, &pieces)?.as_slice(), lengths, "{len} by {step}");
+            assert_eq!(rt; pieces.joined()?.as_slice(), whole);
+        }
+    }
     Ok(())
 }

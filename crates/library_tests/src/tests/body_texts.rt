@@ -1,5 +1,5 @@
 //! A good import, and bodies that differ from it in one point.
-use crate::{
+use bodies::{
     BodyError, body_of, collect_body, delete_head, import_body, is_blank, path_body, path_head,
     runtime_body,
 };

@@ -1,10 +1,12 @@
-use super::*;
+//! Derivation texts: their outputs, or the word of their fault.
+use super::archives::front;
+use drv::{DrvError, outputs};
 use paths::StoreDir;
 use std::alloc::Global;
 use std::test::Fail;
 
 /// A derivation with one output.
-const ONE: &str =
+pub const ONE: &str =
     r#"Derive([("out","/nix/store/11111111111111111111111111111111-o","","")],[],[],"p","b",[],[])"#;
 
 /// The same with an escape that isn't one.
@@ -12,7 +14,7 @@ const UNKNOWN_ESCAPE: &str =
     r#"Derive([("out","/nix/store/11111111111111111111111111111111-o","","")],[],[],"\x","b",[],[])"#;
 
 /// One with two outputs of one name.
-const TWICE: &str = r#"Derive([("out","","",""),("out","","","")],[],[],"p","b",[],[])"#;
+pub const TWICE: &str = r#"Derive([("out","","",""),("out","","","")],[],[],"p","b",[],[])"#;
 
 /// The outputs of a text, each as its name, `=`, its base name and `;`, or the word of its fault.
 fn answer_in(alloc: Global, dir: &str, text: &[u8]) -> Result<String, Fail> {
@@ -34,10 +36,6 @@ fn answer_in(alloc: Global, dir: &str, text: &[u8]) -> Result<String, Fail> {
 
 fn answer(alloc: Global, text: &[u8]) -> Result<String, Fail> {
     answer_in(alloc, "/nix/store", text)
-}
-
-fn front(text: &[u8], len: usize) -> &[u8] {
-    &text[..len.min(text.len())]
 }
 
 /// A derivation with no outputs, whose platform is written so.
@@ -365,25 +363,4 @@ fn words_of_faults(rt: HostRuntime) -> Result<(), Fail> {
         assert_eq!(rt; format!(in alloc; "{error}")?.as_str(), word);
     }
     Ok(())
-}
-
-// What is given are the outputs or the fault, or the answer is `Memory`: run with each allocation refused in turn.
-#[test]
-fn refused_while_reading(rt: HostRuntime) {
-    let alloc = rt.alloc();
-    let Ok(dir) = StoreDir::parse(alloc, "/nix/store") else {
-        return;
-    };
-    let malformed = front(ONE.as_bytes(), 90);
-    let rows = [
-        (ONE.as_bytes(), None),
-        (TWICE.as_bytes(), Some(DrvError::DoubleOutput)),
-        (malformed, Some(DrvError::BadDerivation)),
-    ];
-    for (text, want) in rows {
-        match outputs(alloc, text, &dir) {
-            Ok(found) => assert!(rt; want.is_none() && found.len() == 1),
-            Err(e) => assert!(rt; e == DrvError::Memory || Some(e) == want),
-        }
-    }
 }

@@ -1,0 +1,90 @@
+//! Readers and writers that move one byte a call and fail at each call in turn, and readers that are interrupted.
+use std::io;
+use std::io::{ErrorKind, Read, Write};
+use streams::{read_at_most, send_bytes};
+
+/// A reader that gives one byte a call, every other call of which is interrupted, and that fails once `calls` are used up.
+#[derive(Drop)]
+struct Drip<'a> {
+    rest: &'a [u8],
+    calls: usize,
+}
+
+impl Read for Drip<'_> {
+    fn read(&mut self, buf: &mut [u8]) -> io::Result<usize> {
+        if self.calls == 0 {
+            return Err(io::Error::from(ErrorKind::Other));
+        }
+        self.calls -= 1;
+        if self.calls % 2 == 1 {
+            return Err(io::Error::from(ErrorKind::Interrupted));
+        }
+        let [first, rest @ ..] = self.rest else {
+            return Ok(0);
+        };
+        if buf.is_empty() {
+            return Ok(0);
+        }
+        buf[0] = *first;
+        self.rest = rest;
+        Ok(1)
+    }
+}
+
+/// A writer that takes one byte a call, and fails at the call after `calls` of them.
+#[derive(Drop)]
+struct Narrow {
+    taken: Vec<u8>,
+    calls: usize,
+}
+
+impl Write for Narrow {
+    fn write(&mut self, buf: &[u8]) -> io::Result<usize> {
+        if self.calls == 0 {
+            return Err(io::Error::from(ErrorKind::Other));
+        }
+        self.calls -= 1;
+        let [first, ..] = buf else {
+            return Ok(0);
+        };
+        self.taken.push(*first)?;
+        Ok(1)
+    }
+
+    fn flush(&mut self) -> io::Result<()> {
+        Ok(())
+    }
+}
+
+const BYTES: &[u8] = b"mycontent\n";
+
+// Ten bytes and the end take eleven calls, each behind an interrupted one but perhaps the first; where no more than four
+// bytes are wanted, four calls are enough.
+#[test]
+fn readers_that_fail(rt: HostRuntime) {
+    for (most, needed) in [(100, 21), (4, 7)] {
+        for calls in 0..24usize {
+            let mut input = Drip { rest: BYTES, calls };
+            let found = read_at_most(rt.alloc(), &mut input, most);
+            let is_whole = found.is_ok_and(|bytes| BYTES.starts_with(&bytes)
+                && bytes.len() == most.min(10));
+            assert!(rt; is_whole == (calls >= needed), "{calls} calls for {most}");
+        }
+    }
+}
+
+#[test]
+fn writers_that_fail(rt: HostRuntime) {
+    for calls in 0..12usize {
+        let mut output = Narrow {
+            taken: Vec::new(rt.alloc()),
+            calls,
+        };
+        let is_sent = send_bytes(&mut output, BYTES).is_ok();
+        assert!(rt; is_sent == (calls >= 10), "{calls}");
+        assert!(rt;
+            BYTES.starts_with(&output.taken) && output.taken.len() == calls.min(10),
+            "{calls}"
+        );
+    }
+}
