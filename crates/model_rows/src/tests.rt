@@ -1,10 +1,10 @@
-//! Worked rows, each through the whole program: what no clause says is that a call succeeds where memory is ample.
-use model::{Answer, Imported, Reply, Request, World, step};
-use nar::Node;
-use paths::{Name, StoreDir, StorePath};
+//! Worked rows, each through the whole program: what no clause says is that a call succeeds where memory is ample. A row has a caller,
+//! what is asked and the line that is replied; `requests` says how a request is written.
+use model::{Answer, Info, Profile, Reply, World, step};
 use policy::{Caller, Config};
-use sha2::{Digest, Sha256};
+use requests::{full, request};
 use std::alloc::{AllocError, Global};
+use std::collections::BTreeMap;
 use std::fmt::Write;
 use std::test::Fail;
 
@@ -13,19 +13,14 @@ mod collections;
 mod deletions;
 mod imports;
 mod profiles;
+mod requests;
 mod roots;
-
-/// The archive of an empty file that isn't executable, 112 bytes.
-const EMPTY_FILE: &[u8] = b"\x0d\0\0\0\0\0\0\0nix-archive-1\0\0\0\
-\x01\0\0\0\0\0\0\0(\0\0\0\0\0\0\0\
-\x04\0\0\0\0\0\0\0type\0\0\0\0\
-\x07\0\0\0\0\0\0\0regular\0\
-\x08\0\0\0\0\0\0\0contents\
-\0\0\0\0\0\0\0\0\
-\x01\0\0\0\0\0\0\0)\0\0\0\0\0\0\0";
 
 /// Who is who in most rows: `ann` is trusted, every other caller allowed.
 const ANN_IS_TRUSTED: &str = "trusted-users = [\"ann\"]\n";
+
+/// A caller, who is in the group `users` unless another stands behind a blank; a request; and the reply.
+type Row = (&'static str, &'static str, &'static str);
 
 /// A store in memory, and what is asked of it.
 #[derive(Drop)]
@@ -46,106 +41,30 @@ impl Store {
         })
     }
 
-    /// The reply to what a member of a group asks.
-    fn ask_as(&mut self, user: &str, group: &str, request: Request) -> Result<Reply, Fail> {
-        let caller = Caller::new(self.alloc, user, Some(group))?;
-        Ok(step(self.alloc, &self.config, &caller, &mut self.world, request))
-    }
-
     /// The reply to what a caller asks, in a line.
-    fn ask(&mut self, user: &str, request: Request) -> Result<String, Fail> {
-        let reply = self.ask_as(user, "users", request)?;
+    fn ask(&mut self, user: &str, words: &str) -> Result<String, Fail> {
+        let (user, group) = user.split_once(' ').unwrap_or((user, "users"));
+        let caller = Caller::new(self.alloc, user, Some(group))?;
+        let asked = request(self.alloc, words)?;
+        let reply = step(self.alloc, &self.config, &caller, &mut self.world, asked);
         Ok(said(self.alloc, &reply)?)
     }
 
-    /// A caller's request is to be replied to in this line.
-    fn expect(&mut self, user: &str, request: Request, line: &str) -> Result<(), Fail> {
-        let reply = self.ask(user, request)?;
-        same(reply.as_str(), line)
-    }
-
-    /// An empty file is put at a path by `ann`, who is trusted, with references.
-    fn put(&mut self, path: &str, refs: &[&str]) -> Result<(), Fail> {
-        self.put_as(path, refs, path)
-    }
-
-    /// The same, with the line that is to be replied.
-    fn put_as(&mut self, path: &str, refs: &[&str], line: &str) -> Result<(), Fail> {
-        let object = imported(self.alloc, path, refs, EMPTY_FILE)?;
-        self.expect("ann", Request::Import(object), line)
-    }
-}
-
-/// Two texts are to be the same.
-fn same(text: &str, line: &str) -> Result<(), Fail> {
-    if text == line {
+    /// Each row is to be replied to in its line.
+    fn expect(&mut self, rows: &[Row]) -> Result<(), Fail> {
+        for (user, words, line) in rows {
+            let reply = self.ask(user, words)?;
+            if reply.as_str() != *line {
+                return Err(Fail::new(format_args!("{words}: {reply}, and not {line}")));
+            }
+        }
         Ok(())
-    } else {
-        Err(Fail::new(format_args!("{text}, and not {line}")))
     }
 }
 
-/// Something is to hold.
-fn holds(fact: bool) -> Result<(), Fail> {
-    if fact {
-        Ok(())
-    } else {
-        Err(Fail::new("it doesn't hold"))
-    }
-}
-
-/// The base name that `[0]-p` stands for: 32 times the digit, and what follows.
-fn full(alloc: Global, short: &str) -> Result<String, AllocError> {
-    let digit = short.get(1..2).unwrap_or("");
-    let mut path = String::new(alloc);
-    for _ in 0..32 {
-        path.push_str(digit)?;
-    }
-    path.push_str(short.get(3..).unwrap_or(""))?;
-    Ok(path)
-}
-
-fn store_path(alloc: Global, short: &str) -> Result<StorePath, Fail> {
-    let dir = StoreDir::parse(alloc, "/nix/store")?;
-    Ok(StorePath::parse(alloc, &dir, full(alloc, short)?.as_str())?)
-}
-
-fn store_paths(alloc: Global, shorts: &[&str]) -> Result<Vec<StorePath>, Fail> {
-    let mut paths = Vec::new(alloc);
-    for short in shorts {
-        paths.push(store_path(alloc, short)?)?;
-    }
-    Ok(paths)
-}
-
-/// An archive with its digest, at a path.
-fn imported(alloc: Global, path: &str, refs: &[&str], nar: &[u8]) -> Result<Imported, Fail> {
-    Ok(Imported {
-        path: store_path(alloc, path)?,
-        nar_hash: Sha256::digest(nar),
-        refs: store_paths(alloc, refs)?,
-        deriver: None,
-        ca: None,
-        nar: Vec::from_slice(alloc, nar)?,
-    })
-}
-
-fn archive(alloc: Global, node: &Node<'_>) -> Result<Vec<u8>, Fail> {
-    let mut nar = Vec::new(alloc);
-    if !nar::is_writable(node) {
-        return Err(Fail::new("too large"));
-    }
-    nar::write(node, &mut nar)?;
-    Ok(nar)
-}
-
-/// The archive of a file that isn't executable.
-fn file(alloc: Global, contents: &[u8]) -> Result<Vec<u8>, Fail> {
-    let node = Node::Regular {
-        executable: false,
-        contents,
-    };
-    archive(alloc, &node)
+/// Each row is to be replied to in its line, by a store that is empty at first.
+fn expect(alloc: Global, config: &str, rows: &[Row]) -> Result<(), Fail> {
+    Store::new(alloc, config)?.expect(rows)
 }
 
 /// A base name as rows write it: `[0]-p` where it begins with 32 times the digit.
@@ -167,12 +86,26 @@ fn write_paths(text: &mut String, paths: &[String]) -> Result<(), AllocError> {
     Ok(())
 }
 
+/// A record: path, bytes, digest and references, and the deriver and the address where they are recorded.
+fn write_record(alloc: Global, text: &mut String, info: &Info) -> Result<(), AllocError> {
+    let digits = paths::base32(alloc, &info.hash)?;
+    write!(text, "{} {} bytes {digits} ", info.path, info.size)?;
+    write_paths(text, &info.references)?;
+    if let Some(deriver) = &info.deriver {
+        write!(text, "of {deriver} ")?;
+    }
+    if let Some(ca) = &info.ca {
+        text.push_str(ca.to_text(alloc)?.as_str())?;
+    }
+    Ok(())
+}
+
 /// An answer in a line.
 fn told(alloc: Global, answer: &Answer) -> Result<String, AllocError> {
     let mut text = String::new(alloc);
     match answer {
         Answer::Path(path) => write_short(&mut text, path.as_str())?,
-        Answer::Record(info) => write_short(&mut text, info.path.as_str())?,
+        Answer::Record(info) => write_record(alloc, &mut text, info)?,
         Answer::Archive(bytes) => write!(text, "{} bytes", bytes.len())?,
         Answer::Listing(listing) => text.push_str(listing.as_str())?,
         Answer::Paths(paths) => write_paths(&mut text, paths)?,
@@ -212,12 +145,4 @@ fn said(alloc: Global, reply: &Reply) -> Result<String, AllocError> {
         Reply::Refused(refusal) => format!(in alloc; "refused {refusal:?}"),
         Reply::Failed => String::from_str(alloc, "failed"),
     }
-}
-
-fn name(alloc: Global, text: &str) -> Result<Name, Fail> {
-    Ok(Name::parse(alloc, text)?)
-}
-
-fn owned(alloc: Global, text: &str) -> Result<String, AllocError> {
-    String::from_str(alloc, text)
 }

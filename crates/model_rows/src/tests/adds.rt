@@ -5,122 +5,80 @@ use super::*;
 const WHEEL_ALONE: &str =
     "allowed-users = []\ntrusted-users = [\"@wheel\"]\n[groups]\nwheel = [\"ann\"]\n";
 
-fn text(alloc: Global, text_name: &str, contents: &[u8]) -> Result<Request, Fail> {
-    Ok(Request::AddText(
-        name(alloc, text_name)?,
-        Vec::new(alloc),
-        Vec::from_slice(alloc, contents)?,
-    ))
-}
-
-#[test]
-fn an_empty_text(rt: HostRuntime) -> Result<(), Fail> {
-    let alloc = rt.alloc();
-    let mut store = Store::new(alloc, WHEEL_ALONE)?;
-    ask_an_empty_text(alloc, &mut store)
-}
-
-fn ask_an_empty_text(alloc: Global, store: &mut Store) -> Result<(), Fail> {
-    let path = store.ask("ann", text(alloc, "empty", b"")?)?;
-    holds(path.ends_with("-empty"))?;
-    store.expect(
+const AN_EMPTY_TEXT: [Row; 4] = [
+    (
         "ann",
-        Request::Nar(owned(alloc, path.as_str())?),
+        "text empty",
+        "wflv0hgb0qb1ddc5nxmsg0y9zjjhfvmh-empty",
+    ),
+    (
+        "ann",
+        "nar wflv0hgb0qb1ddc5nxmsg0y9zjjhfvmh-empty",
         "112 bytes",
-    )?;
-    store.expect("bob", text(alloc, "empty", b"")?, "denied Connect")?;
-    let reply = store.ask_as("bob", "wheel", text(alloc, "empty", b"")?)?;
-    same(said(alloc, &reply)?.as_str(), path.as_str())?;
-    Ok(())
-}
+    ),
+    ("bob", "text empty", "denied Connect"),
+    (
+        "bob wheel",
+        "text empty",
+        "wflv0hgb0qb1ddc5nxmsg0y9zjjhfvmh-empty",
+    ),
+];
 
-#[test]
-fn a_source(rt: HostRuntime) -> Result<(), Fail> {
-    let alloc = rt.alloc();
-    let mut store = Store::new(alloc, "")?;
-    ask_a_source(alloc, &mut store)
-}
-
-fn ask_a_source(alloc: Global, store: &mut Store) -> Result<(), Fail> {
-    let nar = file(alloc, b"mycontent\n")?;
-    let add = Request::AddSource(name(alloc, "myfile")?, Vec::new(alloc), nar);
-    let path = "xv2iccirbrvklck36f1g7vldn5v58vck-myfile";
-    store.expect("ann", add, path)?;
-    store.expect("ann", Request::Ls(owned(alloc, path)?), "r 10 .\n")?;
-    let reply = store.ask_as("ann", "users", Request::Info(owned(alloc, path)?))?;
-    let Reply::Done(Answer::Record(info)) = reply else {
-        return Err(Fail::new("no record"));
-    };
-    let digits = "1qwy7y49hyqd7kdpkyjfclz5fkfqalqapzc4v18lbibkx1yzdzib";
-    same(paths::base32(alloc, &info.hash)?.as_str(), digits)?;
-    holds(info.size == 128)?;
-    holds(info.references.is_empty() && info.deriver.is_none() && info.ca.is_some())?;
-    let other = store.ask("ann", text(alloc, "myfile", b"mycontent\n")?)?;
-    holds(other.as_str() != path)?;
-    Ok(())
-}
-
-#[test]
-fn an_add_repeated(rt: HostRuntime) -> Result<(), Fail> {
-    let alloc = rt.alloc();
-    let mut store = Store::new(alloc, "")?;
-    ask_an_add_repeated(alloc, &mut store)
-}
-
-fn ask_an_add_repeated(alloc: Global, store: &mut Store) -> Result<(), Fail> {
-    let path = store.ask("ann", text(alloc, "t", b"hello")?)?;
-    store.expect("bob", text(alloc, "t", b"hello")?, path.as_str())?;
-    let listed = store.ask("bob", Request::List)?;
-    same(listed.trim_end_matches("; "), path.as_str())
-}
-
-#[test]
-fn malformed_archives_and_derivations(rt: HostRuntime) -> Result<(), Fail> {
-    let alloc = rt.alloc();
-    let mut store = Store::new(alloc, "")?;
-    ask_malformed_archives_and_derivations(alloc, &mut store)
-}
-
-fn ask_malformed_archives_and_derivations(alloc: Global, store: &mut Store) -> Result<(), Fail> {
-    let add = Request::AddSource(name(alloc, "x")?, Vec::new(alloc), Vec::new(alloc));
-    store.expect("ann", add, "refused Archive(Truncated)")?;
-    store.expect(
+const A_SOURCE: [Row; 4] = [
+    (
         "ann",
-        text(alloc, "x.drv", b"Derive(")?,
+        "source myfile mine",
+        "xv2iccirbrvklck36f1g7vldn5v58vck-myfile",
+    ),
+    (
+        "ann",
+        "ls xv2iccirbrvklck36f1g7vldn5v58vck-myfile",
+        "r 10 .\n",
+    ),
+    (
+        "ann",
+        "info xv2iccirbrvklck36f1g7vldn5v58vck-myfile",
+        "xv2iccirbrvklck36f1g7vldn5v58vck-myfile 128 bytes 1qwy7y49hyqd7kdpkyjfclz5fkfqalqapzc4v18lbibkx1yzdzib fixed:r:sha256:1qwy7y49hyqd7kdpkyjfclz5fkfqalqapzc4v18lbibkx1yzdzib",
+    ),
+    (
+        "ann",
+        "text myfile mycontent\n",
+        "a0d1zlpv81nsfbam8ay3i7snrc0sgsvr-myfile",
+    ),
+];
+
+const AN_ADD_REPEATED: [Row; 3] = [
+    ("ann", "text t hello", "vqpn17r03lqabwk0wksgpbgy620zwfd4-t"),
+    ("bob", "text t hello", "vqpn17r03lqabwk0wksgpbgy620zwfd4-t"),
+    ("bob", "list", "vqpn17r03lqabwk0wksgpbgy620zwfd4-t; "),
+];
+
+const MALFORMED_ARCHIVES_AND_DERIVATIONS: [Row; 3] = [
+    ("ann", "source x ''", "refused Archive(Truncated)"),
+    (
+        "ann",
+        "text x.drv Derive(",
         "refused Derivation(BadDerivation)",
-    )?;
-    let twice =
-        b"Derive([(\"out\",\"\",\"\",\"\"),(\"out\",\"\",\"\",\"\")],[],[],\"p\",\"b\",[],[])";
-    store.expect(
+    ),
+    (
         "ann",
-        text(alloc, "x.drv", twice)?,
+        "text x.drv Derive([(\"out\",\"\",\"\",\"\"),(\"out\",\"\",\"\",\"\")],[],[],\"p\",\"b\",[],[])",
         "refused Derivation(DoubleOutput)",
-    )?;
-    Ok(())
-}
+    ),
+];
+
+const WHAT_IS_READ_IS_VALID: [Row; 3] = [
+    ("ann", "info [0]-p", "refused NotValid"),
+    ("ann", "nar [0]-p", "refused NotValid"),
+    ("ann", "ls [0]-p", "refused NotValid"),
+];
 
 #[test]
-fn what_is_read_is_valid(rt: HostRuntime) -> Result<(), Fail> {
+fn adds(rt: HostRuntime) -> Result<(), Fail> {
     let alloc = rt.alloc();
-    let mut store = Store::new(alloc, "")?;
-    ask_what_is_read_is_valid(alloc, &mut store)
-}
-
-fn ask_what_is_read_is_valid(alloc: Global, store: &mut Store) -> Result<(), Fail> {
-    store.expect(
-        "ann",
-        Request::Info(full(alloc, "[0]-p")?),
-        "refused NotValid",
-    )?;
-    store.expect(
-        "ann",
-        Request::Nar(full(alloc, "[0]-p")?),
-        "refused NotValid",
-    )?;
-    store.expect(
-        "ann",
-        Request::Ls(full(alloc, "[0]-p")?),
-        "refused NotValid",
-    )?;
-    Ok(())
+    expect(alloc, WHEEL_ALONE, &AN_EMPTY_TEXT)?;
+    expect(alloc, "", &A_SOURCE)?;
+    expect(alloc, "", &AN_ADD_REPEATED)?;
+    expect(alloc, "", &MALFORMED_ARCHIVES_AND_DERIVATIONS)?;
+    expect(alloc, "", &WHAT_IS_READ_IS_VALID)
 }

@@ -1,131 +1,91 @@
 //! Profiles: which generation becomes current, and which may go.
 use super::*;
-use model::Profile;
-use std::collections::BTreeMap;
 
-fn set(alloc: Global, path: &str) -> Result<Request, Fail> {
-    Ok(Request::SetProfile(
-        owned(alloc, "bob")?,
-        owned(alloc, "work")?,
-        full(alloc, path)?,
-    ))
-}
+const A_GENERATION_IS_REUSED: [Row; 12] = [
+    ("ann", "import [0]-a empty", "[0]-a"),
+    ("ann", "import [1]-b empty", "[1]-b"),
+    ("bob", "profile bob work [0]-a", "generation 1"),
+    ("bob", "profile bob work [1]-b", "generation 2"),
+    ("bob", "rollback bob work", "generation 1"),
+    ("bob", "profile bob work [1]-b", "generation 2"),
+    (
+        "bob",
+        "delete-generation bob work 2",
+        "refused CurrentGeneration",
+    ),
+    ("bob", "delete-generation bob work 1", "done"),
+    ("bob", "dead", "[0]-a; "),
+    ("bob", "rollback bob work", "refused NoOlderGeneration"),
+    (
+        "bob",
+        "delete-generation bob work 7",
+        "refused NoGeneration",
+    ),
+    ("bob", "switch bob work 0", "refused NoGeneration"),
+];
 
-fn roll_back(alloc: Global) -> Result<Request, Fail> {
-    Ok(Request::Rollback(owned(alloc, "bob")?, owned(alloc, "work")?))
-}
+const NUMBERS_RISE_FROM_THE_HIGHEST: [Row; 9] = [
+    ("ann", "import [0]-a empty", "[0]-a"),
+    ("bob", "profile bob work [0]-a", "generation 1"),
+    ("ann", "import [1]-b empty", "[1]-b"),
+    ("bob", "profile bob work [1]-b", "generation 2"),
+    ("ann", "import [2]-c empty", "[2]-c"),
+    ("bob", "profile bob work [2]-c", "generation 3"),
+    ("bob", "rollback bob work", "generation 2"),
+    ("bob", "delete-generation bob work 3", "done"),
+    ("bob", "profile bob work [2]-c", "generation 3"),
+];
 
-fn switch(alloc: Global, number: u32) -> Result<Request, Fail> {
-    Ok(Request::Switch(owned(alloc, "bob")?, owned(alloc, "work")?, number))
-}
+const TWO_OBJECTS: [Row; 2] = [
+    ("ann", "import [0]-a empty", "[0]-a"),
+    ("ann", "import [1]-b empty", "[1]-b"),
+];
 
-fn delete(alloc: Global, number: u32) -> Result<Request, Fail> {
-    Ok(Request::DeleteGeneration(owned(alloc, "bob")?, owned(alloc, "work")?, number))
-}
+/// With the profile `work` of `bob` at its generation 9999, `[0]-a`.
+const THE_LAST_NUMBER: [Row; 2] = [
+    ("bob", "profile bob work [0]-a", "generation 9999"),
+    ("bob", "profile bob work [1]-b", "refused GenerationLimit"),
+];
+
+const PROFILES_OF_OTHERS: [Row; 6] = [
+    ("bob", "rollback bob work", "refused NoProfile"),
+    ("ann", "rollback bob work", "denied OwnRoot"),
+    ("ann", "switch bob work 1", "denied OwnRoot"),
+    ("ann", "profile bob work [0]-a", "denied OwnRoot"),
+    ("ann", "delete-generation bob work 1", "refused NoProfile"),
+    ("cid", "delete-generation bob work 1", "denied OwnRoot"),
+];
+
+const NAMES_OF_PROFILES: [Row; 5] = [
+    ("bob", "rollback bob a/b", "refused BadRootName"),
+    ("bob", "switch bob '' 1", "refused BadRootName"),
+    ("bob", "delete-generation bob - 1", "refused BadRootName"),
+    ("bob", "profile bob - [0]-p", "refused BadRootName"),
+    ("bob", "profile bob work [0]-p", "refused NotValid"),
+];
 
 #[test]
-fn a_generation_is_reused(rt: HostRuntime) -> Result<(), Fail> {
+fn profiles(rt: HostRuntime) -> Result<(), Fail> {
     let alloc = rt.alloc();
-    let mut store = Store::new(alloc, ANN_IS_TRUSTED)?;
-    ask_a_generation_is_reused(alloc, &mut store)
-}
-
-fn ask_a_generation_is_reused(alloc: Global, store: &mut Store) -> Result<(), Fail> {
-    store.put("[0]-a", &[])?;
-    store.put("[1]-b", &[])?;
-    store.expect("bob", set(alloc, "[0]-a")?, "generation 1")?;
-    store.expect("bob", set(alloc, "[1]-b")?, "generation 2")?;
-    store.expect("bob", roll_back(alloc)?, "generation 1")?;
-    store.expect("bob", set(alloc, "[1]-b")?, "generation 2")?;
-    store.expect("bob", delete(alloc, 2)?, "refused CurrentGeneration")?;
-    store.expect("bob", delete(alloc, 1)?, "done")?;
-    store.expect("bob", Request::ListDead, "[0]-a; ")?;
-    store.expect("bob", roll_back(alloc)?, "refused NoOlderGeneration")?;
-    store.expect("bob", delete(alloc, 7)?, "refused NoGeneration")?;
-    store.expect("bob", switch(alloc, 0)?, "refused NoGeneration")?;
-    Ok(())
-}
-
-#[test]
-fn numbers_rise_from_the_highest(rt: HostRuntime) -> Result<(), Fail> {
-    let alloc = rt.alloc();
-    let mut store = Store::new(alloc, ANN_IS_TRUSTED)?;
-    ask_numbers_rise_from_the_highest(alloc, &mut store)
-}
-
-fn ask_numbers_rise_from_the_highest(alloc: Global, store: &mut Store) -> Result<(), Fail> {
-    for path in ["[0]-a", "[1]-b", "[2]-c"] {
-        store.put(path, &[])?;
-        store.ask("bob", set(alloc, path)?)?;
-    }
-    store.expect("bob", roll_back(alloc)?, "generation 2")?;
-    store.expect("bob", delete(alloc, 3)?, "done")?;
-    store.expect("bob", set(alloc, "[2]-c")?, "generation 3")?;
-    Ok(())
+    expect(alloc, ANN_IS_TRUSTED, &A_GENERATION_IS_REUSED)?;
+    expect(alloc, ANN_IS_TRUSTED, &NUMBERS_RISE_FROM_THE_HIGHEST)?;
+    expect(alloc, ANN_IS_TRUSTED, &PROFILES_OF_OTHERS)?;
+    expect(alloc, ANN_IS_TRUSTED, &NAMES_OF_PROFILES)
 }
 
 #[test]
 fn the_last_number(rt: HostRuntime) -> Result<(), Fail> {
     let alloc = rt.alloc();
     let mut store = Store::new(alloc, ANN_IS_TRUSTED)?;
-    ask_the_last_number(alloc, &mut store)
-}
-
-fn ask_the_last_number(alloc: Global, store: &mut Store) -> Result<(), Fail> {
-    store.put("[0]-a", &[])?;
-    store.put("[1]-b", &[])?;
+    store.expect(&TWO_OBJECTS)?;
     let mut generations = BTreeMap::new(alloc);
     generations.insert(9999, full(alloc, "[0]-a")?)?;
     let profile = Profile {
         generations,
         current: 9999,
     };
-    store
-        .world
-        .profiles
-        .insert((owned(alloc, "bob")?, owned(alloc, "work")?), profile)?;
-    store.expect("bob", set(alloc, "[0]-a")?, "generation 9999")?;
-    store.expect("bob", set(alloc, "[1]-b")?, "refused GenerationLimit")?;
-    Ok(())
-}
-
-#[test]
-fn profiles_of_others(rt: HostRuntime) -> Result<(), Fail> {
-    let alloc = rt.alloc();
-    let mut store = Store::new(alloc, ANN_IS_TRUSTED)?;
-    ask_profiles_of_others(alloc, &mut store)
-}
-
-fn ask_profiles_of_others(alloc: Global, store: &mut Store) -> Result<(), Fail> {
-    store.expect("bob", roll_back(alloc)?, "refused NoProfile")?;
-    store.expect("ann", roll_back(alloc)?, "denied OwnRoot")?;
-    store.expect("ann", switch(alloc, 1)?, "denied OwnRoot")?;
-    store.expect("ann", set(alloc, "[0]-a")?, "denied OwnRoot")?;
-    store.expect("ann", delete(alloc, 1)?, "refused NoProfile")?;
-    store.expect("cid", delete(alloc, 1)?, "denied OwnRoot")?;
-    Ok(())
-}
-
-#[test]
-fn names_of_profiles(rt: HostRuntime) -> Result<(), Fail> {
-    let alloc = rt.alloc();
-    let mut store = Store::new(alloc, ANN_IS_TRUSTED)?;
-    ask_names_of_profiles(alloc, &mut store)
-}
-
-fn ask_names_of_profiles(alloc: Global, store: &mut Store) -> Result<(), Fail> {
-    let back = Request::Rollback(owned(alloc, "bob")?, owned(alloc, "a/b")?);
-    store.expect("bob", back, "refused BadRootName")?;
-    let switched = Request::Switch(owned(alloc, "bob")?, owned(alloc, "")?, 1);
-    store.expect("bob", switched, "refused BadRootName")?;
-    let deleted = Request::DeleteGeneration(owned(alloc, "bob")?, owned(alloc, "-")?, 1);
-    store.expect("bob", deleted, "refused BadRootName")?;
-    let misnamed = Request::SetProfile(
-        owned(alloc, "bob")?,
-        owned(alloc, "-")?,
-        full(alloc, "[0]-p")?,
-    );
-    store.expect("bob", misnamed, "refused BadRootName")?;
-    store.expect("bob", set(alloc, "[0]-p")?, "refused NotValid")?;
-    Ok(())
+    let owner = String::from_str(alloc, "bob")?;
+    let name = String::from_str(alloc, "work")?;
+    store.world.profiles.insert((owner, name), profile)?;
+    store.expect(&THE_LAST_NUMBER)
 }
