@@ -6,3 +6,4 @@ pub mod Puts
 pub mod Written
 pub mod Told
 pub mod Ordered
+pub mod ProfileEntries

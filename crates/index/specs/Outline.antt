@@ -1,5 +1,5 @@
 -- A world without the bytes of its archives: what is kept in memory.
-use Rattle.std.specs.Prelude.{ℕ, List, map, length, Bool, Option, refl}
+use Rattle.std.specs.Prelude.{ℕ, List, map, length, Bool, Option, Some, None, option_map, refl}
 use Rattle.std.specs.Coded.{Coded, code_by, coded×, coded_ℕ, coded_list, coded_option}
 use base.Stored.{coded_unit}
 use Rattle.std.specs.Ordering.{nat_cmp}
@@ -10,6 +10,7 @@ use Rattle.paths.specs.Root.{bytes_cmp, Set}
 use Rattle.paths.specs.ContentAddress.{ContentAddress}
 use Rattle.paths.specs.contracts.content_address.Ca as address
 use Rattle.world.specs.World.{Path, Pair, pair_cmp, Object, Profile, Temporary, temporary_cmp, World}
+use Rattle.world.specs.Profiles.{profile_or_new, switched, without_generation}
 
 -- an object, with the size and the digest of its archive
 pub record Outlined : Type 0 where
@@ -44,6 +45,24 @@ outline_of w = record {
   runtime = w.runtime;
   temporary = w.temporary;
 }
+
+-- ---- profiles
+
+-- the profile of an owner and a name, or one without generations
+abbrev pub profile_of : Outline → Pair → Profile
+profile_of o owned = profile_or_new (finite.get o.profiles owned)
+
+abbrev pub with_profile : Outline → Pair → Profile → Outline
+with_profile o owned p = record o { profiles = finite.insert o.profiles owned p }
+
+-- the number of the current generation, if there is such a profile
+abbrev pub current_of : Outline → Pair → Option ℕ
+current_of o owned = option_map (λ p. p.current) (finite.get o.profiles owned)
+
+-- the profiles without one generation of one of them, in which the number that was current is so again; or without all of it
+abbrev pub without_added : Outline → Pair → ℕ → Option ℕ → finite.FinMap pair_cmp Profile
+without_added o owned n None = finite.remove o.profiles owned
+without_added o owned n (Some current) = finite.insert o.profiles owned (switched (without_generation (profile_of o owned) n) current)
 
 -- ---- their codes
 

@@ -2,6 +2,7 @@
 #![tactic(auto)]
 
 mod filling;
+mod kept_profiles;
 mod objects;
 mod outline;
 mod profiles;

@@ -4,7 +4,7 @@ pub mod Liveness
 pub mod Seen
 pub mod Verdict
 pub mod Adds
-pub mod Profiles
+pub use Rattle.world.specs.Profiles
 pub mod Tests
 pub mod Effects
 pub mod Answers

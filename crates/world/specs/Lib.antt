@@ -1,4 +1,5 @@
 pub mod World
+pub mod Profiles
 pub mod Objects
 pub mod Sound
 pub mod Pieces

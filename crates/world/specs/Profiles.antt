@@ -1,8 +1,9 @@
 -- Profiles, their generations and how these change.
 use Rattle.std.specs.Prelude.{ℕ, ◌+◌, Bool, false, nat_lt, if◌then◌else◌, List, Option, Some, None, unwrap_or}
 use Rattle.std.specs.List.{filter, last_or}
+use Rattle.std.specs.Ordering.{eq_by_cmp}
 use Rattle.std.specs.FinMap as finite
-use Rattle.live.specs.Graph.{same}
+use Rattle.paths.specs.Root.{bytes_cmp}
 use Rattle.world.specs.World.{Path, Pair, Profile, World}
 
 -- the greatest number of a generation
@@ -36,7 +37,7 @@ highest p = unwrap_or (last_or None (numbers p)) 0
 
 abbrev pub is_path : Option Path → Path → Bool
 is_path None p = false
-is_path (Some q) p = same q p
+is_path (Some q) p = eq_by_cmp bytes_cmp q p
 
 -- whether a path is that of the highest generation
 abbrev pub is_highest : Profile → Path → Bool
@@ -52,6 +53,10 @@ previous p = last_or None (filter (λ n. nat_lt n p.current) (numbers p))
 
 abbrev pub switched : Profile → ℕ → Profile
 switched p n = record p { current = n }
+
+-- a path stands at a number, which becomes current
+abbrev pub put_at : Profile → ℕ → Path → Profile
+put_at p n target = record { generations = finite.insert p.generations n target; current = n }
 
 -- a path is set: the highest generation becomes current if it is the path's, else a new one is made and becomes current
 abbrev pub set_to : Profile → Path → Profile

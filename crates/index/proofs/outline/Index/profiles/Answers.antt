@@ -1,0 +1,14 @@
+use Rattle.std.proofs.Common.{sym, ap, ◌∙◌}
+use Rattle.std.specs.FinMap as finite
+use Rattle.world.specs.World.{pair_cmp}
+use Rattle.index.specs.Maps.{pair_bytes}
+use Rattle.index.specs.Index.{profile_view}
+use Rattle.index.specs.Outline.{Outline}
+use Rattle.index.proofs.Orders.{pair_total, pair_antisymmetric}
+use Rattle.index.proofs.Trees.{listed}
+use Rattle.index.proofs.outline.Index.profiles.Goals as goal
+
+pub returns : goal.returns
+returns c =
+    sym (listed pair_cmp pair_bytes profile_view pair_total pair_antisymmetric c.self.inside.profiles.entries c.len-count.ensures.ordered)
+    ∙ ap (λ (o : Outline). finite.entries o.profiles) c.self.view_is
