@@ -2,3 +2,9 @@ pub mod Verdicts
 pub mod Untouched
 pub mod Outlined
 pub mod Replied
+pub mod TextArchives
+pub mod Passing
+pub mod Outputs
+pub mod AddedObjects
+pub mod Parted
+pub mod Ordered

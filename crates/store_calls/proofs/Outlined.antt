@@ -1,7 +1,8 @@
 -- What the outline of a world tells of it.
-use Rattle.std.proofs.Common.{◌≡◌, List, [], ◌∷◌, map, Option, Some, None, is_some, option_map, refl, sym, ap, ◌∙◌, T}
+use Rattle.std.proofs.Common.{◌||◌, ◌≡◌, List, [], ◌∷◌, map, Option, Some, None, is_some, option_map, refl, sym, ap, ◌∙◌, T}
 use Rattle.std.specs.declared.cmp.Ordering.{Ordering}
 use Rattle.std.specs.Ordering.{is_lt}
+use Rattle.std.specs.List.{list_all}
 use Rattle.std.specs.FinMap as finite
 use Rattle.std.specs.FinMap.Entries.{is_sorted, below_all}
 use Rattle.std.proofs.lemmas.Bool.{false≢true}
@@ -11,6 +12,9 @@ use Rattle.world.specs.World.{Path, Object, World, has, all_paths}
 use Rattle.index.specs.Outline.{Outline, Outlined, outlined, outline_of}
 use Rattle.store.specs.Reply.{record_of}
 use Rattle.store.specs.Answers.{record_at}
+use Rattle.store.specs.Tests.{is_complete}
+use Rattle.live.specs.Graph.{same}
+use Rattle.store_calls.specs.Parts.{is_complete_in}
 use Rattle.store_calls.specs.Told.{info_in}
 use Rattle.index.proofs.Orders.{bytes_total, bytes_antisymmetric}
 use Rattle.index.proofs.Told.{get-told, has-told}
@@ -64,3 +68,8 @@ record_by o w p x is at = by (finite.get w.objects p) (found_by o w p (Some x) i
     by : (r : Option Object) → option_map outlined r ≡ Some x → record_of (info_in p x) ≡ record_at p r
     by None e = absurd (false≢true (ap is_some e))
     by (Some y) e = ap (λ z. record_of (info_in p z)) (sym (same_Some (outlined y) x e))
+
+-- whether references are all there
+pub complete_by : (o : Outline) (w : World) (p : Path) (refs : List Path) → outline_of w ≡ o → is_complete w p refs ≡ is_complete_in o p refs
+complete_by o w p refs is =
+    (λ i. sym (has_outlined w p) i || list_all (λ r. sym (has_outlined w r) i || same r p) refs) ∙ ap (λ (x : Outline). is_complete_in x p refs) is

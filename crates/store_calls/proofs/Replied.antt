@@ -13,7 +13,7 @@ use Rattle.store.specs.Verdict.{operation_of, named_in, verdict}
 use Rattle.store.specs.Step.{Step, IsNoneOrLive}
 use Rattle.tables.specs.Kept.{Kept, Tells}
 use Rattle.store_calls.specs.declared.requests.Request as asked
-use Rattle.store_calls.specs.declared.requests.Request.TheVariants.{Info, List as ListAll}
+use Rattle.store_calls.specs.declared.requests.Request.TheVariants.{AddText, Info, List as ListAll}
 use Rattle.store_calls.specs.declared.replies.Answer.{Answer}
 use Rattle.store_calls.specs.declared.replies.Stop.{Stop}
 use Rattle.store_calls.specs.declared.replies.Stop.TheVariants.{Refused, Failed}
@@ -24,6 +24,7 @@ use Rattle.store_calls.proofs.Verdicts.{denied_by, permitted}
 
 -- no request deletes by name yet
 pub names_none : (q : asked.Request) → named_in (request_view q) ≡ []
+names_none (AddText name refs contents) = refl
 names_none (Info p) = refl
 names_none ListAll = refl
 

@@ -1,5 +1,5 @@
 -- Tables that a request leaves as they were.
-use Rattle.std.proofs.Common.{◌≡◌, Result, refl, sym, ◌∙◌, inl, inr}
+use Rattle.std.proofs.Common.{◌≡◌, Result, Err, refl, sym, ◌∙◌, inl, inr}
 use Rattle.sqlite_trees.specs.declared.store.Store.{Ghosts}
 use Rattle.sqlite_trees.specs.Tree.{Trees}
 use Rattle.sqlite.specs.State.{State, Survives}
@@ -7,11 +7,15 @@ use Rattle.sqlite.specs.Held.{state}
 use Rattle.table_statements.proofs.Transactions.{survives_none}
 use Rattle.policy.specs.Settings.{Settings}
 use Rattle.policy.specs.Caller.{Caller}
-use Rattle.index.specs.Outline.{Outline}
+use Rattle.world.specs.World.{World}
+use Rattle.index.specs.Outline.{Outline, outline_of}
 use Rattle.store.specs.Request.{Request}
+use Rattle.store.specs.Tests.{refusal}
 use Rattle.tables.specs.Kept.{Kept}
 use Rattle.store_calls.specs.declared.replies.Answer.{Answer}
 use Rattle.store_calls.specs.declared.replies.Stop.{Stop}
+use Rattle.store_calls.specs.declared.replies.Stop.TheVariants.{Refused, Failed}
+use Rattle.store_calls.specs.Tested.{Stops}
 use Rattle.store_calls.specs.Lasting.{Lasts}
 use Rattle.store_calls.specs.Meets.{Reads, IsMet}
 
@@ -34,3 +38,8 @@ module _ {S : Type 0} (g : Ghosts S) where
     lasts = λ _. lasts_still (state g k.connection);
     survives = λ w t. survives_still (state g k.connection) _;
   }
+
+-- what stops the tests of a request
+pub reads_stopped : (s : Settings) (c : Caller) (o : Outline) (q : Request) (stop : Stop) → ((w : World) → outline_of w ≡ o → Stops stop (refusal s w q)) → Reads s c o q (Err stop)
+reads_stopped s c o q (Refused r) h w is = (h w is, refl)
+reads_stopped s c o q (Failed f) h w is = refl

@@ -6,7 +6,7 @@ use Rattle.index.specs.Maps.{labelled_bytes}
 use Rattle.table_statements.specs.declared.failure.Failure.{Failure}
 use Rattle.table_statements.specs.declared.failure.Failure.TheVariants.{Memory, Size, Disk}
 use Rattle.store_calls.specs.declared.requests.Request.{Request}
-use Rattle.store_calls.specs.declared.requests.Request.TheVariants.{Info as InfoOf, List as ListAll}
+use Rattle.store_calls.specs.declared.requests.Request.TheVariants.{AddText, Info as InfoOf, List as ListAll}
 use Rattle.store_calls.specs.declared.replies.Info.{Info}
 use Rattle.store_calls.specs.declared.replies.Usage.{Usage}
 use Rattle.store_calls.specs.declared.replies.Answer.{Answer}
@@ -17,6 +17,7 @@ use Rattle.store_calls.specs.declared.replies.Reply.{Reply}
 use Rattle.store_calls.specs.declared.replies.Reply.TheVariants.{Done, Denied, Refused, Failed}
 
 abbrev pub request_view : Request → asked.Request
+request_view (AddText name refs contents) = asked.add_text name refs.items contents.items
 request_view (InfoOf p) = asked.info p
 request_view ListAll = asked.list
 

@@ -4,9 +4,9 @@ ghost use Rattle.std.specs.Prelude.{◌≡◌};
 ghost use Rattle.store_calls.specs.View.{request_view, reply_view};
 ghost use Rattle.store_calls.specs.Meets.{IsMet, reply_to};
 
-use crate::reading;
 use crate::replies::{Answer, Reply, Stop};
 use crate::requests::Request;
+use crate::{adding, reading};
 use policy::{Caller, Config};
 use sqlite::Alter;
 use std::alloc::Global;
@@ -24,6 +24,9 @@ pub(crate) fn act<S: Alter>(
     ensures { IsMet S.Store config.now caller.now (request_view request) result tables.old tables.new }
 {
     match request {
+        Request::AddText(name, refs, text) => {
+            adding::add_text(alloc, config, tables, name, refs, text)
+        }
         Request::Info(path) => reading::info(alloc, tables.index(), path),
         Request::List => reading::list(alloc, tables.index()),
     }

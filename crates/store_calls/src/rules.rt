@@ -13,6 +13,6 @@ pub(crate) fn operation(request: &Request) -> Op
     ensures { operations.operation_of result ≡ verdicts.operation_of (request_view request.now) }
 {
     match request {
-        Request::Info(_) | Request::List => Op::Plain,
+        Request::AddText(_, _, _) | Request::Info(_) | Request::List => Op::Plain,
     }
 }

@@ -5,6 +5,11 @@ use Rattle.store_calls.specs.Meets.{IsMet}
 use Rattle.store_calls.proofs.Untouched.{met_by_reading}
 use Rattle.store_calls.proofs.acting.act.Goals as goal
 
+pub returns-in-AddText : goal.returns-in-AddText
+returns-in-AddText g c =
+    subst (λ (q : Request). IsMet g.S.Store c.args.config.now c.args.caller.now (request_view q) c.add_text.result c.args.tables.now c.add_text.new.tables) (sym c.in-AddText.is)
+    (c.add_text.ensures c.args.caller.now)
+
 pub returns-in-Info : goal.returns-in-Info
 returns-in-Info g c =
     subst (λ (q : Request). IsMet g.S.Store c.args.config.now c.args.caller.now (request_view q) c.info.result c.args.tables.now c.args.tables.now) (sym c.in-Info.is)

@@ -1,0 +1,21 @@
+use Rattle.std.proofs.Common.{◌≡◌, ℕ, List, length, rules, sym, ap, subst, ◌∙◌, IsTrue}
+use Rattle.sha2.specs.Sha256.{sha256}
+use Rattle.paths.specs.Root.{bytes_cmp, set_of}
+use Rattle.index.specs.Outline.{rise}
+use Rattle.store_calls.proofs.Ordered.{keys_of_set_rise, set_again}
+use Rattle.store_calls.proofs.summaries.summary.Goals as goal
+
+pub new-requires-clause-references : goal.new-requires-clause-references
+new-requires-clause-references c = subst (λ (l : List (List ℕ)). IsTrue (rise l)) (sym c.in_order.ensures) (keys_of_set_rise (set_of bytes_cmp c.args.refs.items))
+
+pub returns : goal.returns
+returns c =
+    let hash : c.digest.result ≡ sha256 c.args.nar.now = search rules in
+    c.new.ensures ∙ (λ i. record {
+      size = length c.args.nar.now;
+      hash = hash i;
+      references = (ap (set_of bytes_cmp) c.in_order.ensures ∙ set_again (set_of bytes_cmp c.args.refs.items)) i;
+      deriver = c.args.deriver;
+      ca = c.args.ca;
+      outputs = c.in_ok-names.ensures.value i;
+    })
