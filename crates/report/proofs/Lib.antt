@@ -5,3 +5,4 @@ pub mod Stops
 pub mod InTable
 pub mod Listings
 pub mod Worked
+pub mod Joined

@@ -2,11 +2,17 @@
 #![tactic(auto)]
 
 mod laws;
+mod lists;
+mod records;
 mod refusal;
+mod usage;
 
 pub use laws::{
     a_new_store_uses_nothing, listings_lose_nothing, numbers_are_one_to_forty_two,
     refusals_are_in_the_table, refusals_differ, stops_are_lines, worked_lines, worked_narinfo,
     worked_usage,
 };
+pub use lists::{path_line, paths_text, roots_text};
+pub use records::{Info, narinfo};
 pub use refusal::Refusal;
+pub use usage::usage_text;

@@ -1,0 +1,102 @@
+//! Listings of paths and of roots: a line each.
+ghost use Rattle.std.specs.Prelude.{◌≡◌, ◌++◌, IfOk, OnOk, codes, map, string_bytes};
+ghost use Rattle.paths.specs.StorePath.{full_path};
+ghost use Rattle.report.specs.Replies as spec;
+ghost use Rattle.report.specs.View.{labelled};
+ghost use Rattle.report.specs.Stops.{root_text};
+
+use paths::{StoreDir, StorePath};
+use std::alloc::{AllocError, Global};
+
+/// Appends the full path of a store path.
+pub(crate) fn push_path(
+    text: &mut String,
+    dir: &StoreDir,
+    path: &StorePath,
+) -> Result<(), AllocError>
+    ensures { OnOk result (string_bytes text.new ≡ string_bytes text.old ++ full_path dir.now path.now) }
+{
+    text.push_str(dir.as_str())?;
+    text.push_str("/")?;
+    text.push_str(path.as_str())
+}
+
+fn push_path_line(text: &mut String, dir: &StoreDir, path: &StorePath) -> Result<(), AllocError>
+    ensures { OnOk result (string_bytes text.new ≡ string_bytes text.old ++ spec.path_line dir.now path.now) }
+{
+    push_path(text, dir, path)?;
+    text.push_str("\n")
+}
+
+/// Appends a label and the full path of a target.
+pub(crate) fn push_root(
+    text: &mut String,
+    dir: &StoreDir,
+    label: &str,
+    target: &StorePath,
+) -> Result<(), AllocError>
+    ensures { OnOk result (string_bytes text.new ≡ string_bytes text.old ++ root_text dir.now (label.now, target.now)) }
+{
+    text.push_str(label)?;
+    text.push_str(" ")?;
+    push_path(text, dir, target)
+}
+
+fn push_root_line(
+    text: &mut String,
+    dir: &StoreDir,
+    label: &str,
+    target: &StorePath,
+) -> Result<(), AllocError>
+    ensures { OnOk result (string_bytes text.new ≡ string_bytes text.old ++ spec.root_line dir.now (label.now, target.now)) }
+{
+    push_root(text, dir, label, target)?;
+    text.push_str("\n")
+}
+
+/// The full path of a store path, on a line.
+///
+/// # Errors
+///
+/// Memory was refused.
+pub fn path_line(alloc: Global, dir: &StoreDir, path: &StorePath) -> Result<String, AllocError>
+    ensures { IfOk result (λ text. string_bytes text ≡ spec.path_line dir.now path.now) }
+{
+    let mut text = String::new(alloc);
+    push_path_line(&mut text, dir, path)?;
+    Ok(text)
+}
+
+/// A full path a line.
+///
+/// # Errors
+///
+/// Memory was refused.
+pub fn paths_text(alloc: Global, dir: &StoreDir, paths: &[StorePath]) -> Result<String, AllocError>
+    ensures { IfOk result (λ text. string_bytes text ≡ spec.paths_text dir.now paths.now) }
+{
+    let mut text = String::new(alloc);
+    for path in paths {
+        push_path_line(&mut text, dir, path)?;
+    }
+    Ok(text)
+}
+
+/// A label and the full path of a target a line.
+///
+/// # Errors
+///
+/// Memory was refused.
+pub fn roots_text(
+    alloc: Global,
+    dir: &StoreDir,
+    roots: &[(String, StorePath)],
+) -> Result<String, AllocError>
+    ensures { IfOk result (λ text. string_bytes text ≡ spec.roots_text dir.now (map labelled roots.now)) }
+{
+    let mut text = String::new(alloc);
+    for root in roots {
+        push_root_line(&mut text, dir, root.0.as_str(), &root.1)?;
+    }
+    Ok(text)
+}
