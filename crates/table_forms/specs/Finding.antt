@@ -5,8 +5,8 @@ use Rattle.sqlite_schema.specs.declared.schema.Schema.{Schema}
 use Rattle.sqlite_schema.specs.declared.schema.Table.{Table}
 use Rattle.sqlite_schema.specs.Names.{same_name, table_named, index_named, view_named}
 use Rattle.sqlite.specs.Does.{lacks_sequence}
-use Rattle.table_forms.specs.Forms.{our_tables, further_tables}
-use Rattle.table_forms.specs.Standing.{is_unreferred, is_alone, is_unguarded}
+use Rattle.table_forms.specs.Forms.{our_tables, further_tables, piece, temp_root}
+use Rattle.table_forms.specs.Standing.{Stands, HasTables, is_unreferred, is_alone, is_unguarded}
 
 -- the table has the form, and is found by its tree too, which is below the numbers that a query gives to tables of its own
 pub record HasForm (tables : List Table) (form found : Table) : Type 0 where
@@ -41,3 +41,13 @@ pub record HasNone (s : Schema) : Type 0 where
   pub free : AllByRecursion (λ t. IsFree s t.name) our_tables
   pub further : AllByRecursion (λ t. IsFree s t.name) further_tables
   pub counted : lacks_sequence s ≡ false
+
+-- the tables are those of the first schema, of the second, or of the third; the name of a table that the schema lacks is free
+abbrev pub HasFirst : Schema → Type 0
+HasFirst s = HasTables s × IsFree s piece.name × IsFree s temp_root.name
+
+abbrev pub HasSecond : Schema → Type 0
+HasSecond s = HasTables s × Stands s piece × IsFree s temp_root.name
+
+abbrev pub HasThird : Schema → Type 0
+HasThird s = HasTables s × Stands s piece × Stands s temp_root

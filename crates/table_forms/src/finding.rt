@@ -59,7 +59,7 @@ fn last_stand(schema: &Schema) -> bool
     profile_stands(schema) && generation_stands(schema) && runtime_stands(schema)
 }
 
-fn has_tables(schema: &Schema) -> bool
+pub(crate) fn has_tables(schema: &Schema) -> bool
     ensures { IsTrue result ↔ HasTables schema.now }
 {
     first_stand(schema) && next_stand(schema) && last_stand(schema)
@@ -88,7 +88,7 @@ fn is_unawaited(tables: &[Table], name: &[u8]) -> bool
 }
 
 /// Whether nothing of the schema has the name, and no foreign key refers to it.
-fn is_free(schema: &Schema, name: &[u8]) -> bool
+pub(crate) fn is_free(schema: &Schema, name: &[u8]) -> bool
     ensures { IsTrue result ↔ IsFree schema.now name.now }
 {
     schema.table_named(name).is_none()
@@ -123,7 +123,7 @@ fn further_are_free(schema: &Schema) -> bool
     is_free(schema, b"piece") && is_free(schema, b"temp_root")
 }
 
-fn has_none(schema: &Schema) -> bool
+pub(crate) fn has_none(schema: &Schema) -> bool
     ensures { IsTrue result ↔ HasNone schema.now }
 {
     is_free(schema, b"meta")

@@ -3,5 +3,7 @@
 
 pub mod finding;
 mod form;
+mod further;
 mod nine;
+pub mod recognising;
 mod standing;
