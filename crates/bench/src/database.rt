@@ -1,6 +1,5 @@
 //! The nine tables of a file, shown, filled and timed.
 
-mod bare;
 mod fault;
 mod file;
 mod line;
@@ -17,7 +16,7 @@ use std::io;
 use task::{Task, Work};
 
 const USAGE: &str = "usage: bench database [find FILE | make FILE DIR | put FILE | show FILE | \
-    objects FILE COUNT | references FILE | delete FILE COUNT | archives FILE COUNT] [bare]";
+    objects FILE COUNT | references FILE | delete FILE COUNT | archives FILE COUNT]";
 
 fn number(word: &String) -> Option<u32> {
     word.as_str().parse::<u32>().ok()
@@ -35,10 +34,6 @@ fn named<'a>(words: &'a [String]) -> Option<Task<'a>> {
         ("references", 4) => Some(Task::Time(Work::References)),
         ("delete", 5) => Some(Task::Time(Work::Delete(count))),
         ("archives", 5) => Some(Task::Time(Work::Archives(count))),
-        ("objects", 6) => Some(Task::TimeBare(Work::Objects(count))),
-        ("references", 5) => Some(Task::TimeBare(Work::References)),
-        ("delete", 6) => Some(Task::TimeBare(Work::Delete(count))),
-        ("archives", 6) => Some(Task::TimeBare(Work::Archives(count))),
         _ => None,
     }
 }

@@ -1,7 +1,7 @@
 //! What is done with the database in a file.
 
 use crate::database::fault::Fault;
-use crate::database::{bare, file, shown, timed};
+use crate::database::{file, shown, timed};
 use sqlite::{Alter, Connection, Error};
 
 /// Work that is timed.
@@ -25,8 +25,6 @@ pub enum Task<'a> {
     Put,
     Show,
     Time(Work),
-    /// The same work by the bare statements of `sqlite`.
-    TimeBare(Work),
 }
 
 fn done<S: Alter>(rt: &HostRuntime, conn: &mut Connection<S>, task: Task<'_>) -> Result<(), Fault> {
@@ -39,10 +37,6 @@ fn done<S: Alter>(rt: &HostRuntime, conn: &mut Connection<S>, task: Task<'_>) ->
         Task::Time(Work::References) => timed::references(rt, conn),
         Task::Time(Work::Delete(count)) => timed::delete(rt, conn, count),
         Task::Time(Work::Archives(count)) => timed::archives(rt, conn, count),
-        Task::TimeBare(Work::Objects(count)) => bare::objects(rt, conn, count),
-        Task::TimeBare(Work::References) => bare::references(rt, conn),
-        Task::TimeBare(Work::Delete(count)) => bare::delete(rt, conn, count),
-        Task::TimeBare(Work::Archives(count)) => bare::archives(rt, conn, count),
     }
 }
 

@@ -127,6 +127,17 @@ pub fn references<S: Alter>(
     Ok(())
 }
 
+/// Drops what an object refers to and gives.
+fn clear<S: Alter>(tx: &mut Transaction<'_, S>, name: &str) -> Result<(), Failure>
+    requires { HasCleanDisk (state S.Store tx.old.conn.now) → IsUnderWay (state S.Store tx.old.conn.now) }
+    ensures same_reference { tx.new.conn.ghost_name ≡ tx.old.conn.ghost_name }
+    ensures goes_on { HasCleanDisk (state S.Store tx.new.conn.now) → OnOk result (IsUnderWay (state S.Store tx.new.conn.now)) }
+    ensures clean { HasCleanDisk (state S.Store tx.new.conn.now) → HasCleanDisk (state S.Store tx.old.conn.now) }
+{
+    references::delete_of(tx, name)?;
+    outputs::delete_of(tx, name)
+}
+
 fn remove<S: Alter>(alloc: Global, tx: &mut Transaction<'_, S>, number: u32) -> Result<(), Failure>
     requires { HasCleanDisk (state S.Store tx.old.conn.now) → IsUnderWay (state S.Store tx.old.conn.now) }
     ensures same_reference { tx.new.conn.ghost_name ≡ tx.old.conn.ghost_name }
@@ -135,8 +146,7 @@ fn remove<S: Alter>(alloc: Global, tx: &mut Transaction<'_, S>, number: u32) -> 
 {
     let name = base(alloc, number)?;
     objects::delete(tx, name.as_str())?;
-    references::delete_of(tx, name.as_str())?;
-    outputs::delete_of(tx, name.as_str())
+    clear(tx, name.as_str())
 }
 
 fn remove_all<S: Alter>(
