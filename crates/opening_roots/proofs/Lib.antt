@@ -1,0 +1,2 @@
+pub mod PutAll
+pub mod Rows

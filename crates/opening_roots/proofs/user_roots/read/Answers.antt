@@ -1,0 +1,20 @@
+use Rattle.std.proofs.Common.{ap, ap₂, ◌∙◌}
+use Rattle.std.specs.List.{list_all}
+use Rattle.sqlite.specs.Held.{state}
+use Rattle.table_statements.specs.Contents.{contents_of}
+use Rattle.index.specs.Maps.{put_all}
+use Rattle.index.proofs.Orders.{pair_total, pair_antisymmetric}
+use Rattle.opening_roots.specs.Taken.{is_user_root}
+use Rattle.opening_roots.proofs.PutAll.{all_put_again}
+use Rattle.opening_roots.proofs.Rows.{user_pass, user_put}
+use Rattle.opening_roots.proofs.user_roots.read.Goals as goal
+
+pub returns-clause-told : goal.returns-clause-told
+returns-clause-told g c clean =
+    c.in_ok-take_all.ensures.told ∙ user_pass c.in_ok-roots.roots.items c.args.index.now ∙ ap (list_all (is_user_root c.args.index.now.objects)) (c.in_ok-roots.ensures.reads clean).1
+
+pub returns-clause-taken : goal.returns-clause-taken
+returns-clause-taken g c clean ok =
+    c.in_ok-take_all.ensures.taken ok ∙ user_put c.in_ok-roots.roots.items c.args.index.now
+    ∙ ap (λ m. record c.args.index.now { user_roots = m })
+    (ap₂ put_all (c.in_ok-roots.ensures.reads clean).1 c.requires.empty ∙ all_put_again pair_total pair_antisymmetric (contents_of (state g.S.Store c.args.conn.now).now).user_roots)
