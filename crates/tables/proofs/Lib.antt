@@ -10,3 +10,5 @@ pub mod Free
 pub mod Parts
 pub mod Inserted
 pub mod AddedObjects
+pub mod ProfileRows
+pub mod ProfileWrites

@@ -2,10 +2,12 @@
 #![tactic(auto)]
 
 mod change;
+mod generations;
 mod keeping;
 mod objects;
 mod opening;
 mod permanent;
+mod profiles;
 mod reading;
 mod roots;
 mod runtime;

@@ -1,0 +1,27 @@
+use Rattle.std.proofs.Common.{ℕ, List, ap, ◌∙◌}
+use Rattle.std.specs.Prelude.{pos}
+use Rattle.std.specs.FinMap as finite
+use Rattle.sqlite.specs.Held.{state}
+use Rattle.rows.specs.Contents.{Contents}
+use Rattle.index.proofs.Orders.{pair_total, pair_antisymmetric}
+use Rattle.index.proofs.Puts.{put_over}
+use Rattle.tables.proofs.Parts.{without_pair}
+use Rattle.table_statements.proofs.Transactions.{done_both, failed_next}
+use Rattle.tables.proofs.Transactions.{survives_both}
+use Rattle.tables.proofs.profiles.put_current.Goals as goal
+
+pub returns-clause-done : goal.returns-clause-done
+returns-clause-done g c =
+    let owned : List ℕ × List ℕ = (c.args.owner.now, c.args.name.now) in
+    done_both (state g.S.Store c.args.tx.now.conn.now) (state g.S.Store c.delete.new.tx.conn.now) (state g.S.Store c.insert.new.tx.conn.now) _ _ c.in_ok-delete.ensures.done c.insert.ensures.survives
+    c.insert.result _ (λ (x : Contents). ap (λ m. record x { profiles = m })
+    (ap (λ m. finite.insert m owned (pos c.args.current)) (without_pair x.profiles owned.0 owned.1) ∙ put_over pair_total pair_antisymmetric x.profiles owned (pos c.args.current))) c.insert.ensures.done
+
+pub returns-clause-failed : goal.returns-clause-failed
+returns-clause-failed g c =
+    failed_next (state g.S.Store c.args.tx.now.conn.now) (state g.S.Store c.delete.new.tx.conn.now) (state g.S.Store c.insert.new.tx.conn.now) _ (λ x. x) c.in_ok-delete.ensures.done c.insert.ensures.survives
+    c.insert.result c.insert.ensures.failed
+
+pub returns-clause-survives : goal.returns-clause-survives
+returns-clause-survives g c =
+    survives_both (state g.S.Store c.args.tx.now.conn.now) (state g.S.Store c.delete.new.tx.conn.now) (state g.S.Store c.insert.new.tx.conn.now) c.delete.ensures.survives c.insert.ensures.survives

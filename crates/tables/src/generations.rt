@@ -1,0 +1,73 @@
+//! Profiles are set, switched and lose generations, one transaction a call. That the world is sound then is the caller's condition. A
+//! call fails for want of memory, for a row too large, or for a fault of the disk, and then nothing has changed.
+
+ghost use Rattle.std.specs.Prelude.{◌≡◌, IsTrue, OnOk, OnErr};
+ghost use Rattle.std.specs.FinMap as finite;
+ghost use Rattle.sqlite.specs.State.{Survives};
+ghost use Rattle.sqlite.specs.Held.{state};
+ghost use Rattle.rows.specs.Calls.{IsDurable};
+ghost use Rattle.world.specs.World.{World};
+ghost use Rattle.world.specs.Profiles.{profile_at, switched, without_generation};
+ghost use Rattle.world.specs.Sound.{IsSound};
+ghost use Rattle.tables.specs.Kept.{Tells, LeavesWorld};
+
+use crate::change;
+use crate::keeping::Tables;
+use crate::profiles::{DropGeneration, Switch};
+use crate::user_roots::owned;
+use sqlite::Alter;
+use table_statements::failure::Failure;
+
+impl<S: Alter> Tables<S> {
+    /// Makes a number the current one of a profile that is there.
+    pub fn switch_generation(&mut self, owner: &str, name: &str, number: u32) -> Result<(), Failure>
+        requires there { IsTrue (finite.contains_key self.old.outline.profiles (owner.now, name.now)) }
+        requires sound { (w : World) → Tells S.Store self.old w → IsSound self.old.dir (record w { profiles = finite.insert w.profiles (owner.now, name.now) (switched (profile_at w (owner.now, name.now)) number) }) }
+        ensures dir { self.new.dir ≡ self.old.dir }
+        ensures done { OnOk result ((w : World) → Tells S.Store self.old w → Tells S.Store self.new (record w { profiles = finite.insert w.profiles (owner.now, name.now) (switched (profile_at w (owner.now, name.now)) number) })) }
+        ensures failed { OnErr result ((w : World) → Tells S.Store self.old w → Tells S.Store self.new w) }
+        ensures durable { OnOk result (IsTrue (state S.Store self.new.connection).is_open → IsDurable (state S.Store self.new.connection)) }
+        ensures survives { (w : World) → Tells S.Store self.old w → Survives (state S.Store self.old.connection) (state S.Store self.new.connection)
+            (λ db. LeavesWorld self.old.dir (state S.Store self.old.connection).now db (record w { profiles = finite.insert w.profiles (owner.now, name.now) (switched (profile_at w (owner.now, name.now)) number) })) }
+    {
+        let key = owned(self.alloc, owner, name)?;
+        let switch = Switch {
+            owner,
+            name,
+            number,
+        };
+        match change::commit(&mut self.connection, &switch) {
+            Ok(()) => {
+                self.index.switch_generation(&key, number);
+                Ok(())
+            }
+            Err(failure) => Err(failure),
+        }
+    }
+
+    /// Drops a generation of a profile that is there, if it has one of this number.
+    pub fn drop_generation(&mut self, owner: &str, name: &str, number: u32) -> Result<(), Failure>
+        requires there { IsTrue (finite.contains_key self.old.outline.profiles (owner.now, name.now)) }
+        requires sound { (w : World) → Tells S.Store self.old w → IsSound self.old.dir (record w { profiles = finite.insert w.profiles (owner.now, name.now) (without_generation (profile_at w (owner.now, name.now)) number) }) }
+        ensures dir { self.new.dir ≡ self.old.dir }
+        ensures done { OnOk result ((w : World) → Tells S.Store self.old w → Tells S.Store self.new (record w { profiles = finite.insert w.profiles (owner.now, name.now) (without_generation (profile_at w (owner.now, name.now)) number) })) }
+        ensures failed { OnErr result ((w : World) → Tells S.Store self.old w → Tells S.Store self.new w) }
+        ensures durable { OnOk result (IsTrue (state S.Store self.new.connection).is_open → IsDurable (state S.Store self.new.connection)) }
+        ensures survives { (w : World) → Tells S.Store self.old w → Survives (state S.Store self.old.connection) (state S.Store self.new.connection)
+            (λ db. LeavesWorld self.old.dir (state S.Store self.old.connection).now db (record w { profiles = finite.insert w.profiles (owner.now, name.now) (without_generation (profile_at w (owner.now, name.now)) number) })) }
+    {
+        let key = owned(self.alloc, owner, name)?;
+        let gone = DropGeneration {
+            owner,
+            name,
+            number,
+        };
+        match change::commit(&mut self.connection, &gone) {
+            Ok(()) => {
+                self.index.drop_generation(&key, number);
+                Ok(())
+            }
+            Err(failure) => Err(failure),
+        }
+    }
+}

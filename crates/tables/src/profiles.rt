@@ -1,0 +1,74 @@
+//! Profiles, as the rows have them.
+
+ghost use Rattle.std.specs.Prelude.{◌≡◌, IsTrue, OnOk, OnErr, pos};
+ghost use Rattle.std.specs.FinMap as finite;
+ghost use Rattle.sqlite.specs.State.{HasCleanDisk, KeepsCommit, Survives};
+ghost use Rattle.sqlite.specs.Held.{state};
+ghost use Rattle.rows.specs.Calls.{IsUnderWay, Changes};
+
+use crate::change::Change;
+use rows::{generations, profiles};
+use sqlite::{Alter, Transaction};
+use table_statements::failure::Failure;
+
+/// A profile gets a current number, whether it was there or not.
+pub(crate) fn put_current<S: Alter>(
+    tx: &mut Transaction<'_, S>,
+    owner: &str,
+    name: &str,
+    current: u32,
+) -> Result<(), Failure>
+    requires under_way { HasCleanDisk (state S.Store tx.old.conn.now) → IsUnderWay (state S.Store tx.old.conn.now) }
+    ensures same_reference { tx.new.conn.ghost_name ≡ tx.old.conn.ghost_name }
+    ensures done { HasCleanDisk (state S.Store tx.new.conn.now) → OnOk result (Changes (state S.Store tx.old.conn.now) (state S.Store tx.new.conn.now)
+        (λ c. record c { profiles = finite.insert c.profiles (owner.now, name.now) (pos current) })) }
+    ensures failed { HasCleanDisk (state S.Store tx.new.conn.now) → OnErr result (KeepsCommit (state S.Store tx.old.conn.now) (state S.Store tx.new.conn.now)) }
+    ensures survives { Survives (state S.Store tx.old.conn.now) (state S.Store tx.new.conn.now) (λ _. ⊥) }
+{
+    profiles::delete(tx, owner, name)?;
+    profiles::insert(tx, owner, name, current)
+}
+
+/// A number becomes the current one of a profile.
+#[derive(Drop)]
+pub(crate) struct Switch<'a> {
+    pub(crate) owner: &'a str,
+    pub(crate) name: &'a str,
+    pub(crate) number: u32,
+}
+
+impl<'a> Change for Switch<'a> {
+    ghost use Rattle.std.specs.Prelude.{⊤, pos};
+    ghost use Rattle.std.specs.FinMap as finite;
+
+    ghost change = { λ p c. record c { profiles = finite.insert c.profiles (p.owner.now, p.name.now) (pos p.number) } };
+
+    ghost fits = { λ p c. ⊤ };
+
+    fn write<S: Alter>(&self, tx: &mut Transaction<'_, S>) -> Result<(), Failure> {
+        put_current(tx, self.owner, self.name, self.number)
+    }
+}
+
+/// A generation goes, if it is there.
+#[derive(Drop)]
+pub(crate) struct DropGeneration<'a> {
+    pub(crate) owner: &'a str,
+    pub(crate) name: &'a str,
+    pub(crate) number: u32,
+}
+
+impl<'a> Change for DropGeneration<'a> {
+    ghost use Rattle.std.specs.Prelude.{⊤, ◌&&◌, not, pos};
+    ghost use Rattle.std.specs.Ordering.{eq_by_cmp, int_cmp};
+    ghost use Rattle.std.specs.FinMap as finite;
+    ghost use Rattle.paths.specs.Root.{bytes_cmp};
+
+    ghost change = { λ p c. record c { generations = finite.retain_keys c.generations (λ k. not (eq_by_cmp bytes_cmp k.0 p.owner.now && (eq_by_cmp bytes_cmp k.1 p.name.now && eq_by_cmp int_cmp k.2 (pos p.number)))) } };
+
+    ghost fits = { λ p c. ⊤ };
+
+    fn write<S: Alter>(&self, tx: &mut Transaction<'_, S>) -> Result<(), Failure> {
+        generations::delete(tx, self.owner, self.name, self.number)
+    }
+}
