@@ -1,7 +1,7 @@
 -- What the rules ask of a request: its kind, and with some kinds an owner or a flag.
 use Rattle.std.specs.Prelude.{ℕ, Bool, true, false, not, List, Option, Some, None}
 use Rattle.policy.specs.declared.kinds.Op.{Op}
-use Rattle.policy.specs.declared.kinds.Op.TheVariants.{Plain}
+use Rattle.policy.specs.declared.kinds.Op.TheVariants.{Plain, Import, SetPermanent, DropPermanent, ReplaceRuntime, SetUserRoot, DropUserRoot, SetProfile, Rollback, Switch, DeleteGeneration, AddTemporary, EndSession, Collect, Delete}
 
 pub data Operation : Type 0 where
   -- what every caller who may connect may ask
@@ -74,3 +74,17 @@ deletes _ = false
 -- what the code's operation stands for
 abbrev pub operation_of : Op → Operation
 operation_of Plain = plain
+operation_of (Import has_address) = import_object has_address
+operation_of SetPermanent = set_permanent
+operation_of DropPermanent = drop_permanent
+operation_of ReplaceRuntime = replace_runtime
+operation_of (SetUserRoot owner) = set_user_root owner.now
+operation_of (DropUserRoot owner) = drop_user_root owner.now
+operation_of (SetProfile owner) = set_profile owner.now
+operation_of (Rollback owner) = rollback owner.now
+operation_of (Switch owner) = switch owner.now
+operation_of (DeleteGeneration owner) = delete_generation owner.now
+operation_of (AddTemporary owner) = add_temp owner.now
+operation_of (EndSession owner) = end_session owner.now
+operation_of (Collect flag) = collect flag
+operation_of (Delete flag) = delete flag

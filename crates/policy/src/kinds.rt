@@ -63,9 +63,37 @@ impl Rule {
     }
 }
 
-/// What the rules ask of a request.
-#[derive(Clone, Copy, PartialEq, Eq, Debug)]
-pub enum Op {
+/// What the rules ask of a request: its kind, and with some kinds an owner or a flag. It is lent from the request.
+#[derive(Clone, Copy, Debug)]
+pub enum Op<'a> {
     /// A request that every caller who may connect may make.
     Plain,
+    /// An object is imported; whether it has a content address.
+    Import { has_address: bool },
+    /// A permanent root is set.
+    SetPermanent,
+    /// A permanent root is dropped.
+    DropPermanent,
+    /// The runtime roots are replaced.
+    ReplaceRuntime,
+    /// A user root of this owner is set.
+    SetUserRoot(&'a str),
+    /// A user root of this owner is dropped.
+    DropUserRoot(&'a str),
+    /// A profile of this owner is set.
+    SetProfile(&'a str),
+    /// A profile of this owner is rolled back.
+    Rollback(&'a str),
+    /// A profile of this owner is switched to a generation.
+    Switch(&'a str),
+    /// A generation of a profile of this owner is deleted.
+    DeleteGeneration(&'a str),
+    /// A session of this owner gets a temporary root.
+    AddTemporary(&'a str),
+    /// A session of this owner ends.
+    EndSession(&'a str),
+    /// Dead paths are collected; whether liveness is to be ignored.
+    Collect { ignores_liveness: bool },
+    /// Paths are deleted by name; whether liveness is to be ignored.
+    Delete { ignores_liveness: bool },
 }
