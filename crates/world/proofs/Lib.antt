@@ -6,3 +6,4 @@ pub mod Columns
 mod Migrating
 pub mod SoundParts
 pub mod Told
+pub mod Schemas

@@ -7,3 +7,4 @@ pub mod Rows
 pub mod Laws
 pub mod Parts
 pub mod Told
+pub mod Schemas

@@ -3,8 +3,9 @@ ghost use Rattle.std.specs.Prelude.{◌≡◌, List, ℕ, IsTrue};
 ghost use Rattle.paths.specs.Names.{is_store_dir};
 ghost use Rattle.world.specs.World.{no_world};
 ghost use Rattle.world.specs.Sound.{IsSound};
-ghost use Rattle.world.specs.Rows.{Schema, IsSoundRows, new_rows, world_of};
+ghost use Rattle.world.specs.Rows.{Rows, Schema, IsSoundRows, new_rows, world_of};
 ghost use Rattle.world.specs.Laws.{CutsOneWay, MigratesSoundly, RowsTellTheWorld};
+ghost use Rattle.world.specs.Schemas.{PiecesCountFromOne, SchemasDiffer, SessionsKeepInBounds};
 ghost use Rattle.world.specs.Parts.{AreSoundByParts};
 
 /// The world of a database that was just made is sound in every store directory.
@@ -36,4 +37,12 @@ pub fn migration_keeps_the_world()
 /// Rows are sound exactly where each of them is, beside the others: what an opening tests, row by row.
 pub fn sound_rows_are_sound_parts()
     ensures { AreSoundByParts }
+{}
+
+/// Sound rows name their schema by 1, 2 or 3 and hold nothing that it hasn't; further pieces are numbered from 1, and sessions 1 to
+/// 4,194,304.
+pub fn schemas_have_their_rows()
+    ensures schemas { (dir : List ℕ) (c : Rows) → SchemasDiffer dir c }
+    ensures pieces { PiecesCountFromOne }
+    ensures sessions { SessionsKeepInBounds }
 {}

@@ -5,5 +5,5 @@ mod laws;
 
 pub use laws::{
     archives_are_cut_one_way, migration_keeps_the_world, new_rows_are_sound, rows_tell_the_world,
-    sound_rows_are_sound_parts, the_new_world_is_sound,
+    schemas_have_their_rows, sound_rows_are_sound_parts, the_new_world_is_sound,
 };
