@@ -1,6 +1,6 @@
 pub mod Orders
 pub mod Trees
-mod SetTrees
+pub mod SetTrees
 mod Generations
 pub mod Puts
 pub mod Written

@@ -3,6 +3,7 @@
 
 mod filling;
 mod kept_profiles;
+mod lent_roots;
 mod objects;
 mod outline;
 mod profiles;
