@@ -12,3 +12,9 @@ pub mod Inserted
 pub mod AddedObjects
 pub mod ProfileRows
 pub mod ProfileWrites
+pub mod AddedGenerations
+pub mod NumbersLeft
+pub mod SetProfiles
+pub mod Removed
+pub mod RemovedObjects
+pub mod Chosen

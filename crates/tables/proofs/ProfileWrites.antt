@@ -58,7 +58,7 @@ none_of : {X : Type 0} (o : Option X) → (IsTrue (is_some o) → ⊥) → o ≡
 none_of None h = refl
 none_of (Some x) h = absurd (h refl)
 
-both_tied : (r s : Ordering) → is_eq (ordering_then r s) ≡ (is_eq r && is_eq s)
+pub both_tied : (r s : Ordering) → is_eq (ordering_then r s) ≡ (is_eq r && is_eq s)
 both_tied Less s = refl
 both_tied Equal s = refl
 both_tied Greater s = refl
@@ -69,17 +69,17 @@ same_tests false true f g = g refl
 same_tests false false f g = refl
 
 -- numbers that aren't negative tie as their values do
-numbers_tie : (n m : ℕ) → eq_by_cmp int_cmp (pos n) (pos m) ≡ eq_by_cmp nat_cmp n m
+pub numbers_tie : (n m : ℕ) → eq_by_cmp int_cmp (pos n) (pos m) ≡ eq_by_cmp nat_cmp n m
 numbers_tie n m = same_tests (eq_by_cmp int_cmp (pos n) (pos m)) (eq_by_cmp nat_cmp n m)
     (λ h. ap (λ (z : ℤ). eq_by_cmp nat_cmp n (number_in z)) (sym (tied_is finite.int_cmp-IsAntisymmetric (pos n) (pos m) h)) ∙ (eq_by_cmp_equiv nat_cmp_total).refl n)
     (λ h. ap (λ (k : ℕ). eq_by_cmp int_cmp (pos n) (pos k)) (sym (tied_is finite.nat_cmp-IsAntisymmetric n m h)) ∙ (eq_by_cmp_equiv int_cmp_total).refl (pos n))
 
 module _ (dir : List ℕ) (c : Contents) (rows : IsSoundContents dir c) (owned : Pair) where
-  abbrev here : Profile
+  abbrev pub here : Profile
   here = profile_at (world_in c) owned
 
   -- the generations told of it are its rows, of which there are none where it isn't there
-  told_generation : (n : ℕ) → finite.get here.generations n ≡ finite.get c.generations (owned.0, owned.1, pos n)
+  pub told_generation : (n : ℕ) → finite.get here.generations n ≡ finite.get c.generations (owned.0, owned.1, pos n)
   told_generation n = ap (λ (o : Option Profile). finite.get (profile_or_new o).generations n) (columns.profile_at (rows_of c) owned) ∙ by (finite.get c.profiles owned) refl
     where
       by : (o : Option ℤ) → finite.get c.profiles owned ≡ o → finite.get (profile_or_new (option_map (profile_in (rows_of c) owned) o)).generations n ≡ finite.get c.generations (owned.0, owned.1, pos n)

@@ -1,8 +1,10 @@
--- Rows that are added, one after another.
-use Rattle.std.specs.Prelude.{List, [], ◌∷◌, ℕ}
+-- Rows that are added, one after another, and rows that go.
+use Rattle.std.specs.Prelude.{List, [], ◌∷◌, ℕ, not, pos}
 use Rattle.std.specs.FinMap as finite
+use Rattle.live.specs.Graph.{same, holds}
 use Rattle.rows.specs.Contents.{Pair, PairSet, Contents, Stored, pair_cmp}
 use Rattle.world.specs.World.{Path}
+use Rattle.world.specs.World as world
 
 -- a set of references, and some of this path
 abbrev pub put_references : Path → List Path → PairSet → PairSet
@@ -22,3 +24,23 @@ put_object p o references outputs c = record c { objects = finite.insert c.objec
 abbrev pub put_pairs : List Pair → PairSet → PairSet
 put_pairs [] m = m
 put_pairs (p ∷ ps) m = put_pairs ps (finite.insert m p tt)
+
+-- the rows of a profile with a generation more, which is current
+abbrev pub add_generation : world.Pair → ℕ → Path → Contents → Contents
+add_generation owned n t c = record c { profiles = finite.insert c.profiles owned (pos n); generations = finite.insert c.generations (owned.0, owned.1, pos n) t }
+
+-- the rows without those of one path's object
+abbrev pub without_object : Path → Contents → Contents
+without_object p c = record c {
+  objects = finite.retain_keys c.objects (λ k. not (same k p));
+  refs = finite.retain_keys c.refs (λ k. not (same k.0 p));
+  outs = finite.retain_keys c.outs (λ k. not (same k.0 p));
+}
+
+-- without those of the objects of some paths
+abbrev pub without_objects : List Path → Contents → Contents
+without_objects ps c = record c {
+  objects = finite.retain_keys c.objects (λ k. not (holds ps k));
+  refs = finite.retain_keys c.refs (λ k. not (holds ps k.0));
+  outs = finite.retain_keys c.outs (λ k. not (holds ps k.0));
+}

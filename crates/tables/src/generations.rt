@@ -1,24 +1,88 @@
 //! Profiles are set, switched and lose generations, one transaction a call. That the world is sound then is the caller's condition. A
 //! call fails for want of memory, for a row too large, or for a fault of the disk, and then nothing has changed.
 
-ghost use Rattle.std.specs.Prelude.{◌≡◌, IsTrue, OnOk, OnErr};
+ghost use Rattle.std.specs.Prelude.{◌≡◌, IsTrue, None, OnOk, OnErr};
 ghost use Rattle.std.specs.FinMap as finite;
 ghost use Rattle.sqlite.specs.State.{Survives};
 ghost use Rattle.sqlite.specs.Held.{state};
 ghost use Rattle.rows.specs.Calls.{IsDurable};
 ghost use Rattle.world.specs.World.{World};
-ghost use Rattle.world.specs.Profiles.{profile_at, switched, without_generation};
+ghost use Rattle.world.specs.Profiles.{profile_at, number_for, put_at, set_to, switched, without_generation};
 ghost use Rattle.world.specs.Sound.{IsSound};
+ghost use Rattle.index.specs.Outline.{profile_of};
 ghost use Rattle.tables.specs.Kept.{Tells, LeavesWorld};
 
 use crate::change;
 use crate::keeping::Tables;
-use crate::profiles::{DropGeneration, Switch};
+use crate::profiles::{AddGeneration, DropGeneration, Switch};
 use crate::user_roots::owned;
+use paths::StorePath;
 use sqlite::Alter;
 use table_statements::failure::Failure;
 
 impl<S: Alter> Tables<S> {
+    /// Puts a path at a number that a profile hasn't, which becomes current. The profile is made if it isn't there.
+    pub fn put_generation(
+        &mut self,
+        owner: &str,
+        name: &str,
+        number: u32,
+        target: &StorePath,
+    ) -> Result<(), Failure>
+        requires new { finite.get (profile_of self.old.outline (owner.now, name.now)).generations number ≡ None }
+        requires sound { (w : World) → Tells S.Store self.old w → IsSound self.old.dir (record w { profiles = finite.insert w.profiles (owner.now, name.now) (put_at (profile_at w (owner.now, name.now)) number target.now) }) }
+        ensures dir { self.new.dir ≡ self.old.dir }
+        ensures done { OnOk result ((w : World) → Tells S.Store self.old w → Tells S.Store self.new (record w { profiles = finite.insert w.profiles (owner.now, name.now) (put_at (profile_at w (owner.now, name.now)) number target.now) })) }
+        ensures failed { OnErr result ((w : World) → Tells S.Store self.old w → Tells S.Store self.new w) }
+        ensures durable { OnOk result (IsTrue (state S.Store self.new.connection).is_open → IsDurable (state S.Store self.new.connection)) }
+        ensures survives { (w : World) → Tells S.Store self.old w → Survives (state S.Store self.old.connection) (state S.Store self.new.connection)
+            (λ db. LeavesWorld self.old.dir (state S.Store self.old.connection).now db (record w { profiles = finite.insert w.profiles (owner.now, name.now) (put_at (profile_at w (owner.now, name.now)) number target.now) })) }
+    {
+        let key = owned(self.alloc, owner, name)?;
+        let again = owned(self.alloc, owner, name)?;
+        let value = target.clone()?;
+        let had = self.index.put_generation(self.alloc, key, number, value)?;
+        let put = AddGeneration {
+            owner,
+            name,
+            number,
+            target: target.as_str(),
+        };
+        match change::commit(&mut self.connection, &put) {
+            Ok(()) => Ok(()),
+            Err(failure) => {
+                self.index.undo_generation(&again, number, had);
+                Err(failure)
+            }
+        }
+    }
+
+    /// Sets a profile to a path, whose number in it is given: the highest generation becomes current if it is the path's, else a new
+    /// one is made and becomes current. The profile is made if it isn't there.
+    pub fn put_profile(
+        &mut self,
+        owner: &str,
+        name: &str,
+        number: u32,
+        target: &StorePath,
+    ) -> Result<(), Failure>
+        requires number { number ≡ number_for (profile_of self.old.outline (owner.now, name.now)) target.now }
+        requires sound { (w : World) → Tells S.Store self.old w → IsSound self.old.dir (record w { profiles = finite.insert w.profiles (owner.now, name.now) (set_to (profile_at w (owner.now, name.now)) target.now) }) }
+        ensures dir { self.new.dir ≡ self.old.dir }
+        ensures done { OnOk result ((w : World) → Tells S.Store self.old w → Tells S.Store self.new (record w { profiles = finite.insert w.profiles (owner.now, name.now) (set_to (profile_at w (owner.now, name.now)) target.now) })) }
+        ensures failed { OnErr result ((w : World) → Tells S.Store self.old w → Tells S.Store self.new w) }
+        ensures durable { OnOk result (IsTrue (state S.Store self.new.connection).is_open → IsDurable (state S.Store self.new.connection)) }
+        ensures survives { (w : World) → Tells S.Store self.old w → Survives (state S.Store self.old.connection) (state S.Store self.new.connection)
+            (λ db. LeavesWorld self.old.dir (state S.Store self.old.connection).now db (record w { profiles = finite.insert w.profiles (owner.now, name.now) (set_to (profile_at w (owner.now, name.now)) target.now) })) }
+    {
+        let key = owned(self.alloc, owner, name)?;
+        if self.index.has_generation(&key, number) {
+            self.switch_generation(owner, name, number)
+        } else {
+            self.put_generation(owner, name, number, target)
+        }
+    }
+
     /// Makes a number the current one of a profile that is there.
     pub fn switch_generation(&mut self, owner: &str, name: &str, number: u32) -> Result<(), Failure>
         requires there { IsTrue (finite.contains_key self.old.outline.profiles (owner.now, name.now)) }

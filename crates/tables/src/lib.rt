@@ -9,6 +9,8 @@ mod opening;
 mod permanent;
 mod profiles;
 mod reading;
+mod removal;
+mod removing;
 mod roots;
 mod runtime;
 mod texts;

@@ -1,17 +1,32 @@
-//! Tables that are made.
+//! Tables that are made, and such as are there.
 
 ghost use Rattle.std.specs.Prelude.{◌≡◌, IfOk};
 ghost use Rattle.sqlite.specs.Steps.{over_memory};
 ghost use Rattle.world.specs.World.{no_world};
-ghost use Rattle.tables.specs.Kept.{Tells};
+ghost use Rattle.tables.specs.Kept.{Agrees, Tells};
 
 use crate::keeping::Tables;
 use index::Index;
 use paths::StoreDir;
-use sqlite::{Connection, MemStore};
+use sqlite::{Alter, Connection, MemStore};
 use std::alloc::Global;
 use table_making::making;
 use table_statements::failure::Failure;
+
+impl<S: Alter> Tables<S> {
+    /// The tables over a connection whose rows are sound in a store directory, and have this outline.
+    pub fn over(alloc: Global, connection: Connection<S>, dir: StoreDir, index: Index) -> Tables<S>
+        requires { Agrees S.Store (record { connection = connection; dir = dir; outline = index }) }
+        ensures { result ≡ record { connection = connection; dir = dir; outline = index } }
+    {
+        Tables {
+            alloc,
+            connection,
+            dir,
+            index,
+        }
+    }
+}
 
 impl Tables<MemStore> {
     /// The tables of a store in memory, in which there is nothing yet.

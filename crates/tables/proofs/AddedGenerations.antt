@@ -1,0 +1,97 @@
+-- A generation that is added to a profile, and taken back.
+use Rattle.std.proofs.Common.{◌≡◌, ℕ, List, Bool, true, false, ◌&&◌, cond, Some, None, Option, option_map, is_some, refl, sym, ap, ap₂, ◌∙◌, IsTrue}
+use Rattle.std.specs.Prelude.{ℤ, pos}
+use Rattle.std.specs.Ordering.{eq_by_cmp, int_cmp, nat_cmp, ordering_then}
+use Rattle.std.specs.Cmp.{eq_by_cmp_equiv, nat_cmp_total}
+use Rattle.std.specs.FinMap as finite
+use Rattle.rows.specs.Contents.{Contents, Triple, triple_cmp}
+use Rattle.table_statements.proofs.Orders.{triple_total, triple_antisymmetric}
+use Rattle.paths.specs.Root.{bytes_cmp}
+use Rattle.world.specs.World.{Path, Pair, pair_cmp, Profile}
+use Rattle.world.specs.Profiles.{profile_or_new, put_at, switched, without_generation}
+use Rattle.world.specs.Told.{IsSoundContents}
+use Rattle.index.specs.Outline.{Outline, with_profile, profile_of, current_of, without_added}
+use Rattle.index.proofs.Orders.{nat_antisymmetric, pair_total, pair_antisymmetric}
+use Rattle.index.proofs.Puts.{tied_is, unput_put, has_put}
+use Rattle.tables.specs.Rewritten.{add_generation}
+use Rattle.tables.proofs.Kept.{Follows}
+use Rattle.tables.proofs.ProfileRows.{profile_follows}
+use Rattle.tables.proofs.ProfileWrites.{with_next, both_tied, numbers_tie, here, told_generation}
+
+-- ---- the rows of the profile
+
+triple_tied : (k j : Triple) → eq_by_cmp triple_cmp k j ≡ (eq_by_cmp bytes_cmp k.0 j.0 && (eq_by_cmp bytes_cmp k.1 j.1 && eq_by_cmp int_cmp k.2 j.2))
+triple_tied k j =
+    both_tied (bytes_cmp k.0 j.0) (ordering_then (bytes_cmp k.1 j.1) (int_cmp k.2 j.2))
+    ∙ ap (λ b. eq_by_cmp bytes_cmp k.0 j.0 && b) (both_tied (bytes_cmp k.1 j.1) (int_cmp k.2 j.2))
+
+-- in its first two columns it is this profile's, or it stays
+by_parts : (t : Path) (a b d r : Bool) (g : Option Path) → (a && b) ≡ r → cond (a && (b && d)) (Some t) g ≡ cond r (cond d (Some t) g) g
+by_parts t true b d r g e = first b r e
+  where
+    first : (b r : Bool) → b ≡ r → cond (b && d) (Some t) g ≡ cond r (cond d (Some t) g) g
+    first true r e = ap (λ x. cond x (cond d (Some t) g) g) e
+    first false r e = ap (λ x. cond x (cond d (Some t) g) g) e
+by_parts t false b d r g e = ap (λ x. cond x (cond d (Some t) g) g) e
+
+module _ (dir : List ℕ) (c : Contents) (rows : IsSoundContents dir c) (owned : Pair) (n : ℕ) (t : Path) where
+  abbrev key : Triple
+  key = (owned.0, owned.1, pos n)
+
+  own : (q : Pair) (m : ℕ) (b : Bool) → eq_by_cmp pair_cmp q owned ≡ b
+      → cond b (cond (eq_by_cmp int_cmp (pos m) (pos n)) (Some t) (finite.get c.generations (q.0, q.1, pos m))) (finite.get c.generations (q.0, q.1, pos m))
+      ≡ cond b (finite.get (put_at (here dir c rows owned) n t).generations m) (finite.get c.generations (q.0, q.1, pos m))
+  own q m false e = refl
+  own q m true e =
+      ap₂ (λ d g. cond d (Some t) g) (numbers_tie m n) (ap (λ (j : Pair). finite.get c.generations (j.0, j.1, pos m)) (tied_is pair_antisymmetric q owned e) ∙ sym (told_generation dir c rows owned m))
+      ∙ sym (finite.get-insert nat_cmp_total (here dir c rows owned).generations n t m)
+
+  each : (q : Pair) (m : ℕ) → finite.get (finite.insert c.generations key t) (q.0, q.1, pos m) ≡ cond (eq_by_cmp pair_cmp q owned) (finite.get (put_at (here dir c rows owned) n t).generations m) (finite.get c.generations (q.0, q.1, pos m))
+  each q m =
+      finite.get-insert triple_total c.generations key t (q.0, q.1, pos m)
+      ∙ ap (λ b. cond b (Some t) (finite.get c.generations (q.0, q.1, pos m))) (triple_tied (q.0, q.1, pos m) key)
+      ∙ by_parts t (eq_by_cmp bytes_cmp q.0 owned.0) (eq_by_cmp bytes_cmp q.1 owned.1) (eq_by_cmp int_cmp (pos m) (pos n)) (eq_by_cmp pair_cmp q owned) (finite.get c.generations (q.0, q.1, pos m)) (sym (both_tied (bytes_cmp q.0 owned.0) (bytes_cmp q.1 owned.1)))
+      ∙ own q m (eq_by_cmp pair_cmp q owned) refl
+
+  numbers : (owner name : List ℕ) (z : ℤ) → IsTrue (finite.contains_key (finite.insert c.generations key t) (owner, name, z)) → (m : ℕ) × (z ≡ pos m)
+  numbers owner name z there = by (eq_by_cmp triple_cmp (owner, name, z) key) refl (sym (ap is_some (finite.get-insert triple_total c.generations key t (owner, name, z))) ∙ there)
+    where
+      by : (b : Bool) → eq_by_cmp triple_cmp (owner, name, z) key ≡ b → is_some (cond b (Some t) (finite.get c.generations (owner, name, z))) ≡ true → (m : ℕ) × (z ≡ pos m)
+      by true e h = (n, ap (λ (k : Triple). k.2) (tied_is triple_antisymmetric (owner, name, z) key e))
+      by false e h = rows.numbers owner name z h
+
+  -- a number gets a path, and becomes current
+  pub add_follows : Follows dir (add_generation owned n t) (with_next owned (λ p. put_at p n t)) c
+  add_follows =
+      let it = profile_follows dir c rows (finite.insert c.profiles owned (pos n)) (finite.insert c.generations key t) owned (put_at (here dir c rows owned) n t) (record {
+        profile = finite.get-insert pair_total c.profiles owned (pos n);
+        generation = each;
+        numbers = numbers;
+      }) (with_next owned (λ p. put_at p n t)) refl in
+      record { world = it.world; sound = it.sound }
+
+-- ---- the outline
+
+module _ (old put : Outline) (owned key again : Pair) (n : ℕ) (target value : Path) (same : key ≡ owned) (same_again : again ≡ owned) (same_value : value ≡ target) (is : put ≡ with_profile old key (put_at (profile_of old key) n value)) where
+  pub generation_put : put ≡ with_profile old owned (put_at (profile_of old owned) n target)
+  generation_put = is ∙ ap₂ (λ k v. with_profile old k (put_at (profile_of old k) n v)) same same_value
+
+  pub generation_there : IsTrue (finite.contains_key put.profiles again)
+  generation_there = ap₂ (λ (o : Outline) k. finite.contains_key o.profiles k) generation_put same_again ∙ has_put pair_total pair_antisymmetric old.profiles owned (put_at (profile_of old owned) n target)
+
+  -- one that was added is taken away again
+  taken : (o : Option Profile) → finite.get old.profiles owned ≡ o → finite.get (profile_or_new o).generations n ≡ None → (x : Profile) → x ≡ put_at (profile_or_new o) n target
+      → without_added (with_profile old owned x) owned n (option_map (λ (p : Profile). p.current) o) ≡ old.profiles
+  taken None e new x at = unput_put pair_total pair_antisymmetric old.profiles owned x None (sym e)
+  taken (Some p) e new x at =
+      ap (λ (o : Option Profile). finite.insert (finite.insert old.profiles owned x) owned (switched (without_generation (profile_or_new o) n) p.current)) (there ∙ ap Some at)
+      ∙ ap (λ (m : finite.FinMap nat_cmp Path). finite.insert (finite.insert old.profiles owned x) owned (record { generations = m; current = p.current })) (unput_put nat_cmp_total nat_antisymmetric p.generations n target None (sym new))
+      ∙ unput_put pair_total pair_antisymmetric old.profiles owned x (Some p) (sym e)
+    where
+      there : finite.get (finite.insert old.profiles owned x) owned ≡ Some x
+      there = finite.get-insert pair_total old.profiles owned x owned ∙ ap (λ b. cond b (Some x) (finite.get old.profiles owned)) ((eq_by_cmp_equiv pair_total).refl owned)
+
+  pub generation_undone : finite.get (profile_of old owned).generations n ≡ None → (undone : Outline) (had : Option ℕ) → had ≡ current_of old key → undone ≡ record put { profiles = without_added put again n had } → undone ≡ old
+  generation_undone new undone had was back =
+      back ∙ (λ i. record (generation_put i) { profiles = without_added (generation_put i) (same_again i) n ((was ∙ ap (current_of old) same) i) })
+      ∙ ap (λ m. record old { profiles = m }) (taken (finite.get old.profiles owned) refl new (put_at (profile_of old owned) n target) refl)

@@ -1,0 +1,151 @@
+-- What rows that go with some objects make of the world.
+use Rattle.std.proofs.Common.{◌≡◌, ℕ, List, [], ◌∷◌, Bool, true, false, ◌||◌, not, cond, Some, None, Option, option_map, is_some, refl, sym, ap, ap₂, subst, ◌∙◌, IsTrue}
+use Rattle.std.specs.declared.cmp.Ordering.{Ordering}
+use Rattle.std.specs.Cmp.{IsTotalOrder}
+use Rattle.std.specs.FinMap as finite
+use Rattle.std.proofs.lemmas.Bool.{false≢true}
+use Rattle.live.specs.Graph.{same, holds}
+use Rattle.rows.specs.Contents.{Contents, Stored}
+use Rattle.world.specs.World.{Path, Object, World}
+use Rattle.world.specs.Sound.{IsSound}
+use Rattle.world.specs.Rows.{piece_cmp, references_in, outputs_in, archive_in, object_in, address_in}
+use Rattle.world.specs.Told.{IsSoundContents, rows_of, world_in}
+use Rattle.world.proofs.Empty.{no_key}
+use Rattle.world.proofs.Told.{get-reference, get-output}
+use Rattle.index.specs.Outline.{Outline, outlined, outline_of}
+use Rattle.index.proofs.Orders.{bytes_total, bytes_antisymmetric, pair_total, pair_antisymmetric}
+use Rattle.index.proofs.Puts.{get-kept, retained}
+use Rattle.index.proofs.Told.{get-told}
+use Rattle.tables.specs.Rewritten.{without_object, without_objects}
+use Rattle.tables.proofs.Kept.{Follows}
+
+-- ---- one after another
+
+module _ {K X : Type 0} {R : K → K → Ordering} (o : IsTotalOrder R) (alike : finite.IsAntisymmetric R) (part : K → Path) where
+  none_gone : (m : finite.FinMap R X) → finite.retain_keys m (λ k. not (holds [] (part k))) ≡ m
+  none_gone m = finite.same_map o alike _ _ (λ q. get-kept o alike m (λ k. not (holds [] (part k))) q)
+
+  pub one_more : (m : finite.FinMap R X) (p : Path) (ps : List Path) → finite.retain_keys (finite.retain_keys m (λ k. not (same (part k) p))) (λ k. not (holds ps (part k))) ≡ finite.retain_keys m (λ k. not (holds (p ∷ ps) (part k)))
+  one_more m p ps = finite.same_map o alike _ _ (λ q.
+      get-kept o alike (finite.retain_keys m (λ k. not (same (part k) p))) (λ k. not (holds ps (part k))) q
+      ∙ ap (λ g. cond (not (holds ps (part q))) g None) (get-kept o alike m (λ k. not (same (part k) p)) q)
+      ∙ by (same (part q) p) (holds ps (part q)) (finite.get m q)
+      ∙ sym (get-kept o alike m (λ k. not (holds (p ∷ ps) (part k))) q))
+    where
+      by : (a b : Bool) (g : Option X) → cond (not b) (cond (not a) g None) None ≡ cond (not (a || b)) g None
+      by true true g = refl
+      by true false g = refl
+      by false true g = refl
+      by false false g = refl
+
+pub without_none : (c : Contents) → without_objects [] c ≡ c
+without_none c = λ i. record c {
+  objects = none_gone bytes_total bytes_antisymmetric (λ (k : Path). k) c.objects i;
+  refs = none_gone pair_total pair_antisymmetric (λ (k : Path × Path). k.0) c.refs i;
+  outs = none_gone pair_total pair_antisymmetric (λ (k : Path × Path). k.0) c.outs i;
+}
+
+pub without_next : (p : Path) (ps : List Path) (c : Contents) → without_objects ps (without_object p c) ≡ without_objects (p ∷ ps) c
+without_next p ps c = λ i. record c {
+  objects = one_more bytes_total bytes_antisymmetric (λ (k : Path). k) c.objects p ps i;
+  refs = one_more pair_total pair_antisymmetric (λ (k : Path × Path). k.0) c.refs p ps i;
+  outs = one_more pair_total pair_antisymmetric (λ (k : Path × Path). k.0) c.outs p ps i;
+}
+
+-- ---- of an outline
+
+abbrev pub outline_without : List Path → Outline → Outline
+outline_without ps o = record o { objects = finite.retain_keys o.objects (λ p. not (holds ps p)) }
+
+pub outline_none : (o : Outline) → outline_without [] o ≡ o
+outline_none o = ap (λ m. record o { objects = m }) (none_gone bytes_total bytes_antisymmetric (λ (k : Path). k) o.objects)
+
+pub outline_next : (p : Path) (ps : List Path) (o : Outline) → outline_without ps (record o { objects = finite.remove o.objects p }) ≡ outline_without (p ∷ ps) o
+outline_next p ps o = ap (λ m. record o { objects = m })
+    (ap (λ m. finite.retain_keys m (λ q. not (holds ps q))) (sym (retained bytes_total bytes_antisymmetric o.objects p)) ∙ one_more bytes_total bytes_antisymmetric (λ (k : Path). k) o.objects p ps)
+
+-- ---- the world
+
+abbrev pub world_without : List Path → World → World
+world_without ps w = record w { objects = finite.retain_keys w.objects (λ p. not (holds ps p)) }
+
+pub outline_follows : (ps : List Path) (w : World) → outline_of (world_without ps w) ≡ outline_without ps (outline_of w)
+outline_follows ps w = ap (λ m. record (outline_of w) { objects = m }) (finite.same_map bytes_total bytes_antisymmetric _ _ (λ q.
+    get-told bytes_total bytes_antisymmetric (λ _ x. outlined x) (finite.retain_keys w.objects (λ p. not (holds ps p))) q
+    ∙ ap (option_map outlined) (get-kept bytes_total bytes_antisymmetric w.objects (λ p. not (holds ps p)) q)
+    ∙ by (holds ps q) (finite.get w.objects q)
+    ∙ sym (get-kept bytes_total bytes_antisymmetric (outline_of w).objects (λ p. not (holds ps p)) q ∙ ap (λ g. cond (not (holds ps q)) g None) (get-told bytes_total bytes_antisymmetric (λ _ x. outlined x) w.objects q))))
+  where
+    by : (b : Bool) (g : Option Object) → option_map outlined (cond (not b) g None) ≡ cond (not b) (option_map outlined g) None
+    by true g = refl
+    by false g = refl
+
+module _ (dir : List ℕ) (ps : List Path) (c : Contents) (rows : IsSoundContents dir c) where
+  -- ---- of a path that stays
+
+  references_kept : (q : Path) → holds ps q ≡ false → references_in (rows_of (without_objects ps c)) q ≡ references_in (rows_of c) q
+  references_kept q stays = finite.same_map bytes_total bytes_antisymmetric _ _ (λ r.
+      get-reference (without_objects ps c) q r ∙ get-kept pair_total pair_antisymmetric c.refs (λ k. not (holds ps k.0)) (q, r)
+      ∙ ap (λ b. cond (not b) (finite.get c.refs (q, r)) None) stays ∙ sym (get-reference c q r))
+
+  outputs_kept : (q : Path) → holds ps q ≡ false → outputs_in (rows_of (without_objects ps c)) q ≡ outputs_in (rows_of c) q
+  outputs_kept q stays = finite.same_map bytes_total bytes_antisymmetric _ _ (λ n.
+      get-output (without_objects ps c) q n ∙ get-kept pair_total pair_antisymmetric c.outs (λ k. not (holds ps k.0)) (q, n)
+      ∙ ap (λ b. cond (not b) (finite.get c.outs (q, n)) None) stays ∙ sym (get-output c q n))
+
+  object_kept : (q : Path) → holds ps q ≡ false → (x : Stored) → object_in (rows_of (without_objects ps c)) q x ≡ object_in (rows_of c) q x
+  object_kept q stays x = ap₂ (λ references outputs. record { nar = archive_in (rows_of c) q x; references = references; deriver = x.deriver; ca = address_in x.ca; outputs = outputs }) (references_kept q stays) (outputs_kept q stays)
+
+  objects_after : (world_in (without_objects ps c)).objects ≡ finite.retain_keys (world_in c).objects (λ p. not (holds ps p))
+  objects_after = finite.same_map bytes_total bytes_antisymmetric _ _ (λ q.
+      get-told bytes_total bytes_antisymmetric (object_in (rows_of (without_objects ps c))) (finite.retain_keys c.objects (λ k. not (holds ps k))) q
+      ∙ ap (option_map (object_in (rows_of (without_objects ps c)) q)) (get-kept bytes_total bytes_antisymmetric c.objects (λ k. not (holds ps k)) q)
+      ∙ by q (holds ps q) refl (finite.get c.objects q)
+      ∙ sym (get-kept bytes_total bytes_antisymmetric (world_in c).objects (λ p. not (holds ps p)) q ∙ ap (λ g. cond (not (holds ps q)) g None) (get-told bytes_total bytes_antisymmetric (object_in (rows_of c)) c.objects q)))
+    where
+      by : (q : Path) (b : Bool) → holds ps q ≡ b → (g : Option Stored) → option_map (object_in (rows_of (without_objects ps c)) q) (cond (not b) g None) ≡ cond (not b) (option_map (object_in (rows_of c) q) g) None
+      by q true t g = refl
+      by q false t None = refl
+      by q false t (Some x) = ap Some (object_kept q t x)
+
+  world_after : world_in (without_objects ps c) ≡ world_without ps (world_in c)
+  world_after = ap (λ m. record (world_in c) { objects = m }) objects_after
+
+  -- ---- the rows
+
+  stored_was : (q : Path) (x : Stored) → finite.get (finite.retain_keys c.objects (λ k. not (holds ps k))) q ≡ Some x → finite.get c.objects q ≡ Some x
+  stored_was q x e = by (holds ps q) (sym (get-kept bytes_total bytes_antisymmetric c.objects (λ k. not (holds ps k)) q) ∙ e)
+    where
+      by : (b : Bool) → cond (not b) (finite.get c.objects q) None ≡ Some x → finite.get c.objects q ≡ Some x
+      by true h = absurd (false≢true (ap is_some h))
+      by false h = h
+
+  -- a row of a path is there only where the path stays
+  still_there : {X : Type 0} (q : Path) (g : Option X) → is_some (cond (not (holds ps q)) g None) ≡ true → (is_some g ≡ true → IsTrue (finite.contains_key c.objects q)) → IsTrue (finite.contains_key (finite.retain_keys c.objects (λ k. not (holds ps k))) q)
+  still_there q g there was = ap is_some (get-kept bytes_total bytes_antisymmetric c.objects (λ k. not (holds ps k)) q) ∙ by (holds ps q) there
+    where
+      by : (b : Bool) → is_some (cond (not b) g None) ≡ true → is_some (cond (not b) (finite.get c.objects q) None) ≡ true
+      by true h = absurd (false≢true h)
+      by false h = was h
+
+  pub objects_follow : Follows dir (without_objects ps) (world_without ps) c
+  objects_follow = record {
+    world = world_after;
+    sound = λ world. record {
+      directory = rows.directory;
+      settings_are = rows.settings_are;
+      no_pieces = λ h. refl;
+      no_temporary = λ h. refl;
+      cut = λ h. absurd (false≢true h);
+      address = λ q x text e. rows.address q x text (stored_was q x e);
+      hash = λ q x e. rows.hash q x (stored_was q x e);
+      pieces = λ q n h. absurd (no_key (List ℕ) piece_cmp (q, n) h);
+      references = λ q r there. still_there q (finite.get c.refs (q, r)) (ap is_some (sym (get-kept pair_total pair_antisymmetric c.refs (λ k. not (holds ps k.0)) (q, r))) ∙ there) (rows.references q r);
+      outputs = λ q n there. still_there q (finite.get c.outs (q, n)) (ap is_some (sym (get-kept pair_total pair_antisymmetric c.outs (λ k. not (holds ps k.0)) (q, n))) ∙ there) (rows.outputs q n);
+      generations = rows.generations;
+      numbers = rows.numbers;
+      current = rows.current;
+      sessions = rows.sessions;
+      world = subst (IsSound dir) (sym world_after) world;
+    };
+  }

@@ -1,0 +1,20 @@
+use Rattle.std.proofs.Common.{refl}
+use Rattle.sqlite.specs.Held.{state}
+use Rattle.rows.specs.Contents.{Contents}
+use Rattle.table_statements.proofs.Transactions.{done_both, failed_next}
+use Rattle.tables.proofs.Transactions.{survives_both}
+use Rattle.tables.proofs.profiles.AddGenerationChange.write.Goals as goal
+
+pub returns-clause-done : goal.returns-clause-done
+returns-clause-done g c =
+    done_both (state g.S.Store c.args.tx.now.conn.now) (state g.S.Store c.put_current.new.tx.conn.now) (state g.S.Store c.insert.new.tx.conn.now) _ _ c.in_ok-put_current.ensures.done c.insert.ensures.survives
+    c.insert.result _ (λ (x : Contents). refl) c.insert.ensures.done
+
+pub returns-clause-failed : goal.returns-clause-failed
+returns-clause-failed g c =
+    failed_next (state g.S.Store c.args.tx.now.conn.now) (state g.S.Store c.put_current.new.tx.conn.now) (state g.S.Store c.insert.new.tx.conn.now) _ (λ x. x) c.in_ok-put_current.ensures.done c.insert.ensures.survives
+    c.insert.result c.insert.ensures.failed
+
+pub returns-clause-survives : goal.returns-clause-survives
+returns-clause-survives g c =
+    survives_both (state g.S.Store c.args.tx.now.conn.now) (state g.S.Store c.put_current.new.tx.conn.now) (state g.S.Store c.insert.new.tx.conn.now) c.put_current.ensures.survives c.insert.ensures.survives

@@ -1,0 +1,23 @@
+use Rattle.std.proofs.Common.{ap, ◌∙◌}
+use Rattle.sqlite.specs.Held.{state}
+use Rattle.rows.specs.Contents.{Contents}
+use Rattle.table_statements.proofs.Transactions.{done_both, failed_next}
+use Rattle.tables.specs.Rewritten.{without_object, without_objects}
+use Rattle.tables.proofs.Removed.{without_next}
+use Rattle.tables.proofs.Transactions.{survives_both}
+use Rattle.tables.proofs.removal.RemoveObjectsChange.write.Goals as goal
+
+pub returns-clause-done : goal.returns-clause-done
+returns-clause-done g c =
+    let it = c.args.self.now in
+    done_both (state g.S.Store c.args.tx.now.conn.now) (state g.S.Store c.delete_object.new.tx.conn.now) (state g.S.Store c.delete_objects.new.tx.conn.now) _ _ c.in_ok-delete_object.ensures.done c.delete_objects.ensures.survives
+    c.delete_objects.result _ (λ (x : Contents). ap (λ p. without_objects it.rest.now (without_object p x)) c.as_str.ensures.value ∙ without_next it.first.now it.rest.now x) c.delete_objects.ensures.done
+
+pub returns-clause-failed : goal.returns-clause-failed
+returns-clause-failed g c =
+    failed_next (state g.S.Store c.args.tx.now.conn.now) (state g.S.Store c.delete_object.new.tx.conn.now) (state g.S.Store c.delete_objects.new.tx.conn.now) _ (λ x. x) c.in_ok-delete_object.ensures.done c.delete_objects.ensures.survives
+    c.delete_objects.result c.delete_objects.ensures.failed
+
+pub returns-clause-survives : goal.returns-clause-survives
+returns-clause-survives g c =
+    survives_both (state g.S.Store c.args.tx.now.conn.now) (state g.S.Store c.delete_object.new.tx.conn.now) (state g.S.Store c.delete_objects.new.tx.conn.now) c.delete_object.ensures.survives c.delete_objects.ensures.survives

@@ -1,0 +1,51 @@
+use Rattle.std.proofs.Common.{◌≡◌, ◌+◌, ◌∷◌, drop, length, arith, refl, sym, ap, ◌∙◌, List}
+use Rattle.sqlite.specs.Held.{state}
+use Rattle.rows.specs.Contents.{contents_of}
+use Rattle.world.specs.World.{Path}
+use Rattle.tables.specs.Rewritten.{without_object, without_objects}
+use Rattle.table_statements.proofs.Going.{goes_first, goes_next, goes_done}
+use Rattle.table_statements.proofs.Transactions.{survives_none}
+use Rattle.tables.proofs.Kept.{clean_before}
+use Rattle.tables.proofs.Lists.{left_at, none_left}
+use Rattle.tables.proofs.Removed.{without_none, without_next}
+use Rattle.tables.proofs.Transactions.{survives_both}
+use Rattle.tables.proofs.removal.delete_objects.Goals as goal
+
+pub paths-init : goal.paths-init
+paths-init g c =
+    let first = state g.S.Store c.args.tx.now.conn.now in
+    record {
+      same_reference = refl;
+      goes = λ clean. goes_first without_objects c.args.paths.now first (c.requires.under_way clean) (c.requires.is_open clean);
+      survives = survives_none first;
+    }
+
+pub paths-preserved : goal.paths-preserved
+paths-preserved g c =
+    let first = state g.S.Store c.args.tx.now.conn.now in
+    let now = state g.S.Store c.paths.tx.conn.now in
+    let next = state g.S.Store c.delete_object.new.tx.conn.now in
+    let was = contents_of now.now in
+    let all = c.args.paths.now in
+    let item = c.path-item.result in
+    let left = drop c.paths.path-index all in
+    let rest = drop (c.paths.path-index + 1) all in
+    let split : left ≡ item ∷ rest = left_at all c.paths.path-index item c.paths-test.true c.path-item.is in
+    let same : without_objects left was ≡ without_objects rest (without_object c.as_str.result.now was) =
+    ap (λ (xs : List Path). without_objects xs was) split ∙ sym (without_next item rest was)
+    ∙ ap (λ p. without_objects rest (without_object p was)) (sym c.as_str.ensures.value) in
+    record {
+      same_reference = c.in_ok-delete_object.ensures.same_reference ∙ c.paths.invariant.same_reference;
+      goes = λ clean. goes_next without_objects all first now next left rest _ (c.paths.invariant.goes (clean_before now next _ c.delete_object.ensures.survives clean)) (c.in_ok-delete_object.ensures.done clean) same;
+      survives = survives_both first now next c.paths.invariant.survives c.delete_object.ensures.survives;
+    }
+
+pub returns-clause-done : goal.returns-clause-done
+returns-clause-done g c = λ clean.
+    let first = state g.S.Store c.args.tx.now.conn.now in
+    let now = state g.S.Store c.paths.tx.conn.now in
+    let all = c.args.paths.now in
+    let end : c.paths.path-index ≡ length all = omega arith in
+    let none = ap (λ n. drop n all) end ∙ none_left all in
+    goes_done without_objects all first now (drop c.paths.path-index all)
+    (ap (λ (xs : List Path). without_objects xs (contents_of now.now)) none ∙ without_none (contents_of now.now)) (c.paths.invariant.goes clean)

@@ -1,0 +1,81 @@
+//! Objects that go, as the rows and the index have them.
+
+ghost use Rattle.std.specs.Prelude.{◌≡◌, IsTrue, OnOk, OnErr, not};
+ghost use Rattle.std.specs.FinMap as finite;
+ghost use Rattle.sqlite.specs.State.{HasCleanDisk, KeepsCommit, Survives};
+ghost use Rattle.sqlite.specs.Held.{state};
+ghost use Rattle.live.specs.Graph.{holds};
+ghost use Rattle.rows.specs.Calls.{IsUnderWay, Changes};
+ghost use Rattle.tables.specs.Rewritten.{without_object, without_objects};
+
+use crate::change::Change;
+use index::Index;
+use paths::StorePath;
+use rows::{objects, outputs, references};
+use sqlite::{Alter, Transaction};
+use table_statements::failure::Failure;
+
+/// Removes the rows of one object, if it is there: its references, its outputs and its own.
+pub(crate) fn delete_object<S: Alter>(
+    tx: &mut Transaction<'_, S>,
+    base: &str,
+) -> Result<(), Failure>
+    requires under_way { HasCleanDisk (state S.Store tx.old.conn.now) → IsUnderWay (state S.Store tx.old.conn.now) }
+    ensures same_reference { tx.new.conn.ghost_name ≡ tx.old.conn.ghost_name }
+    ensures done { HasCleanDisk (state S.Store tx.new.conn.now) → OnOk result (Changes (state S.Store tx.old.conn.now) (state S.Store tx.new.conn.now)
+        (λ c. without_object base.now c)) }
+    ensures failed { HasCleanDisk (state S.Store tx.new.conn.now) → OnErr result (KeepsCommit (state S.Store tx.old.conn.now) (state S.Store tx.new.conn.now)) }
+    ensures survives { Survives (state S.Store tx.old.conn.now) (state S.Store tx.new.conn.now) (λ _. ⊥) }
+{
+    references::delete_of(tx, base)?;
+    outputs::delete_of(tx, base)?;
+    objects::delete(tx, base)
+}
+
+/// Removes the rows of some objects.
+pub(crate) fn delete_objects<S: Alter>(
+    tx: &mut Transaction<'_, S>,
+    paths: &[StorePath],
+) -> Result<(), Failure>
+    requires under_way { HasCleanDisk (state S.Store tx.old.conn.now) → IsUnderWay (state S.Store tx.old.conn.now) }
+    requires is_open { HasCleanDisk (state S.Store tx.old.conn.now) → IsTrue (state S.Store tx.old.conn.now).is_open }
+    ensures same_reference { tx.new.conn.ghost_name ≡ tx.old.conn.ghost_name }
+    ensures done { HasCleanDisk (state S.Store tx.new.conn.now) → OnOk result (Changes (state S.Store tx.old.conn.now) (state S.Store tx.new.conn.now)
+        (λ c. without_objects paths.now c)) }
+    ensures failed { HasCleanDisk (state S.Store tx.new.conn.now) → OnErr result (KeepsCommit (state S.Store tx.old.conn.now) (state S.Store tx.new.conn.now)) }
+    ensures survives { Survives (state S.Store tx.old.conn.now) (state S.Store tx.new.conn.now) (λ _. ⊥) }
+{
+    'paths: for path in paths {
+        delete_object(tx, path.as_str())?;
+    }
+    Ok(())
+}
+
+/// Takes some objects out of an index. It takes no memory.
+pub(crate) fn remove_all(index: &mut Index, paths: &[StorePath])
+    ensures { index.new ≡ record index.old { objects = finite.retain_keys index.old.objects (λ p. not (holds paths.now p)) } }
+{
+    'paths: for path in paths {
+        index.remove_object(path);
+    }
+}
+
+/// Some objects go, if they are there: a first one and the rest.
+#[derive(Drop)]
+pub(crate) struct RemoveObjects<'a> {
+    pub(crate) first: &'a StorePath,
+    pub(crate) rest: &'a [StorePath],
+}
+
+impl<'a> Change for RemoveObjects<'a> {
+    ghost use Rattle.std.specs.Prelude.{⊤, ◌∷◌};
+
+    ghost change = { λ o c. without_objects (o.first.now ∷ o.rest.now) c };
+
+    ghost fits = { λ o c. ⊤ };
+
+    fn write<S: Alter>(&self, tx: &mut Transaction<'_, S>) -> Result<(), Failure> {
+        delete_object(tx, self.first.as_str())?;
+        delete_objects(tx, self.rest)
+    }
+}

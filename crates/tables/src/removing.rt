@@ -1,0 +1,48 @@
+//! Objects are removed, one transaction a call.
+
+ghost use Rattle.std.specs.Prelude.{◌≡◌, ◌<◌, IsTrue, OnOk, OnErr, length, not};
+ghost use Rattle.std.specs.FinMap as finite;
+ghost use Rattle.sqlite.specs.State.{Survives};
+ghost use Rattle.sqlite.specs.Held.{state};
+ghost use Rattle.live.specs.Graph.{holds};
+ghost use Rattle.rows.specs.Calls.{IsDurable};
+ghost use Rattle.world.specs.World.{World};
+ghost use Rattle.world.specs.Sound.{IsSound};
+ghost use Rattle.tables.specs.Kept.{Tells, LeavesWorld};
+
+use crate::change;
+use crate::keeping::Tables;
+use crate::removal::{RemoveObjects, remove_all};
+use paths::StorePath;
+use sqlite::Alter;
+use table_statements::failure::Failure;
+
+impl<S: Alter> Tables<S> {
+    /// Removes the objects of these paths, those that are there; one path at least is given. That the world is sound then is the
+    /// caller's condition: what stays refers to none of them, and no root is on one.
+    ///
+    /// # Errors
+    ///
+    /// Memory was refused or the disk failed, and then nothing has changed.
+    pub fn remove_objects(&mut self, paths: &[StorePath]) -> Result<(), Failure>
+        requires some { 0 < length paths.now }
+        requires sound { (w : World) → Tells S.Store self.old w → IsSound self.old.dir (record w { objects = finite.retain_keys w.objects (λ p. not (holds paths.now p)) }) }
+        ensures dir { self.new.dir ≡ self.old.dir }
+        ensures done { OnOk result ((w : World) → Tells S.Store self.old w → Tells S.Store self.new (record w { objects = finite.retain_keys w.objects (λ p. not (holds paths.now p)) })) }
+        ensures failed { OnErr result ((w : World) → Tells S.Store self.old w → Tells S.Store self.new w) }
+        ensures durable { OnOk result (IsTrue (state S.Store self.new.connection).is_open → IsDurable (state S.Store self.new.connection)) }
+        ensures survives { (w : World) → Tells S.Store self.old w → Survives (state S.Store self.old.connection) (state S.Store self.new.connection)
+            (λ db. LeavesWorld self.old.dir (state S.Store self.old.connection).now db (record w { objects = finite.retain_keys w.objects (λ p. not (holds paths.now p)) })) }
+    {
+        let Some((first, rest)) = paths.split_first() else {
+            unreachable!()
+        };
+        match change::commit(&mut self.connection, &RemoveObjects { first, rest }) {
+            Ok(()) => {
+                remove_all(&mut self.index, paths);
+                Ok(())
+            }
+            Err(failure) => Err(failure),
+        }
+    }
+}
