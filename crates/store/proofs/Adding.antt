@@ -14,7 +14,7 @@ use Rattle.policy.specs.Caller.{Caller}
 use Rattle.world.specs.World.{Path, World, has}
 use Rattle.store.specs.Request.{Imported, Request, add_text, add_source, import_object}
 use Rattle.store.specs.Reply.{path, done, denied, refused, failed}
-use Rattle.store.specs.Adds.{Added, added_at, text_archive}
+use Rattle.store.specs.Adds.{Added, added_at, added_import, text_archive}
 use Rattle.store.specs.Answers.{answer}
 use Rattle.store.specs.Effects.{with_object, effect}
 use Rattle.store.specs.Changes.{HandedIn, with_text, with_source, with_import, IsAsHandedIn, Gains, AddsExactly}
@@ -36,6 +36,10 @@ as_handed_in dir a = record {
   ca = refl;
   outputs = refl;
 }
+
+pub import_as_handed_in : (dir : List ℕ) (i : Imported) → IsAsHandedIn dir (with_import i) (added_import dir i).object
+unfolding added_of
+import_as_handed_in dir i = as_handed_in dir (with_import i)
 
 gained : (dir : List ℕ) (a : HandedIn) (w : World) → Gains dir a w (with_object w (added_of dir a))
 unfolding added_of

@@ -44,7 +44,7 @@ module _ {K X : Type 0} (R : K → K → Ordering) where
 
 -- ---- bytes
 
-weighed : (w : World) (ps : List Path) → ((p : Path) → Contains ps p → IsTrue (has w p)) → Weigh w ps (bytes_in w ps)
+pub weighed : (w : World) (ps : List Path) → ((p : Path) → Contains ps p → IsTrue (has w p)) → Weigh w ps (bytes_in w ps)
 weighed w [] f = refl
 weighed w (p ∷ ps) f = by (finite.get w.objects p) refl (f p (at_head p ps)) (weighed w ps (λ q c. f q (behind p q ps c)))
   where

@@ -32,3 +32,11 @@ pub mod ProfileChanges
 pub mod Sights
 pub mod Failing
 pub mod Reliance
+pub mod RootChanges
+pub mod Others
+pub mod LabelsAndOrder
+pub mod Faults
+pub mod Kept
+pub mod Tellings
+pub mod Planting
+pub mod AddFaults

@@ -1,6 +1,6 @@
 -- What a collection up to a limit takes.
-use Rattle.std.proofs.Common.{◌≡◌, ℕ, ◌-◌, List, [], ◌∷◌, map, Bool, true, false, not, ◌&&◌, ◌||◌, cond, Some, None, Option, option_map, refl, sym, ap, ◌∙◌, IsTrue, subst, inl, inr, ◌⊎◌}
-use Rattle.std.specs.Prelude.{is_some, nat_lt, Contains}
+use Rattle.std.proofs.Common.{◌≡◌, ℕ, ◌-◌, List, [], ◌∷◌, length, map, Bool, true, false, not, ◌&&◌, ◌||◌, cond, Some, None, Option, option_map, refl, sym, ap, ◌∙◌, IsTrue, subst, inl, inr, ◌⊎◌}
+use Rattle.std.specs.Prelude.{is_some, nat_lt}
 use Rattle.std.specs.List.{filter, find, list_any, sum_by}
 use Rattle.std.specs.Option.{option_map_or, option_or}
 use Rattle.std.specs.Ordering.{is_lt}
@@ -11,19 +11,20 @@ use Rattle.std.proofs.lemmas.Bool.{false≢true, and_parts, and_from, or_cases, 
 use Rattle.paths.specs.Root.{bytes_cmp}
 use Rattle.live.specs.Graph.{Path, Links, same, holds, Graph, references_alone, is_valid, is_edge}
 use Rattle.live.specs.Reach.{reaches, Reaches}
-use Rattle.live.specs.Limited.{refers, is_referred_to, next_alone, next_with_referrers, next_group, without, groups_by, limited_groups, limited_paths}
+use Rattle.live.specs.Limited.{Takes, refers, is_referred_to, next_with_referrers, next_group, without, groups_by, limited_groups}
 use Rattle.live.proofs.Members.{found, any_from, some_of_any}
 use Rattle.live.proofs.Reach.{same_is, same_itself, holds_valid, decided, goes_on, reach_kept}
 use Rattle.live.proofs.Live.{live_decided}
+use Rattle.live.proofs.Takings.{one_answer}
 use Rattle.policy.specs.Settings.{Settings}
-use Rattle.world.specs.World.{Object, Objects, World, has, all_paths, roots_of}
-use Rattle.store.specs.Request.{collect}
+use Rattle.world.specs.World.{Object, World, has, all_paths, roots_of}
 use Rattle.store.specs.Reply.{done, denied, refused, failed}
 use Rattle.store.specs.Liveness.{links_of, linked, graph_of, keep_of, lives, size_of, collected_paths}
 use Rattle.store.specs.Effects.{keeping}
 use Rattle.store.specs.Laws.{CollectsSome, CollectsUpToALimit}
+use Rattle.store.specs.Kept.{GoesByBytes, CollectsByBytes}
 use Rattle.store.proofs.MapMembers.{bytes_antisymmetric}
-use Rattle.store.proofs.Worlds.{valid_is, live_of, live_has, get-keeping, kept_if, found_in}
+use Rattle.store.proofs.Worlds.{valid_is, live_of, get-keeping, kept_if, found_in}
 use Rattle.store.proofs.Deleting.{reference_edge}
 use lib.Dec.{T}
 
@@ -221,6 +222,29 @@ module _ (s : Settings) (w : World) (limit : ℕ) where
       by false true f g = g refl
       by false false f g = refl
 
+  goes : (p : Path) → IsTrue (has w p) → has (keeping w leaves) p ≡ leaves p
+  goes p v = ap is_some (get-keeping w.objects leaves p) ∙ by (leaves p)
+    where
+      by : (b : Bool) → is_some (cond b (finite.get w.objects p) None) ≡ b
+      by true = v
+      by false = refl
+
+  by_bytes : GoesByBytes s w limit (keeping w leaves)
+  unfolding groups is_taken
+  by_bytes = record {
+    size = size_of w;
+    bytes = λ p o e. ap (λ (x : Option Object). option_map_or (λ y. length y.nar) x 0) e;
+    groups = groups;
+    takes = subst (λ (ps : List Path). Takes (graph_of w) (λ p. not (lives s w p)) (size_of w) ps limit groups) (keys_of_graph w) ((one_answer (graph_of w) (λ p. not (lives s w p)) (size_of w) limit groups).1 refl);
+    went = λ p v. (
+      (λ h. goes_or_stays p v ∙ ap not (sym (goes p v) ∙ h)),
+      (λ h. goes p v ∙ turned (leaves p) (sym (goes_or_stays p v) ∙ h)),
+    );
+  }
+    where
+      turned : (b : Bool) → IsTrue (not b) → b ≡ false
+      turned b h = not-true b h
+
   still : (p : Path) → IsTrue (has (keeping w leaves) p) → finite.get (keeping w leaves).objects p ≡ finite.get w.objects p
   still p h = by (leaves p) refl (sym (ap is_some (get-keeping w.objects leaves p)) ∙ h)
     where
@@ -253,3 +277,6 @@ collects_up_to s w c ignores limit (done a) new h d = subst (λ (u : World). Col
 collects_up_to s w c ignores limit (denied rule root) new h d = absurd d
 collects_up_to s w c ignores limit (refused r) new h d = absurd d
 collects_up_to s w c ignores limit (failed f) new h d = absurd d
+
+pub collects_by_bytes : CollectsByBytes
+collects_by_bytes s w c ignores limit a new h = subst (λ (u : World). GoesByBytes s w limit u) (sym h.3) (by_bytes s w limit)

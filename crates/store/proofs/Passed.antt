@@ -7,7 +7,7 @@ use Rattle.live.proofs.Members.{cases, no_member}
 use Rattle.store.specs.Reply.{Refusal}
 use Rattle.store.specs.Tests.{unless, first_failing}
 
-passed : (t : Option Refusal) (ts : List (Option Refusal)) → first_failing (t ∷ ts) ≡ None → (t ≡ None) × (first_failing ts ≡ None)
+pub passed : (t : Option Refusal) (ts : List (Option Refusal)) → first_failing (t ∷ ts) ≡ None → (t ≡ None) × (first_failing ts ≡ None)
 passed None ts e = (refl, e)
 passed (Some r) ts e = absurd (false≢true (ap is_none e))
 

@@ -23,13 +23,13 @@ use Rattle.live.proofs.Members.{not_found}
 use Rattle.live.proofs.Reach.{same_is}
 use Rattle.world.specs.World.{Path, Pair, Object, Profile, Temporary, World, has}
 use Rattle.store.specs.Request.{Request, add_text, add_source, import_object, set_permanent, drop_permanent, set_user_root, drop_user_root, set_profile, rollback, switch, delete_generation, replace_runtime, add_temp, end_session, collect, delete}
-use Rattle.store.specs.Reply.{Reply, denied, refused, failed, done}
+use Rattle.store.specs.Reply.{denied, refused, failed, done}
 use Rattle.store.specs.Liveness.{lives, goes_with}
 use Rattle.store.specs.Verdict.{operation_of, named_in, verdict, shown}
 use Rattle.store.specs.Adds.{Added, added_text, added_source, added_import}
 use Rattle.store.specs.Profiles.{profile_at, set_to, rolled_back, switched, without_generation}
 use Rattle.store.specs.Effects.{keeping, with_object, with_profile, with_user_root, without_user_root, with_temporary, is_of_session, without_session, effect}
-use Rattle.store.specs.Step.{Step, IsNoneOrLive}
+use Rattle.store.specs.Step.{IsNoneOrLive}
 use Rattle.store.specs.Reliance.{StrangersAreDenied, NothingIsReplaced, NobodyPlants, KeepsOfTheTrusted, KeepsOfOwner, RootsAreTheirOwners}
 use Rattle.store.proofs.Worlds.{get-keeping, kept_if}
 use Rattle.store.proofs.Pins.{kept_by_add}
@@ -82,7 +82,7 @@ nothing_replaced s w c q (failed f) new step p v h = ap (λ (u : World). finite.
 -- ---- what rules allow
 
 module _ (s : Settings) (w : World) (c : Caller) (q : Request) (v : verdict s w c q ≡ None) where
-  allowed : (rule : Rule) → Contains rules rule → IsTrue (allows (class_of s c) c (operation_of q) (list_any (lives s w) (named_in q)) rule)
+  pub allowed : (rule : Rule) → Contains rules rule → IsTrue (allows (class_of s c) c (operation_of q) (list_any (lives s w) (named_in q)) rule)
   allowed rule listed = by (cases_Bool (allows (class_of s c) c (operation_of q) (list_any (lives s w) (named_in q)) rule))
     where
       by : (allows (class_of s c) c (operation_of q) (list_any (lives s w) (named_in q)) rule ≡ true) ⊎ (allows (class_of s c) c (operation_of q) (list_any (lives s w) (named_in q)) rule ≡ false)
@@ -92,7 +92,7 @@ module _ (s : Settings) (w : World) (c : Caller) (q : Request) (v : verdict s w 
 
 -- ---- nobody plants
 
-added_there : (w : World) (a : Added) (p : Path) (o : Object) → IsFalse (has w p) → finite.get (with_object w a).objects p ≡ Some o → a.object ≡ o
+pub added_there : (w : World) (a : Added) (p : Path) (o : Object) → IsFalse (has w p) → finite.get (with_object w a).objects p ≡ Some o → a.object ≡ o
 added_there w a p o fresh e = by (has w a.path) e
   where
     old : finite.get w.objects p ≡ Some o → a.object ≡ o
@@ -102,14 +102,14 @@ added_there w a p o fresh e = by (has w a.path) e
     by true f = old f
     by false f = elim (inserted_entry nat_list_cmp_total bytes_antisymmetric w.objects a.path a.object p o f) as (λ _. a.object ≡ o) [ inl is ↦ is.1 | inr f ↦ old f ]
 
-fresh_kept : (w : World) (test : Path → Bool) (p : Path) (o : Object) → IsFalse (has w p) → finite.get (keeping w test).objects p ≡ Some o → ⊥
+pub fresh_kept : (w : World) (test : Path → Bool) (p : Path) (o : Object) → IsFalse (has w p) → finite.get (keeping w test).objects p ≡ Some o → ⊥
 fresh_kept w test p o fresh e = by (test p) (sym (get-keeping w.objects test p) ∙ e)
   where
     by : (b : Bool) → cond b (finite.get w.objects p) None ≡ Some o → ⊥
     by true f = false≢true (sym fresh ∙ ap is_some f)
     by false f = false≢true (ap is_some f)
 
-has_address : (s : Settings) (w : World) (c : Caller) (q : Request) → verdict s w c q ≡ None → IsFalse (is_trusted (class_of s c))
+pub has_address : (s : Settings) (w : World) (c : Caller) (q : Request) → verdict s w c q ≡ None → IsFalse (is_trusted (class_of s c))
     → (p : Path) (o : Object) → IsFalse (has w p) → finite.get (effect s w q).objects p ≡ Some o → IsTrue (is_some o.ca)
 has_address s w c (add_text name refs contents) v other p o fresh e = ap (λ (x : Object). is_some x.ca) (sym (added_there w (added_text s.store_dir name refs contents) p o fresh e))
 has_address s w c (add_source name refs b) v other p o fresh e = ap (λ (x : Object). is_some x.ca) (sym (added_there w (added_source s.store_dir name refs b) p o fresh e))
@@ -162,11 +162,11 @@ module _ (s : Settings) (w : World) (c : Caller) (other : IsFalse (is_trusted (c
       by false true t f h = absurd (false≢true (sym f ∙ h))
       by false false t f h = absurd (false≢true h)
 
-all_same : (owner : List ℕ) (w : World) → KeepsOfOwner owner w w
+pub all_same : (owner : List ℕ) (w : World) → KeepsOfOwner owner w w
 all_same owner w = record { user_roots = λ n. refl; profiles = λ n. refl; temporary = λ k p. refl }
 
 module _ (w : World) (a : Added) where
-  add_of_owner : (owner : List ℕ) → KeepsOfOwner owner w (with_object w a)
+  pub add_of_owner : (owner : List ℕ) → KeepsOfOwner owner w (with_object w a)
   add_of_owner owner = by (has w a.path)
     where
       by : (b : Bool) → KeepsOfOwner owner w (if b then w else record w { objects = finite.insert w.objects a.path a.object })
@@ -195,14 +195,14 @@ module _ (w : World) (owner theirs : List ℕ) (apart : owner ≡ theirs → ⊥
   other_pair : (n m : List ℕ) → ◌≡◌ {A = Pair} (owner, n) (theirs, m) → ⊥
   other_pair n m e = apart (ap (λ (x : Pair). x.0) e)
 
-  profile_of_other : (name : List ℕ) (p : Profile) → KeepsOfOwner owner w (with_profile w (theirs, name) p)
+  pub profile_of_other : (name : List ℕ) (p : Profile) → KeepsOfOwner owner w (with_profile w (theirs, name) p)
   profile_of_other name p = record {
     user_roots = λ n. refl;
     profiles = λ n. beside_inserted pair_total pair_antisymmetric w.profiles (theirs, name) p (owner, n) (other_pair n name);
     temporary = λ k t. refl;
   }
 
-  set_of_other : (name : List ℕ) (p : Path) → KeepsOfOwner owner w (with_user_root w (theirs, name) p)
+  pub set_of_other : (name : List ℕ) (p : Path) → KeepsOfOwner owner w (with_user_root w (theirs, name) p)
   set_of_other name p = record {
     user_roots = λ n. beside_inserted pair_total pair_antisymmetric w.user_roots (theirs, name) p (owner, n) (other_pair n name);
     profiles = λ n. refl;
@@ -216,7 +216,7 @@ module _ (w : World) (owner theirs : List ℕ) (apart : owner ≡ theirs → ⊥
     temporary = λ k t. refl;
   }
 
-  added_of_other : (session : ℕ) (p : Path) → KeepsOfOwner owner w (with_temporary w (record { owner = theirs; session = session; path = p }))
+  pub added_of_other : (session : ℕ) (p : Path) → KeepsOfOwner owner w (with_temporary w (record { owner = theirs; session = session; path = p }))
   added_of_other session p = record {
     user_roots = λ n. refl;
     profiles = λ n. refl;

@@ -6,7 +6,7 @@ use Rattle.std.specs.FinMap as finite
 use Rattle.std.proofs.lemmas.Bool.{and_parts}
 use Rattle.paths.specs.Names.{is_plain_name}
 use Rattle.paths.specs.Root.{is_runtime_label, is_session}
-use Rattle.world.specs.World.{Path, Pair, Temporary, temporary_cmp, World, has}
+use Rattle.world.specs.World.{Path, Pair, Temporary, World, has}
 use Rattle.world.specs.Sound.{IsSound}
 use Rattle.store.specs.Effects.{with_permanent, without_permanent, with_user_root, without_user_root, valid_pairs, with_runtime, is_of_session, with_temporary, without_session}
 use Rattle.store.proofs.MapMembers.{bytes_antisymmetric, pair_total, pair_antisymmetric, temporary_total, temporary_antisymmetric, retained_key, inserted_key, inserted_entry, removed_key, removed_entry, set_member}

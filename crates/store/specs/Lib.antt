@@ -16,3 +16,11 @@ pub mod Changes
 pub mod Generations
 pub mod Sights
 pub mod Reliance
+pub mod RootChanges
+pub mod Others
+pub mod LabelsAndOrder
+pub mod Faults
+pub mod Kept
+pub mod Tellings
+pub mod Planting
+pub mod AddFaults

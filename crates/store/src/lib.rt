@@ -1,8 +1,14 @@
 //! What a store does with a request: the definitions, and the laws that hold of them.
 #![tactic(auto)]
 
+mod answer_laws;
 mod laws;
+mod more_laws;
+mod root_laws;
 
+pub use answer_laws::{
+    listings_tell_what_is_there, nobody_plants_over_runs, records_tell_what_was_added,
+};
 pub use laws::{
     a_root_pins_what_it_reaches, adds_are_exact, collection_is_exact, deletion_leaves_no_reference,
     deletions_are_exact, denials_name_the_living, every_entry_is_a_root,
@@ -10,3 +16,8 @@ pub use laws::{
     roots_are_seen_in_order, runs_end_alike, runtime_labels_do_not_show, soundness_is_kept,
     step_is_functional, step_is_total, the_freed_are_told, the_living_are_listed, usage_adds_up,
 };
+pub use more_laws::{
+    adds_are_refused_for_their_faults, first_faults_are_told, limits_count_bytes,
+    roots_are_labelled_in_order, settings_say_what_is_kept,
+};
+pub use root_laws::{owners_are_respected, roots_change_exactly};

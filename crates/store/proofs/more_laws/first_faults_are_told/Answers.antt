@@ -1,0 +1,11 @@
+use Rattle.store.proofs.Faults.{session_faults_are_told, names_come_first, profiles_come_next}
+use Rattle.store.proofs.more_laws.first_faults_are_told.Goals as goal
+
+pub returns-clause-sessions : goal.returns-clause-sessions
+returns-clause-sessions c = session_faults_are_told
+
+pub returns-clause-names : goal.returns-clause-names
+returns-clause-names c = names_come_first
+
+pub returns-clause-profiles : goal.returns-clause-profiles
+returns-clause-profiles c = profiles_come_next

@@ -1,0 +1,39 @@
+//! Laws of what lives and of what is refused: each is the contract of a function that does nothing.
+ghost use Rattle.store.specs.AddFaults.{DigestsComeFirst, MissingAreMissing, TextsAreMeasured};
+ghost use Rattle.store.specs.Faults.{NamesComeFirst, ProfilesComeNext, SessionFaultsAreTold};
+ghost use Rattle.store.specs.Kept.{CollectsByBytes, EdgesAsSet, LivingKeep};
+ghost use Rattle.store.specs.LabelsAndOrder.{AreLabelled, KindsInOrder};
+
+/// An object keeps its references; its outputs, if outputs are to be kept; and its deriver, if derivations are. What a live path
+/// keeps is live.
+pub fn settings_say_what_is_kept()
+    ensures edges { EdgesAsSet }
+    ensures living { LivingKeep }
+{}
+
+/// A limit counts the bytes of archives: a collection stops as soon as so many are free, and not before while a dead path is left.
+pub fn limits_count_bytes()
+    ensures { CollectsByBytes }
+{}
+
+/// Each root has its label, and roots come by their kinds: those of sessions last.
+pub fn roots_are_labelled_in_order()
+    ensures labels { AreLabelled }
+    ensures kinds { KindsInOrder }
+{}
+
+/// A refusal tells the first fault: of a session, 1 to 4,194,304, before its path; a name before what it names; a profile before
+/// its generation.
+pub fn first_faults_are_told()
+    ensures sessions { SessionFaultsAreTold }
+    ensures names { NamesComeFirst }
+    ensures profiles { ProfilesComeNext }
+{}
+
+/// A text is refused by the size of its archive; an import for another digest before any fault of addresses, references and
+/// derivations; and for a missing reference only where one isn't valid and isn't the object's own path.
+pub fn adds_are_refused_for_their_faults()
+    ensures size { TextsAreMeasured }
+    ensures digest { DigestsComeFirst }
+    ensures missing { MissingAreMissing }
+{}
