@@ -1,0 +1,12 @@
+pub mod Loops
+pub mod Pairs
+pub mod Sets
+pub mod RootOrder
+pub mod Shown
+pub mod Rising
+pub mod Told
+pub mod Valid
+pub mod Marked
+pub mod Sized
+pub mod Places
+pub mod Deleted

@@ -1,0 +1,5 @@
+pub mod Gaining
+pub mod View
+pub mod Rooted
+pub mod Linked
+pub mod Sizes
