@@ -1,0 +1,12 @@
+pub mod Lists
+pub mod Fronts
+pub mod SameOutputs
+pub mod OfArchive
+pub mod Paths
+pub mod SoundRows
+pub mod Columns
+pub mod ReadRows
+pub mod Takes
+pub mod EachEntry
+pub mod AllObjects
+pub mod Each

@@ -1,0 +1,15 @@
+//! The objects of a store's tables, tested one after another and put into the index.
+#![tactic(auto)]
+
+mod address;
+mod members;
+mod objects;
+mod outputs;
+mod reading;
+mod recorded;
+mod references;
+mod taken;
+mod taking;
+mod texts;
+
+pub use taken::take_objects;

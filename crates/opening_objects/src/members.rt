@@ -1,0 +1,60 @@
+//! Rows of references and outputs beside the objects of the index.
+
+ghost use Rattle.std.specs.Prelude.{◌≡◌, IfOk, map};
+ghost use Rattle.std.specs.List.{list_all};
+ghost use Rattle.table_entries.specs.Entries.{reference_of, output_of};
+ghost use Rattle.opening_objects.specs.Taken as taken;
+ghost use Rattle.opening_objects.specs.Taken.{is_object, is_reference};
+
+use crate::texts::path_of;
+use index::Index;
+use std::alloc::{AllocError, Global};
+use table_entries::outputs::Output;
+use table_entries::references::Reference;
+
+/// Whether a text is the base name of an object.
+fn is_object(alloc: Global, index: &Index, text: &str) -> Result<bool, AllocError>
+    ensures { IfOk result (λ ok. ok ≡ is_object index.now.objects text.now) }
+{
+    match path_of(alloc, text)? {
+        Some(path) => Ok(index.has(&path)),
+        None => Ok(false),
+    }
+}
+
+fn is_reference(alloc: Global, index: &Index, row: &Reference) -> Result<bool, AllocError>
+    ensures { IfOk result (λ ok. ok ≡ is_reference index.now.objects (reference_of row.now)) }
+{
+    if !is_object(alloc, index, row.base.as_str())? {
+        return Ok(false);
+    }
+    is_object(alloc, index, row.target.as_str())
+}
+
+/// Whether each reference is one of an object to an object.
+pub(crate) fn are_references(
+    alloc: Global,
+    index: &Index,
+    rows: &[Reference],
+) -> Result<bool, AllocError>
+    ensures { IfOk result (λ ok. ok ≡ list_all (is_reference index.now.objects) (map reference_of rows.now)) }
+{
+    'rows: for row in rows {
+        if !is_reference(alloc, index, row)? {
+            return Ok(false);
+        }
+    }
+    Ok(true)
+}
+
+/// Whether each output is an object's.
+pub(crate) fn are_outputs(alloc: Global, index: &Index, rows: &[Output]) -> Result<bool, AllocError>
+    ensures { IfOk result (λ ok. ok ≡ list_all (taken.is_output index.now.objects) (map output_of rows.now)) }
+{
+    'rows: for row in rows {
+        if !is_object(alloc, index, row.base.as_str())? {
+            return Ok(false);
+        }
+    }
+    Ok(true)
+}

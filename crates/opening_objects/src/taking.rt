@@ -1,0 +1,117 @@
+//! Objects, tested one after another and put into the index.
+
+ghost use Rattle.std.specs.Prelude.{◌≡◌, ◌↔◌, false, IsTrue, IfOk, OnOk, map, string_bytes};
+ghost use Rattle.std.specs.List.{AllByRecursion};
+ghost use Rattle.std.specs.FinMap as finite;
+ghost use Rattle.sqlite.specs.State.{HasCleanDisk, IsUnchanged, Survives};
+ghost use Rattle.sqlite.specs.Held.{state};
+ghost use Rattle.table_statements.specs.Contents.{contents_of};
+ghost use Rattle.table_statements.specs.Calls.{IsReady, KeepsShown};
+ghost use Rattle.table_entries.specs.Entries.{stored_of};
+ghost use Rattle.opening_objects.specs.Tested.{IsSoundAt, kept_of, named_of, targets_of};
+ghost use Rattle.opening_objects.specs.Taken.{IsSoundOne, with_object, with_objects};
+
+use crate::objects::sound_object;
+use crate::reading::{ObjectRows, rows_at};
+use index::Index;
+use paths::StoreDir;
+use rows::objects;
+use sqlite::{Alter, Connection};
+use std::alloc::{AllocError, Global};
+use table_statements::failure::Failure;
+
+/// Whether the rows of an object are sound. If so, it is put into the index.
+fn take_rows(
+    alloc: Global,
+    dir: &StoreDir,
+    index: &mut Index,
+    rows: &ObjectRows,
+) -> Result<bool, AllocError>
+    ensures told { IfOk result (λ ok. IsTrue ok ↔ IsSoundAt dir.now (stored_of rows.now.object).0 (stored_of rows.now.object).1 (targets_of rows.now.references.items) (named_of rows.now.outputs.items)) }
+    ensures taken { IfOk result (λ ok. IsTrue ok → index.new ≡ record index.old { objects = finite.insert index.old.objects (stored_of rows.now.object).0 (kept_of dir.now (stored_of rows.now.object).0 (stored_of rows.now.object).1 (targets_of rows.now.references.items)) }) }
+{
+    let Some((path, summary)) = sound_object(
+        alloc,
+        dir,
+        &rows.object,
+        &rows.references,
+        &rows.outputs,
+    )?
+    else {
+        return Ok(false);
+    };
+    index.insert_object(path, summary)?;
+    Ok(true)
+}
+
+/// Whether this base is an object's, whose rows are sound. If so, it is put into the index.
+fn take_object<S: Alter>(
+    alloc: Global,
+    conn: &mut Connection<S>,
+    dir: &StoreDir,
+    index: &mut Index,
+    base: &str,
+) -> Result<bool, Failure>
+    requires alone { conn.old.in_transaction ≡ false }
+    requires ready { HasCleanDisk (state S.Store conn.old) → IsTrue (state S.Store conn.old).is_open → IsReady (state S.Store conn.old) }
+    ensures alone { conn.new.in_transaction ≡ false }
+    ensures told { HasCleanDisk (state S.Store conn.new) → IfOk result (λ ok. IsTrue ok ↔ IsSoundOne dir.now (contents_of (state S.Store conn.old).now) base.now) }
+    ensures taken { HasCleanDisk (state S.Store conn.new) → IfOk result (λ ok. IsTrue ok → index.new ≡ record index.old { objects = with_object (contents_of (state S.Store conn.old).now) base.now index.old.objects }) }
+    ensures unchanged { HasCleanDisk (state S.Store conn.new) → OnOk result (IsUnchanged (state S.Store conn.old) (state S.Store conn.new)) }
+    ensures same { HasCleanDisk (state S.Store conn.new) → KeepsShown (state S.Store conn.old) (state S.Store conn.new) }
+    ensures ready { HasCleanDisk (state S.Store conn.new) → IsTrue (state S.Store conn.new).is_open → IsReady (state S.Store conn.new) }
+    ensures survives { Survives (state S.Store conn.old) (state S.Store conn.new) (λ _. ⊥) }
+{
+    let Some(rows) = rows_at(alloc, conn, base)? else {
+        return Ok(false);
+    };
+    Ok(take_rows(alloc, dir, index, &rows)?)
+}
+
+/// Whether each base is an object's, whose rows are sound. If so, they are put into the index.
+fn take_each<S: Alter>(
+    alloc: Global,
+    conn: &mut Connection<S>,
+    dir: &StoreDir,
+    index: &mut Index,
+    bases: &[String],
+) -> Result<bool, Failure>
+    requires alone { conn.old.in_transaction ≡ false }
+    requires ready { HasCleanDisk (state S.Store conn.old) → IsTrue (state S.Store conn.old).is_open → IsReady (state S.Store conn.old) }
+    requires opened { HasCleanDisk (state S.Store conn.old) → IsTrue (state S.Store conn.old).is_open }
+    ensures alone { conn.new.in_transaction ≡ false }
+    ensures told { HasCleanDisk (state S.Store conn.new) → IfOk result (λ ok. IsTrue ok ↔ AllByRecursion (IsSoundOne dir.now (contents_of (state S.Store conn.old).now)) (map string_bytes bases.now)) }
+    ensures taken { HasCleanDisk (state S.Store conn.new) → IfOk result (λ ok. IsTrue ok → index.new ≡ record index.old { objects = with_objects (contents_of (state S.Store conn.old).now) (map string_bytes bases.now) index.old.objects }) }
+    ensures unchanged { HasCleanDisk (state S.Store conn.new) → OnOk result (IsUnchanged (state S.Store conn.old) (state S.Store conn.new)) }
+    ensures same { HasCleanDisk (state S.Store conn.new) → KeepsShown (state S.Store conn.old) (state S.Store conn.new) }
+    ensures ready { HasCleanDisk (state S.Store conn.new) → IsTrue (state S.Store conn.new).is_open → IsReady (state S.Store conn.new) }
+    ensures survives { Survives (state S.Store conn.old) (state S.Store conn.new) (λ _. ⊥) }
+{
+    'bases: for base in bases {
+        if !take_object(alloc, conn, dir, index, base.as_str())? {
+            return Ok(false);
+        }
+    }
+    Ok(true)
+}
+
+/// Whether all objects of the rows are sound, each by itself. If so, they are put into the index.
+pub(crate) fn take_all<S: Alter>(
+    alloc: Global,
+    conn: &mut Connection<S>,
+    dir: &StoreDir,
+    index: &mut Index,
+) -> Result<bool, Failure>
+    requires alone { conn.old.in_transaction ≡ false }
+    requires ready { HasCleanDisk (state S.Store conn.old) → IsTrue (state S.Store conn.old).is_open → IsReady (state S.Store conn.old) }
+    ensures alone { conn.new.in_transaction ≡ false }
+    ensures told { HasCleanDisk (state S.Store conn.new) → IfOk result (λ ok. IsTrue ok ↔ AllByRecursion (IsSoundOne dir.now (contents_of (state S.Store conn.old).now)) (finite.keys (contents_of (state S.Store conn.old).now).objects)) }
+    ensures taken { HasCleanDisk (state S.Store conn.new) → IfOk result (λ ok. IsTrue ok → index.new ≡ record index.old { objects = with_objects (contents_of (state S.Store conn.old).now) (finite.keys (contents_of (state S.Store conn.old).now).objects) index.old.objects }) }
+    ensures unchanged { HasCleanDisk (state S.Store conn.new) → OnOk result (IsUnchanged (state S.Store conn.old) (state S.Store conn.new)) }
+    ensures same { HasCleanDisk (state S.Store conn.new) → KeepsShown (state S.Store conn.old) (state S.Store conn.new) }
+    ensures ready { HasCleanDisk (state S.Store conn.new) → IsTrue (state S.Store conn.new).is_open → IsReady (state S.Store conn.new) }
+    ensures survives { Survives (state S.Store conn.old) (state S.Store conn.new) (λ _. ⊥) }
+{
+    let bases = objects::keys(alloc, conn)?;
+    take_each(alloc, conn, dir, index, &bases)
+}
