@@ -20,7 +20,7 @@ lesser Equal h = absurd h
 lesser Greater h = absurd h
 
 module _ {K X : Type 0} {R : K → K → Ordering} (o : IsTotalOrder R) (alike : finite.IsAntisymmetric R) where
-  below_none : (x : K) (es : List (K × X)) → T (below_all R x es) → find_entry R x es ≡ None
+  pub below_none : (x : K) (es : List (K × X)) → T (below_all R x es) → find_entry R x es ≡ None
   below_none x [] h = refl
   below_none x (e ∷ es) h =
       let parts = both_T (is_lt (R x e.0)) (below_all R x es) h in

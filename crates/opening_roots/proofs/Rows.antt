@@ -1,5 +1,5 @@
 -- Rows that are tested and put into the index one after another.
-use Rattle.std.proofs.Common.{◌≡◌, List, [], ◌∷◌, map, Bool, ◌&&◌, refl, ap, ◌∙◌, string_bytes}
+use Rattle.std.proofs.Common.{◌≡◌, List, [], ◌∷◌, map, Bool, ◌&&◌, refl, ap, ap₂, ◌∙◌, string_bytes}
 use Rattle.std.specs.List.{list_all}
 use Rattle.std.specs.FinMap as finite
 use Rattle.table_entries.specs.declared.permanent.PermanentRoot.{PermanentRoot}
@@ -15,6 +15,16 @@ module _ {X E : Type 0} (entry : X → E) (test : Objects → E → Bool) (put :
   pub pass_each : (xs : List X) (o : Outline) → all_pass (λ x (p : Outline). test p.objects (entry x)) put xs o ≡ list_all (test o.objects) (map entry xs)
   pass_each [] o = refl
   pass_each (x ∷ xs) o = ap (λ b. test o.objects (entry x) && b) (pass_each xs (put x o) ∙ ap (λ m. list_all (test m) (map entry xs)) (keeps x o))
+
+-- rows whose tests stay what they are
+module _ {X E : Type 0} (entry : X → E) (test : Outline → E → Bool) (put : X → Outline → Outline) (keeps : (x : X) (o : Outline) (e : E) → test (put x o) e ≡ test o e) where
+  alike : (x : X) (o : Outline) (es : List E) → list_all (test (put x o)) es ≡ list_all (test o) es
+  alike x o [] = refl
+  alike x o (e ∷ es) = ap₂ (λ a b. a && b) (keeps x o e) (alike x o es)
+
+  pub pass_so : (xs : List X) (o : Outline) → all_pass (λ x (p : Outline). test p (entry x)) put xs o ≡ list_all (test o) (map entry xs)
+  pass_so [] o = refl
+  pass_so (x ∷ xs) o = ap (λ b. test o (entry x) && b) (pass_so xs (put x o) ∙ alike x o (map entry xs))
 
 abbrev pub put_permanent : PermanentRoot → Outline → Outline
 put_permanent r o = record o { permanent = finite.insert o.permanent (string_bytes r.name) (string_bytes r.target) }

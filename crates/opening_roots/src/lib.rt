@@ -1,9 +1,16 @@
 //! The roots of a store's tables, tested row by row and put into the index.
 #![tactic(auto)]
 
+mod generations;
 mod labels;
+mod numbers;
 pub mod permanent;
+pub mod profiles;
+mod roots;
 pub mod runtime;
+pub mod settings;
 mod taking;
 mod targets;
 pub mod user_roots;
+
+pub use roots::take_roots;

@@ -49,7 +49,7 @@ pub fn read<S: Alter>(
 ) -> Result<bool, Failure>
     requires alone { conn.old.in_transaction ≡ false }
     requires ready { HasCleanDisk (state S.Store conn.old) → IsTrue (state S.Store conn.old).is_open → IsReady (state S.Store conn.old) }
-    requires empty { index.old.permanent ≡ finite.empty }
+    requires empty { HasCleanDisk (state S.Store conn.old) → index.old.permanent ≡ finite.empty }
     ensures alone { conn.new.in_transaction ≡ false }
     ensures told { HasCleanDisk (state S.Store conn.new) → IfOk result (λ ok. ok ≡ list_all (is_permanent_root index.old.objects) (finite.entries (contents_of (state S.Store conn.old).now).permanent)) }
     ensures taken { HasCleanDisk (state S.Store conn.new) → IfOk result (λ ok. IsTrue ok → index.new ≡ record index.old { permanent = (contents_of (state S.Store conn.old).now).permanent }) }

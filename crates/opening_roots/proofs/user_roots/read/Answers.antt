@@ -1,5 +1,6 @@
-use Rattle.std.proofs.Common.{ap, ap₂, ◌∙◌}
+use Rattle.std.proofs.Common.{ap, ap₂, ◌∙◌, arith}
 use Rattle.std.specs.List.{list_all}
+use Rattle.sqlite.specs.State.{HasCleanDisk}
 use Rattle.sqlite.specs.Held.{state}
 use Rattle.table_statements.specs.Contents.{contents_of}
 use Rattle.index.specs.Maps.{put_all}
@@ -15,6 +16,7 @@ returns-clause-told g c clean =
 
 pub returns-clause-taken : goal.returns-clause-taken
 returns-clause-taken g c clean ok =
+    let early : HasCleanDisk (state g.S.Store c.args.conn.now) = omega (arith, c.all.ensures.survives.clean) in
     c.in_ok-take_all.ensures.taken ok ∙ user_put c.in_ok-roots.roots.items c.args.index.now
     ∙ ap (λ m. record c.args.index.now { user_roots = m })
-    (ap₂ put_all (c.in_ok-roots.ensures.reads clean).1 c.requires.empty ∙ all_put_again pair_total pair_antisymmetric (contents_of (state g.S.Store c.args.conn.now).now).user_roots)
+    (ap₂ put_all (c.in_ok-roots.ensures.reads clean).1 (c.requires.empty early) ∙ all_put_again pair_total pair_antisymmetric (contents_of (state g.S.Store c.args.conn.now).now).user_roots)
