@@ -1,0 +1,112 @@
+-- Sound settings, objects and roots are sound rows, and what they put into an index is the outline of their world.
+use Rattle.std.proofs.Common.{◌≡◌, ℕ, List, Some, None, Option, option_map, is_some, map, refl, sym, ap, subst, ◌∙◌, IsTrue, codes}
+use Rattle.std.specs.Prelude.{◌↔◌, MatchOption, Bool, false}
+use Rattle.std.specs.FinMap as finite
+use Rattle.std.proofs.lemmas.Bool.{false≢true}
+use Rattle.std.proofs.lemmas.Option.{same_Some}
+use Rattle.paths.specs.Names.{is_store_dir}
+use Rattle.paths.specs.Root.{bytes_cmp}
+use Rattle.table_statements.specs.Contents.{Contents, Stored}
+use Rattle.world.specs.World.{Path, Object, no_world}
+use Rattle.world.specs.Rows.{one, settings, kept_cmp, piece_cmp, object_in, temporary_in}
+use Rattle.world.specs.Parts.{AreSoundObjects, AreSoundRoots, AreSoundParts}
+use Rattle.world.specs.Told.{rows_of, world_in, IsSoundContents}
+use Rattle.world.proofs.Columns.{object_at}
+use Rattle.world.proofs.Empty.{no_key, no_entries}
+use Rattle.world.proofs.SoundParts.{sound_by_parts}
+use Rattle.index.specs.Outline.{Outline, outlined, outline_of}
+use Rattle.index.proofs.Orders.{bytes_total, bytes_antisymmetric}
+use Rattle.index.proofs.Told.{has-told}
+use Rattle.opening_roots.specs.Taken.{Objects, AreObjects, with_roots}
+
+module _ (dir : List ℕ) (c : Contents) where
+  -- the tables of the first schema have neither pieces nor sessions
+  parts : IsTrue (is_store_dir dir) → c.meta ≡ settings one dir → AreSoundObjects dir (rows_of c) → AreSoundRoots (rows_of c) → AreSoundParts one dir (rows_of c)
+  parts valid are objects roots = record {
+    directory = valid;
+    settings_are = are;
+    no_pieces = λ _. refl;
+    no_temporary = λ _. refl;
+    cut = λ has. absurd (false≢true has);
+    pieces = λ p n there. absurd (no_key (List ℕ) piece_cmp (p, n) there);
+    sessions = λ k there. absurd (no_key (Unit {0}) kept_cmp k there);
+    objects = objects;
+    roots = roots;
+  }
+
+  pub sound_from : IsTrue (is_store_dir dir) → c.meta ≡ settings one dir → AreSoundObjects dir (rows_of c) → AreSoundRoots (rows_of c) → IsSoundContents dir c
+  sound_from valid are objects roots = (sound_by_parts one dir (rows_of c)).1 (parts valid are objects roots)
+
+  pub objects_of : IsSoundContents dir c → AreSoundObjects dir (rows_of c)
+  objects_of sound = ((sound_by_parts one dir (rows_of c)).0 sound).objects
+
+  pub roots_of : IsSoundContents dir c → AreSoundRoots (rows_of c)
+  roots_of sound = ((sound_by_parts one dir (rows_of c)).0 sound).roots
+
+  some_mapped : (p : Path) (g : Option Stored) → is_some (option_map (object_in (rows_of c) p) g) ≡ is_some g
+  some_mapped p None = refl
+  some_mapped p (Some o) = refl
+
+  -- the objects of the outline are those of the rows
+  same_objects : (p : Path) → finite.contains_key (outline_of (world_in c)).objects p ≡ finite.contains_key c.objects p
+  same_objects p = has-told bytes_total bytes_antisymmetric (λ _ (o : Object). outlined o) (world_in c).objects p ∙ ap is_some (object_at (rows_of c) p) ∙ some_mapped p (finite.get c.objects p)
+
+  some_key : (g : Option Stored) → IsTrue (is_some g) → (o : Stored) × (g ≡ Some o)
+  some_key None h = absurd (false≢true h)
+  some_key (Some o) h = (o, refl)
+
+  pub are_objects : (objects : Objects) → objects ≡ (outline_of (world_in c)).objects → AreSoundObjects dir (rows_of c) → AreObjects objects c
+  are_objects objects is sound = record {
+    same = λ p. ap (λ (m : Objects). finite.contains_key m p) is ∙ same_objects p;
+    named = λ p there.
+        let o = some_key (finite.get c.objects p) (sym (ap (λ (m : Objects). finite.contains_key m p) is ∙ same_objects p) ∙ there) in
+        (sound.objects p o.0 o.1).path;
+  }
+
+-- a new index has no objects
+pub none_yet : (outline_of no_world).objects ≡ finite.empty
+none_yet = ap (λ (es : List (Path × Object)). finite.from_entries {R = bytes_cmp} (map (λ e. (e.0, outlined e.1)) es)) (no_entries Object bytes_cmp)
+
+-- the rows of the first schema keep no session
+no_sessions : (c : Contents) → (outline_of (world_in c)).temporary ≡ finite.empty
+no_sessions c = ap (λ ks. finite.from_entries (map (λ t. (t, tt)) (map temporary_in (map (λ e. e.0) ks)))) (no_entries (Unit {0}) kept_cmp)
+
+-- an index with all objects and all roots of the rows
+pub whole_outline : (c : Contents) (o : Outline) → o ≡ record (outline_of no_world) { objects = (outline_of (world_in c)).objects } → with_roots o c ≡ outline_of (world_in c)
+whole_outline c o is = ap (λ (x : Outline). with_roots x c) is ∙ (λ i. record (outline_of (world_in c)) { temporary = sym (no_sessions c) i })
+
+-- ---- what each test says of all rows
+
+at_dir : (d : List ℕ) → finite.get (settings one d) (codes "store-dir") ≡ Some d
+at_dir d = finite.get-insert bytes_total (finite.insert finite.empty (codes "schema") (codes "1")) (codes "store-dir") d (codes "store-dir")
+
+-- settings are those of one directory
+same_dir : (a b : List ℕ) → settings one a ≡ settings one b → a ≡ b
+same_dir a b is = same_Some a b (sym (at_dir a) ∙ ap (λ m. finite.get m (codes "store-dir")) is ∙ at_dir b)
+
+-- an option that is this
+pub none_told : {A : Type 0} (P : Type 0) (Q : A → Type 0) (o : Option A) → o ≡ None → MatchOption o P Q → P
+none_told P Q None is h = h
+none_told P Q (Some x) is h = absurd (false≢true (sym (ap is_some is)))
+
+pub some_told : {A : Type 0} (P : Type 0) (Q : A → Type 0) (o : Option A) (d : A) → o ≡ Some d → MatchOption o P Q → Q d
+some_told P Q None d is h = absurd (false≢true (ap is_some is))
+some_told P Q (Some x) d is h = subst Q (same_Some x d is) h
+
+-- settings that were found
+pub named_dir : (c : Contents) (o : Option (List ℕ)) (d : List ℕ) → o ≡ Some d
+    → MatchOption o ((dir : List ℕ) → IsTrue (is_store_dir dir) → ¬ (c.meta ≡ settings one dir)) (λ e. IsTrue (is_store_dir e) × (c.meta ≡ settings one e)) → IsTrue (is_store_dir d) × (c.meta ≡ settings one d)
+named_dir c o d is h = some_told ((dir : List ℕ) → IsTrue (is_store_dir dir) → ¬ (c.meta ≡ settings one dir)) (λ e. IsTrue (is_store_dir e) × (c.meta ≡ settings one e)) o d is h
+
+pub unset : (c : Contents) → ((dir : List ℕ) → IsTrue (is_store_dir dir) → ¬ (c.meta ≡ settings one dir)) → (dir : List ℕ) → ¬ IsSoundContents dir c
+unset c none dir sound = none dir sound.directory sound.settings_are
+
+module _ (c : Contents) (d : List ℕ) (are : c.meta ≡ settings one d) where
+  pub only : (dir : List ℕ) → IsSoundContents dir c → IsSoundContents d c
+  only dir sound = subst (λ (x : List ℕ). IsSoundContents x c) (same_dir dir d (sym sound.settings_are ∙ are)) sound
+
+  pub without_objects : (b : Bool) → (IsTrue b ↔ AreSoundObjects d (rows_of c)) → b ≡ false → (dir : List ℕ) → ¬ IsSoundContents dir c
+  without_objects b told failed dir sound = false≢true (sym failed ∙ told.1 (objects_of d c (only dir sound)))
+
+  pub without_roots : (b : Bool) → (IsTrue b ↔ AreSoundRoots (rows_of c)) → b ≡ false → (dir : List ℕ) → ¬ IsSoundContents dir c
+  without_roots b told failed dir sound = false≢true (sym failed ∙ told.1 (roots_of d c (only dir sound)))

@@ -1,0 +1,77 @@
+//! Taking up a connection.
+
+ghost use Rattle.std.specs.Prelude.{◌≡◌, false, IfOk, IfErr, MatchResult};
+ghost use Rattle.sqlite.specs.State.{HasCleanDisk, Survives};
+ghost use Rattle.sqlite.specs.Held.{state};
+ghost use Rattle.table_statements.specs.Calls.{KeepsShown};
+ghost use Rattle.table_making.specs.Making.{LeavesMade};
+ghost use Rattle.table_opening.specs.Opened.{IsFound};
+ghost use Rattle.opening.specs.Taken.{TakesUp, IsCause};
+
+use crate::refusing::{Cause, Unadopted};
+use crate::taking::{take_new, take_ours};
+use paths::StoreDir;
+use sqlite::{Alter, Connection};
+use std::alloc::Global;
+use table_forms::finding::Finding;
+use table_opening::file::{self, Opened, Untold};
+use tables::Tables;
+
+/// Takes up a connection of which it was found what it holds of ours.
+pub(crate) fn take<S: Alter>(
+    alloc: Global,
+    conn: Connection<S>,
+    found: Finding,
+    dir: &StoreDir,
+) -> Result<Tables<S>, Unadopted<S>>
+    requires alone { conn.in_transaction ≡ false }
+    requires found { HasCleanDisk (state S.Store conn) → IsFound found (state S.Store conn) }
+    ensures dir { IfOk result (λ t. t.dir ≡ dir.now) }
+    ensures took { IfOk result (λ t. HasCleanDisk (state S.Store t.connection) → TakesUp S.Store dir.now (state S.Store conn).now t) }
+    ensures alone { IfErr result (λ e. e.conn.in_transaction ≡ false) }
+    ensures cause { IfErr result (λ e. HasCleanDisk (state S.Store e.conn) → IsCause dir.now (state S.Store conn).now e.cause) }
+    ensures same { IfErr result (λ e. HasCleanDisk (state S.Store e.conn) → KeepsShown (state S.Store conn) (state S.Store e.conn)) }
+    ensures survives { MatchResult result (λ t. Survives (state S.Store conn) (state S.Store t.connection) (LeavesMade dir.now (state S.Store conn).now)) (λ e. Survives (state S.Store conn) (state S.Store e.conn) (LeavesMade dir.now (state S.Store conn).now)) }
+{
+    match found {
+        Finding::Ours => take_ours(alloc, conn, dir),
+        Finding::Nothing => take_new(alloc, conn, dir),
+        Finding::Other => {
+            let cause = Cause::BadSchema;
+            Err(Unadopted { conn, cause })
+        }
+    }
+}
+
+/// Takes up a connection as the store of a directory. All of its rows are read and tested; where none of our tables is there, they
+/// are made. At an error the connection is handed back, with our tables as they were.
+///
+/// # Errors
+///
+/// `BadSchema` where something of ours is there that isn't a store, and then `OtherStoreDir` where it is that of another
+/// directory; a failure of the database, or want of memory.
+pub fn adopt<S: Alter>(
+    alloc: Global,
+    conn: Connection<S>,
+    dir: &StoreDir,
+) -> Result<Tables<S>, Unadopted<S>>
+    requires alone { conn.in_transaction ≡ false }
+    ensures dir { IfOk result (λ t. t.dir ≡ dir.now) }
+    ensures took { IfOk result (λ t. HasCleanDisk (state S.Store t.connection) → TakesUp S.Store dir.now (state S.Store conn).now t) }
+    ensures alone { IfErr result (λ e. e.conn.in_transaction ≡ false) }
+    ensures cause { IfErr result (λ e. HasCleanDisk (state S.Store e.conn) → IsCause dir.now (state S.Store conn).now e.cause) }
+    ensures same { IfErr result (λ e. HasCleanDisk (state S.Store e.conn) → KeepsShown (state S.Store conn) (state S.Store e.conn)) }
+    ensures survives { MatchResult result (λ t. Survives (state S.Store conn) (state S.Store t.connection) (LeavesMade dir.now (state S.Store conn).now)) (λ e. Survives (state S.Store conn) (state S.Store e.conn) (LeavesMade dir.now (state S.Store conn).now)) }
+{
+    match file::take_up(alloc, conn) {
+        Ok(opened) => {
+            let Opened { conn, found } = opened;
+            take(alloc, conn, found, dir)
+        }
+        Err(untold) => {
+            let Untold { conn, failure } = untold;
+            let cause = Cause::Failed(failure);
+            Err(Unadopted { conn, cause })
+        }
+    }
+}

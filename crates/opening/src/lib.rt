@@ -1,0 +1,12 @@
+//! Taking up the database of a store: all of its rows are read and tested once, and kept in memory but for archives.
+#![tactic(auto)]
+
+mod adopting;
+mod files;
+mod reading;
+mod refusing;
+mod taking;
+
+pub use adopting::adopt;
+pub use files::open;
+pub use refusing::{Cause, Unadopted, Unopened};
