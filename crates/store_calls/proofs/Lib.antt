@@ -8,3 +8,12 @@ pub mod Outputs
 pub mod AddedObjects
 pub mod Parted
 pub mod Ordered
+pub mod Written
+pub mod Fits
+pub mod ProfileChanges
+pub mod RuntimePairs
+pub mod AddedSources
+pub mod AddedImports
+pub mod Addresses
+pub mod Collected
+pub mod Runs

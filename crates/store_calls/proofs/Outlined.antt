@@ -48,6 +48,9 @@ entries_outlined w = listed_as bytes_total bytes_antisymmetric _ (sorted_mapped 
 pub paths_outlined : (w : World) → finite.keys (outline_of w).objects ≡ all_paths w
 paths_outlined w = ap (map (λ (e : Path × Outlined). e.0)) (entries_outlined w) ∙ keys_mapped bytes_cmp outlined (finite.entries w.objects)
 
+pub all_outlined : (o : Outline) (w : World) → outline_of w ≡ o → finite.keys o.objects ≡ all_paths w
+all_outlined o w is = ap (λ (x : Outline). finite.keys x.objects) (sym is) ∙ paths_outlined w
+
 pub has_outlined : (w : World) (p : Path) → finite.contains_key (outline_of w).objects p ≡ has w p
 has_outlined w p = has-told bytes_total bytes_antisymmetric (λ _ x. outlined x) w.objects p
 

@@ -13,7 +13,7 @@ use Rattle.store.specs.Verdict.{operation_of, named_in, verdict}
 use Rattle.store.specs.Step.{Step, IsNoneOrLive}
 use Rattle.tables.specs.Kept.{Kept, Tells}
 use Rattle.store_calls.specs.declared.requests.Request as asked
-use Rattle.store_calls.specs.declared.requests.Request.TheVariants.{AddText, Info, List as ListAll}
+use Rattle.store_calls.specs.declared.requests.Request.TheVariants.{AddText, Info, List as ListAll, ListLive, ListDead, ListRoots, ListRootsOf, Report, SetPermanent, DropPermanent, SetUserRoot, DropUserRoot, Rollback, Switch, DeleteGeneration, SetProfile, ReplaceRuntime, AddSource, Import, Collect}
 use Rattle.store_calls.specs.declared.replies.Answer.{Answer}
 use Rattle.store_calls.specs.declared.replies.Stop.{Stop}
 use Rattle.store_calls.specs.declared.replies.Stop.TheVariants.{Refused, Failed}
@@ -27,6 +27,23 @@ pub names_none : (q : asked.Request) → named_in (request_view q) ≡ []
 names_none (AddText name refs contents) = refl
 names_none (Info p) = refl
 names_none ListAll = refl
+names_none ListLive = refl
+names_none ListDead = refl
+names_none ListRoots = refl
+names_none (ListRootsOf p) = refl
+names_none Report = refl
+names_none (SetPermanent name p) = refl
+names_none (DropPermanent name) = refl
+names_none (SetUserRoot owner name p) = refl
+names_none (DropUserRoot owner name) = refl
+names_none (Rollback owner name) = refl
+names_none (Switch owner name n) = refl
+names_none (DeleteGeneration owner name n) = refl
+names_none (SetProfile owner name p) = refl
+names_none (ReplaceRuntime pairs) = refl
+names_none (AddSource name refs nar) = refl
+names_none (Import i) = refl
+names_none (Collect ignores) = refl
 
 -- where no rule forbids it, what becomes of a request is a step
 step_of : (s : Settings) (w : World) (c : Caller) (q : Request) (r : Result Answer Stop) (next : World) → verdict s w c q ≡ None → Meets s w c q r next → Step s w c q (reply_to r) next

@@ -6,3 +6,4 @@ pub mod Meets
 pub mod Tested
 pub mod Parts
 pub mod Adding
+pub mod Writing

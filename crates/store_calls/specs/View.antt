@@ -1,12 +1,14 @@
 -- What the values of the program stand for.
-use Rattle.std.specs.Prelude.{map, option_map, string_bytes}
+use Rattle.std.specs.Prelude.{map, option_map, None, string_bytes}
+use Rattle.policy.specs.Caller.{Caller}
 use Rattle.store.specs.Request as asked
 use Rattle.store.specs.Reply as replied
 use Rattle.index.specs.Maps.{labelled_bytes}
 use Rattle.table_statements.specs.declared.failure.Failure.{Failure}
 use Rattle.table_statements.specs.declared.failure.Failure.TheVariants.{Memory, Size, Disk}
+use Rattle.store_calls.specs.declared.requests.Imported.{Imported}
 use Rattle.store_calls.specs.declared.requests.Request.{Request}
-use Rattle.store_calls.specs.declared.requests.Request.TheVariants.{AddText, Info as InfoOf, List as ListAll}
+use Rattle.store_calls.specs.declared.requests.Request.TheVariants.{AddText, Info as InfoOf, List as ListAll, ListLive, ListDead, ListRoots, ListRootsOf, Report, SetPermanent, DropPermanent, SetUserRoot, DropUserRoot, Rollback, Switch, DeleteGeneration, SetProfile, ReplaceRuntime, AddSource, Import, Collect}
 use Rattle.store_calls.specs.declared.replies.Info.{Info}
 use Rattle.store_calls.specs.declared.replies.Usage.{Usage}
 use Rattle.store_calls.specs.declared.replies.Answer.{Answer}
@@ -16,10 +18,35 @@ use Rattle.store_calls.specs.declared.replies.Refusal.TheVariants.{Archive as Ba
 use Rattle.store_calls.specs.declared.replies.Reply.{Reply}
 use Rattle.store_calls.specs.declared.replies.Reply.TheVariants.{Done, Denied, Refused, Failed}
 
+-- what is handed in with its path
+abbrev pub import_view : Imported → asked.Imported
+import_view i = record { path = i.path; nar_hash = i.nar_hash; refs = i.refs.items; deriver = i.deriver; ca = i.ca; nar = i.nar.items }
+
 abbrev pub request_view : Request → asked.Request
 request_view (AddText name refs contents) = asked.add_text name refs.items contents.items
 request_view (InfoOf p) = asked.info p
 request_view ListAll = asked.list
+request_view ListLive = asked.list_live
+request_view ListDead = asked.list_dead
+request_view ListRoots = asked.list_roots
+request_view (ListRootsOf p) = asked.list_roots_of p
+request_view Report = asked.report
+request_view (SetPermanent name p) = asked.set_permanent (string_bytes name) p
+request_view (DropPermanent name) = asked.drop_permanent (string_bytes name)
+request_view (SetUserRoot owner name p) = asked.set_user_root (string_bytes owner) (string_bytes name) p
+request_view (DropUserRoot owner name) = asked.drop_user_root (string_bytes owner) (string_bytes name)
+request_view (Rollback owner name) = asked.rollback (string_bytes owner) (string_bytes name)
+request_view (Switch owner name n) = asked.switch (string_bytes owner) (string_bytes name) n
+request_view (DeleteGeneration owner name n) = asked.delete_generation (string_bytes owner) (string_bytes name) n
+request_view (SetProfile owner name p) = asked.set_profile (string_bytes owner) (string_bytes name) p
+request_view (ReplaceRuntime pairs) = asked.replace_runtime (map labelled_bytes pairs.items)
+request_view (AddSource name refs nar) = asked.add_source name refs.items nar.items
+request_view (Import i) = asked.import_object (import_view i)
+request_view (Collect ignores) = asked.collect ignores None
+
+-- a caller's request
+abbrev pub call_view : Caller × Request → Caller × asked.Request
+call_view call = (call.0, request_view call.1)
 
 -- the record of an object
 abbrev pub info_view : Info → replied.Info

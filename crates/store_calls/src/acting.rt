@@ -4,9 +4,17 @@ ghost use Rattle.std.specs.Prelude.{◌≡◌};
 ghost use Rattle.store_calls.specs.View.{request_view, reply_view};
 ghost use Rattle.store_calls.specs.Meets.{IsMet, reply_to};
 
+use crate::adding::add_text;
+use crate::collecting::collect;
+use crate::imports::import_object;
+use crate::permanent::{drop_permanent, set_permanent};
+use crate::profiles::{delete_generation, rollback, set_profile, switch};
 use crate::replies::{Answer, Reply, Stop};
 use crate::requests::Request;
-use crate::{adding, reading};
+use crate::runtime::replace_runtime;
+use crate::sources::add_source;
+use crate::user_roots::{drop_user_root, set_user_root};
+use crate::{living, reading, root_listing};
 use policy::{Caller, Config};
 use sqlite::Alter;
 use std::alloc::Global;
@@ -24,11 +32,28 @@ pub(crate) fn act<S: Alter>(
     ensures { IsMet S.Store config.now caller.now (request_view request) result tables.old tables.new }
 {
     match request {
-        Request::AddText(name, refs, text) => {
-            adding::add_text(alloc, config, tables, name, refs, text)
-        }
+        Request::AddText(name, refs, text) => add_text(alloc, config, tables, name, refs, text),
         Request::Info(path) => reading::info(alloc, tables.index(), path),
         Request::List => reading::list(alloc, tables.index()),
+        Request::ListLive => living::list_live(alloc, config, tables.index()),
+        Request::ListDead => living::list_dead(alloc, config, tables.index()),
+        Request::ListRoots => root_listing::list_roots(alloc, config, caller, tables.index()),
+        Request::ListRootsOf(path) => {
+            root_listing::list_roots_of(alloc, config, caller, tables.index(), path)
+        }
+        Request::Report => living::report(alloc, config, tables.index()),
+        Request::SetPermanent(name, path) => set_permanent(tables, name, path),
+        Request::DropPermanent(name) => drop_permanent(tables, name),
+        Request::SetUserRoot(owner, name, path) => set_user_root(tables, (owner, name), path),
+        Request::DropUserRoot(owner, name) => drop_user_root(tables, (owner, name)),
+        Request::Rollback(owner, name) => rollback(tables, (owner, name)),
+        Request::Switch(owner, name, number) => switch(tables, (owner, name), number),
+        Request::DeleteGeneration(owner, name, n) => delete_generation(tables, (owner, name), n),
+        Request::SetProfile(owner, name, path) => set_profile(tables, (owner, name), path),
+        Request::ReplaceRuntime(pairs) => replace_runtime(alloc, tables, pairs),
+        Request::AddSource(name, refs, nar) => add_source(alloc, config, tables, name, refs, nar),
+        Request::Import(object) => import_object(alloc, config, tables, object),
+        Request::Collect(ignores) => collect(alloc, config, tables, ignores),
     }
 }
 

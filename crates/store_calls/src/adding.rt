@@ -26,12 +26,13 @@ use crate::summaries::{Added, summary};
 use index::Index;
 use paths::{Ca, Name, StoreDir, StorePath, text_path};
 use policy::{Config, store_dir};
+use sha2::{Digest, Sha256};
 use sqlite::Alter;
 use std::alloc::Global;
 use tables::Tables;
 
 /// An object is put at its path, unless the path is valid already.
-fn add<S: Alter>(tables: &mut Tables<S>, added: Added) -> Result<Answer, Stop>
+pub(crate) fn add<S: Alter>(tables: &mut Tables<S>, added: Added) -> Result<Answer, Stop>
     requires size { added.object.size ≡ length added.nar.items }
     requires hash { added.object.hash ≡ sha256 added.nar.items }
     requires sound { (w : World) → Tells S.Store tables.old w → IsSound tables.old.dir (with_object w (added_view added)) }
@@ -66,7 +67,15 @@ fn prepare_text(
     let outputs = examine_text(alloc, dir, index, &path, &refs, contents)?;
     let nar = text_archive(alloc, contents)?;
     let ca = Some(Ca::of_text(contents));
-    let object = summary(alloc, &nar, refs, None, ca, outputs)?;
+    let object = summary(
+        alloc,
+        nar.len(),
+        Sha256::digest(&nar),
+        refs,
+        None,
+        ca,
+        outputs,
+    )?;
     Ok(Added { path, nar, object })
 }
 

@@ -1,6 +1,6 @@
 //! The store: its tables, its settings, and the one way of a call.
 
-ghost use Rattle.std.specs.Prelude.{◌≡◌};
+ghost use Rattle.std.specs.Prelude.{◌≡◌, ◌≤◌, [], IfOk, vec_capacity, vec_len};
 ghost use Rattle.sqlite.specs.State.{Survives};
 ghost use Rattle.sqlite.specs.Held.{state};
 ghost use Rattle.world.specs.World.{World};
@@ -17,7 +17,7 @@ use crate::requests::Request;
 use crate::rules::operation;
 use policy::{Caller, Config, class, decide};
 use sqlite::Alter;
-use std::alloc::Global;
+use std::alloc::{AllocError, Global};
 use std::marker::Model;
 use tables::Tables;
 
@@ -71,6 +71,15 @@ impl<S: Alter> Store<S> {
             tables,
         } = self;
         tables
+    }
+
+    /// Room for some replies.
+    pub(crate) fn room(&self, count: usize) -> Result<Vec<Reply>, AllocError>
+        ensures empty { IfOk result (λ v. v.items ≡ []) }
+        ensures len { IfOk result (λ v. vec_len v ≡ 0) }
+        ensures capacity { IfOk result (λ v. count ≤ vec_capacity v) }
+    {
+        Vec::with_capacity(self.alloc, count)
     }
 
     /// Does what a caller asks, or says why not: the first rule that forbids it, or else the first of its tests that

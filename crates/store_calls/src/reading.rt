@@ -5,7 +5,7 @@ ghost use Rattle.policy.specs.Caller.{Caller};
 ghost use Rattle.store.specs.Request as asked;
 ghost use Rattle.store_calls.specs.Meets.{Reads};
 
-use crate::records::record;
+use crate::records::{all_paths, record};
 use crate::replies::{Answer, Refusal, Stop};
 use index::Index;
 use paths::StorePath;
@@ -25,10 +25,6 @@ pub(crate) fn info(alloc: Global, index: &Index, path: StorePath) -> Result<Answ
 pub(crate) fn list(alloc: Global, index: &Index) -> Result<Answer, Stop>
     ensures { (s : Settings) (c : Caller) → Reads s c index.now asked.list result }
 {
-    let objects = index.objects();
-    let mut paths = Vec::new(alloc);
-    for path in objects.keys() {
-        paths.push(path.clone()?)?;
-    }
+    let paths = all_paths(alloc, index)?;
     Ok(Answer::Paths(paths))
 }

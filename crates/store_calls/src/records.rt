@@ -1,11 +1,12 @@
 //! Records of objects.
 
 ghost use Rattle.std.specs.Prelude.{◌≡◌, IfOk, option_map};
+ghost use Rattle.std.specs.FinMap as finite;
 ghost use Rattle.store_calls.specs.Told.{info_in};
 ghost use Rattle.store_calls.specs.View.{info_view};
 
 use crate::replies::Info;
-use index::Summary;
+use index::{Index, Summary};
 use paths::StorePath;
 use std::alloc::{AllocError, Global};
 
@@ -42,4 +43,16 @@ pub(crate) fn record(alloc: Global, path: StorePath, object: &Summary) -> Result
         deriver: kept_one(object.deriver())?,
         ca: object.ca(),
     })
+}
+
+/// All paths.
+pub(crate) fn all_paths(alloc: Global, index: &Index) -> Result<Vec<StorePath>, AllocError>
+    ensures { IfOk result (λ v. v.items ≡ finite.keys index.now.objects) }
+{
+    let objects = index.objects();
+    let mut paths = Vec::new(alloc);
+    for path in objects.keys() {
+        paths.push(path.clone()?)?;
+    }
+    Ok(paths)
 }

@@ -3,7 +3,6 @@
 ghost use Rattle.std.specs.Prelude.{◌≡◌, IfOk, IsTrue, length, map, string_bytes};
 ghost use Rattle.std.specs.List.{zip};
 ghost use Rattle.std.specs.FinMap as finite;
-ghost use Rattle.sha2.specs.Sha256.{sha256};
 ghost use Rattle.paths.specs.Root.{bytes_cmp, set_of};
 ghost use Rattle.index.specs.Outline.{rise};
 ghost use Rattle.store_calls.specs.Parts.{outputs_view};
@@ -11,7 +10,6 @@ ghost use Rattle.store_calls.specs.Parts.{outputs_view};
 use crate::references::in_order;
 use index::Summary;
 use paths::{Ca, StorePath};
-use sha2::{Digest, Sha256};
 use std::alloc::{AllocError, Global};
 use std::collections::BTreeMap;
 
@@ -43,25 +41,18 @@ fn parted(
     Ok((names, paths))
 }
 
-/// The summary of an object with this archive.
+/// The summary of an object whose archive has this size and this SHA-256.
 pub(crate) fn summary(
     alloc: Global,
-    nar: &[u8],
+    size: usize,
+    hash: [u8; 32],
     refs: Vec<StorePath>,
     deriver: Option<StorePath>,
     ca: Option<Ca>,
     outputs: BTreeMap<String, StorePath>,
 ) -> Result<Summary, AllocError>
-    ensures { IfOk result (λ o. o ≡ record { size = length nar.now; hash = sha256 nar.now; references = set_of bytes_cmp refs.items; deriver = deriver; ca = ca; outputs = outputs_view outputs.entries }) }
+    ensures { IfOk result (λ o. o ≡ record { size = size; hash = hash; references = set_of bytes_cmp refs.items; deriver = deriver; ca = ca; outputs = outputs_view outputs.entries }) }
 {
     let (names, paths) = parted(alloc, outputs)?;
-    Ok(Summary::new(
-        nar.len(),
-        Sha256::digest(nar),
-        in_order(refs),
-        deriver,
-        ca,
-        names,
-        paths,
-    ))
+    Ok(Summary::new(size, hash, in_order(refs), deriver, ca, names, paths))
 }

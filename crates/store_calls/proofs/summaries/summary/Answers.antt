@@ -1,5 +1,4 @@
-use Rattle.std.proofs.Common.{◌≡◌, ℕ, List, length, rules, sym, ap, subst, ◌∙◌, IsTrue}
-use Rattle.sha2.specs.Sha256.{sha256}
+use Rattle.std.proofs.Common.{ℕ, List, sym, ap, subst, ◌∙◌, IsTrue}
 use Rattle.paths.specs.Root.{bytes_cmp, set_of}
 use Rattle.index.specs.Outline.{rise}
 use Rattle.store_calls.proofs.Ordered.{keys_of_set_rise, set_again}
@@ -10,10 +9,9 @@ new-requires-clause-references c = subst (λ (l : List (List ℕ)). IsTrue (rise
 
 pub returns : goal.returns
 returns c =
-    let hash : c.digest.result ≡ sha256 c.args.nar.now = search rules in
     c.new.ensures ∙ (λ i. record {
-      size = length c.args.nar.now;
-      hash = hash i;
+      size = c.args.size;
+      hash = c.args.hash;
       references = (ap (set_of bytes_cmp) c.in_order.ensures ∙ set_again (set_of bytes_cmp c.args.refs.items)) i;
       deriver = c.args.deriver;
       ca = c.args.ca;

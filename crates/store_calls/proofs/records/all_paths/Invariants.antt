@@ -1,5 +1,5 @@
 use Rattle.std.proofs.Common.{◌≡◌, ◌++◌}
-use Rattle.store_calls.proofs.reading.list.Given as goal
+use Rattle.store_calls.proofs.records.all_paths.Given as goal
 
 -- what is listed, and what is left
 abbrev pub invariant-loop-path : goal.invariant-loop-path
