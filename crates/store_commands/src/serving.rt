@@ -1,0 +1,32 @@
+//! One request over a store.
+ghost use Rattle.store.specs.Reply as replied;
+ghost use Rattle.store_calls.specs.View.{request_view};
+ghost use Rattle.store_commands.specs.Serving.{Calls};
+ghost use Rattle.store_commands.specs.Telling.{IsTold};
+
+use crate::telling::tell;
+use policy::{Caller, store_dir};
+use sqlite::Alter;
+use std::alloc::Global;
+use std::io::Write;
+use store_calls::{Request, Store};
+
+/// Does what a caller asks of a store, tells the reply on the two writers, and gives the exit status: 0 done, 1 failed, 3
+/// refused, 4 denied.
+///
+/// What was done stands, also where a writer fails afterwards or memory for the text is refused.
+pub fn serve<S: Alter, W: Write, E: Write>(
+    alloc: Global,
+    store: &mut Store<S>,
+    caller: &Caller,
+    request: Request,
+    output: &mut W,
+    errors: &mut E,
+) -> u8
+    // The store takes one step, and the reply of that step is what is told.
+    ensures { (reply : replied.Reply) × Calls S.Store caller.now (request_view request) reply store.old store.new
+        × IsTold store.old.settings.store_dir reply (W.contents output.old) (W.contents output.new) (E.contents errors.old) (E.contents errors.new) result }
+{
+    let reply = store.call(caller, request);
+    tell(alloc, store_dir(store.config()), reply, output, errors)
+}
