@@ -1,0 +1,15 @@
+//! What a message asks: the typed request of its route, its target and its body.
+#![tactic(auto)]
+
+mod adds;
+mod error;
+mod named;
+mod questions;
+mod read;
+mod request;
+mod sweeps;
+mod targets;
+
+pub use error::AskError;
+pub use read::read_request;
+pub use request::Request;

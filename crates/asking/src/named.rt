@@ -1,0 +1,88 @@
+//! Requests that name something in the target, and a path in the body.
+ghost use Rattle.routes.specs.declared.kind.Kind.TheVariants as kinds;
+ghost use Rattle.asking.specs.Reads.{Reads};
+
+use crate::error::AskError;
+use crate::request::Request;
+use crate::targets::two_parts;
+use bodies::{BodyError, path_body};
+use numbers::session;
+use paths::StoreDir;
+use routes::part;
+use std::alloc::Global;
+
+/// A permanent root.
+pub(crate) fn set_permanent(
+    alloc: Global,
+    dir: &StoreDir,
+    target: &str,
+    body: &[u8],
+) -> Result<Request, AskError>
+    ensures { Reads dir.now kinds.SetPermanent target.now body.now result }
+{
+    match path_body(alloc, dir, body) {
+        Ok(path) => match String::from_str(alloc, part(target, 3)) {
+            Ok(name) => Ok(Request::SetPermanent(name, path)),
+            Err(_) => Err(AskError::Memory),
+        },
+        Err(BodyError::BadBodyHead) => Err(AskError::BadBodyHead),
+        Err(BodyError::Memory) => Err(AskError::Memory),
+    }
+}
+
+/// A root of a user.
+pub(crate) fn set_user_root(
+    alloc: Global,
+    dir: &StoreDir,
+    target: &str,
+    body: &[u8],
+) -> Result<Request, AskError>
+    ensures { Reads dir.now kinds.SetUserRoot target.now body.now result }
+{
+    match path_body(alloc, dir, body) {
+        Ok(path) => match two_parts(alloc, target, 3) {
+            Ok((owner, name)) => Ok(Request::SetUserRoot(owner, name, path)),
+            Err(_) => Err(AskError::Memory),
+        },
+        Err(BodyError::BadBodyHead) => Err(AskError::BadBodyHead),
+        Err(BodyError::Memory) => Err(AskError::Memory),
+    }
+}
+
+/// A generation of a profile.
+pub(crate) fn set_profile(
+    alloc: Global,
+    dir: &StoreDir,
+    target: &str,
+    body: &[u8],
+) -> Result<Request, AskError>
+    ensures { Reads dir.now kinds.SetProfile target.now body.now result }
+{
+    match path_body(alloc, dir, body) {
+        Ok(path) => match two_parts(alloc, target, 2) {
+            Ok((owner, name)) => Ok(Request::SetProfile(owner, name, path)),
+            Err(_) => Err(AskError::Memory),
+        },
+        Err(BodyError::BadBodyHead) => Err(AskError::BadBodyHead),
+        Err(BodyError::Memory) => Err(AskError::Memory),
+    }
+}
+
+/// A root of a session.
+pub(crate) fn add_temp(
+    alloc: Global,
+    dir: &StoreDir,
+    target: &str,
+    body: &[u8],
+) -> Result<Request, AskError>
+    ensures { Reads dir.now kinds.AddTemp target.now body.now result }
+{
+    match path_body(alloc, dir, body) {
+        Ok(path) => match String::from_str(alloc, part(target, 2)) {
+            Ok(owner) => Ok(Request::AddTemp(owner, session(part(target, 3)), path)),
+            Err(_) => Err(AskError::Memory),
+        },
+        Err(BodyError::BadBodyHead) => Err(AskError::BadBodyHead),
+        Err(BodyError::Memory) => Err(AskError::Memory),
+    }
+}

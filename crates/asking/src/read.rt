@@ -1,0 +1,47 @@
+//! The request of a message.
+ghost use Rattle.asking.specs.Reads.{Reads};
+
+use crate::adds::{add_source, add_text, import};
+use crate::error::AskError;
+use crate::named::{add_temp, set_permanent, set_profile, set_user_root};
+use crate::questions::{archive, info, listing, roots_of};
+use crate::request::Request;
+use crate::sweeps::{collect, delete, replace_runtime};
+use crate::targets::bare;
+use paths::StoreDir;
+use routes::Kind;
+use std::alloc::Global;
+
+/// What a message asks: by the kind that its route and its method stand for, its whole target and its whole body.
+///
+/// # Errors
+///
+/// `BadPath` exactly where the target names a path that is no base name; `BadBodyHead` exactly where it doesn't, and the body says
+/// nothing of the kind; and `Memory`.
+pub fn read_request(
+    alloc: Global,
+    dir: &StoreDir,
+    kind: Kind,
+    target: &str,
+    body: &[u8],
+) -> Result<Request, AskError>
+    ensures { Reads dir.now kind target.now body.now result }
+{
+    match kind {
+        Kind::AddText => add_text(alloc, dir, body),
+        Kind::AddSource => add_source(alloc, dir, body),
+        Kind::Import => import(alloc, dir, body),
+        Kind::Info => info(alloc, target, body),
+        Kind::Nar => archive(alloc, target, body),
+        Kind::Ls => listing(alloc, target, body),
+        Kind::RootsOf => roots_of(alloc, target, body),
+        Kind::SetPermanent => set_permanent(alloc, dir, target, body),
+        Kind::SetUserRoot => set_user_root(alloc, dir, target, body),
+        Kind::SetProfile => set_profile(alloc, dir, target, body),
+        Kind::AddTemp => add_temp(alloc, dir, target, body),
+        Kind::ReplaceRuntime => replace_runtime(alloc, dir, body),
+        Kind::Collect => collect(alloc, body),
+        Kind::Delete => delete(alloc, dir, body),
+        _ => bare(alloc, kind, target, body),
+    }
+}

@@ -1,0 +1,47 @@
+//! Requests that a body says whole.
+ghost use Rattle.std.specs.Prelude.{List, ℕ};
+ghost use Rattle.routes.specs.declared.kind.Kind.TheVariants as kinds;
+ghost use Rattle.asking.specs.Reads.{Reads};
+
+use crate::error::AskError;
+use crate::request::Request;
+use bodies::{BodyError, collect_body, delete_body, runtime_body};
+use paths::StoreDir;
+use std::alloc::Global;
+
+/// Runtime roots in place of all others.
+pub(crate) fn replace_runtime(
+    alloc: Global,
+    dir: &StoreDir,
+    body: &[u8],
+) -> Result<Request, AskError>
+    ensures { (target : List ℕ) → Reads dir.now kinds.ReplaceRuntime target body.now result }
+{
+    match runtime_body(alloc, dir, body) {
+        Ok(roots) => Ok(Request::ReplaceRuntime(roots)),
+        Err(BodyError::BadBodyHead) => Err(AskError::BadBodyHead),
+        Err(BodyError::Memory) => Err(AskError::Memory),
+    }
+}
+
+/// A collection.
+pub(crate) fn collect(alloc: Global, body: &[u8]) -> Result<Request, AskError>
+    ensures { (dir target : List ℕ) → Reads dir kinds.Collect target body.now result }
+{
+    match collect_body(alloc, body) {
+        Ok(head) => Ok(Request::Collect(head)),
+        Err(BodyError::BadBodyHead) => Err(AskError::BadBodyHead),
+        Err(BodyError::Memory) => Err(AskError::Memory),
+    }
+}
+
+/// A deletion.
+pub(crate) fn delete(alloc: Global, dir: &StoreDir, body: &[u8]) -> Result<Request, AskError>
+    ensures { (target : List ℕ) → Reads dir.now kinds.Delete target body.now result }
+{
+    match delete_body(alloc, dir, body) {
+        Ok(head) => Ok(Request::Delete(head)),
+        Err(BodyError::BadBodyHead) => Err(AskError::BadBodyHead),
+        Err(BodyError::Memory) => Err(AskError::Memory),
+    }
+}
