@@ -1,0 +1,21 @@
+use Rattle.std.proofs.Common.{◌≡◌, None, refl, inl, inr}
+use Rattle.asking.specs.View as given
+use Rattle.report.specs.declared.refusal.Refusal.TheVariants.{BadStorePath, BadBodyHead}
+use Rattle.wire.specs.Responses.{refused}
+use Rattle.responder.specs.Courses.{replies, course_to, Reads}
+use Rattle.responder.proofs.There.{along}
+use Rattle.responder.proofs.courses.on_kind.Goals as goal
+
+pub returns-in-Ok : goal.returns-in-Ok
+returns-in-Ok c = along (λ k. Reads c.args.dir.now c.args.caller c.args.kind c.args.target.now c.args.body.now k) (course_to c.args.caller (given.request_view c.in-Ok.asked)) c.on_request.result
+    (inl (given.request_view c.in-Ok.asked, c.in-Ok.ensures, refl)) c.on_request.ensures
+
+pub returns-in-Err-BadPath : goal.returns-in-Err-BadPath
+returns-in-Err-BadPath c =
+    let told = rw c.in-Err-BadPath.field-0-is at c.in-Err-BadPath.ensures in
+    along (λ k. Reads c.args.dir.now c.args.caller c.args.kind c.args.target.now c.args.body.now k) (replies (refused BadStorePath None)) c.refuse.result (inr (inl (told, refl))) c.refuse.ensures
+
+pub returns-in-Err-BadBodyHead : goal.returns-in-Err-BadBodyHead
+returns-in-Err-BadBodyHead c =
+    let told = rw c.in-Err-BadBodyHead.field-0-is at c.in-Err-BadBodyHead.ensures in
+    along (λ k. Reads c.args.dir.now c.args.caller c.args.kind c.args.target.now c.args.body.now k) (replies (refused BadBodyHead None)) c.refuse-in-Err-BadBodyHead.result (inr (inr (told.0, told.1, refl))) c.refuse-in-Err-BadBodyHead.ensures

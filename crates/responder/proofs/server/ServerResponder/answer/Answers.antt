@@ -1,0 +1,32 @@
+use Rattle.std.proofs.Common.{◌≡◌, IfOk, subst, sym, ap, ◌∙◌}
+use Rattle.connection.specs.Answers.{Answered, body_in}
+use Rattle.store_calls.specs.View.{request_view, reply_view}
+use Rattle.store_commands.specs.Serving.{Calls}
+use Rattle.wire.specs.Responses.{replied}
+use Rattle.responder.specs.Replies.{response_to}
+use Rattle.responder.specs.Courses.{calls, Takes}
+use Rattle.responder.specs.Answers.{Answers}
+use Rattle.responder.proofs.Asked.{asked}
+use Rattle.responder.proofs.server.ServerResponder.answer.Goals.{in-Some-1, in-None-1}
+use Rattle.responder.proofs.server.ServerResponder.answer.Goals as goal
+
+pub returns-in-Ok-Calls : goal.returns-in-Ok-Calls
+returns-in-Ok-Calls g c = λ h is.
+    let told = rw c.in-Ok-Calls.field-0-is at c.in-Ok-Calls.ensures in
+    let takes = subst (λ s. Takes s h (body_in c.args.held.now c.args.head.now c.args.size) (calls c.in-Ok-Calls.caller (request_view c.in-Ok-Calls.request))) c.config-config.ensures (told h is) in
+    let step : Calls g.S.Store c.in-Ok-Calls.caller (request_view c.in-Ok-Calls.request) (reply_view c.call-reply.result) c.self.inside.store c.call-reply.new.self = record {
+      settings = c.call-reply.ensures.settings;
+      step = c.call-reply.ensures.step;
+      still = c.call-reply.ensures.still;
+      lasts = c.call-reply.ensures.lasts;
+      survives = c.call-reply.ensures.survives;
+    } in
+    let dir = c.store_dir.ensures ∙ ap (λ s. s.store_dir) (c.config.ensures ∙ c.call-reply.ensures.settings) in
+    let said = subst (λ d. IfOk c.respond.result (λ x. replied x ≡ response_to d (reply_view c.call-reply.result))) dir c.respond.ensures in
+    let all = asked g.S.Store c.self.inside.store c.call-reply.new.self h (body_in c.args.held.now c.args.head.now c.args.size) c.in-Ok-Calls.caller (request_view c.in-Ok-Calls.request) (reply_view c.call-reply.result) c.respond.result takes step said in
+    let here : c.self.inside.store ≡ c.args.self.now = cc in
+    let out = subst (λ o. Answered (Answers g.S.Store) o h (body_in c.args.held.now c.args.head.now c.args.size) c.respond.result c.call-reply.new.self) here all in
+    elim c.match-caller.branch [
+      | in-Some-1 w ↦ subst (λ n. Answered (Answers g.S.Store) c.args.self.now h (body_in c.args.held.now c.args.head.now c.args.size) c.respond.result n) (sym w.self-is) out
+      | in-None-1 w ↦ subst (λ n. Answered (Answers g.S.Store) c.args.self.now h (body_in c.args.held.now c.args.head.now c.args.size) c.respond.result n) (sym w.self-is) out
+    ]

@@ -1,0 +1,75 @@
+//! A store as a responder.
+ghost use Rattle.std.specs.Prelude.{◌≡◌};
+ghost use Rattle.responder.specs.Answers.{Answers};
+
+use crate::course::Course;
+use crate::courses::course_of;
+use crate::replies::respond;
+use connection::Responder;
+use messages::Head;
+use policy::store_dir;
+use routes::Routes;
+use sqlite::Alter;
+use std::alloc::{AllocError, Global};
+use std::marker::Model;
+use store_calls::Store;
+use wire::Response;
+
+/// A store that answers messages. Contracts see it as the store.
+pub struct Server<S: Alter> {
+    alloc: Global,
+    routes: Routes,
+    store: Store<S>,
+}
+
+impl<S: Alter> Model for Server<S> {
+    ghost use Rattle.store_calls.specs.Standing.{Standing, standing_code};
+
+    ghost Value = { Standing S };
+
+    ghost coded = { standing_code S.code };
+
+    ghost view = { λ t. t.store };
+}
+
+impl<S: Alter> Server<S> {
+    /// Has a store answer messages, by these routes.
+    pub fn new(alloc: Global, routes: Routes, store: Store<S>) -> Server<S>
+        ensures { result ≡ store }
+    {
+        Server {
+            alloc,
+            routes,
+            store,
+        }
+    }
+
+    /// The store, given up.
+    pub fn release(self) -> Store<S>
+        ensures { result ≡ self }
+    {
+        let Server {
+            alloc: _alloc,
+            routes,
+            store,
+        } = self;
+        drop(routes);
+        store
+    }
+}
+
+impl<S: Alter> Responder for Server<S> {
+    ghost answers = { Answers S.Store };
+
+    fn answer(&mut self, held: &[u8], head: &Head, size: usize) -> Result<Response, AllocError> {
+        let config = self.store.config();
+        match course_of(self.alloc, &self.routes, config, held, head, size) {
+            Ok(Course::Replies(response)) => Ok(response),
+            Ok(Course::Calls(caller, request)) => {
+                let reply = self.store.call(&caller, request);
+                respond(self.alloc, store_dir(self.store.config()), reply)
+            }
+            Err(fault) => Err(fault),
+        }
+    }
+}
