@@ -15,9 +15,10 @@ use Rattle.tool.specs.declared.stops.Stop.TheVariants.{Failed}
 use Rattle.command_line.specs.declared.error.UsageFault.{UsageFault}
 use Rattle.command_line.specs.Asked.{text_path, source_path}
 use Rattle.command_line.specs.Line.{Line, IsLine, IsUsageFault}
-use Rattle.tool.specs.Stream.{Answers, Prints, Says}
+use Rattle.store_commands.specs.Outputs.{Prints}
+use Rattle.tool.specs.Stream.{Answers, Says}
 use Rattle.tool.specs.Who.{StopsFor}
-use Rattle.tool.specs.Answer.{AnswersAsked, AnswersUnder, Explains, Refuses, RunsLine, RunsServed, is_served}
+use Rattle.tool.specs.Answer.{AnswersAlone, AnswersUnder, Explains, Refuses, RunsLine, RunsServed, is_served}
 
 -- the stop of a configuration was said: the first writer got nothing
 pub stopped_under : (outcome : Result Settings KeyWord) (answered : Settings → Type 0) (stop : Stop) (out err err' : Option (List ℕ)) (status : ℕ)
@@ -30,10 +31,10 @@ stopped_under outcome answered stop out err err' status (inr why) said end =
 
 module _ (config : List ℕ) (user group : Option (List ℕ)) (o : Text × List Text) (known out err err' : Option (List ℕ)) (status : ℕ) (stop : Stop) where
   -- so `text-path` and `source-path` answer a refused configuration
-  pub text_stopped : StopsFor (config_of config) stop → Says stop err err' status → AnswersAsked config user group (text_path o) known out out err err' status
+  pub text_stopped : StopsFor (config_of config) stop → Says stop err err' status → AnswersAlone config user group (text_path o) known out out err err' status
   text_stopped why said = stopped_under (config_of config) _ stop out err err' status why said (λ s memory. inl (inl memory))
 
-  pub source_stopped : StopsFor (config_of config) stop → Says stop err err' status → AnswersAsked config user group (source_path o) known out out err err' status
+  pub source_stopped : StopsFor (config_of config) stop → Says stop err err' status → AnswersAlone config user group (source_path o) known out out err err' status
   source_stopped why said = stopped_under (config_of config) _ stop out err err' status why said (λ s memory. inl (inl memory))
 
 -- ---- words
@@ -65,12 +66,12 @@ pub refuses : (out err err' : Option (List ℕ)) (status : ℕ) → ((text : Lis
 refuses out err err' status (inl told) = inl (Keeps-refl out, told)
 refuses out err err' status (inr said) = inr (Keeps-refl out, said)
 
-pub runs_unserved : (line : Line) (known out out' err err' : Option (List ℕ)) (status : ℕ) → is_served line.asked ≡ false → Refuses out out' err err' status
+pub runs_unserved : (line : Line) (known out out' err err' : Option (List ℕ)) (status : ℕ) → is_served line.db line.asked ≡ false → Refuses out out' err err' status
     → RunsLine line known out out' err err' status
 runs_unserved line known out out' err err' status unserved refused =
     inr (subst (λ b. MatchBool b (RunsServed line known out out' err err' status) (Refuses out out' err err' status)) (sym unserved) refused)
 
-pub runs_served : (line : Line) (known out out' err err' : Option (List ℕ)) (status : ℕ) → is_served line.asked ≡ true → RunsServed line known out out' err err' status
+pub runs_served : (line : Line) (known out out' err err' : Option (List ℕ)) (status : ℕ) → is_served line.db line.asked ≡ true → RunsServed line known out out' err err' status
     → RunsLine line known out out' err err' status
 runs_served line known out out' err err' status served ran =
     inr (subst (λ b. MatchBool b (RunsServed line known out out' err err' status) (Refuses out out' err err' status)) (sym served) ran)

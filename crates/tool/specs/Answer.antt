@@ -1,7 +1,8 @@
 -- What a command line answers, by the text of its configuration.
-use Rattle.std.specs.Prelude.{◌≡◌, ◌⊎◌, ℕ, Bool, true, false, MatchBool, List, [], map, Option, None, IsSome, Result, Ok, Err}
+use Rattle.std.specs.Prelude.{◌≡◌, ◌⊎◌, ◌||◌, ℕ, Bool, true, false, MatchBool, MatchOption, List, [], map, Option, None, IsSome, is_some, Result, Ok, Err}
 use Rattle.std.specs.Io.KnownBytes.{Keeps}
 use Rattle.clap.specs.Values.{kind_of}
+use Rattle.clap.specs.Walk.{Text}
 use Rattle.clap.specs.declared.error.ErrorKind.TheVariants.{DisplayHelp, DisplayVersion}
 use Rattle.paths.specs.StorePath.{base_of}
 use Rattle.policy.specs.Settings.{Settings}
@@ -16,8 +17,11 @@ use Rattle.tool.specs.declared.stops.Failure.TheVariants.{Memory as NoMemory, Fi
 use Rattle.tool.specs.declared.stops.Stop.{Stop}
 use Rattle.tool.specs.declared.stops.Stop.TheVariants.{Refused, Failed}
 use Rattle.tool.specs.Archive.{ls_answer}
+use Rattle.tool.specs.Calls.{AnswersNamed}
 use Rattle.tool.specs.Object.{object_fault, text_path_answer, source_path_answer}
-use Rattle.tool.specs.Stream.{Answers, AnswersTo, Prints, Says}
+use Rattle.store_commands.specs.Outputs.{Prints}
+use Rattle.tool.specs.Requests.{asks_of}
+use Rattle.tool.specs.Stream.{Answers, AnswersTo, Says}
 use Rattle.tool.specs.Who.{AnswersWho, verdict_of}
 
 -- an answer under the settings of a configuration, or the line of its first key word; or memory gave out
@@ -34,30 +38,40 @@ RefusesWords out out' err err' status = Keeps out out' × ((text : List ℕ) × 
 abbrev pub Refuses : Option (List ℕ) → Option (List ℕ) → Option (List ℕ) → Option (List ℕ) → ℕ → Type 0
 Refuses out out' err err' status = RefusesWords out out' err err' status ⊎ Answers (Err (Failed NoMemory)) out out' err err' status
 
--- whether a subcommand is there yet
-abbrev pub is_served : Asked → Bool
-is_served who = true
-is_served ls = true
-is_served (text_path o) = true
-is_served (source_path o) = true
-is_served _ = false
+-- the subcommands that ask no store
+abbrev pub asks_nothing : Asked → Bool
+asks_nothing who = true
+asks_nothing ls = true
+asks_nothing (text_path o) = true
+asks_nothing (source_path o) = true
+asks_nothing _ = false
 
--- what a subcommand answers by the text of the configuration: `who` all on the first writer; one that isn't there yet is a usage fault
-abbrev pub AnswersAsked : List ℕ → Option (List ℕ) → Option (List ℕ) → Asked → Option (List ℕ) → Option (List ℕ) → Option (List ℕ) → Option (List ℕ) → Option (List ℕ) → ℕ → Type 0
-AnswersAsked config user group who known out out' err err' status = AnswersWho (verdict_of config user group) out out' status × Keeps err err'
-AnswersAsked config user group ls known out out' err err' status =
+-- whether a subcommand is there yet, by the file of its database
+abbrev pub is_served : Option Text → Asked → Bool
+is_served db asked = is_some (asks_of db asked) || asks_nothing asked
+
+-- what a subcommand that asks no store answers by the text of the configuration: `who` all on the first writer; one that isn't there
+-- yet is a usage fault
+abbrev pub AnswersAlone : List ℕ → Option (List ℕ) → Option (List ℕ) → Asked → Option (List ℕ) → Option (List ℕ) → Option (List ℕ) → Option (List ℕ) → Option (List ℕ) → ℕ → Type 0
+AnswersAlone config user group who known out out' err err' status = AnswersWho (verdict_of config user group) out out' status × Keeps err err'
+AnswersAlone config user group ls known out out' err err' status =
     AnswersUnder (config_of config) (λ s. AnswersTo None ls_answer known out out' err err' status) out out' err err' status
-AnswersAsked config user group (text_path o) known out out' err err' status =
+AnswersAlone config user group (text_path o) known out out' err err' status =
     AnswersUnder (config_of config) (λ s. AnswersTo (object_fault s.store_dir o.0 o.1) (text_path_answer s.store_dir o.0 (map (base_of s.store_dir) o.1)) known out out' err err' status)
     out out' err err' status
-AnswersAsked config user group (source_path o) known out out' err err' status =
+AnswersAlone config user group (source_path o) known out out' err err' status =
     AnswersUnder (config_of config) (λ s. AnswersTo (object_fault s.store_dir o.0 o.1) (source_path_answer s.store_dir o.0 (map (base_of s.store_dir) o.1)) known out out' err err' status)
     out out' err err' status
-AnswersAsked config user group _ known out out' err err' status = Refuses out out' err err' status
+AnswersAlone config user group _ known out out' err err' status = Refuses out out' err err' status
+
+-- what any subcommand answers: what it asks of a store is answered to its caller, under the settings of the configuration
+abbrev pub AnswersAsked : List ℕ → Option Text → Option (List ℕ) → Option (List ℕ) → Asked → Option (List ℕ) → Option (List ℕ) → Option (List ℕ) → Option (List ℕ) → Option (List ℕ) → ℕ → Type 0
+AnswersAsked config db user group asked known out out' err err' status = MatchOption (asks_of db asked) (AnswersAlone config user group asked known out out' err err' status)
+    (λ ask. AnswersUnder (config_of config) (λ s. AnswersNamed s user group ask known out out' err err' status) out out' err err' status)
 
 -- what a command line answers by the text of its configuration
 abbrev pub AnswersLine : List ℕ → Line → Option (List ℕ) → Option (List ℕ) → Option (List ℕ) → Option (List ℕ) → Option (List ℕ) → ℕ → Type 0
-AnswersLine config line known out out' err err' status = AnswersAsked config line.user line.group line.asked known out out' err err' status
+AnswersLine config line known out out' err err' status = AnswersAsked config line.db line.user line.group line.asked known out out' err err' status
 
 -- a stop before there is anything to answer by is said by `who` on the first writer, and else on the second
 abbrev pub Stops : Asked → Stop → Option (List ℕ) → Option (List ℕ) → Option (List ℕ) → Option (List ℕ) → ℕ → Type 0
@@ -82,7 +96,7 @@ RunsServed line known out out' err err' status = LacksFile line out out' err err
 -- the words were read.
 abbrev pub RunsLine : Line → Option (List ℕ) → Option (List ℕ) → Option (List ℕ) → Option (List ℕ) → Option (List ℕ) → ℕ → Type 0
 RunsLine line known out out' err err' status = Answers (Err (Failed NoMemory)) out out' err err' status
-    ⊎ MatchBool (is_served line.asked) (RunsServed line known out out' err err' status) (Refuses out out' err err' status)
+    ⊎ MatchBool (is_served line.db line.asked) (RunsServed line known out out' err err' status) (Refuses out out' err err' status)
 
 -- the fault of the words is that they ask for help or for the version
 abbrev pub AsksHelp : CommandError → Type 0

@@ -4,3 +4,5 @@ pub mod Stop
 pub mod Who
 pub mod Stream
 pub mod Object
+pub mod Requests
+pub mod Calls

@@ -1,13 +1,13 @@
 -- What is taken from an input, and an answer to the two outputs.
 use Rattle.std.specs.Prelude.{◌≡◌, ◌⊎◌, ⊤, ℕ, List, Option, Some, None, Result, Ok, Err, String, string_bytes, option_map}
-use Rattle.std.specs.Io.KnownBytes.{Appends, Keeps}
+use Rattle.std.specs.Io.KnownBytes.{Keeps}
 use Rattle.std.specs.declared.alloc.Global.{Global}
-use Rattle.streams.specs.Sends.{AppendsFront}
 use Rattle.streams.specs.Reads.{TakesAtMost}
 use Rattle.report.specs.declared.refusal.Refusal.{Refusal}
 use Rattle.tool.specs.declared.stops.Failure.TheVariants.{Memory, File, Input, Output}
 use Rattle.tool.specs.declared.stops.Stop.{Stop}
 use Rattle.tool.specs.declared.stops.Stop.TheVariants.{Refused, Failed}
+use Rattle.store_commands.specs.Outputs.{Offers, Prints}
 use Rattle.tool.specs.Stop.{stop_text, stop_status}
 
 -- an input is read to a bound, and not at all where a fault is there before
@@ -15,28 +15,13 @@ abbrev pub ReadsFor : Option Refusal → ℕ → Option (List ℕ) → Option (L
 ReadsFor (Some fault) most old new = Keeps old new
 ReadsFor None most old new = TakesAtMost most old new
 
--- a text went to the writer whole, with this status; or the writer failed: a front of it went there, with status 1
-abbrev pub Prints : List ℕ → ℕ → Option (List ℕ) → Option (List ℕ) → ℕ → Type 0
-Prints text done old new status = ((status ≡ done) × Appends old new text) ⊎ ((status ≡ 1) × AppendsFront old new text)
-
 -- the line that says why went to the writer
 abbrev pub Says : Stop → Option (List ℕ) → Option (List ℕ) → ℕ → Type 0
 Says stop old new status = Prints (stop_text stop) (stop_status stop) old new status
 
--- a text went to the first writer and nothing to the second, with status 0
-pub record Gives (text : List ℕ) (out out' err err' : Option (List ℕ)) (status : ℕ) : Type 0 where
-  pub done : status ≡ 0
-  pub printed : Appends out out' text
-  pub silent : Keeps err err'
-
--- the first writer failed: it holds a front of the text, and the second is told so
-pub record GivesOut (text : List ℕ) (out out' err err' : Option (List ℕ)) (status : ℕ) : Type 0 where
-  pub front : AppendsFront out out' text
-  pub told : Says (Failed Output) err err' status ⊎ Says (Failed Memory) err err' status
-
 -- the answer was given, a text to the first writer or a stop to the second; or the writer that it went to failed
 abbrev pub Answers : Result (List ℕ) Stop → Option (List ℕ) → Option (List ℕ) → Option (List ℕ) → Option (List ℕ) → ℕ → Type 0
-Answers (Ok text) out out' err err' status = Gives text out out' err err' status ⊎ GivesOut text out out' err err' status
+Answers (Ok text) out out' err err' status = Offers text out out' err err' status
 Answers (Err stop) out out' err err' status = Keeps out out' × Says stop err err' status
 
 -- memory or the input gave out before there was an answer

@@ -15,7 +15,8 @@ use Rattle.tool.specs.declared.stops.Stop.{Stop}
 use Rattle.tool.specs.declared.stops.Stop.TheVariants.{Refused, Failed}
 use Rattle.tool.specs.declared.verdicts.Verdict.{Verdict}
 use Rattle.tool.specs.Stop.{stop_text, stop_status}
-use Rattle.tool.specs.Stream.{Prints, Says}
+use Rattle.store_commands.specs.Outputs.{Prints}
+use Rattle.tool.specs.Stream.{Says}
 
 -- the class of a caller, with the first rule that a plain request of his breaks
 abbrev pub verdict_on : Settings → Caller → Verdict

@@ -1,11 +1,13 @@
 //! What a command line answers, by the text of its configuration.
 ghost use Rattle.std.specs.Prelude.{None};
-ghost use Rattle.tool.specs.Answer.{AnswersAsked, AnswersLine};
+ghost use Rattle.tool.specs.Answer.{AnswersAlone, AnswersLine};
 ghost use Rattle.tool.specs.Archive.{max_front};
 ghost use Rattle.command_line.specs.Asked as asked;
+ghost use Rattle.command_line.specs.Asked.{optional_text};
 ghost use Rattle.command_line.specs.Line.{line_view};
 ghost use Rattle.streams.specs.Reads.{TakesAtMost};
 
+use crate::calls::{asks_store, call};
 use crate::configuration::settings;
 use crate::listings::ls;
 use crate::sources::source_path;
@@ -26,7 +28,7 @@ fn ls_under<R: Read, W: Write, E: Write>(
     output: &mut W,
     errors: &mut E,
 ) -> u8
-    ensures answer { AnswersAsked config.now None None asked.ls (R.remaining input.old) (W.contents output.old) (W.contents output.new) (E.contents errors.old) (E.contents errors.new) result }
+    ensures answer { AnswersAlone config.now None None asked.ls (R.remaining input.old) (W.contents output.old) (W.contents output.new) (E.contents errors.old) (E.contents errors.new) result }
     ensures reads { TakesAtMost max_front (R.remaining input.old) (R.remaining input.new) }
 {
     if let Err(stop) = settings(alloc, config) {
@@ -35,13 +37,8 @@ fn ls_under<R: Read, W: Write, E: Write>(
     ls(alloc, input, output, errors)
 }
 
-/// Answers a command line by the text of its configuration, and gives the exit status: 0 done, 1
-/// failed, 2 a subcommand that isn't there yet, 3 refused, 4 denied.
-///
-/// Results go to `output`; refusals and failures go to `errors`, but for `who`, which puts everything
-/// on `output`. The file that the command line names isn't read. No more than 16,777,224 bytes of the input
-/// are.
-pub fn answer<R: Read, W: Write, E: Write>(
+/// Answers a command line that asks no store.
+fn answer_alone<R: Read, W: Write, E: Write>(
     alloc: Global,
     config: &[u8],
     line: &CommandLine<'_>,
@@ -49,7 +46,7 @@ pub fn answer<R: Read, W: Write, E: Write>(
     output: &mut W,
     errors: &mut E,
 ) -> u8
-    ensures answer { AnswersLine config.now (line_view line.now) (R.remaining input.old) (W.contents output.old) (W.contents output.new) (E.contents errors.old) (E.contents errors.new) result }
+    ensures answer { AnswersAlone config.now (optional_text line.now.user) (optional_text line.now.group) (asked.asked_view line.now.task) (R.remaining input.old) (W.contents output.old) (W.contents output.new) (E.contents errors.old) (E.contents errors.new) result }
     ensures reads { TakesAtMost max_front (R.remaining input.old) (R.remaining input.new) }
 {
     match &line.task {
@@ -71,4 +68,27 @@ pub fn answer<R: Read, W: Write, E: Write>(
         },
         _ => refuse_task(alloc, errors),
     }
+}
+
+/// Answers a command line by the text of its configuration, and gives the exit status: 0 done, 1
+/// failed, 2 a subcommand that isn't there yet, 3 refused, 4 denied.
+///
+/// Results go to `output`; refusals and failures go to `errors`, but for `who`, which puts everything
+/// on `output`. The file that the command line names isn't read. No more than 16,777,224 bytes of the input
+/// are.
+pub fn answer<R: Read, W: Write, E: Write>(
+    alloc: Global,
+    config: &[u8],
+    line: &CommandLine<'_>,
+    input: &mut R,
+    output: &mut W,
+    errors: &mut E,
+) -> u8
+    ensures answer { AnswersLine config.now (line_view line.now) (R.remaining input.old) (W.contents output.old) (W.contents output.new) (E.contents errors.old) (E.contents errors.new) result }
+    ensures reads { TakesAtMost max_front (R.remaining input.old) (R.remaining input.new) }
+{
+    if asks_store(line) {
+        return call(alloc, config, line, input, output, errors);
+    }
+    answer_alone(alloc, config, line, input, output, errors)
 }

@@ -5,7 +5,8 @@ ghost use Rattle.tool.specs.Answer.{Explains, Helps, RefusesWords, RunsLine};
 ghost use Rattle.tool.specs.Archive.{max_front};
 ghost use Rattle.command_line.specs.Line.{IsLine, IsUsageFault, Line, line_view};
 ghost use Rattle.streams.specs.Reads.{TakesAtMost};
-ghost use Rattle.tool.specs.Stream.{Prints, Says};
+ghost use Rattle.store_commands.specs.Outputs.{Prints};
+ghost use Rattle.tool.specs.Stream.{Says};
 ghost use Rattle.command_line.specs.declared.error.CommandError.{CommandError};
 
 use crate::answers::answer;
@@ -57,7 +58,7 @@ fn execute<Rt: Files + AllocGlobal, R: Read, W: Write, E: Write>(
     ensures answer { RunsLine (line_view line.now) (R.remaining input.old) (W.contents output.old) (W.contents output.new) (E.contents errors.old) (E.contents errors.new) result }
     ensures reads { TakesAtMost max_front (R.remaining input.old) (R.remaining input.new) }
 {
-    if !is_served(&line.task) {
+    if !is_served(line) {
         return refuse_task(rt.alloc(), errors);
     }
     match configuration::text(rt, line.config) {

@@ -3,11 +3,14 @@
 
 mod answers;
 mod archive;
+mod calls;
 mod configuration;
 mod input;
 mod launch;
 mod listings;
+mod named;
 mod object;
+mod requests;
 mod sources;
 mod stops;
 mod stream;

@@ -18,7 +18,8 @@ use std::io::Read;
 /// The most references that an object may be handed in with.
 const MAX_REFERENCES: usize = 4_096;
 
-fn parse_name(alloc: Global, text: &str) -> Result<Name, Stop>
+/// The name of a store object.
+pub(crate) fn parse_name(alloc: Global, text: &str) -> Result<Name, Stop>
     ensures ok { IfOk result (λ n. (n ≡ text.now) × (is_store_name text.now ≡ true)) }
     ensures err { IfErr result (λ e. (e ≡ Stop.Failed Failure.Memory) ⊎ ((e ≡ Stop.Refused Refusal.BadStoreName) × (is_store_name text.now ≡ false))) }
 {
@@ -29,7 +30,8 @@ fn parse_name(alloc: Global, text: &str) -> Result<Name, Stop>
     }
 }
 
-fn parse_reference(alloc: Global, dir: &StoreDir, text: &str) -> Result<StorePath, Stop>
+/// The store path that a path text names.
+pub(crate) fn parse_reference(alloc: Global, dir: &StoreDir, text: &str) -> Result<StorePath, Stop>
     ensures ok { IfOk result (λ p. (p ≡ base_of dir.now text.now) × (is_path_text dir.now text.now ≡ true)) }
     ensures err { IfErr result (λ e. (e ≡ Stop.Failed Failure.Memory) ⊎ ((e ≡ Stop.Refused Refusal.BadStorePath) × (is_path_text dir.now text.now ≡ false))) }
 {
@@ -40,7 +42,8 @@ fn parse_reference(alloc: Global, dir: &StoreDir, text: &str) -> Result<StorePat
     }
 }
 
-fn parse_references<S: AsStr>(
+/// The store paths that path texts name, in the order given.
+pub(crate) fn parse_references<S: AsStr>(
     alloc: Global,
     dir: &StoreDir,
     texts: &[S],

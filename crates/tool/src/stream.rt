@@ -1,6 +1,7 @@
 //! An answer to the two outputs.
 ghost use Rattle.std.specs.Prelude.{◌≡◌, ◌⊎◌};
-ghost use Rattle.tool.specs.Stream.{Says, Prints, result_text, Answers};
+ghost use Rattle.store_commands.specs.Outputs.{Prints};
+ghost use Rattle.tool.specs.Stream.{Says, result_text, Answers};
 
 use crate::stops::{Failure, Stop};
 use std::io;

@@ -17,7 +17,7 @@ use std::io::{Read, Write};
 const MAX_CONTENTS: usize = 16_777_104;
 
 /// One byte more.
-const MOST_READ: usize = 16_777_105;
+pub(crate) const MOST_READ: usize = 16_777_105;
 
 fn text_line(
     alloc: Global,

@@ -1,12 +1,14 @@
 //! What is said of words that are no command line, and of subcommands that aren't there yet.
 ghost use Rattle.std.specs.Prelude.{◌≡◌, ◌⊎◌, ℕ, List};
-ghost use Rattle.command_line.specs.Asked.{asked_view};
+ghost use Rattle.command_line.specs.Asked.{asked_view, optional_text};
 ghost use Rattle.tool.specs.Answer as spec;
-ghost use Rattle.tool.specs.Stream.{Prints, Says};
+ghost use Rattle.store_commands.specs.Outputs.{Prints};
+ghost use Rattle.tool.specs.Stream.{Says};
 
+use crate::calls::asks_store;
 use crate::stops::{Failure, Stop};
 use crate::stream::{print, say};
-use command_line::Task;
+use command_line::{CommandLine, Task};
 use std::alloc::Global;
 use std::io::Write;
 
@@ -26,14 +28,24 @@ pub(crate) fn refuse<W: Write>(alloc: Global, fault: &str, errors: &mut W) -> u8
     }
 }
 
-/// Whether a subcommand is there yet.
-pub(crate) fn is_served(task: &Task<'_>) -> bool
-    ensures { result ≡ spec.is_served (asked_view task.now) }
+/// Whether a subcommand is one of those that ask no store.
+fn asks_nothing(task: &Task<'_>) -> bool
+    ensures { result ≡ spec.asks_nothing (asked_view task.now) }
 {
     matches!(
         task,
         Task::Who | Task::Ls | Task::TextPath(_) | Task::SourcePath(_)
     )
+}
+
+/// Whether the subcommand of a command line is there yet.
+pub(crate) fn is_served(line: &CommandLine<'_>) -> bool
+    ensures { result ≡ spec.is_served (optional_text line.now.db) (asked_view line.now.task) }
+{
+    if asks_store(line) {
+        return true;
+    }
+    asks_nothing(&line.task)
 }
 
 /// Says that a subcommand isn't there yet, and gives the exit status.

@@ -1,0 +1,23 @@
+use Rattle.std.proofs.Common.{inl}
+use Rattle.command_line.specs.Asked.{asked_view, optional_text}
+use Rattle.policy.specs.Toml.{config_of}
+use Rattle.tool.specs.Calls.{AnswersNamed}
+use Rattle.tool.proofs.Answered.{stopped_under}
+use Rattle.tool.proofs.Called.{asks_then, named, under}
+use Rattle.tool.proofs.calls.call.Goals as goal
+
+pub returns-in-Err-clause-answer : goal.returns-in-Err-clause-answer
+returns-in-Err-clause-answer g c = λ ask is. stopped_under _ _ _ _ _ _ _ c.in-Err.ensures.err c.say.ensures (λ s memory. inl memory)
+
+pub returns-in-Ok-caller_of-clause-answer : goal.returns-in-Ok-caller_of-clause-answer
+returns-in-Ok-caller_of-clause-answer g c = λ ask is.
+    let known = g.R.Read.remaining c.args.input.now in
+    let out = g.W.Write.contents c.args.output.now in
+    let out' = g.W.Write.contents c.call_in_memory.new.output in
+    let err = g.E.Write.contents c.args.errors.now in
+    let err' = g.E.Write.contents c.call_in_memory.new.errors in
+    let user = optional_text c.args.line.now.user in
+    let group = optional_text c.args.line.now.group in
+    under (config_of c.args.config.now) c.in-Ok.config (λ s. AnswersNamed s user group ask known out out' err err' c.call_in_memory.result) out out' err err' c.call_in_memory.result c.in-Ok.ensures.ok
+    (named c.in-Ok.config user group ask known c.in-Ok-caller_of.caller out out' err err' c.call_in_memory.result c.in-Ok-caller_of.ensures.ok
+    (c.call_in_memory.ensures.answer ask (asks_then (optional_text c.args.line.now.db) (asked_view c.args.line.now.task) ask is)))

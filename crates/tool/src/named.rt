@@ -1,0 +1,98 @@
+//! What is asked of roots that have names.
+ghost use Rattle.std.specs.Prelude.{◌≡◌, IfOk, IfErr, Ok, string_bytes};
+ghost use Rattle.command_line.specs.Asked.{optional_text};
+ghost use Rattle.store_calls.specs.View.{request_view};
+ghost use Rattle.tool.specs.Requests as spec;
+ghost use Rattle.tool.specs.Requests.{IsAsked, on_path, owner_of};
+
+use crate::object::parse_reference;
+use crate::stops::{Failure, Stop};
+use command_line::{RootArguments, RootKind, UnrootArguments, Unrooted};
+use paths::{StoreDir, StorePath};
+use policy::Caller;
+use std::alloc::{AllocError, Global};
+use store_calls::Request;
+
+/// A request that was made, or memory was refused.
+fn made(request: Result<Request, AllocError>) -> Result<Request, Stop>
+    ensures ok { IfOk result (λ q. request ≡ Ok q) }
+    ensures err { IfErr result (λ e. e ≡ Stop.Failed Failure.Memory) }
+{
+    match request {
+        Ok(request) => Ok(request),
+        Err(_) => Err(Stop::Failed(Failure::Memory)),
+    }
+}
+
+/// The owner who is named, else the caller.
+fn owner(alloc: Global, caller: &Caller, named: Option<&str>) -> Result<String, AllocError>
+    ensures { IfOk result (λ s. string_bytes s ≡ owner_of caller.now (optional_text named.entry)) }
+{
+    match named {
+        Some(name) => String::from_str(alloc, name),
+        None => String::from_str(alloc, caller.name()),
+    }
+}
+
+/// A root at a path.
+fn root_at(
+    alloc: Global,
+    caller: &Caller,
+    root: &RootArguments<'_>,
+    path: StorePath,
+) -> Result<Request, AllocError>
+    ensures { IfOk result (λ q. request_view q ≡ spec.set_root root.now.kind caller.now root.now.name.now path) }
+{
+    let name = String::from_str(alloc, root.name)?;
+    match root.kind {
+        RootKind::Permanent => Ok(Request::SetPermanent(name, path)),
+        RootKind::User => {
+            let owner = String::from_str(alloc, caller.name())?;
+            Ok(Request::SetUserRoot(owner, name, path))
+        }
+    }
+}
+
+/// A root is to be set.
+pub(crate) fn set_root(
+    alloc: Global,
+    dir: &StoreDir,
+    caller: &Caller,
+    root: &RootArguments<'_>,
+) -> Result<Request, Stop>
+    ensures { IsAsked (on_path dir.now root.now.path.now (spec.set_root root.now.kind caller.now root.now.name.now)) result }
+{
+    match parse_reference(alloc, dir, root.path) {
+        Ok(path) => made(root_at(alloc, caller, root, path)),
+        Err(stop) => Err(stop),
+    }
+}
+
+/// A root that is dropped.
+fn dropped(
+    alloc: Global,
+    caller: &Caller,
+    root: &UnrootArguments<'_>,
+) -> Result<Request, AllocError>
+    ensures { IfOk result (λ q. request_view q ≡ spec.drop_root root.now.root caller.now root.now.name.now) }
+{
+    let name = String::from_str(alloc, root.name)?;
+    match root.root {
+        Unrooted::Permanent => Ok(Request::DropPermanent(name)),
+        Unrooted::User(named) => {
+            let owner = owner(alloc, caller, named)?;
+            Ok(Request::DropUserRoot(owner, name))
+        }
+    }
+}
+
+/// A root is to be dropped.
+pub(crate) fn drop_root(
+    alloc: Global,
+    caller: &Caller,
+    root: &UnrootArguments<'_>,
+) -> Result<Request, Stop>
+    ensures { IsAsked (Ok (spec.drop_root root.now.root caller.now root.now.name.now)) result }
+{
+    made(dropped(alloc, caller, root))
+}
