@@ -33,9 +33,9 @@ pub enum Request {
     /// An owner, and the name of a profile.
     Rollback(String, String),
     /// An owner, the name of a profile, and the number of a generation: 0 stands for what is none.
-    Switch(String, String, u64),
+    Switch(String, String, u32),
     /// The same.
-    DeleteGeneration(String, String, u64),
+    DeleteGeneration(String, String, u32),
     /// An owner, the number of a session, and a target: 0 stands for what is no session's.
     AddTemp(String, u64, StorePath),
     /// An owner, and the number of a session.

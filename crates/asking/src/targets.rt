@@ -26,6 +26,13 @@ pub(crate) fn two_parts(
     Ok((first, second))
 }
 
+/// The number of a generation that a text writes; any other text stands for 0, which no profile has.
+fn generation_of(text: &str) -> u32
+    ensures { result ≡ spec.generation_in text.now }
+{
+    generation(text) as u32
+}
+
 /// The request of a kind that names what it is about in the target alone.
 fn by_names(alloc: Global, kind: Kind, target: &str) -> Result<Option<Request>, AllocError>
     ensures { IfOk result (λ found. option_map request_view found ≡ spec.by_names kind target.now) }
@@ -45,12 +52,12 @@ fn by_names(alloc: Global, kind: Kind, target: &str) -> Result<Option<Request>, 
         }
         Kind::Switch => {
             let (owner, name) = two_parts(alloc, target, 2)?;
-            let number = generation(part(target, 4));
+            let number = generation_of(part(target, 4));
             Ok(Some(Request::Switch(owner, name, number)))
         }
         Kind::DeleteGeneration => {
             let (owner, name) = two_parts(alloc, target, 2)?;
-            let number = generation(part(target, 4));
+            let number = generation_of(part(target, 4));
             Ok(Some(Request::DeleteGeneration(owner, name, number)))
         }
         Kind::EndSession => {

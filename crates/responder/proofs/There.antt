@@ -1,5 +1,5 @@
 -- Requests that the store has, and those that it hasn't yet.
-use Rattle.std.proofs.Common.{◌≡◌, Bool, true, false, cond, Option, Some, None, Result, Ok, Err, IfOk, refl, ap, sym, subst}
+use Rattle.std.proofs.Common.{◌≡◌, Bool, true, false, cond, Some, None, Result, Ok, Err, IfOk, refl, ap, sym, subst}
 use Rattle.std.specs.declared.alloc.AllocError.{AllocError}
 use Rattle.policy.specs.Caller.{Caller}
 use Rattle.store.specs.Request.{Request}

@@ -1,7 +1,6 @@
 -- What a reply of the store is answered with.
 use Rattle.std.specs.Prelude.{ℕ, List, codes, None}
 use Rattle.std.specs.Option.{option_map_or}
-use Rattle.policy.specs.declared.kinds.Rule.{Rule}
 use Rattle.store.specs.Reply.{Reply, done, denied, refused, failed, archive_of}
 use Rattle.report.specs.Replies.{reply_text}
 use Rattle.report.specs.Stops.{entry}

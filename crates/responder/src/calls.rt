@@ -1,24 +1,77 @@
 //! Requests that the store has.
 ghost use Rattle.std.specs.Prelude.{◌≡◌, option_map};
+ghost use Rattle.store.specs.Request as asked;
 ghost use Rattle.asking.specs.View as given;
+ghost use Rattle.asking.specs.View.{flag};
 ghost use Rattle.store_calls.specs.View as views;
 ghost use Rattle.responder.specs.Courses.{if_there};
 
 use asking::Request as Asked;
-use bodies::NamedHead;
-use store_calls::Request;
+use bodies::{CollectHead, ImportHead, NamedHead};
+use store_calls::{Imported, Request};
+
+/// An object that is handed in with its path: what the body says of it, and the archive.
+fn imported(head: ImportHead, nar: Vec<u8>) -> Imported
+    ensures { views.import_view result ≡ given.imported head nar.items }
+{
+    let ImportHead {
+        path,
+        nar_hash,
+        references,
+        deriver,
+        ca,
+    } = head;
+    Imported {
+        path,
+        nar_hash,
+        refs: references,
+        deriver,
+        ca,
+        nar,
+    }
+}
+
+/// A collection without a limit.
+fn collect(head: CollectHead) -> Option<Request>
+    ensures { option_map views.request_view result ≡ if_there (asked.collect (flag head.ignore_liveness) head.max_freed) }
+{
+    match head.max_freed {
+        Some(_) => None,
+        None => Some(Request::Collect(head.ignore_liveness.unwrap_or(false))),
+    }
+}
 
 /// The request of the store that is asked, or none where the store has none of this kind yet.
 pub(crate) fn call_of(asked: Asked) -> Option<Request>
     ensures { option_map views.request_view result ≡ if_there (given.request_view asked) }
 {
-    match asked {
-        Asked::AddText(head, contents) => {
+    Some(match asked {
+        Asked::AddText(head, text) => {
             let NamedHead { name, references } = head;
-            Some(Request::AddText(name, references, contents))
+            Request::AddText(name, references, text)
         }
-        Asked::Info(path) => Some(Request::Info(path)),
-        Asked::List => Some(Request::List),
-        _ => None,
-    }
+        Asked::AddSource(head, nar) => {
+            let NamedHead { name, references } = head;
+            Request::AddSource(name, references, nar)
+        }
+        Asked::Import(head, nar) => Request::Import(imported(head, nar)),
+        Asked::Info(path) => Request::Info(path),
+        Asked::RootsOf(path) => Request::ListRootsOf(path),
+        Asked::List => Request::List,
+        Asked::ListRoots => Request::ListRoots,
+        Asked::Live => Request::ListLive,
+        Asked::Dead => Request::ListDead,
+        Asked::Report => Request::Report,
+        Asked::SetPermanent(name, path) => Request::SetPermanent(name, path),
+        Asked::DropPermanent(name) => Request::DropPermanent(name),
+        Asked::SetUserRoot(owner, name, path) => Request::SetUserRoot(owner, name, path),
+        Asked::DropUserRoot(owner, name) => Request::DropUserRoot(owner, name),
+        Asked::SetProfile(owner, name, path) => Request::SetProfile(owner, name, path),
+        Asked::Rollback(owner, name) => Request::Rollback(owner, name),
+        Asked::Switch(owner, name, number) => Request::Switch(owner, name, number),
+        Asked::DeleteGeneration(owner, name, n) => Request::DeleteGeneration(owner, name, n),
+        Asked::ReplaceRuntime(roots) => Request::ReplaceRuntime(roots),
+        Asked::Collect(head) => return collect(head),
+        _ => return None,
+    })
 }

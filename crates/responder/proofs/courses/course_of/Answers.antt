@@ -1,5 +1,4 @@
 use Rattle.std.proofs.Common.{◌≡◌, Some, None, Err, refl, ap, ◌∙◌}
-use Rattle.messages.specs.Fields.{fields_at}
 use Rattle.policy.specs.declared.error.CallerError.TheVariants.{BadCaller}
 use Rattle.report.specs.declared.refusal.Refusal.TheVariants as refusals
 use Rattle.connection.specs.Answers.{body_in}

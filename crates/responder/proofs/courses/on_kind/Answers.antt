@@ -1,4 +1,4 @@
-use Rattle.std.proofs.Common.{◌≡◌, None, refl, inl, inr}
+use Rattle.std.proofs.Common.{None, refl, inl, inr}
 use Rattle.asking.specs.View as given
 use Rattle.report.specs.declared.refusal.Refusal.TheVariants.{BadStorePath, BadBodyHead}
 use Rattle.wire.specs.Responses.{refused}
