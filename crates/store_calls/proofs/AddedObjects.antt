@@ -3,7 +3,7 @@ use Rattle.std.proofs.Common.{◌≡◌, ℕ, List, Bool, true, false, None, Res
 use Rattle.std.specs.Prelude.{if◌then◌else◌}
 use Rattle.std.specs.FinMap as finite
 use Rattle.sqlite_trees.specs.declared.store.Store.{Ghosts}
-use Rattle.sqlite.specs.State.{Survives}
+use Rattle.sqlite.specs.State.{HasCleanDisk, Survives}
 use Rattle.sqlite.specs.Held.{state}
 use Rattle.table_statements.specs.Calls.{IsDurable}
 use Rattle.table_statements.specs.declared.failure.Failure.{Failure}
@@ -28,7 +28,7 @@ use Rattle.store_calls.specs.declared.replies.Answer.{Answer}
 use Rattle.store_calls.specs.declared.replies.Answer.TheVariants.{Path as Placed}
 use Rattle.store_calls.specs.declared.replies.Stop.{Stop}
 use Rattle.store_calls.specs.declared.replies.Stop.TheVariants.{Refused, Failed}
-use Rattle.store_calls.specs.Meets.{Meets, IsMet}
+use Rattle.store_calls.specs.Meets.{MeetsOver, IsMet}
 use Rattle.store_calls.specs.Adding.{Adds, IsAdded}
 use Rattle.store_calls.proofs.Outlined.{has_outlined}
 use Rattle.store_calls.proofs.Untouched.{survives_still, lasts_still}
@@ -104,9 +104,9 @@ met_by_adding g s c q r k new a asked gives effect_is answer_is added = record {
     becomes : (w : World) → Tells g k w → with_object w a ≡ effect s w q
     becomes w t = ap (with_object w) (gives w t.outline).1 ∙ sym (effect_is w)
 
-    by : (w : World) → Tells g k w → (x : Result Answer Stop) → Adds g a x w new → (next : World) × Meets s w c q x next × Tells g new next
+    by : (w : World) → Tells g k w → (x : Result Answer Stop) → Adds g a x w new → (next : World) × MeetsOver (HasCleanDisk (state g new.connection)) s w c q x next × Tells g new next
     by w t (Ok x) h =
-        (effect s w q, ((gives w t.outline).0, h.0 ∙ ap (λ (y : Added). replied.path y.path) (gives w t.outline).1 ∙ sym (answer_is w), refl), subst (λ (v : World). Tells g new v) (becomes w t) h.1)
+        (effect s w q, ((gives w t.outline).0, λ _. h.0 ∙ ap (λ (y : Added). replied.path y.path) (gives w t.outline).1 ∙ sym (answer_is w), refl), subst (λ (v : World). Tells g new v) (becomes w t) h.1)
     by w t (Err (Failed f)) h = (w, refl, h)
     by w t (Err (Refused x)) h = absurd h
 

@@ -53,7 +53,7 @@ met_by_none g s c k ignores o dead bytes a same seen none are sum = record {
   dir = refl;
   world = λ w t.
       let is = t.outline ∙ sym same in
-      (w, (refl, seen ∙ ap₂ freed (are w is) (sum w is), all_left s w dead (are w is) none), t);
+      (w, (refl, λ _. seen ∙ ap₂ freed (are w is) (sum w is), all_left s w dead (are w is) none), t);
   still = λ h. absurd h;
   lasts = λ _. lasts_still (state g k.connection);
   survives = λ w t. survives_still (state g k.connection) _;

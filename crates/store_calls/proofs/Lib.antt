@@ -9,6 +9,8 @@ pub mod AddedObjects
 pub mod Parted
 pub mod Ordered
 pub mod Written
+pub mod FromDisk
+pub mod Clean
 pub mod Fits
 pub mod ProfileChanges
 pub mod RuntimePairs

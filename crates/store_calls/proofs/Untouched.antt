@@ -1,5 +1,5 @@
 -- Tables that a request leaves as they were.
-use Rattle.std.proofs.Common.{◌≡◌, Result, Err, refl, sym, ◌∙◌, inl, inr}
+use Rattle.std.proofs.Common.{◌≡◌, Result, Ok, Err, refl, sym, ◌∙◌, inl, inr}
 use Rattle.sqlite_trees.specs.declared.store.Store.{Ghosts}
 use Rattle.sqlite_trees.specs.Tree.{Trees}
 use Rattle.sqlite.specs.State.{State, Survives}
@@ -17,7 +17,7 @@ use Rattle.store_calls.specs.declared.replies.Stop.{Stop}
 use Rattle.store_calls.specs.declared.replies.Stop.TheVariants.{Refused, Failed}
 use Rattle.store_calls.specs.Tested.{Stops}
 use Rattle.store_calls.specs.Lasting.{Lasts}
-use Rattle.store_calls.specs.Meets.{Reads, IsMet}
+use Rattle.store_calls.specs.Meets.{Meets, MeetsOver, Reads, IsMet}
 
 -- nothing happened
 pub survives_still : (s : State) (P : Trees → Type 0) → Survives s s P
@@ -28,12 +28,17 @@ survives_still s P =
 pub lasts_still : (s : State) → Lasts s s
 lasts_still s clean is_open = inr (refl, λ h. h)
 
+-- an answer that is right is so over any disk
+pub over : (is_clean : Type 0) (s : Settings) (w : World) (c : Caller) (q : Request) (r : Result Answer Stop) (next : World) → Meets s w c q r next → MeetsOver is_clean s w c q r next
+over is_clean s w c q (Ok a) next m = (m.0, λ _. m.1, m.2)
+over is_clean s w c q (Err stop) next m = m
+
 module _ {S : Type 0} (g : Ghosts S) where
   -- what is answered from the outline alone
   pub met_by_reading : (s : Settings) (c : Caller) (q : Request) (r : Result Answer Stop) (k : Kept S) (o : Outline) → o ≡ k.outline → Reads s c o q r → IsMet g s c q r k k
   met_by_reading s c q r k o same h = record {
     dir = refl;
-    world = λ w t. (w, h w (t.outline ∙ sym same), t);
+    world = λ w t. (w, over _ s w c q r w (h w (t.outline ∙ sym same)), t);
     still = λ _. refl;
     lasts = λ _. lasts_still (state g k.connection);
     survives = λ w t. survives_still (state g k.connection) _;

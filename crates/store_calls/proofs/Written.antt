@@ -52,7 +52,7 @@ module _ {S : Type 0} (g : Ghosts S) (s : Settings) (c : Caller) (q : Request) (
           → IsMet g s c q (answered r a) k new
       met_by_writing (Ok u) told failed durable = record {
         dir = dir;
-        world = λ w t. (effect s w q, (passes w t.outline, answers w t.outline, refl), subst (λ (v : World). Tells g new v) (becomes w t.outline) (told w t));
+        world = λ w t. (effect s w q, (passes w t.outline, λ _. answers w t.outline, refl), subst (λ (v : World). Tells g new v) (becomes w t.outline) (told w t));
         still = λ h. absurd h;
         lasts = λ _ clean is_open. inl (durable is_open);
         survives = left_so;

@@ -2,6 +2,7 @@ pub mod View
 pub mod Told
 pub mod Standing
 pub mod Lasting
+pub mod Disk
 pub mod Meets
 pub mod Tested
 pub mod Parts

@@ -1,7 +1,7 @@
 -- What becomes of a request that no rule forbids.
-use Rattle.std.specs.Prelude.{◌≡◌, Some, None, Result, Ok, Err}
+use Rattle.std.specs.Prelude.{◌≡◌, Some, None, Result, Ok, Err, IsTrue}
 use Rattle.sqlite_trees.specs.declared.store.Store.{Ghosts}
-use Rattle.sqlite.specs.State.{Survives}
+use Rattle.sqlite.specs.State.{HasCleanDisk, Survives}
 use Rattle.sqlite.specs.Held.{state}
 use Rattle.policy.specs.Settings.{Settings}
 use Rattle.policy.specs.Caller.{Caller}
@@ -18,12 +18,18 @@ use Rattle.store_calls.specs.declared.replies.Stop.{Stop}
 use Rattle.store_calls.specs.declared.replies.Stop.TheVariants.{Refused, Failed}
 use Rattle.store_calls.specs.View.{answer_view, refusal_view, failure_view}
 use Rattle.store_calls.specs.Lasting.{Lasts}
+use Rattle.store_calls.specs.Disk.{reads_disk}
 
 -- the answer and the effect where no test fails; the refusal of the first that does; and nothing changes where the call failed
 abbrev pub Meets : Settings → World → Caller → Request → Result Answer Stop → World → Type 0
 Meets s w c q (Ok a) new = (refusal s w q ≡ None) × (answer_view a ≡ answer s w c q) × (new ≡ effect s w q)
 Meets s w c q (Err (Refused r)) new = (refusal s w q ≡ Some (refusal_view r)) × (new ≡ w)
 Meets s w c q (Err (Failed f)) new = new ≡ w
+
+-- the same over a disk: an answer from it is the right one if the disk is clean
+abbrev pub MeetsOver : Type 0 → Settings → World → Caller → Request → Result Answer Stop → World → Type 0
+MeetsOver is_clean s w c q (Ok a) new = (refusal s w q ≡ None) × ((IsTrue (reads_disk q) → is_clean) → answer_view a ≡ answer s w c q) × (new ≡ effect s w q)
+MeetsOver is_clean s w c q (Err stop) new = Meets s w c q (Err stop) new
 
 -- a request that changes nothing, in each world of an outline
 abbrev pub Reads : Settings → Caller → Outline → Request → Result Answer Stop → Type 0
@@ -48,10 +54,17 @@ module _ {S : Type 0} (g : Ghosts S) where
   pub record IsMet (s : Settings) (c : Caller) (q : Request) (r : Result Answer Stop) (old new : Kept S) : Type 0 where
     pub dir : new.dir ≡ old.dir
     -- of each world that they told, what becomes of it is told now
-    pub world : (w : World) → Tells g old w → (next : World) × Meets s w c q r next × Tells g new next
+    pub world : (w : World) → Tells g old w → (next : World) × MeetsOver (HasCleanDisk (state g new.connection)) s w c q r next × Tells g new next
     -- a refusal leaves them as they were
     pub still : IsRefused r → new ≡ old
     -- what is done outlives a crash
     pub lasts : IsAnswered r → Lasts (state g old.connection) (state g new.connection)
     pub survives : (w : World) → Tells g old w → Survives (state g old.connection) (state g new.connection)
         (λ db. LeavesWorld old.dir (state g old.connection).now db (effect s w q))
+
+  -- something is read of the disk: the tables tell what they told
+  pub record OnlyReads (old new : Kept S) : Type 0 where
+    pub dir : new.dir ≡ old.dir
+    pub told : (w : World) → Tells g old w → Tells g new w
+    pub lasts : Lasts (state g old.connection) (state g new.connection)
+    pub survives : Survives (state g old.connection) (state g new.connection) (λ _. ⊥)

@@ -8,7 +8,7 @@ use Rattle.table_statements.specs.declared.failure.Failure.{Failure}
 use Rattle.table_statements.specs.declared.failure.Failure.TheVariants.{Memory, Size, Disk}
 use Rattle.store_calls.specs.declared.requests.Imported.{Imported}
 use Rattle.store_calls.specs.declared.requests.Request.{Request}
-use Rattle.store_calls.specs.declared.requests.Request.TheVariants.{AddText, Info as InfoOf, List as ListAll, ListLive, ListDead, ListRoots, ListRootsOf, Report, SetPermanent, DropPermanent, SetUserRoot, DropUserRoot, Rollback, Switch, DeleteGeneration, SetProfile, ReplaceRuntime, AddSource, Import, Collect}
+use Rattle.store_calls.specs.declared.requests.Request.TheVariants.{AddText, Info as InfoOf, Nar, Ls, List as ListAll, ListLive, ListDead, ListRoots, ListRootsOf, Report, SetPermanent, DropPermanent, SetUserRoot, DropUserRoot, Rollback, Switch, DeleteGeneration, SetProfile, ReplaceRuntime, AddSource, Import, Collect}
 use Rattle.store_calls.specs.declared.replies.Info.{Info}
 use Rattle.store_calls.specs.declared.replies.Usage.{Usage}
 use Rattle.store_calls.specs.declared.replies.Answer.{Answer}
@@ -25,6 +25,8 @@ import_view i = record { path = i.path; nar_hash = i.nar_hash; refs = i.refs.ite
 abbrev pub request_view : Request → asked.Request
 request_view (AddText name refs contents) = asked.add_text name refs.items contents.items
 request_view (InfoOf p) = asked.info p
+request_view (Nar p) = asked.nar p
+request_view (Ls p) = asked.ls p
 request_view ListAll = asked.list
 request_view ListLive = asked.list_live
 request_view ListDead = asked.list_dead

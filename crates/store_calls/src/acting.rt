@@ -14,7 +14,7 @@ use crate::requests::Request;
 use crate::runtime::replace_runtime;
 use crate::sources::add_source;
 use crate::user_roots::{drop_user_root, set_user_root};
-use crate::{living, reading, root_listing};
+use crate::{disk, living, reading, root_listing};
 use policy::{Caller, Config};
 use sqlite::Alter;
 use std::alloc::Global;
@@ -34,6 +34,8 @@ pub(crate) fn act<S: Alter>(
     match request {
         Request::AddText(name, refs, text) => add_text(alloc, config, tables, name, refs, text),
         Request::Info(path) => reading::info(alloc, tables.index(), path),
+        Request::Nar(path) => disk::archive(tables, path),
+        Request::Ls(path) => disk::listing(alloc, tables, path),
         Request::List => reading::list(alloc, tables.index()),
         Request::ListLive => living::list_live(alloc, config, tables.index()),
         Request::ListDead => living::list_dead(alloc, config, tables.index()),

@@ -1,12 +1,12 @@
 //! The store: its tables, its settings, and the one way of a call.
 
 ghost use Rattle.std.specs.Prelude.{◌≡◌, ◌≤◌, [], IfOk, vec_capacity, vec_len};
-ghost use Rattle.sqlite.specs.State.{Survives};
+ghost use Rattle.sqlite.specs.State.{HasCleanDisk, Survives};
 ghost use Rattle.sqlite.specs.Held.{state};
 ghost use Rattle.world.specs.World.{World};
 ghost use Rattle.store.specs.Effects.{effect};
-ghost use Rattle.store.specs.Step.{Step};
 ghost use Rattle.tables.specs.Kept.{Tells, LeavesWorld};
+ghost use Rattle.store_calls.specs.Disk.{StepOver};
 ghost use Rattle.store_calls.specs.Lasting.{Lasts};
 ghost use Rattle.store_calls.specs.View.{request_view, reply_view};
 ghost use Rattle.store_calls.specs.Standing.{IsDone, IsStill};
@@ -87,9 +87,9 @@ impl<S: Alter> Store<S> {
     /// rule forbids fails.
     pub fn call(&mut self, caller: &Caller, request: Request) -> Reply
         ensures settings { self.new.settings ≡ self.old.settings }
-        // Of each world that the tables told, a step to one that they tell now.
+        // Of each world that the tables told, a step to one that they tell now; an answer from the disk is right if that is clean.
         ensures step { (w : World) → Tells S.Store self.old.tables w
-            → (next : World) × Step self.old.settings w caller.now (request_view request) (reply_view result) next × Tells S.Store self.new.tables next }
+            → (next : World) × StepOver (HasCleanDisk (state S.Store self.new.tables.connection)) self.old.settings w caller.now (request_view request) (reply_view result) next × Tells S.Store self.new.tables next }
         ensures still { IsStill (reply_view result) → self.new ≡ self.old }
         ensures lasts { IsDone (reply_view result) → Lasts (state S.Store self.old.tables.connection) (state S.Store self.new.tables.connection) }
         // At any exit a crash leaves what it could leave before, or the tables of the request that is done.

@@ -7,6 +7,7 @@ mod archives;
 mod calling;
 mod collecting;
 mod derivations;
+mod disk;
 mod examining;
 mod generations;
 mod imported;

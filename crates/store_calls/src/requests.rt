@@ -26,6 +26,10 @@ pub enum Request {
     AddText(Name, Vec<StorePath>, Vec<u8>),
     /// The record of an object.
     Info(StorePath),
+    /// The archive of an object.
+    Nar(StorePath),
+    /// The listing of an object's archive.
+    Ls(StorePath),
     /// All paths.
     List,
     /// The paths that live.

@@ -15,6 +15,8 @@ pub(crate) fn operation(request: &Request) -> Op<'_>
     match request {
         Request::AddText(_, _, _)
         | Request::Info(_)
+        | Request::Nar(_)
+        | Request::Ls(_)
         | Request::List
         | Request::ListLive
         | Request::ListDead

@@ -1,15 +1,15 @@
 -- What becomes of a store of which something is asked.
 use Rattle.std.specs.Prelude.{◌≡◌}
 use Rattle.sqlite_trees.specs.declared.store.Store.{Ghosts}
-use Rattle.sqlite.specs.State.{Survives}
+use Rattle.sqlite.specs.State.{HasCleanDisk, Survives}
 use Rattle.sqlite.specs.Held.{state}
 use Rattle.policy.specs.Caller.{Caller}
 use Rattle.world.specs.World.{World}
 use Rattle.store.specs.Request.{Request}
 use Rattle.store.specs.Reply.{Reply}
 use Rattle.store.specs.Effects.{effect}
-use Rattle.store.specs.Step.{Step}
 use Rattle.tables.specs.Kept.{Tells, LeavesWorld}
+use Rattle.store_calls.specs.Disk.{StepOver}
 use Rattle.store_calls.specs.Lasting.{Lasts}
 use Rattle.store_calls.specs.Standing.{Standing, IsDone, IsStill}
 
@@ -17,8 +17,8 @@ module _ {S : Type 0} (g : Ghosts S) where
   -- a caller's request had this reply
   pub record Calls (c : Caller) (q : Request) (reply : Reply) (old new : Standing S) : Type 0 where
     pub settings : new.settings ≡ old.settings
-    -- of each world that the tables told, a step to one that they tell now
-    pub step : (w : World) → Tells g old.tables w → (next : World) × Step old.settings w c q reply next × Tells g new.tables next
+    -- of each world that the tables told, a step to one that they tell now; an answer from the disk is right if that is clean
+    pub step : (w : World) → Tells g old.tables w → (next : World) × StepOver (HasCleanDisk (state g new.tables.connection)) old.settings w c q reply next × Tells g new.tables next
     -- a denial or a refusal leaves the store as it was
     pub still : IsStill reply → new ≡ old
     -- what is done outlives a crash

@@ -3,6 +3,8 @@ use Rattle.std.proofs.Common.{◌≡◌, ◌⊎◌, ℕ, true, false, List, Opti
 use Rattle.std.specs.Prelude.{MatchOption, is_some}
 use Rattle.std.proofs.KnownBytes.{Keeps-refl}
 use Rattle.sqlite_trees.specs.declared.store.Store.{Ghosts}
+use Rattle.sqlite.specs.State.{HasCleanDisk}
+use Rattle.sqlite.specs.Held.{Held, state}
 use Rattle.world.specs.World.{World}
 use Rattle.tables.specs.Kept.{Tells}
 use Rattle.policy.specs.Settings.{Settings}
@@ -15,6 +17,7 @@ use Rattle.store.specs.Reply.{Reply}
 use Rattle.store_calls.specs.declared.requests.Request.{Request as Made}
 use Rattle.store_calls.specs.Standing.{Standing}
 use Rattle.store_calls.specs.View.{request_view}
+use Rattle.store_calls.proofs.Clean.{step_clean}
 use Rattle.store_commands.specs.Serving.{Calls}
 use Rattle.store_commands.specs.Telling.{IsTold}
 use Rattle.tool.specs.declared.stops.Failure.TheVariants.{Memory, File, Input, Output}
@@ -27,12 +30,13 @@ use Rattle.command_line.specs.Asked.{Asked}
 use Rattle.tool.specs.Requests.{Ask, IsAsked, IsAskedOver, asks, asks_of, caller_by}
 use Rattle.tool.specs.Stream.{Says}
 
--- what was served is a step of each world that the tables told
-pub served_step : {S : Type 0} (g : Ghosts S) (c : Caller) (q : Request) (old new : Standing S) (out out' err err' : Option (List ℕ)) (status : ℕ)
+-- what was served is a step of each world that the tables told, where the disk is clean
+pub served_step : {S : Type 0} (g : Ghosts S) → ((h : Held S) → HasCleanDisk (state g h)) → (c : Caller) (q : Request) (old new : Standing S) (out out' err err' : Option (List ℕ)) (status : ℕ)
     → (reply : Reply) × Calls g c q reply old new × IsTold old.settings.store_dir reply out out' err err' status
     → (w : World) → Tells g old.tables w → AnswersStep old.settings w c q out out' err err' status
-served_step g c q old new out out' err err' status served w told =
-    let step = served.1.step w told in (served.0, step.0, step.1, served.2)
+served_step g clean c q old new out out' err err' status served w told =
+    let step = served.1.step w told in
+    (served.0, step.0, step_clean (HasCleanDisk (state g new.tables.connection)) old.settings w c q served.0 step.0 (λ _. clean new.tables.connection) step.1, served.2)
 
 module _ (s : Settings) (w : World) (c : Caller) (ask : List ℕ → Result Request Refusal) where
   -- the request that was made does what is asked

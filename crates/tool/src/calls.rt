@@ -2,6 +2,8 @@
 ghost use Rattle.std.specs.Prelude.{◌≡◌, ◌⊎◌, IfOk, IfErr, IsSome, Some, None, is_some, option_map};
 ghost use Rattle.command_line.specs.Asked.{asked_view, optional_text};
 ghost use Rattle.policy.specs.Toml.{config_of};
+ghost use Rattle.sqlite.specs.State.{HasCleanDisk};
+ghost use Rattle.sqlite.specs.Held.{Held, state};
 ghost use Rattle.streams.specs.Reads.{TakesAtMost};
 ghost use Rattle.world.specs.World.{World};
 ghost use Rattle.tables.specs.Kept.{Tells};
@@ -52,7 +54,7 @@ fn caller_of(alloc: Global, user: Option<&str>, group: Option<&str>) -> Result<C
     }
 }
 
-/// Asks a store over these tables.
+/// Asks a store over these tables. Their disk gives back what it was given, as memory does.
 fn call_over<S: Alter + Drop, R: Read, W: Write, E: Write>(
     alloc: Global,
     config: Config,
@@ -65,6 +67,7 @@ fn call_over<S: Alter + Drop, R: Read, W: Write, E: Write>(
 ) -> u8
     requires asked { IsSome (asks (asked_view task.now)) }
     requires dir { tables.dir ≡ config.store_dir }
+    requires clean { (h : Held S) → HasCleanDisk (state S.Store h) }
     ensures answer { (w : World) → Tells S.Store tables w → (ask : Ask) → asks (asked_view task.now) ≡ Some ask
         → AnswersIn config w caller.now (ask config.store_dir caller.now) (R.remaining input.old) (W.contents output.old) (W.contents output.new) (E.contents errors.old) (E.contents errors.new) result }
     ensures reads { TakesAtMost max_front (R.remaining input.old) (R.remaining input.new) }

@@ -15,6 +15,16 @@ returns-in-Info g c =
     subst (λ (q : Request). IsMet g.S.Store c.args.config.now c.args.caller.now (request_view q) c.info.result c.args.tables.now c.args.tables.now) (sym c.in-Info.is)
     (met_by_reading g.S.Store c.args.config.now c.args.caller.now _ c.info.result c.args.tables.now c.index.result.now c.index.ensures (c.info.ensures c.args.config.now c.args.caller.now))
 
+pub returns-in-Nar : goal.returns-in-Nar
+returns-in-Nar g c =
+    subst (λ (q : Request). IsMet g.S.Store c.args.config.now c.args.caller.now (request_view q) c.archive.result c.args.tables.now c.archive.new.tables) (sym c.in-Nar.is)
+    (c.archive.ensures c.args.config.now c.args.caller.now)
+
+pub returns-in-Ls : goal.returns-in-Ls
+returns-in-Ls g c =
+    subst (λ (q : Request). IsMet g.S.Store c.args.config.now c.args.caller.now (request_view q) c.listing.result c.args.tables.now c.listing.new.tables) (sym c.in-Ls.is)
+    (c.listing.ensures c.args.config.now c.args.caller.now)
+
 pub returns-in-List : goal.returns-in-List
 returns-in-List g c =
     subst (λ (q : Request). IsMet g.S.Store c.args.config.now c.args.caller.now (request_view q) c.list.result c.args.tables.now c.args.tables.now) (sym c.in-List.is)

@@ -16,7 +16,7 @@ returns-in-Ok-clause-answer g c = λ w told ask is.
     let err = g.E.Write.contents c.args.errors.now in
     let err' = g.E.Write.contents c.serve-status.new.errors in
     let made = subst (λ (d : List ℕ). IsAskedOver (ask d c.args.caller.now) known (Ok c.in-Ok.request)) c.store_dir.ensures (c.in-Ok.ensures.asked ask is) in
-    let stepped = served_step g.S.Store c.args.caller.now (request_view c.in-Ok.request) c.new-store.result c.serve-status.new.store out out' err err' c.serve-status.result c.serve-status.ensures in
+    let stepped = served_step g.S.Store c.requires.clean c.args.caller.now (request_view c.in-Ok.request) c.new-store.result c.serve-status.new.store out out' err err' c.serve-status.result c.serve-status.ensures in
     asked c.args.config w c.args.caller.now (ask c.args.config.store_dir c.args.caller.now) known c.in-Ok.request out out' err err' c.serve-status.result made
     (subst (λ (st : Standing g.row.S.Denot). (v : World) → Tells g.S.Store st.tables v → AnswersStep st.settings v c.args.caller.now (request_view c.in-Ok.request) out out' err err' c.serve-status.result)
     c.new-store.ensures stepped w told)

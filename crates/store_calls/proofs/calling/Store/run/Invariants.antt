@@ -1,9 +1,11 @@
 use Rattle.std.proofs.Common.{◌≡◌, ◌+◌, ◌≤◌, length, map}
 use Rattle.std.specs.Vec.{vec_len, vec_capacity}
+use Rattle.sqlite.specs.State.{HasCleanDisk}
+use Rattle.sqlite.specs.Held.{state}
 use Rattle.world.specs.World.{World}
 use Rattle.tables.specs.Kept.{Tells}
 use Rattle.store_calls.specs.View.{call_view, reply_view}
-use Rattle.store_calls.proofs.Runs.{Continues}
+use Rattle.store_calls.proofs.Runs.{HasRun}
 use Rattle.store_calls.proofs.calling.Store.run.Given as goal
 
 -- what is made, and what is left
@@ -12,5 +14,6 @@ invariant-loop-asked g l = record {
   settings : l.self.settings ≡ l.fn.self.settings;
   room : vec_len l.replies + length l.asked-iterator.rest.items ≤ vec_capacity l.replies;
   so_far : (w : World) → Tells g.S.Store l.fn.self.tables w → (mid : World)
-      × Continues l.fn.self.settings (map call_view l.fn.calls.items) w mid (map call_view l.asked-iterator.rest.items) (map reply_view l.replies.items) × Tells g.S.Store l.self.tables mid;
+      × HasRun (HasCleanDisk (state g.S.Store l.self.tables.connection)) l.fn.self.settings (map call_view l.fn.calls.items) (map call_view l.asked-iterator.rest.items) (map reply_view l.replies.items) w mid
+      × Tells g.S.Store l.self.tables mid;
 }
