@@ -1,0 +1,3 @@
+mod Peers
+mod Sofar
+pub mod Seen

@@ -1,0 +1,19 @@
+-- The peers of a listener that tells of them: what they send, and what was written to them.
+use Rattle.std.specs.Prelude.{◌≡◌, ⊤, ℕ, List, [], ◌++◌, map, Option, Some, None}
+
+-- the next peers were taken, of whom this is known of what they send
+abbrev pub Takes : Option (List (List ℕ)) → Option (List (List ℕ)) → List (Option (List ℕ)) → Type 0
+Takes None new inputs = ⊤
+Takes (Some all) None inputs = ⊥
+Takes (Some all) (Some rest) inputs = (sent : List (List ℕ)) × (inputs ≡ map Some sent) × (all ≡ sent ++ rest)
+
+-- further connections were closed, of which this is known of what was written on them
+abbrev pub Leaves : Option (List (List ℕ)) → Option (List (List ℕ)) → List (Option (List ℕ)) → Type 0
+Leaves None new outputs = ⊤
+Leaves (Some all) None outputs = ⊥
+Leaves (Some all) (Some more) outputs = (written : List (List ℕ)) × (outputs ≡ map Some written) × (more ≡ all ++ written)
+
+-- nothing was written yet
+abbrev pub IsFresh : Option (List ℕ) → Type 0
+IsFresh None = ⊤
+IsFresh (Some bytes) = bytes ≡ []
