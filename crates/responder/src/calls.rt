@@ -56,6 +56,8 @@ pub(crate) fn call_of(asked: Asked) -> Option<Request>
         }
         Asked::Import(head, nar) => Request::Import(imported(head, nar)),
         Asked::Info(path) => Request::Info(path),
+        Asked::Nar(path) => Request::Nar(path),
+        Asked::Ls(path) => Request::Ls(path),
         Asked::RootsOf(path) => Request::ListRootsOf(path),
         Asked::List => Request::List,
         Asked::ListRoots => Request::ListRoots,
