@@ -1,29 +1,21 @@
 -- That what each read shows of our tables can be read, and rises.
-use Rattle.std.proofs.Common.{ℕ, List, [], ◌∷◌, codes, IsTrue}
+use Rattle.std.proofs.Common.{List, [], ◌∷◌, codes, IsTrue}
 use Rattle.std.specs.Prelude.{string_bytes}
 use Rattle.std.specs.Ordering.{is_lt}
 use Rattle.sqlite_value.specs.Order.{Row, column, bytes}
-use Rattle.sqlite_sql.specs.Term.{Term}
-use Rattle.sqlite_schema.specs.declared.command.Command.TheVariants.{Select}
-use Rattle.sqlite_rules.specs.Edit.{id_in}
 use Rattle.sqlite.specs.State.{State}
 use Rattle.table_statements.specs.Queries.{HasBegunWith}
-use Rattle.sqlite.specs.Effect.{Database}
-use Rattle.table_forms.specs.Forms.{meta, object, refs, outs, permanent, user_root, profile, generation, runtime}
-use Rattle.table_statements.specs.Contents.{texts_cmp, pair_cmp, triple_cmp, is_pair, pair_of, is_triple, is_profile, is_generation, generation_of, is_object, rows_named}
-use Rattle.table_statements.specs.Texts.{HasReadableRows}
-use Rattle.table_statements.specs.Calls.{IsOurs, IsReady}
-use Rattle.table_entries.specs.Entries.{IsPairRow, IsTripleRow, IsProfileRow, IsGenerationRow, IsObjectRow, IsListedRow, setting_of, ShowsSetting, stored_of, ShowsObject, listed_of, ShowsListed, reference_of, ShowsReference, output_of, ShowsOutput, permanent_of, ShowsPermanentRoot, user_root_of, ShowsUserRoot, current_of, ShowsProfile, generation_in, ShowsGeneration, runtime_of, ShowsRuntimeRoot}
+use Rattle.table_forms.specs.Forms.{object}
+use Rattle.table_statements.specs.Contents.{texts_cmp, is_object}
+use Rattle.table_statements.specs.Calls.{IsReady}
+use Rattle.table_entries.specs.Entries.{IsListedRow, listed_of, ShowsListed}
 use Rattle.table_statements.specs.Reading.{IsAmiss, IsTextRow, ShowsText}
-use Rattle.table_statements.proofs.Orders.{texts_antisymmetric, pair_antisymmetric, triple_antisymmetric}
-use Rattle.table_statements.proofs.Truths.{and_so}
+use Rattle.table_statements.proofs.Orders.{texts_antisymmetric}
 use Rattle.table_entries.proofs.Typed.{base_is}
-use Rattle.table_entries.proofs.ReadableMaps as maps
-use Rattle.table_statements.proofs.Statements.{Compiles}
-use Rattle.table_statements.proofs.Rising.{AreKept, shown_well}
-use Rattle.table_entries.proofs.Kept.{meta_kept, object_kept, refs_kept, outs_kept, permanent_kept, user_root_kept, profile_kept, generation_kept, runtime_kept}
-use Rattle.table_entries.proofs.KeyOrders.{by_text, by_pair, by_triple}
-use Rattle.table_entries.proofs.Legible.{pair_row, triple_row, profile_row, generation_row, object_row, listed_row, path_row}
+use Rattle.table_statements.proofs.Rising.{shown_well}
+use Rattle.table_entries.proofs.Kept.{object_kept}
+use Rattle.table_entries.proofs.KeyOrders.{by_text}
+use Rattle.table_entries.proofs.Legible.{listed_row, path_row}
 use Rattle.table_entries.proofs.ObjectLemmas as objects
 use Rattle.table_entries.proofs.ListingLemmas as listing
 

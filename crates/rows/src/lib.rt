@@ -1,4 +1,4 @@
-//! The nine tables, row by row.
+//! The tables, row by row.
 #![tactic(auto)]
 
 pub mod generations;
@@ -6,7 +6,9 @@ pub mod meta;
 pub mod objects;
 pub mod outputs;
 pub mod permanent;
+pub mod pieces;
 pub mod profiles;
 pub mod references;
 pub mod runtime;
+pub mod temp_roots;
 pub mod user_roots;

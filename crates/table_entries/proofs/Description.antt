@@ -1,4 +1,4 @@
--- A table that is described once: its form, where it stands among ours, and the map or set that its rows make. What its statements do, and why they fail, is proved over the description.
+-- A table that is described once: its form, where it stands among ours, and the map or set that its rows make. What its statements do, and why they fail, is proved over the description. Of one of the nine, that all nine stand says enough; of a further table it has to be known beside.
 use Rattle.std.proofs.Common.{◌≡◌, ◌⊎◌, inl, inr, ◌/◌, ◌+◌, ◌<◌, ℕ, ℤ, List, [], ◌∷◌, true, false, not, Bool, Some, None, Option, Ok, Err, Result, IfOk, Vec, Global, map, length, drop, refl, sym, ap, subst, ◌∙◌, IsTrue}
 use Rattle.std.specs.declared.cmp.Ordering.{Ordering}
 use Rattle.std.specs.Prelude.{IsSome}
@@ -29,9 +29,9 @@ use Rattle.sqlite.specs.State.{State, ExecutesInside, FailsToQuery, IsUnchanged}
 use Rattle.table_forms.specs.Forms.{strict, is_our_name}
 use Rattle.table_forms.specs.Standing.{IsKnown, IsNamed, Stands, HasTables, tree_named}
 use Rattle.table_statements.specs.Contents.{Contents, contents_of, map_of, rows_named}
-use Rattle.table_statements.specs.Texts.{IsReadable}
+use Rattle.table_statements.specs.Texts.{IsReadable, AreReadableRows}
 use Rattle.table_statements.specs.declared.failure.Failure.{Failure}
-use Rattle.table_statements.specs.Calls.{IsKeyed, IsOurs, IsReady, IsUnderWay, HasSettledTables, Changes}
+use Rattle.table_statements.specs.Calls.{IsKeyed, IsOurs, IsReady, IsUnderWay, Changes}
 use Rattle.table_statements.specs.Queries.{IsSelect, HasBegunWith}
 use Rattle.table_statements.specs.Reading.{IsAmiss}
 use Rattle.table_statements.specs.Failures.{failure_of, FailsWith, IsTooLarge, HasNoRowidLeft}
@@ -43,7 +43,7 @@ use Rattle.table_statements.proofs.Entries.{put_map}
 use Rattle.table_statements.proofs.ReadableWrites.{put_readable}
 use Rattle.table_statements.proofs.Scans.{IsScan, shows}
 use Rattle.table_statements.proofs.Statements.{Compiles, Selects, reads_part, deletes_part, whole_map}
-use Rattle.table_statements.proofs.ReadFailures.{read_fails}
+use Rattle.table_statements.proofs.ReadFailures.{standing_read_fails}
 use Rattle.table_statements.proofs.Rising.{AreKept, shown_well}
 use Rattle.table_statements.proofs.Additions.{IsNewKey, insert_fails}
 use Rattle.table_statements.proofs.Removals.{delete_fails}
@@ -62,17 +62,23 @@ pub record Description (K X : Type 0) : Type 1 where
   pub same : finite.IsAntisymmetric order
   pub kind : Row → Bool
   pub entry : Row → K × X
+  -- which schemas have it, and what has to be known of a database beside that it is ours
+  pub IsIn : Schema → Type 0
+  pub IsOwn : Database → Type 0
+  pub within : (db : Database) → IsOurs db → IsOwn db → IsIn db.schema
   -- which of the maps it is
   pub of : Contents → finite.FinMap order X
   pub put : Contents → finite.FinMap order X → Contents
-  pub held : (db : Database) → of (contents_of db) ≡ map_of order kind entry (rows_named db name)
+  pub held : (db : Database) → IsIn db.schema → of (contents_of db) ≡ map_of order kind entry (rows_named db name)
   -- it is one of ours
   pub named : is_our_name name ≡ true
-  pub stands : (s : Schema) → HasTables s → Stands s (strict name columns key)
-  pub keyed : (db : Database) → IsOurs db → IsKeyed (rows_named db name)
-  pub kept : (db : Database) → IsOurs db → AreKept kind (λ r. (entry r).0) (length columns) (rows_named db name)
-  -- what our tables hold after a write to it
-  pub written : (old new : State) (rows : List Row) → HasTables old.now.schema → SetsRows old new (tree_named old.now.schema name) rows → (m : finite.FinMap order X) → map_of order kind entry rows ≡ m → contents_of new.now ≡ put (contents_of old.now) m
+  pub stands : (s : Schema) → IsIn s → Stands s (strict name columns key)
+  pub keyed : (db : Database) → IsOurs db → IsOwn db → IsKeyed (rows_named db name)
+  pub kept : (db : Database) → IsOurs db → IsOwn db → AreKept kind (λ r. (entry r).0) (length columns) (rows_named db name)
+  -- what our tables hold after a write to it, and that it is still there
+  pub written : (old new : State) (rows : List Row) → HasTables old.now.schema → IsIn old.now.schema → SetsRows old new (tree_named old.now.schema name) rows → (m : finite.FinMap order X) → map_of order kind entry rows ≡ m → contents_of new.now ≡ put (contents_of old.now) m
+  pub still : (old new : State) (rows : List Row) → Stands old.now.schema (strict name columns key) → SetsRows old new (tree_named old.now.schema name) rows → (IsKeyed (rows_named old.now name) → IsKeyed rows)
+      → (AreReadableRows (strict name columns key) (rows_named old.now name) → AreReadableRows (strict name columns key) rows) → IsOwn old.now → IsOwn new.now
 
 abbrev pub form : {K X : Type 0} → Description K X → Table
 form d = strict d.name d.columns d.key
@@ -92,9 +98,13 @@ pub record Addition {K X : Type 0} (d : Description K X) (text : List ℕ) (para
   pub present : (id : ℤ) → are_present None 0 d.columns (Int id ∷ values) ≡ true
   pub kind : (id : ℤ) → d.kind (Int id ∷ values) ≡ true
   pub entry : (id : ℤ) → d.entry (Int id ∷ values) ≡ (k, x)
-  pub fresh : (db : Database) → IsOurs db → finite.get (d.of (contents_of db)) k ≡ None → IsNewKey d.name d.key db values
+  pub fresh : (db : Database) → IsOurs db → d.IsOwn db → finite.get (d.of (contents_of db)) k ≡ None → IsNewKey d.name d.key db values
 
-module _ {K X : Type 0} (d : Description K X) (old new : State) (under : IsUnderWay old) {text : List ℕ} {params values : Row} {k : K} {x : X} (a : Addition d text params values k x) where
+module _ {K X : Type 0} (d : Description K X) (old new : State) (under : IsUnderWay old) (own : IsTrue old.is_open → d.IsOwn old.now) where
+  abbrev in_schema : IsTrue old.is_open → d.IsIn old.now.schema
+  in_schema up = d.within old.now (under.ours up) (own up)
+
+module _ {K X : Type 0} (d : Description K X) (old new : State) (under : IsUnderWay old) (own : IsTrue old.is_open → d.IsOwn old.now) {text : List ℕ} {params values : Row} {k : K} {x : X} (a : Addition d text params values k x) where
   abbrev rows : List Row
   rows = rows_named old.now d.name
 
@@ -104,7 +114,7 @@ module _ {K X : Type 0} (d : Description K X) (old new : State) (under : IsUnder
   -- its rowid is new, and it comes to the rows that were there
   puts : (count : ℕ) → ExecutesInside 0 text params old new (Ok count) → (is_taken rows row ≡ false) × SetsRows old new (tree_named old.now.schema d.name) (put_row row rows)
   puts count h =
-      let stands = d.stands old.now.schema (under.ours h.1.was_open).has in
+      let stands = d.stands old.now.schema (in_schema d old new under own h.1.was_open) in
       let tree = tree_named old.now.schema d.name in
       let own : Table = record (form d) { tree = tree } in
       let m = means_command old.now.schema text _ (a.is old.now.schema stands.at tree stands.known.named) in
@@ -122,31 +132,33 @@ module _ {K X : Type 0} (d : Description K X) (old new : State) (under : IsUnder
   pub adds : (count : ℕ) → AllByRecursion IsReadable values → ExecutesInside 0 text params old new (Ok count) → (finite.get (d.of (contents_of old.now)) k ≡ None) × Added
   adds count texts h =
       let ours = under.ours h.1.was_open in
-      let stands = d.stands old.now.schema ours.has in
+      let mine = own h.1.was_open in
+      let here = d.within old.now ours mine in
+      let stands = d.stands old.now.schema here in
       let it = puts count h in
       let e = a.entry (next_rowid rows) in
       let keyed : IsKeyed rows → IsKeyed (put_row row rows) = keyed_put row rows it.0 refl in
       let readable = put_readable (form d) row rows (tt, texts) in
       let after : IsOurs new.now = ours_kept (form d) old new (put_row row rows) stands it.1 ours keyed readable in
-      let once : HasOneRowEach d.total d.same d.kind d.entry (put_row row rows) = subst (HasOneRowEach d.total d.same d.kind d.entry) (own_rows (form d) old new (put_row row rows) stands it.1) (d.kept new.now after).once in
+      let once : HasOneRowEach d.total d.same d.kind d.entry (put_row row rows) = subst (HasOneRowEach d.total d.same d.kind d.entry) (own_rows (form d) old new (put_row row rows) stands it.1) (d.kept new.now after (d.still old new (put_row row rows) stands it.1 keyed readable mine)).once in
       let lacks : finite.get (map_of d.order d.kind d.entry rows) (d.entry row).0 ≡ None = was_none d.total d.same d.kind d.entry row rows it.0 (a.kind _) once in
       let more : map_of d.order d.kind d.entry (put_row row rows) ≡ finite.insert (map_of d.order d.kind d.entry rows) k x =
       put_map d.total d.same d.kind d.entry row rows it.0 (a.kind _) lacks ∙ ap (λ (p : K × X). finite.insert (map_of d.order d.kind d.entry rows) p.0 p.1) e in
-      let held = d.held old.now in (
+      let held = d.held old.now here in (
         subst (λ m. finite.get m k ≡ None) (sym held) (subst (λ (p : K × X). finite.get (map_of d.order d.kind d.entry rows) p.0 ≡ None) e lacks),
-        changed (form d) old new (put_row row rows) stands it.1 _ ours keyed readable d.named (d.written old new (put_row row rows) ours.has it.1 _ (more ∙ ap (λ m. finite.insert m k x) (sym held))),
+        changed (form d) old new (put_row row rows) stands it.1 _ ours keyed readable d.named (d.written old new (put_row row rows) ours.has here it.1 _ (more ∙ ap (λ m. finite.insert m k x) (sym held))),
       )
 
   -- why it isn't added: beside the store, for a limit on steps, for want of a rowid, or since its key is there
   pub adds_not : (e : Error) → ExecutesInside 0 text params old new (Err e)
       → FailsWith old new (IsTooLarge old.now (form d) values ⊎ (old.is_open ≡ false)) (IsSome old.step_limit ⊎ (HasNoRowidLeft old.now (form d) ⊎ IsSome (finite.get (d.of (contents_of old.now)) k))) (failure_of e)
   adds_not e h =
-      insert_fails d.name d.columns d.key old new under (d.stands old.now.schema) text a.count params a.terms a.width values a.given (λ s at tree known. a.is s at tree known.named) a.accepts a.made a.typed a.present
-      (IsSome (finite.get (d.of (contents_of old.now)) k)) (λ up. free (under.ours up) (finite.get (d.of (contents_of old.now)) k) refl) e h
+      insert_fails d.name d.columns d.key old new under (λ up. d.stands old.now.schema (in_schema d old new under own up)) text a.count params a.terms a.width values a.given (λ s at tree known. a.is s at tree known.named) a.accepts a.made a.typed a.present
+      (IsSome (finite.get (d.of (contents_of old.now)) k)) (λ up. free (under.ours up) (own up) (finite.get (d.of (contents_of old.now)) k) refl) e h
     where
-      free : IsOurs old.now → (o : Option X) → finite.get (d.of (contents_of old.now)) k ≡ o → IsNewKey d.name d.key old.now values ⊎ IsSome (finite.get (d.of (contents_of old.now)) k)
-      free ours None none = inl (a.fresh old.now ours none)
-      free ours (Some v) there = inr (subst IsSome (sym there) refl)
+      free : IsOurs old.now → d.IsOwn old.now → (o : Option X) → finite.get (d.of (contents_of old.now)) k ≡ o → IsNewKey d.name d.key old.now values ⊎ IsSome (finite.get (d.of (contents_of old.now)) k)
+      free ours mine None none = inl (a.fresh old.now ours mine none)
+      free ours mine (Some v) there = inr (subst IsSome (sym there) refl)
 
 -- ---- those of a part of the keys gone
 
@@ -159,15 +171,18 @@ pub record Removal {K X : Type 0} (d : Description K X) (text : List ℕ) (param
   pub said : (r : Row) → d.kind r ≡ true → list_all (holds (params ∷ r ∷ [])) filter ≡ test (d.entry r).0
   pub accepts : (s : Schema) (at tree : ℕ) → IsKnown s d.name at (record (form d) { tree = tree }) → accepts_program s [] (rowids_where tree filter) params ≡ true
 
-module _ {K X : Type 0} (d : Description K X) (old new : State) (under : IsUnderWay old) {text : List ℕ} {params : Row} {test : K → Bool} (r : Removal d text params test) where
+module _ {K X : Type 0} (d : Description K X) (old new : State) (under : IsUnderWay old) (own : IsTrue old.is_open → d.IsOwn old.now) {text : List ℕ} {params : Row} {test : K → Bool} (r : Removal d text params test) where
   pub removes : (count : ℕ) → ExecutesInside 0 text params old new (Ok count) → Changes old new (λ c. d.put c (finite.retain_keys (d.of c) (λ k. not (test k))))
   removes count h =
       let ours = under.ours h.1.was_open in
-      let it = deletes_part d.name d.columns d.key d.total d.same d.kind d.entry old new (d.stands old.now.schema) under text params r.filter test r.said r.is count h (d.keyed old.now ours) in
-      changed (form d) old new it.0 (d.stands old.now.schema ours.has) it.1 _ ours it.2 it.3 d.named (d.written old new it.0 ours.has it.1 _ (it.4 ∙ ap (λ m. finite.retain_keys m (λ k. not (test k))) (sym (d.held old.now))))
+      let mine = own h.1.was_open in
+      let here = d.within old.now ours mine in
+      let stands = d.stands old.now.schema here in
+      let it = deletes_part d.name d.columns d.key d.total d.same d.kind d.entry old new (λ _. stands) under text params r.filter test r.said r.is count h (d.keyed old.now ours mine) in
+      changed (form d) old new it.0 stands it.1 _ ours it.2 it.3 d.named (d.written old new it.0 ours.has here it.1 _ (it.4 ∙ ap (λ m. finite.retain_keys m (λ k. not (test k))) (sym (d.held old.now here))))
 
   pub removes_not : (e : Error) → ExecutesInside 0 text params old new (Err e) → FailsWith old new (old.is_open ≡ false) (IsSome old.step_limit) (failure_of e)
-  removes_not e h = delete_fails d.name d.columns d.key old new under (d.stands old.now.schema) text r.count params r.filter r.given r.is r.accepts e h
+  removes_not e h = delete_fails d.name d.columns d.key old new under (λ up. d.stands old.now.schema (in_schema d old new under own up)) text r.count params r.filter r.given r.is r.accepts e h
 
 -- ---- reading
 
@@ -192,25 +207,29 @@ pub record Selection {K X T : Type 0} (d : Description K X) {ShowsItem : Row →
 
 module _ {K X T : Type 0} (d : Description K X) {ShowsItem : Row → T → Type 0} {item : T → K × X} {IsLegible : Row → Type 0} (q : Reading d ShowsItem item IsLegible) (old new : State) {text : List ℕ} {params : Row} {test : K → Bool} (s : Selection d q text params test) where
   -- the entries of this part of the keys, in order
-  pub selects : (IsTrue old.is_open → IsReady old) → (r : Result (Vec T Global) Failure) → Selects ShowsItem old new text params r → IfOk r (λ all. AllAdjacentBelow (λ x y. true ≡ is_lt (d.order (item x).0 (item y).0)) all.items (length all.items))
+  pub selects : (IsTrue old.is_open → IsReady old) → (IsTrue old.is_open → d.IsOwn old.now) → (r : Result (Vec T Global) Failure) → Selects ShowsItem old new text params r → IfOk r (λ all. AllAdjacentBelow (λ x y. true ≡ is_lt (d.order (item x).0 (item y).0)) all.items (length all.items))
       → IfOk r (λ all. IsUnchanged old new × (map item all.items ≡ finite.entries (finite.retain_keys (d.of (contents_of old.now)) test)))
-  selects ready r got up =
-      subst (λ m. IfOk r (λ all. IsUnchanged old new × (map item all.items ≡ finite.entries (finite.retain_keys m test)))) (sym (d.held old.now))
-      (reads_part d.name d.columns d.key d.total d.same d.kind d.entry old new (d.stands old.now.schema) ready text params q.names (q.query s.filter) (q.scan s.filter) test
-      (λ tree row is. ap (list_all (holds (params ∷ row ∷ []))) (q.filters s.filter tree) ∙ s.said row is) ShowsItem item (q.fits params s.filter) s.is r got up)
+  selects ready own (Err f) got up = tt
+  selects ready own (Ok all) got up =
+      let is_open = got.1.1.1.0.was_open in
+      let here = d.within old.now (ready is_open).ours (own is_open) in
+      subst (λ m. IsUnchanged old new × (map item all.items ≡ finite.entries (finite.retain_keys m test))) (sym (d.held old.now here))
+      (reads_part d.name d.columns d.key d.total d.same d.kind d.entry old new (λ _. d.stands old.now.schema here) ready text params q.names (q.query s.filter) (q.scan s.filter) test
+      (λ tree row is. ap (list_all (holds (params ∷ row ∷ []))) (q.filters s.filter tree) ∙ s.said row is) ShowsItem item (q.fits params s.filter) s.is (Ok all) got up)
 
   -- why they aren't read
-  pub selects_not : HasSettledTables old → (e : Error) → FailsToQuery text params old new e → FailsWith old new ⊥ (IsSome old.step_limit) (failure_of e)
-  selects_not rests = read_fails d.name d.columns d.key old new rests (d.stands old.now.schema) text params q.names (q.query s.filter) (q.scan s.filter) s.is s.reads s.accepts
+  pub selects_not : (IsTrue old.is_open → d.IsIn old.now.schema) → (e : Error) → FailsToQuery text params old new e → FailsWith old new ⊥ (IsSome old.step_limit) (failure_of e)
+  selects_not here = standing_read_fails d.name d.columns d.key old new (λ up. d.stands old.now.schema (here up)) text params q.names (q.query s.filter) (q.scan s.filter) s.is s.reads s.accepts
 
   -- what is shown can be read, and rises
-  pub never_amiss : (IsTrue old.is_open → IsReady old) → (rows : List Row) → HasBegunWith text params old new rows → ¬ IsAmiss IsLegible ShowsItem (λ x y. is_lt (d.order (item x).0 (item y).0)) rows
-  never_amiss ready =
-      shown_well d.name d.columns d.key d.same d.kind (λ r. (d.entry r).0) (length d.columns) old new ready (d.stands old.now.schema) (d.kept old.now) text params q.names (q.query s.filter) (q.scan s.filter) s.is (q.orders params s.filter)
-      ShowsItem (λ t. (item t).0) (λ tree row t h. ap (λ e. e.0) (q.fits params s.filter tree row t h).1) IsLegible (q.legible params s.filter)
+  pub never_amiss : (IsTrue old.is_open → IsReady old) → (IsTrue old.is_open → d.IsOwn old.now) → (rows : List Row) → HasBegunWith text params old new rows → ¬ IsAmiss IsLegible ShowsItem (λ x y. is_lt (d.order (item x).0 (item y).0)) rows
+  never_amiss ready own rows begun =
+      let mine = own begun.1.0.was_open in
+      shown_well d.name d.columns d.key d.same d.kind (λ r. (d.entry r).0) (length d.columns) old new ready (λ _. d.stands old.now.schema (d.within old.now (ready begun.1.0.was_open).ours mine)) (λ ours. d.kept old.now ours mine) text params q.names (q.query s.filter) (q.scan s.filter) s.is (q.orders params s.filter)
+      ShowsItem (λ t. (item t).0) (λ tree row t h. ap (λ e. e.0) (q.fits params s.filter tree row t h).1) IsLegible (q.legible params s.filter) rows begun
 
 module _ {K X T : Type 0} (d : Description K X) {ShowsItem : Row → T → Type 0} {item : T → K × X} {IsLegible : Row → Type 0} (q : Reading d ShowsItem item IsLegible) (old new : State) {text : List ℕ} {params : Row} (s : Selection d q text params (λ _. true)) where
   -- all entries, in order
-  pub selects_all : (IsTrue old.is_open → IsReady old) → (r : Result (Vec T Global) Failure) → Selects ShowsItem old new text params r → IfOk r (λ all. AllAdjacentBelow (λ x y. true ≡ is_lt (d.order (item x).0 (item y).0)) all.items (length all.items))
+  pub selects_all : (IsTrue old.is_open → IsReady old) → (IsTrue old.is_open → d.IsOwn old.now) → (r : Result (Vec T Global) Failure) → Selects ShowsItem old new text params r → IfOk r (λ all. AllAdjacentBelow (λ x y. true ≡ is_lt (d.order (item x).0 (item y).0)) all.items (length all.items))
       → IfOk r (λ all. IsUnchanged old new × (map item all.items ≡ finite.entries (d.of (contents_of old.now))))
-  selects_all ready r got up = whole_map d.total d.same item r (IsUnchanged old new) (d.of (contents_of old.now)) (selects d q old new s ready r got up)
+  selects_all ready own r got up = whole_map d.total d.same item r (IsUnchanged old new) (d.of (contents_of old.now)) (selects d q old new s ready own r got up)

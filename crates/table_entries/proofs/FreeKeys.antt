@@ -14,8 +14,8 @@ use Rattle.sqlite_rules.specs.Lists.{Has}
 use Rattle.sqlite_rules.specs.Edit.{id_in}
 use Rattle.sqlite_rules.proofs.ListLemmas.{has_kept}
 use Rattle.sqlite_rules.proofs.ProbeLemmas.{mapped_has}
-use Rattle.table_statements.specs.Contents.{Bytes, Pair, Triple, texts_cmp, pair_cmp, triple_cmp, is_text, map_of}
-use Rattle.table_statements.proofs.Orders.{texts_total, texts_antisymmetric, pair_total, pair_antisymmetric, triple_total, triple_antisymmetric, tied_some}
+use Rattle.table_statements.specs.Contents.{Bytes, Pair, Triple, Numbered, Kept, texts_cmp, pair_cmp, triple_cmp, numbered_cmp, kept_cmp, is_text, map_of}
+use Rattle.table_statements.proofs.Orders.{texts_total, texts_antisymmetric, pair_total, pair_antisymmetric, triple_total, triple_antisymmetric, numbered_total, numbered_antisymmetric, kept_total, kept_antisymmetric, tied_some}
 use Rattle.table_statements.proofs.Truths.{text_test, int_test}
 use Rattle.table_entries.proofs.UniqueKeys.{binary_first}
 
@@ -67,3 +67,28 @@ module _ {X : Type 0} (kind : Row → Bool) (rows : List Row) (typed : (r : Row)
       let two = same_text (column r 2) b is.1 f.0 in
       let three = same_int (column r 3) n is.2 g.0 in
       lacks triple_total triple_antisymmetric kind entry rows (a, b, n) none r there (typed r there) (key r ∙ (λ i. (one i, two i, three i)))
+
+  -- a text and a number
+  pub free_numbered : (entry : Row → Numbered × X) → ((r : Row) → (entry r).0 ≡ (bytes (column r 1), id_in (column r 2))) → ((r : Row) → kind r ≡ true → (is_text (column r 1) ≡ true) × (is_int (column r 2) ≡ true))
+      → (a : Bytes) (n : ℤ) → finite.get (map_of numbered_cmp kind entry rows) (a, n) ≡ None → (id : Value) (more : Row) (r : Row) → Has rows r → agree plain (1 ∷ 2 ∷ []) r (1 ∷ 2 ∷ []) (id ∷ Text a ∷ Int n ∷ more) ≡ true → ⊥
+  free_numbered entry key both a n none id more r there h =
+      let e = and_parts (equal Binary (column r 1) (Text a)) (equal Binary (column r 2) (Int n) && true) (rw binary_first at h) in
+      let f = and_parts (equal Binary (column r 2) (Int n)) true e.1 in
+      let is = both r (typed r there) in
+      let one = same_text (column r 1) a is.0 e.0 in
+      let two = same_int (column r 2) n is.1 f.0 in
+      lacks numbered_total numbered_antisymmetric kind entry rows (a, n) none r there (typed r there) (key r ∙ (λ i. (one i, two i)))
+
+  -- a text, a number and a text
+  pub free_kept : (entry : Row → Kept × X) → ((r : Row) → (entry r).0 ≡ (bytes (column r 1), id_in (column r 2), bytes (column r 3)))
+      → ((r : Row) → kind r ≡ true → (is_text (column r 1) ≡ true) × (is_int (column r 2) ≡ true) × (is_text (column r 3) ≡ true))
+      → (a : Bytes) (n : ℤ) (b : Bytes) → finite.get (map_of kept_cmp kind entry rows) (a, n, b) ≡ None → (id : Value) (more : Row) (r : Row) → Has rows r → agree plain (1 ∷ 2 ∷ 3 ∷ []) r (1 ∷ 2 ∷ 3 ∷ []) (id ∷ Text a ∷ Int n ∷ Text b ∷ more) ≡ true → ⊥
+  free_kept entry key all a n b none id more r there h =
+      let e = and_parts (equal Binary (column r 1) (Text a)) (equal Binary (column r 2) (Int n) && (equal Binary (column r 3) (Text b) && true)) (rw binary_first at h) in
+      let f = and_parts (equal Binary (column r 2) (Int n)) (equal Binary (column r 3) (Text b) && true) e.1 in
+      let g = and_parts (equal Binary (column r 3) (Text b)) true f.1 in
+      let is = all r (typed r there) in
+      let one = same_text (column r 1) a is.0 e.0 in
+      let two = same_int (column r 2) n is.1 f.0 in
+      let three = same_text (column r 3) b is.2 g.0 in
+      lacks kept_total kept_antisymmetric kind entry rows (a, n, b) none r there (typed r there) (key r ∙ (λ i. (one i, two i, three i)))

@@ -23,7 +23,7 @@ use Rattle.sqlite_resolve.specs.Write.{over}
 use Rattle.sqlite_rules.specs.Edit.{next_rowid, id_in}
 use Rattle.sqlite_tied.specs.Compute.{everything}
 use Rattle.table_forms.specs.Forms.{generation}
-use Rattle.table_forms.specs.Standing.{IsNamed, IsKnown}
+use Rattle.table_forms.specs.Standing.{IsNamed, IsKnown, HasTables}
 use Rattle.table_statements.specs.Contents.{texts_cmp, triple_cmp, is_text, is_generation, generation_of, Bytes, Triple, rows_named}
 use Rattle.table_statements.specs.Queries.{IsSelect}
 use Rattle.table_entries.specs.Entries.{generation_in, ShowsGeneration, IsGenerationRow}
@@ -53,14 +53,18 @@ table = record {
   same = triple_antisymmetric;
   kind = is_generation;
   entry = generation_of;
+  IsIn = HasTables;
+  IsOwn = λ db. Unit {0};
+  within = λ db ours mine. ours.has;
   of = λ c. c.generations;
   put = λ c m. record c { generations = m };
-  held = λ db. refl;
+  held = λ db has. refl;
   named = refl;
   stands = λ s has. has.1.1.1.1.1.1.1.0;
-  keyed = λ db ours. ours.keyed.1.1.1.1.1.1.1.0;
-  kept = generation_kept;
-  written = λ old new rows has sets m is. generation_set old new has rows sets m is;
+  keyed = λ db ours mine. ours.keyed.1.1.1.1.1.1.1.0;
+  kept = λ db ours mine. generation_kept db ours;
+  written = λ old new rows has here sets m is. generation_set old new has rows sets m is;
+  still = λ old new rows stands sets keyed readable mine. tt;
 }
 
 -- ---- one more
@@ -88,7 +92,7 @@ addition owner name number target = record {
   present = λ id. refl;
   kind = λ id. refl;
   entry = λ id. refl;
-  fresh = λ db ours none. free_three is_generation (rows_named db generation.name) (generation_kept db ours).typed generation_of (λ r. refl) (λ r is. let whole = and_so _ _ (and_so _ _ is).0 in let pair = and_so _ _ whole.0 in (pair.0, pair.1, whole.1)) owner name number none (Int (next_rowid (rows_named db generation.name))) (Text target ∷ []);
+  fresh = λ db ours mine none. free_three is_generation (rows_named db generation.name) (generation_kept db ours).typed generation_of (λ r. refl) (λ r is. let whole = and_so _ _ (and_so _ _ is).0 in let pair = and_so _ _ whole.0 in (pair.0, pair.1, whole.1)) owner name number none (Int (next_rowid (rows_named db generation.name))) (Text target ∷ []);
 }
 
 -- ---- of the first two of the key

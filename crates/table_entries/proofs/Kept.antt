@@ -1,4 +1,4 @@
--- That the rows of each of our tables are of its kind, that no two have one key or one rowid, and that each text in them is UTF-8.
+-- That the rows of each of the nine tables are of its kind, that no two have one key or one rowid, and that each text in them is UTF-8.
 use Rattle.sqlite_value.specs.Order.{column, bytes}
 use Rattle.sqlite.specs.Effect.{Database}
 use Rattle.table_forms.specs.Forms.{meta, object, refs, outs, permanent, user_root, profile, generation, runtime}

@@ -5,9 +5,9 @@ use Rattle.sqlite_value.specs.declared.value.Value.TheVariants.{Null, Int, Real,
 use Rattle.sqlite_value.specs.Order.{Row, column}
 use Rattle.sqlite_trees.specs.View.{is_int}
 use Rattle.sqlite.specs.Values.{IsInt}
-use Rattle.table_statements.specs.Contents.{is_text, is_blob, is_text_or_null, is_pair, is_triple, is_profile, is_generation, is_object}
+use Rattle.table_statements.specs.Contents.{is_text, is_blob, is_text_or_null, is_pair, is_triple, is_profile, is_generation, is_object, is_piece, is_kept}
 use Rattle.table_statements.specs.Texts.{IsReadable}
-use Rattle.table_entries.specs.Entries.{IsLegibleIfAny, IsBlob, IsPairRow, IsTripleRow, IsProfileRow, IsGenerationRow, IsObjectRow, IsListedRow}
+use Rattle.table_entries.specs.Entries.{IsLegibleIfAny, IsBlob, IsPairRow, IsTripleRow, IsProfileRow, IsGenerationRow, IsObjectRow, IsListedRow, IsPieceRow, IsPieceKeyRow, IsTempRootRow}
 use Rattle.table_statements.specs.Reading.{IsLegible, IsTextRow}
 use Rattle.table_statements.proofs.Truths.{and_so}
 use Rattle.table_entries.proofs.Typed.{base_is}
@@ -80,3 +80,17 @@ listed_row r h utf8 = let all = object_row r h utf8 in (refl, all.1, all.3, all.
 -- and the path alone
 pub path_row : (r : Row) → is_object r ≡ true → IsReadableTo 5 r → IsTextRow (column r 1 ∷ [])
 path_row r h utf8 = (refl, text (column r 1) (base_is r h) (utf8 0 (omega arith)))
+
+pub piece_row : (r : Row) → is_piece r ≡ true → IsReadableTo 3 r → IsPieceRow (column r 1 ∷ column r 2 ∷ column r 3 ∷ [])
+piece_row r h utf8 =
+    let key = and_so _ _ (and_so _ _ h).0 in
+    (refl, text (column r 1) key.0 (utf8 0 (omega arith)), int (column r 2) key.1, blob (column r 3) (and_so _ _ h).1)
+
+-- the same without the bytes
+pub piece_key_row : (r : Row) → is_piece r ≡ true → IsReadableTo 3 r → IsPieceKeyRow (column r 1 ∷ column r 2 ∷ [])
+piece_key_row r h utf8 = let all = piece_row r h utf8 in (refl, all.1, all.2)
+
+pub temp_root_row : (r : Row) → is_kept r ≡ true → IsReadableTo 3 r → IsTempRootRow (column r 1 ∷ column r 2 ∷ column r 3 ∷ [])
+temp_root_row r h utf8 =
+    let front = and_so _ _ (and_so _ _ h).0 in
+    (refl, text (column r 1) front.0 (utf8 0 (omega arith)), int (column r 2) front.1, text (column r 3) (and_so _ _ h).1 (utf8 2 (omega arith)))

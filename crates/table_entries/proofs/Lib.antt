@@ -8,6 +8,10 @@ pub mod UserRootLemmas
 pub mod ProfileLemmas
 pub mod GenerationLemmas
 pub mod RuntimeRootLemmas
+pub mod FurtherTables
+pub mod PieceLemmas
+pub mod PieceKeyLemmas
+pub mod TempRootLemmas
 pub mod Alike
 pub mod Columns
 pub mod Conditions

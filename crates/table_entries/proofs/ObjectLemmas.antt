@@ -33,7 +33,7 @@ use Rattle.sqlite.specs.State.{State, FailsToQuery, IsUnchanged}
 use Rattle.table_statements.specs.declared.failure.Failure.{Failure}
 use Rattle.table_entries.specs.declared.objects.Object.{Object}
 use Rattle.table_forms.specs.Forms.{object}
-use Rattle.table_forms.specs.Standing.{IsNamed, IsKnown}
+use Rattle.table_forms.specs.Standing.{IsNamed, IsKnown, HasTables}
 use Rattle.table_statements.specs.Contents.{Bytes, Stored, map_of, rows_named, contents_of, texts_cmp, is_text, is_blob, is_object, object_of, text_if_any, is_text_or_null}
 use Rattle.table_statements.specs.Queries.{IsSelect}
 use Rattle.table_statements.specs.Calls.{IsReady, HasSettledTables, IsOurs}
@@ -78,14 +78,18 @@ table = record {
   same = texts_antisymmetric;
   kind = is_object;
   entry = object_of;
+  IsIn = HasTables;
+  IsOwn = λ db. Unit {0};
+  within = λ db ours mine. ours.has;
   of = λ c. c.objects;
   put = λ c m. record c { objects = m };
-  held = λ db. refl;
+  held = λ db has. refl;
   named = refl;
   stands = λ s has. has.1.0;
-  keyed = λ db ours. ours.keyed.1.0;
-  kept = object_kept;
-  written = λ old new rows has sets m is. object_set old new has rows sets m is;
+  keyed = λ db ours mine. ours.keyed.1.0;
+  kept = λ db ours mine. object_kept db ours;
+  written = λ old new rows has here sets m is. object_set old new has rows sets m is;
+  still = λ old new rows stands sets keyed readable mine. tt;
 }
 
 -- ---- one more
@@ -128,7 +132,7 @@ addition_kept base nar hash deriver ca d c = record {
   present = λ id. refl;
   kind = λ id. rw (d.kind, c.kind) refl;
   entry = λ id. refl;
-  fresh = λ db ours none. free_one is_object (rows_named db object.name) (object_kept db ours).typed object_of (λ r. refl) (λ r is. (and_so _ _ (and_so _ _ (and_so _ _ (and_so _ _ is).0).0).0).0) base none (Int (next_rowid (rows_named db object.name))) (Blob nar ∷ Blob hash ∷ deriver ∷ ca ∷ []);
+  fresh = λ db ours mine none. free_one is_object (rows_named db object.name) (object_kept db ours).typed object_of (λ r. refl) (λ r is. (and_so _ _ (and_so _ _ (and_so _ _ (and_so _ _ is).0).0).0).0) base none (Int (next_rowid (rows_named db object.name))) (Blob nar ∷ Blob hash ∷ deriver ∷ ca ∷ []);
 }
 
 pub addition : (base nar hash : List ℕ) (deriver ca : Option (String Global)) → Addition table insert_text (Text base ∷ Blob nar ∷ Blob hash ∷ bound_value (given deriver) ∷ bound_value (given ca) ∷ []) (Text base ∷ Blob nar ∷ Blob hash ∷ given deriver ∷ given ca ∷ []) base (stored nar hash deriver ca)

@@ -22,7 +22,7 @@ use Rattle.sqlite_resolve.specs.Write.{over}
 use Rattle.sqlite_rules.specs.Edit.{next_rowid}
 use Rattle.sqlite_tied.specs.Compute.{everything}
 use Rattle.table_forms.specs.Forms.{outs}
-use Rattle.table_forms.specs.Standing.{IsNamed, IsKnown}
+use Rattle.table_forms.specs.Standing.{IsNamed, IsKnown, HasTables}
 use Rattle.table_statements.specs.Contents.{texts_cmp, pair_cmp, is_text, is_triple, target_of, Bytes, Pair, rows_named}
 use Rattle.table_statements.specs.Queries.{IsSelect}
 use Rattle.table_entries.specs.Entries.{output_of, ShowsOutput, IsTripleRow}
@@ -52,14 +52,18 @@ table = record {
   same = pair_antisymmetric;
   kind = is_triple;
   entry = target_of;
+  IsIn = HasTables;
+  IsOwn = λ db. Unit {0};
+  within = λ db ours mine. ours.has;
   of = λ c. c.outs;
   put = λ c m. record c { outs = m };
-  held = λ db. refl;
+  held = λ db has. refl;
   named = refl;
   stands = λ s has. has.1.1.1.0;
-  keyed = λ db ours. ours.keyed.1.1.1.0;
-  kept = outs_kept;
-  written = λ old new rows has sets m is. outs_set old new has rows sets m is;
+  keyed = λ db ours mine. ours.keyed.1.1.1.0;
+  kept = λ db ours mine. outs_kept db ours;
+  written = λ old new rows has here sets m is. outs_set old new has rows sets m is;
+  still = λ old new rows stands sets keyed readable mine. tt;
 }
 
 -- ---- one more
@@ -87,7 +91,7 @@ addition base name target = record {
   present = λ id. refl;
   kind = λ id. refl;
   entry = λ id. refl;
-  fresh = λ db ours none. free_two is_triple (rows_named db outs.name) (outs_kept db ours).typed target_of (λ r. refl) (λ r is. and_so _ _ (and_so _ _ is).0) base name none (Int (next_rowid (rows_named db outs.name))) (Text target ∷ []);
+  fresh = λ db ours mine none. free_two is_triple (rows_named db outs.name) (outs_kept db ours).typed target_of (λ r. refl) (λ r is. and_so _ _ (and_so _ _ is).0) base name none (Int (next_rowid (rows_named db outs.name))) (Text target ∷ []);
 }
 
 -- ---- of the first one of the key

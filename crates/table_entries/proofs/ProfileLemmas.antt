@@ -23,7 +23,7 @@ use Rattle.sqlite_resolve.specs.Write.{over}
 use Rattle.sqlite_rules.specs.Edit.{next_rowid, id_in}
 use Rattle.sqlite_tied.specs.Compute.{everything}
 use Rattle.table_forms.specs.Forms.{profile}
-use Rattle.table_forms.specs.Standing.{IsNamed, IsKnown}
+use Rattle.table_forms.specs.Standing.{IsNamed, IsKnown, HasTables}
 use Rattle.table_statements.specs.Contents.{texts_cmp, pair_cmp, is_text, is_profile, profile_of, Pair, rows_named}
 use Rattle.table_statements.specs.Queries.{IsSelect}
 use Rattle.table_entries.specs.Entries.{current_of, ShowsProfile, IsProfileRow}
@@ -53,14 +53,18 @@ table = record {
   same = pair_antisymmetric;
   kind = is_profile;
   entry = profile_of;
+  IsIn = HasTables;
+  IsOwn = λ db. Unit {0};
+  within = λ db ours mine. ours.has;
   of = λ c. c.profiles;
   put = λ c m. record c { profiles = m };
-  held = λ db. refl;
+  held = λ db has. refl;
   named = refl;
   stands = λ s has. has.1.1.1.1.1.1.0;
-  keyed = λ db ours. ours.keyed.1.1.1.1.1.1.0;
-  kept = profile_kept;
-  written = λ old new rows has sets m is. profile_set old new has rows sets m is;
+  keyed = λ db ours mine. ours.keyed.1.1.1.1.1.1.0;
+  kept = λ db ours mine. profile_kept db ours;
+  written = λ old new rows has here sets m is. profile_set old new has rows sets m is;
+  still = λ old new rows stands sets keyed readable mine. tt;
 }
 
 -- ---- one more
@@ -88,7 +92,7 @@ addition owner name current = record {
   present = λ id. refl;
   kind = λ id. refl;
   entry = λ id. refl;
-  fresh = λ db ours none. free_two is_profile (rows_named db profile.name) (profile_kept db ours).typed profile_of (λ r. refl) (λ r is. and_so _ _ (and_so _ _ is).0) owner name none (Int (next_rowid (rows_named db profile.name))) (Int current ∷ []);
+  fresh = λ db ours mine none. free_two is_profile (rows_named db profile.name) (profile_kept db ours).typed profile_of (λ r. refl) (λ r is. and_so _ _ (and_so _ _ is).0) owner name none (Int (next_rowid (rows_named db profile.name))) (Int current ∷ []);
 }
 
 -- ---- of the first one of the key

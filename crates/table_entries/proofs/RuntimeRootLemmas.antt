@@ -22,7 +22,7 @@ use Rattle.sqlite_resolve.specs.Write.{over}
 use Rattle.sqlite_rules.specs.Edit.{next_rowid}
 use Rattle.sqlite_tied.specs.Compute.{everything}
 use Rattle.table_forms.specs.Forms.{runtime}
-use Rattle.table_forms.specs.Standing.{IsNamed, IsKnown}
+use Rattle.table_forms.specs.Standing.{IsNamed, IsKnown, HasTables}
 use Rattle.table_statements.specs.Contents.{rows_named, texts_cmp, pair_cmp, is_text, is_pair, member_of, Pair}
 use Rattle.table_statements.specs.Queries.{IsSelect}
 use Rattle.table_entries.specs.Entries.{runtime_of, ShowsRuntimeRoot, IsPairRow}
@@ -52,14 +52,18 @@ table = record {
   same = pair_antisymmetric;
   kind = is_pair;
   entry = member_of;
+  IsIn = HasTables;
+  IsOwn = λ db. Unit {0};
+  within = λ db ours mine. ours.has;
   of = λ c. c.runtime;
   put = λ c m. record c { runtime = m };
-  held = λ db. refl;
+  held = λ db has. refl;
   named = refl;
   stands = λ s has. has.1.1.1.1.1.1.1.1.0;
-  keyed = λ db ours. ours.keyed.1.1.1.1.1.1.1.1.0;
-  kept = runtime_kept;
-  written = λ old new rows has sets m is. runtime_set old new has rows sets m is;
+  keyed = λ db ours mine. ours.keyed.1.1.1.1.1.1.1.1.0;
+  kept = λ db ours mine. runtime_kept db ours;
+  written = λ old new rows has here sets m is. runtime_set old new has rows sets m is;
+  still = λ old new rows stands sets keyed readable mine. tt;
 }
 
 -- ---- one more
@@ -87,7 +91,7 @@ addition label target = record {
   present = λ id. refl;
   kind = λ id. refl;
   entry = λ id. refl;
-  fresh = λ db ours none. free_two is_pair (rows_named db runtime.name) (runtime_kept db ours).typed member_of (λ r. refl) (λ r is. and_so _ _ is) label target none (Int (next_rowid (rows_named db runtime.name))) [];
+  fresh = λ db ours mine none. free_two is_pair (rows_named db runtime.name) (runtime_kept db ours).typed member_of (λ r. refl) (λ r is. and_so _ _ is) label target none (Int (next_rowid (rows_named db runtime.name))) [];
 }
 
 -- ---- of the first one of the key

@@ -22,7 +22,7 @@ use Rattle.sqlite_resolve.specs.Write.{over}
 use Rattle.sqlite_rules.specs.Edit.{next_rowid}
 use Rattle.sqlite_tied.specs.Compute.{everything}
 use Rattle.table_forms.specs.Forms.{meta}
-use Rattle.table_forms.specs.Standing.{IsNamed, IsKnown}
+use Rattle.table_forms.specs.Standing.{IsNamed, IsKnown, HasTables}
 use Rattle.table_statements.specs.Contents.{texts_cmp, is_text, is_pair, pair_of, Bytes, rows_named}
 use Rattle.table_statements.specs.Queries.{IsSelect}
 use Rattle.table_entries.specs.Entries.{setting_of, ShowsSetting, IsPairRow}
@@ -52,14 +52,18 @@ table = record {
   same = texts_antisymmetric;
   kind = is_pair;
   entry = pair_of;
+  IsIn = HasTables;
+  IsOwn = λ db. Unit {0};
+  within = λ db ours mine. ours.has;
   of = λ c. c.meta;
   put = λ c m. record c { meta = m };
-  held = λ db. refl;
+  held = λ db has. refl;
   named = refl;
   stands = λ s has. has.0;
-  keyed = λ db ours. ours.keyed.0;
-  kept = meta_kept;
-  written = λ old new rows has sets m is. meta_set old new has rows sets m is;
+  keyed = λ db ours mine. ours.keyed.0;
+  kept = λ db ours mine. meta_kept db ours;
+  written = λ old new rows has here sets m is. meta_set old new has rows sets m is;
+  still = λ old new rows stands sets keyed readable mine. tt;
 }
 
 -- ---- one more
@@ -87,7 +91,7 @@ addition word value = record {
   present = λ id. refl;
   kind = λ id. refl;
   entry = λ id. refl;
-  fresh = λ db ours none. free_one is_pair (rows_named db meta.name) (meta_kept db ours).typed pair_of (λ r. refl) (λ r is. (and_so _ _ is).0) word none (Int (next_rowid (rows_named db meta.name))) (Text value ∷ []);
+  fresh = λ db ours mine none. free_one is_pair (rows_named db meta.name) (meta_kept db ours).typed pair_of (λ r. refl) (λ r is. (and_so _ _ is).0) word none (Int (next_rowid (rows_named db meta.name))) (Text value ∷ []);
 }
 
 -- ---- of a whole key

@@ -16,9 +16,9 @@ use Rattle.sqlite_schema.specs.declared.schema.Table.{Table}
 use Rattle.sqlite_schema.specs.declared.schema.Constraint.TheVariants.{Datatype, NotNull}
 use Rattle.sqlite_schema.specs.Rules.{is_of, has_affinity, are_typed, are_present, passes}
 use Rattle.sqlite.specs.Effect.{Database, IsDatabase}
-use Rattle.table_forms.specs.Forms.{object, strict, col}
+use Rattle.table_forms.specs.Forms.{object, piece, temp_root, strict, col}
 use Rattle.table_forms.specs.Standing.{Stands, tree_named}
-use Rattle.table_statements.specs.Contents.{is_text, is_blob, is_text_or_null, is_object, is_pair, is_triple, is_profile, is_generation, rows_named}
+use Rattle.table_statements.specs.Contents.{is_text, is_blob, is_text_or_null, is_object, is_pair, is_triple, is_profile, is_generation, is_piece, is_kept, rows_named}
 use Rattle.table_statements.proofs.Truths.{and_so}
 
 -- each value is of the type of its column
@@ -150,3 +150,28 @@ module _ (db : Database) (sound : IsDatabase db) (name a b : List ℕ) where
       let third : is_int (column row 3) ≡ true = int_of _ (ap (is_of kind.Integer) (sym (later (drop 1 (drop 1 row)) 0 ∙ later (drop 1 row) 1 ∙ later row 2)) ∙ typed.1.1.0) three.0 in
       let fourth : is_text (column row 4) ≡ true = text_of _ (ap (is_of kind.Text) (sym (later (drop 1 (drop 1 (drop 1 row))) 0 ∙ later (drop 1 (drop 1 row)) 1 ∙ later (drop 1 row) 2 ∙ later row 3)) ∙ typed.1.1.1.0) four.0 in
       rw (first, second, third, fourth) refl
+
+-- ---- the rows of the further tables
+
+module _ (db : Database) (sound : IsDatabase db) where
+  pub pieces_typed : Stands db.schema piece → (row : Row) → Has (rows_named db piece.name) row → is_piece row ≡ true
+  pieces_typed stands row there =
+      let typed = are_of piece.columns 0 (drop 1 row) refl (has_types db sound piece stands row there) in
+      let one = and_so _ _ (has_values db sound piece stands row there) in
+      let two = and_so _ _ one.1 in
+      let three = and_so _ _ two.1 in
+      let first : is_text (column row 1) ≡ true = text_of _ (ap (is_of kind.Text) (sym (later row 0)) ∙ typed.0) one.0 in
+      let second : is_int (column row 2) ≡ true = int_of _ (ap (is_of kind.Integer) (sym (later (drop 1 row) 0 ∙ later row 1)) ∙ typed.1.0) two.0 in
+      let third : is_blob (column row 3) ≡ true = blob_of _ (ap (is_of kind.Blob) (sym (later (drop 1 (drop 1 row)) 0 ∙ later (drop 1 row) 1 ∙ later row 2)) ∙ typed.1.1.0) three.0 in
+      rw (first, second, third) refl
+
+  pub temp_roots_typed : Stands db.schema temp_root → (row : Row) → Has (rows_named db temp_root.name) row → is_kept row ≡ true
+  temp_roots_typed stands row there =
+      let typed = are_of temp_root.columns 0 (drop 1 row) refl (has_types db sound temp_root stands row there) in
+      let one = and_so _ _ (has_values db sound temp_root stands row there) in
+      let two = and_so _ _ one.1 in
+      let three = and_so _ _ two.1 in
+      let first : is_text (column row 1) ≡ true = text_of _ (ap (is_of kind.Text) (sym (later row 0)) ∙ typed.0) one.0 in
+      let second : is_int (column row 2) ≡ true = int_of _ (ap (is_of kind.Integer) (sym (later (drop 1 row) 0 ∙ later row 1)) ∙ typed.1.0) two.0 in
+      let third : is_text (column row 3) ≡ true = text_of _ (ap (is_of kind.Text) (sym (later (drop 1 (drop 1 row)) 0 ∙ later (drop 1 row) 1 ∙ later row 2)) ∙ typed.1.1.0) three.0 in
+      rw (first, second, third) refl

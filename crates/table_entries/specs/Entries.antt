@@ -6,7 +6,7 @@ use Rattle.sqlite_value.specs.declared.value.Value.TheVariants.{Null, Int, Text,
 use Rattle.sqlite_value.specs.Order.{Row, column}
 use Rattle.std.specs.FinMap as finite
 use Rattle.sqlite.specs.Values.{IsInt, or_null}
-use Rattle.table_statements.specs.Contents.{Bytes, Pair, Triple, Stored, Described, texts_cmp}
+use Rattle.table_statements.specs.Contents.{Bytes, Pair, Triple, Numbered, Kept, Stored, Described, texts_cmp}
 use Rattle.table_entries.specs.declared.meta.Setting.{Setting}
 use Rattle.table_entries.specs.declared.objects.Object.{Object}
 use Rattle.table_entries.specs.declared.objects.Listed.{Listed}
@@ -17,6 +17,9 @@ use Rattle.table_entries.specs.declared.user_roots.UserRoot.{UserRoot}
 use Rattle.table_entries.specs.declared.profiles.Profile.{Profile}
 use Rattle.table_entries.specs.declared.generations.Generation.{Generation}
 use Rattle.table_entries.specs.declared.runtime.RuntimeRoot.{RuntimeRoot}
+use Rattle.table_entries.specs.declared.pieces.Piece.{Piece}
+use Rattle.table_entries.specs.declared.pieces.PieceKey.{PieceKey}
+use Rattle.table_entries.specs.declared.temp_roots.TempRoot.{TempRoot}
 use Rattle.table_statements.specs.Reading.{IsLegible}
 
 -- what is stored of an object that is handed in
@@ -95,6 +98,24 @@ runtime_of e = ((string_bytes e.label, string_bytes e.target), tt)
 abbrev pub ShowsRuntimeRoot : Row → RuntimeRoot → Type 0
 ShowsRuntimeRoot row e = (column row 0 ≡ Text (string_bytes e.label)) × (column row 1 ≡ Text (string_bytes e.target))
 
+abbrev pub piece_in : Piece → Numbered × Bytes
+piece_in e = ((string_bytes e.base, e.number), e.bytes.items)
+
+abbrev pub ShowsPiece : Row → Piece → Type 0
+ShowsPiece row e = (column row 0 ≡ Text (string_bytes e.base)) × (column row 1 ≡ Int e.number) × (column row 2 ≡ Blob e.bytes.items)
+
+abbrev pub numbered_in : PieceKey → Numbered
+numbered_in e = (string_bytes e.base, e.number)
+
+abbrev pub ShowsPieceKey : Row → PieceKey → Type 0
+ShowsPieceKey row e = (column row 0 ≡ Text (string_bytes e.base)) × (column row 1 ≡ Int e.number)
+
+abbrev pub temp_root_of : TempRoot → Kept × Unit {0}
+temp_root_of e = ((string_bytes e.owner, e.session, string_bytes e.target), tt)
+
+abbrev pub ShowsTempRoot : Row → TempRoot → Type 0
+ShowsTempRoot row e = (column row 0 ≡ Text (string_bytes e.owner)) × (column row 1 ≡ Int e.session) × (column row 2 ≡ Text (string_bytes e.target))
+
 -- ---- which rows of an answer can be read as an entry: its columns are counted from 0, and none is the rowid
 
 -- such a text, or NULL
@@ -124,3 +145,13 @@ IsObjectRow row = (length row ≡ 5) × IsLegible (column row 0) × IsBlob (colu
 -- an object without its archive
 abbrev pub IsListedRow : Row → Type 0
 IsListedRow row = (length row ≡ 4) × IsLegible (column row 0) × IsBlob (column row 1) × IsLegibleIfAny (column row 2) × IsLegibleIfAny (column row 3)
+
+abbrev pub IsPieceRow : Row → Type 0
+IsPieceRow row = (length row ≡ 3) × IsLegible (column row 0) × IsInt (column row 1) × IsBlob (column row 2)
+
+-- a piece without its bytes
+abbrev pub IsPieceKeyRow : Row → Type 0
+IsPieceKeyRow row = (length row ≡ 2) × IsLegible (column row 0) × IsInt (column row 1)
+
+abbrev pub IsTempRootRow : Row → Type 0
+IsTempRootRow row = (length row ≡ 3) × IsLegible (column row 0) × IsInt (column row 1) × IsLegible (column row 2)

@@ -107,7 +107,7 @@ fn any_counted(tables: &[Table]) -> bool
 }
 
 /// Whether a table counts its rowids and there is no counter, which no honest database shows.
-fn lacks_sequence(schema: &Schema) -> bool
+pub fn lacks_sequence(schema: &Schema) -> bool
     ensures { result ≡ lacks_sequence schema.now }
 {
     any_counted(schema.tables.as_slice())

@@ -7,3 +7,5 @@ pub mod SettingFailures
 pub mod Settles
 pub mod Stood
 pub mod FrozenThen
+pub mod FurtherMade
+pub mod Growing

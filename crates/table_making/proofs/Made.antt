@@ -33,6 +33,9 @@ others = (codes "object", (object.columns, object.primary)) ∷ (codes "refs", (
 abbrev meta_parts : Parts
 meta_parts = (codes "meta", (meta.columns, meta.primary))
 
+abbrev pub nine : List Parts
+nine = meta_parts ∷ others
+
 -- all nine stand, each with its tree
 standing : (old : Database) → IsDatabase old → HasNone old.schema → AllByRecursion (StandsAs (ours_created old.schema)) (placed old.schema our_tables)
 unfolding ours_created digits everything
@@ -46,7 +49,7 @@ absent_after : (s : Schema) → HasNone s → AreAbsent (ours_created s)
 unfolding ours_created same_name
 absent_after s none = (unnamed_after s piece.name none.further.0.table (meta_parts ∷ others) refl, (unnamed_after s temp_root.name none.further.1.0.table (meta_parts ∷ others) refl, tt))
 
-none_there : (d : Database) (name : Bytes) → find (λ u. same_name u.name name) d.schema.tables ≡ None → rows_if_any d name ≡ []
+pub none_there : (d : Database) (name : Bytes) → find (λ u. same_name u.name name) d.schema.tables ≡ None → rows_if_any d name ≡ []
 unfolding rows_if_any
 none_there d name none = ap (λ (o : Option Table). unwrap_or (option_map (λ (t : Table). d.trees t.tree) o) []) none
 
@@ -54,7 +57,7 @@ nothing : {K X : Type 0} {R : K → K → Ordering} (kind : Row → Bool) (entry
 unfolding map_of
 nothing kind entry = refl
 
-no_rows : (t : Table) (rows : List Row) → rows ≡ [] → AreReadableRows t rows
+pub no_rows : (t : Table) (rows : List Row) → rows ≡ [] → AreReadableRows t rows
 no_rows t rows is = subst (AreReadableRows t) (sym is) (λ row at there low. absurd there)
 
 module _ (dir : Bytes) (s : Schema) (d : Database) (stand : AllByRecursion (StandsAs d.schema) (placed s our_tables)) (settings : AreSettings dir (d.trees (next_tree s))) (empty : AllByRecursion (λ t. d.trees t.tree ≡ []) (others_placed s)) (absent : AreAbsent d.schema) where
@@ -95,7 +98,7 @@ module _ (dir : Bytes) (s : Schema) (d : Database) (stand : AllByRecursion (Stan
         ),
       )
 
-theirs_of : (old : Database) (trees : Trees) (ts : List Table) → AllByRecursion (λ t. trees t.tree ≡ old.trees t.tree) ts → AllByRecursion (λ t. is_our_name t.name ≡ false → trees t.tree ≡ old.trees t.tree) ts
+pub theirs_of : (old : Database) (trees : Trees) (ts : List Table) → AllByRecursion (λ t. trees t.tree ≡ old.trees t.tree) ts → AllByRecursion (λ t. is_our_name t.name ≡ false → trees t.tree ≡ old.trees t.tree) ts
 theirs_of old trees ts kept = all_weaker (λ (t : Table). trees t.tree ≡ old.trees t.tree) (λ t. is_our_name t.name ≡ false → trees t.tree ≡ old.trees t.tree) (λ t same other. same) ts kept
 
 ours_placed : (s : Schema) → AllByRecursion (λ t. is_our_name t.name ≡ true) (placed s our_tables)

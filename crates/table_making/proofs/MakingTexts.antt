@@ -4,7 +4,7 @@ use Rattle.sqlite_value.specs.Order.{value_cmp}
 use Rattle.sqlite_trees.specs.Sound.{fits_kind, is_free_name, same_name, begins}
 use Rattle.sqlite_schema.specs.declared.schema.Schema.{Schema}
 use Rattle.sqlite_tied.specs.Compute.{everything}
-use Rattle.table_forms.specs.Forms.{meta, object, refs, outs, permanent, user_root, profile, generation, runtime}
+use Rattle.table_forms.specs.Forms.{meta, object, refs, outs, permanent, user_root, profile, generation, runtime, piece, temp_root}
 use Rattle.table_making.specs.Making.{IsUnused}
 use Rattle.table_making.proofs.Creates.{IsMakingIn, making, create_means}
 use Rattle.table_making.proofs.MakingFailures.{IsAccepted}
@@ -107,3 +107,25 @@ runtime_made s free = making s runtime_text runtime _ (create_means runtime_text
 pub runtime_accepted : IsAccepted runtime_text runtime
 unfolding everything fits_kind is_free_name same_name begins value_cmp lib.Ieee.is_nan lib.Ieee.lt lib.Utf8.encode
 runtime_accepted = record { defined = refl; utf8 = (runtime_text, (refl, refl)); named = (codes "runtime", (refl, refl)); own = refl; short = refl; reals = refl; key = refl; formed = refl; fit = refl }
+
+abbrev pub piece_text : List ℕ
+piece_text = codes "CREATE TABLE piece (base TEXT NOT NULL, num INTEGER NOT NULL, bytes BLOB NOT NULL, PRIMARY KEY (base, num)) STRICT"
+
+pub piece_made : (s : Schema) → IsUnused s (codes "piece") → IsMakingIn s piece_text piece
+unfolding everything
+piece_made s free = making s piece_text piece _ (create_means piece_text refl s piece free refl refl refl refl refl refl) refl refl (refl, refl) refl refl refl
+
+pub piece_accepted : IsAccepted piece_text piece
+unfolding everything fits_kind is_free_name same_name begins value_cmp lib.Ieee.is_nan lib.Ieee.lt lib.Utf8.encode
+piece_accepted = record { defined = refl; utf8 = (piece_text, (refl, refl)); named = (codes "piece", (refl, refl)); own = refl; short = refl; reals = refl; key = refl; formed = refl; fit = refl }
+
+abbrev pub temp_root_text : List ℕ
+temp_root_text = codes "CREATE TABLE temp_root (owner TEXT NOT NULL, session INTEGER NOT NULL, target TEXT NOT NULL, PRIMARY KEY (owner, session, target)) STRICT"
+
+pub temp_root_made : (s : Schema) → IsUnused s (codes "temp_root") → IsMakingIn s temp_root_text temp_root
+unfolding everything
+temp_root_made s free = making s temp_root_text temp_root _ (create_means temp_root_text refl s temp_root free refl refl refl refl refl refl) refl refl (refl, refl) refl refl refl
+
+pub temp_root_accepted : IsAccepted temp_root_text temp_root
+unfolding everything fits_kind is_free_name same_name begins value_cmp lib.Ieee.is_nan lib.Ieee.lt lib.Utf8.encode
+temp_root_accepted = record { defined = refl; utf8 = (temp_root_text, (refl, refl)); named = (codes "temp_root", (refl, refl)); own = refl; short = refl; reals = refl; key = refl; formed = refl; fit = refl }

@@ -229,7 +229,8 @@ abbrev pub are_clear : List Parts → Bool
 are_clear [] = true
 are_clear (f ∷ fs) = list_all (λ (g : Parts). is_clear f.0 g.0) fs && are_clear fs
 
-all_still : (s : Schema) (fs : List Parts) (t : Table) → StandsAs s t → StandsAs (all_created s (map table_of fs)) t
+-- a table that stood stands yet
+pub all_still : (s : Schema) (fs : List Parts) (t : Table) → StandsAs s t → StandsAs (all_created s (map table_of fs)) t
 all_still s [] t it = it
 all_still s (f ∷ fs) t it = all_still (created s (table_of f)) fs t (stands_still s f.0 f.1.0 f.1.1 t it)
 
@@ -291,7 +292,7 @@ tree_low db sound at t there =
     let it = zipped_at IsTableRow _ db.schema.tables at t sound.lists.listed.tables there in
     lt-leb (2 ^ 31) t.tree (omega (arith, it.1.described.low))
 
-one_stands : (db : Database) → IsDatabase db → (f : Parts) (tree : ℕ) → StandsAs db.schema (record (table_of f) { tree = tree }) → Stands db.schema (table_of f)
+pub one_stands : (db : Database) → IsDatabase db → (f : Parts) (tree : ℕ) → StandsAs db.schema (record (table_of f) { tree = tree }) → Stands db.schema (table_of f)
 one_stands db sound f tree it =
     let t : Table = record (table_of f) { tree = tree } in
     let is : tree ≡ tree_named db.schema f.0 = sym (tree_is db.schema t it.at it.named) in

@@ -7,3 +7,4 @@ pub use Rattle.table_statements.specs.Frozen
 pub use Rattle.table_statements.specs.Calls
 pub use Rattle.table_statements.specs.Failures
 pub mod Making
+pub mod Further

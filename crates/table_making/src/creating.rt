@@ -12,7 +12,7 @@ use sqlite::{Alter, Transaction};
 use table_statements::failure::Failure;
 use table_statements::statement::without_size;
 
-fn create<S: Alter>(tx: &mut Transaction<'_, S>, text: &str) -> Result<(), Failure>
+pub(crate) fn create<S: Alter>(tx: &mut Transaction<'_, S>, text: &str) -> Result<(), Failure>
     requires { HasCleanDisk (state S.Store tx.old.conn.now) → (state S.Store tx.old.conn.now).in_transaction ≡ true }
     ensures same_reference { tx.new.conn.ghost_name ≡ tx.old.conn.ghost_name }
     ensures ran { HasCleanDisk (state S.Store tx.new.conn.now) → OnOk result ((count : ℕ) × ExecutesInside 0 text.now [] (state S.Store tx.old.conn.now) (state S.Store tx.new.conn.now) (Ok count)) }

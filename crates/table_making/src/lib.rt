@@ -2,4 +2,5 @@
 #![tactic(auto)]
 
 mod creating;
+pub mod further;
 pub mod making;

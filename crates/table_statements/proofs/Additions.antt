@@ -31,7 +31,7 @@ use Rattle.sqlite.specs.State.{State, ExecutesInside}
 use Rattle.sqlite.proofs.Callers.{one_step}
 use Rattle.table_statements.specs.declared.failure.Failure.TheVariants.{Disk}
 use Rattle.table_forms.specs.Forms.{strict}
-use Rattle.table_forms.specs.Standing.{Stands, HasTables, tree_named}
+use Rattle.table_forms.specs.Standing.{Stands, tree_named}
 use Rattle.table_statements.specs.Contents.{rows_named}
 use Rattle.table_statements.specs.Calls.{IsUnderWay}
 use Rattle.table_statements.specs.Failures.{failure_of, FailsWith, IsTooLarge, HasNoRowidLeft}
@@ -147,7 +147,7 @@ module _ (name : List ℕ) (columns : List Column) (key : List ℕ) (db : Databa
             go (inl (other, h, is)) = stops_at MayEnd stop other is (adds other h)
             go (inr (w, h, ended)) = absurd (concluded db.schema limit own params w (grown w h) stop ended)
 
-module _ (name : List ℕ) (columns : List Column) (key : List ℕ) (old new : State) (under : IsUnderWay old) (standing : HasTables old.now.schema → Stands old.now.schema (strict name columns key)) where
+module _ (name : List ℕ) (columns : List Column) (key : List ℕ) (old new : State) (under : IsUnderWay old) (standing : IsTrue old.is_open → Stands old.now.schema (strict name columns key)) where
   abbrev table : Table
   table = strict name columns key
 
@@ -159,7 +159,7 @@ module _ (name : List ℕ) (columns : List Column) (key : List ℕ) (old new : S
     pub insert_fails : (Taken : Type 0) → (IsTrue old.is_open → IsNewKey name key old.now values ⊎ Taken)
         → (e : Error) → ExecutesInside 0 text params old new (Err e) → FailsWith old new (OrShut old (IsTooLarge old.now table values)) (IsSome old.step_limit ⊎ (HasNoRowidLeft old.now table ⊎ Taken)) (failure_of e)
     insert_fails Taken free e h =
-        our_write_fails name columns key old new under standing text count params _ (λ at tree. refl) given is (IsTooLarge old.now table values) (IsSome old.step_limit ⊎ (HasNoRowidLeft old.now table ⊎ Taken))
+        our_write_fails name columns key old new standing text count params _ (λ at tree. refl) given is (IsTooLarge old.now table values) (IsSome old.step_limit ⊎ (HasNoRowidLeft old.now table ⊎ Taken))
         (λ up stands. insert_stops name columns key old.now (under.ours up).sound stands values typed (present _) Taken (free up) old.step_limit params terms width accepts (made _)) e h
 
     -- and where no row has the key, for no key that is there

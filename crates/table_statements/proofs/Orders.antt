@@ -12,7 +12,7 @@ use Rattle.std.proofs.lemmas.Map.Keys.{sorted_from_all_adjacent}
 use Rattle.std.specs.List.Sorted.{IsStrictlySortedBy}
 use Rattle.sqlite_rules.specs.Lists.{Has}
 use lib.Dec.{T}
-use Rattle.table_statements.specs.Contents.{Triple, texts_cmp, pair_cmp, triple_cmp}
+use Rattle.table_statements.specs.Contents.{Triple, Numbered, Kept, texts_cmp, pair_cmp, triple_cmp, numbered_cmp, kept_cmp}
 
 one : T true
 one = tt
@@ -141,4 +141,30 @@ triple_antisymmetric x y e =
     let a = texts_antisymmetric x.0 y.0 first.0 in
     let b = texts_antisymmetric x.1 y.1 rest.0 in
     let c = finite.int_cmp-IsAntisymmetric x.2 y.2 rest.1 in
+    λ i. (a i, b i, c i)
+
+-- ---- the order of pieces
+
+pub numbered_total : IsTotalOrder numbered_cmp
+numbered_total = then_total (on_texts (λ n. n.0)) (on_total (λ (n : Numbered). n.1) int_cmp_total)
+
+pub numbered_antisymmetric : finite.IsAntisymmetric numbered_cmp
+numbered_antisymmetric x y e =
+    let both = first_equal _ _ e in
+    let a = texts_antisymmetric x.0 y.0 both.0 in
+    let b = finite.int_cmp-IsAntisymmetric x.1 y.1 both.1 in
+    λ i. (a i, b i)
+
+-- ---- the order of temporary roots
+
+pub kept_total : IsTotalOrder kept_cmp
+kept_total = then_total (on_texts (λ k. k.0)) (then_total (on_total (λ (k : Kept). k.1) int_cmp_total) (on_texts (λ k. k.2)))
+
+pub kept_antisymmetric : finite.IsAntisymmetric kept_cmp
+kept_antisymmetric x y e =
+    let first = first_equal _ _ e in
+    let rest = first_equal _ _ first.1 in
+    let a = texts_antisymmetric x.0 y.0 first.0 in
+    let b = finite.int_cmp-IsAntisymmetric x.1 y.1 rest.0 in
+    let c = texts_antisymmetric x.2 y.2 rest.1 in
     λ i. (a i, b i, c i)

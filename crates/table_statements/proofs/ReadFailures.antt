@@ -1,5 +1,5 @@
 -- Why a query of our tables fails: `sqlite` understands each text of ours, and types and sums have nothing to refuse.
-use Rattle.std.proofs.Common.{◌≡◌, ◌⊎◌, inl, inr, ℕ, ◌≤◌, List, [], ◌∷◌, length, append-nil, Bool, true, false, None, Result, Ok, Err, refl, sym, ap, subst, subst₂, ◌∙◌}
+use Rattle.std.proofs.Common.{◌≡◌, ◌⊎◌, inl, inr, ℕ, ◌≤◌, IsTrue, List, [], ◌∷◌, length, append-nil, Bool, true, false, None, Result, Ok, Err, refl, sym, ap, subst, subst₂, ◌∙◌}
 use Rattle.std.specs.Prelude.{IsSome, if◌then◌else◌}
 use Rattle.std.proofs.lemmas.Bool.{leb-true}
 use Rattle.sqlite_value.specs.Order.{Row}
@@ -134,16 +134,23 @@ sums_nothing : (q : Query) (tree : ℕ) → IsScan q tree → (params : Row) (db
 sums_nothing q tree scan params db (inl h) = subst (λ g. Overflows g (matches db q.filter q.from (params ∷ []))) scan.group h
 sums_nothing q tree scan params db (inr h) = (subst (λ j. FoldOverflows db j (params ∷ [])) scan.from h).4
 
--- an error of a query over one table of ours
-pub read_fails : (name : List ℕ) (columns : List Column) (key : List ℕ) (old new : State) → HasSettledTables old → (HasTables old.now.schema → Stands old.now.schema (strict name columns key)) → (text : List ℕ) (params : Row) (names : List (List ℕ)) (query : ℕ → Query) → ((tree : ℕ) → IsScan (query tree) tree)
+-- an error of a query over one table, if it stands in an open connection
+pub standing_read_fails : (name : List ℕ) (columns : List Column) (key : List ℕ) (old new : State) → (IsTrue old.is_open → Stands old.now.schema (strict name columns key)) → (text : List ℕ) (params : Row) (names : List (List ℕ)) (query : ℕ → Query) → ((tree : ℕ) → IsScan (query tree) tree)
     → Compiles name columns key text (length params) (λ at tree. Select (record { lets = []; body = query tree }) names) → IsSelect text
     → ((s : Schema) (at tree : ℕ) → IsKnown s name at (record (strict name columns key) { tree = tree }) → accepts_program s [] (query tree) params ≡ true)
     → (e : Error) → FailsToQuery text params old new e → FailsWith old new ⊥ (IsSome old.step_limit) (failure_of e)
-read_fails name columns key old new rests at text params names query scan is reads typed =
+standing_read_fails name columns key old new at text params names query scan is reads typed =
     query_fails old new text params names (query tree) (λ same. is old.now.schema (stands same).at tree (stands same).known) reads (λ same. typed old.now.schema (stands same).at tree (stands same).known) (sums_nothing (query tree) tree (scan tree) params)
   where
     tree : ℕ
     tree = tree_named old.now.schema name
 
     stands : IsUnchanged old new → Stands old.now.schema (strict name columns key)
-    stands same = at (rests.has same.0.was_open)
+    stands same = at same.0.was_open
+
+-- an error of a query over one table of ours
+pub read_fails : (name : List ℕ) (columns : List Column) (key : List ℕ) (old new : State) → HasSettledTables old → (HasTables old.now.schema → Stands old.now.schema (strict name columns key)) → (text : List ℕ) (params : Row) (names : List (List ℕ)) (query : ℕ → Query) → ((tree : ℕ) → IsScan (query tree) tree)
+    → Compiles name columns key text (length params) (λ at tree. Select (record { lets = []; body = query tree }) names) → IsSelect text
+    → ((s : Schema) (at tree : ℕ) → IsKnown s name at (record (strict name columns key) { tree = tree }) → accepts_program s [] (query tree) params ≡ true)
+    → (e : Error) → FailsToQuery text params old new e → FailsWith old new ⊥ (IsSome old.step_limit) (failure_of e)
+read_fails name columns key old new rests at = standing_read_fails name columns key old new (λ up. at (rests.has up))

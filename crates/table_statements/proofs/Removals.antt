@@ -1,5 +1,5 @@
 -- Why a DELETE from one of our tables fails: no rule refuses it, and no row of it is too large.
-use Rattle.std.proofs.Common.{◌≡◌, ◌≢◌, ◌⊎◌, inl, inr, ℕ, List, [], true, false, not, Ok, Err, Some, None, Option, length, slice_get, sym, ap, subst, refl}
+use Rattle.std.proofs.Common.{◌≡◌, ◌≢◌, ◌⊎◌, inl, inr, ℕ, List, [], true, false, not, Ok, Err, Some, None, Option, length, slice_get, sym, ap, subst, refl, IsTrue}
 use Rattle.std.specs.Prelude.{IsSome, nat_lt}
 use Rattle.std.proofs.lemmas.Bool.{cases_eq, or_right, both_ways}
 use Rattle.sqlite_value.specs.Order.{Row}
@@ -30,7 +30,7 @@ use Rattle.sqlite.specs.Rows.{Edited, Deletes, Written, Task}
 use Rattle.sqlite.specs.State.{State, ExecutesInside}
 use Rattle.sqlite.proofs.Callers.{one_step}
 use Rattle.table_forms.specs.Forms.{strict}
-use Rattle.table_forms.specs.Standing.{IsNamed, IsKnown, Stands, HasTables, is_unreferred, tree_named}
+use Rattle.table_forms.specs.Standing.{IsNamed, IsKnown, Stands, is_unreferred, tree_named}
 use Rattle.table_statements.specs.Calls.{IsUnderWay}
 use Rattle.table_statements.specs.Failures.{failure_of, FailsWith}
 use Rattle.table_statements.proofs.Writes.{rowids_where, works_unreferred, went, same_value, at_place}
@@ -110,7 +110,7 @@ module _ (name : List ℕ) (columns : List Column) (key : List ℕ) (tree at : �
           go (inl (other, h, is)) = stops_at (MayStop ⊥ (IsSome limit)) stop other is (removes other h)
           go (inr (w, h, ended)) = absurd (concluded db.schema limit own params w (left w h) stop ended)
 
-module _ (name : List ℕ) (columns : List Column) (key : List ℕ) (old new : State) (under : IsUnderWay old) (standing : HasTables old.now.schema → Stands old.now.schema (strict name columns key)) where
+module _ (name : List ℕ) (columns : List Column) (key : List ℕ) (old new : State) (under : IsUnderWay old) (standing : IsTrue old.is_open → Stands old.now.schema (strict name columns key)) where
   -- a DELETE fails for the store or the limit on steps, and a size is no cause of it
   pub delete_fails : (text : List ℕ) (count : ℕ) (params : Row) (filter : List Term) → length params ≡ count
       → Compiles name columns key text count (λ at tree. Delete at (record { lets = []; body = rowids_where tree filter }))
@@ -118,7 +118,7 @@ module _ (name : List ℕ) (columns : List Column) (key : List ℕ) (old new : S
       → (e : Error) → ExecutesInside 0 text params old new (Err e) → FailsWith old new (old.is_open ≡ false) (IsSome old.step_limit) (failure_of e)
   delete_fails text count params filter given is accepts e h =
       fails_wider old new (OrShut old ⊥) (old.is_open ≡ false) (IsSome old.step_limit) (IsSome old.step_limit) shut_alone (λ l. l) (failure_of e)
-      (our_write_fails name columns key old new under standing text count params _ (λ at tree. refl) given is ⊥ (IsSome old.step_limit)
+      (our_write_fails name columns key old new standing text count params _ (λ at tree. refl) given is ⊥ (IsSome old.step_limit)
       (λ up stands. let tree = tree_named old.now.schema name in delete_stops name columns key tree stands.at filter old.now (under.ours up).sound stands.known.named stands.unreferred old.step_limit params (accepts old.now.schema stands.at tree stands.known)) e h)
     where
       shut_alone : OrShut old ⊥ → old.is_open ≡ false

@@ -19,7 +19,7 @@ theirs_walk : (a b c : Database) (ts : List Table) → AllByRecursion (λ t. is_
 theirs_walk a b c [] h k = tt
 theirs_walk a b c (t ∷ ts) h k = (λ other. k.0 other ∙ h.0 other, theirs_walk a b c ts h.1 k.1)
 
-theirs_then : (a b c : Database) → b.schema ≡ a.schema → KeepsTheirs a b → KeepsTheirs b c → KeepsTheirs a c
+pub theirs_then : (a b c : Database) → b.schema ≡ a.schema → KeepsTheirs a b → KeepsTheirs b c → KeepsTheirs a c
 theirs_then a b c is h k = theirs_walk a b c a.schema.tables h (subst (λ (s : Schema). AllByRecursion (λ t. is_our_name t.name ≡ false → c.trees t.tree ≡ b.trees t.tree) s.tables) is k)
 
 -- two changes in a row are one
@@ -123,7 +123,7 @@ leaves_by old new h = record {
 -- ---- a whole transaction
 
 -- what a crash leaves of the changed tables, seen from those before the change
-leaves_from : (a b : State) (f : Contents → Contents) (db : Trees) → IsDatabase a.now → Changes a b f → Leaves b.now db (contents_of b.now) → Leaves a.now db (f (contents_of a.now))
+pub leaves_from : (a b : State) (f : Contents → Contents) (db : Trees) → IsDatabase a.now → Changes a b f → Leaves b.now db (contents_of b.now) → Leaves a.now db (f (contents_of a.now))
 leaves_from a b f db sound h l = record {
   ours = subst (λ (s : Schema). contents_of (record a.now { schema = s; trees = db }) ≡ f (contents_of a.now)) h.schema (l.ours ∙ h.contents);
   theirs = theirs_then a.now b.now (record a.now { trees = db }) h.schema h.theirs l.theirs;
@@ -131,7 +131,7 @@ leaves_from a b f db sound h l = record {
 }
 
 -- the disk was clean before a call, if it is after it
-clean_before : (a b : State) (P : Trees → Type 0) → Survives a b P → HasCleanDisk b → HasCleanDisk a
+pub clean_before : (a b : State) (P : Trees → Type 0) → Survives a b P → HasCleanDisk b → HasCleanDisk a
 clean_before a b P h clean = omega (arith, h.clean, clean)
 
 -- a crash leaves what it could leave before the transaction, or all that it changed, which only an open connection commits

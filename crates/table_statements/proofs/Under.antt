@@ -1,11 +1,20 @@
--- That a transaction goes on after a call, and what is so of a connection that is ready.
+-- That a transaction goes on after a call, what is so of a connection that is ready, and that a further table still stands.
 use Rattle.std.specs.Prelude.{IsTrue}
 use Rattle.sqlite.specs.State.{State}
+use Rattle.table_forms.specs.Forms.{piece, temp_root}
 use Rattle.table_statements.specs.Contents.{Contents}
-use Rattle.table_statements.specs.Calls.{IsReady, HasSettledTables, IsUnderWay, Changes}
+use Rattle.table_statements.specs.Calls.{IsReady, HasSettledTables, IsUnderWay, Changes, HasFurther, KeepsFurther}
 
 pub changes_under : (old new : State) (change : Contents → Contents) → Changes old new change → IsUnderWay new
 changes_under old new change h = record { ours = λ is_open. h.ours; mode = h.mode }
 
 pub ready_settled : (s : State) → (IsTrue s.is_open → IsReady s) → HasSettledTables s
 ready_settled s h = record { has = λ is_open. (h is_open).ours.has; settled = λ is_open. (h is_open).settled }
+
+pub piece_after : (old new : State) (change : Contents → Contents) → Changes old new change → HasFurther old.now piece → HasFurther new.now piece
+unfolding KeepsFurther
+piece_after old new change h there = h.further.0 there
+
+pub temp_root_after : (old new : State) (change : Contents → Contents) → Changes old new change → HasFurther old.now temp_root → HasFurther new.now temp_root
+unfolding KeepsFurther
+temp_root_after old new change h there = h.further.1.0 there

@@ -18,8 +18,7 @@ use Rattle.sqlite.specs.State.{State, IsUnchanged, IsNotRun, IsNoStatement, IsMi
 use Rattle.table_statements.specs.declared.failure.Failure.{Failure}
 use Rattle.table_statements.specs.declared.failure.Failure.TheVariants.{Memory, Size, Disk}
 use Rattle.table_forms.specs.Forms.{strict}
-use Rattle.table_forms.specs.Standing.{Stands, HasTables, tree_named}
-use Rattle.table_statements.specs.Calls.{IsUnderWay}
+use Rattle.table_forms.specs.Standing.{Stands, tree_named}
 use Rattle.table_statements.specs.Failures.{failure_of, FailsWith, IsWriteFailure, without_size}
 use Rattle.table_statements.proofs.Means.{IsMeant}
 use Rattle.table_statements.proofs.ReadFailures.{store_failed}
@@ -136,17 +135,17 @@ module _ (old new : State) (text : List ℕ) (params : Row) (command : Command) 
       absurd (stays_inside old command writes (subst (Escapes 0 old) (subst (λ (k : Compiled). k.command ≡ command) (same_compiled live it.0 it.1.is) (known live).command_is) it.2))
 
 -- a write to a table of ours, wherever it stands
-pub our_write_fails : (name : List ℕ) (columns : List Column) (key : List ℕ) (old new : State) → IsUnderWay old → (HasTables old.now.schema → Stands old.now.schema (strict name columns key))
+pub our_write_fails : (name : List ℕ) (columns : List Column) (key : List ℕ) (old new : State) → (IsTrue old.is_open → Stands old.now.schema (strict name columns key))
     → (text : List ℕ) (count : ℕ) (params : Row) (command : ℕ → ℕ → Command) → ((at tree : ℕ) → changes (command at tree) ≡ true) → length params ≡ count → Compiles name columns key text count command
     → (large refused : Type 0)
     → (IsTrue old.is_open → (stands : Stands old.now.schema (strict name columns key)) (st : List ℕ) (stop : Option Error) → Does old.step_limit (mode_of old) params old.now st None (command stands.at (tree_named old.now.schema name)) (Err stop) → MayStop large refused stop)
     → (e : Error) → ExecutesInside 0 text params old new (Err e) → FailsWith old new (OrShut old large) refused (failure_of e)
-our_write_fails name columns key old new under standing text count params command writes given is large refused stops e h = go old.is_open refl
+our_write_fails name columns key old new standing text count params command writes given is large refused stops e h = go old.is_open refl
   where
     go : (b : Bool) → old.is_open ≡ b → FailsWith old new (OrShut old large) refused (failure_of e)
     go false shut = write_fails old new text params (command 0 0) (writes 0 0) large refused (λ up. absurd (both_ways _ shut up)) (λ up st its stop does. absurd (both_ways _ shut up)) e h
     go true up =
-        let stands = standing (under.ours up).has in
+        let stands = standing up in
         let tree = tree_named old.now.schema name in
         let c = is old.now.schema stands.at tree stands.known in
         write_fails old new text params (command stands.at tree) (writes stands.at tree) large refused (λ _. is_write old text params (command stands.at tree) given c) (λ _ st its. stops up stands st) e h

@@ -12,11 +12,11 @@ returns-clause-done g c clean =
     let old = state g.S.Store c.args.tx.now.conn.now in
     let new = state g.S.Store c.remove.new.tx.conn.now in
     let early : HasCleanDisk old = omega (arith, c.remove.ensures.survives.clean) in
-    on_ok c.remove.result _ _ (λ ran. removes table old new (c.requires early) (removal c.args.owner.now c.args.name.now (pos c.args.number)) ran.0 (rw (c.params-to_sql.ensures, c.params-to_sql-2.ensures, c.params-to_sql-3.ensures) at ran.1)) (c.remove.ensures.ran clean)
+    on_ok c.remove.result _ _ (λ ran. removes table old new (c.requires early) (λ up. tt) (removal c.args.owner.now c.args.name.now (pos c.args.number)) ran.0 (rw (c.params-to_sql.ensures, c.params-to_sql-2.ensures, c.params-to_sql-3.ensures) at ran.1)) (c.remove.ensures.ran clean)
 
 pub returns-clause-cause : goal.returns-clause-cause
 returns-clause-cause g c clean =
     let old = state g.S.Store c.args.tx.now.conn.now in
     let new = state g.S.Store c.remove.new.tx.conn.now in
     let early : HasCleanDisk old = omega (arith, c.remove.ensures.survives.clean) in
-    removal_failed c.remove.result old new _ _ (c.remove.ensures.cause clean) (λ e h. removes_not table old new (c.requires early) (removal c.args.owner.now c.args.name.now (pos c.args.number)) e (rw (c.params-to_sql.ensures, c.params-to_sql-2.ensures, c.params-to_sql-3.ensures) at h))
+    removal_failed c.remove.result old new _ _ (c.remove.ensures.cause clean) (λ e h. removes_not table old new (c.requires early) (λ up. tt) (removal c.args.owner.now c.args.name.now (pos c.args.number)) e (rw (c.params-to_sql.ensures, c.params-to_sql-2.ensures, c.params-to_sql-3.ensures) at h))

@@ -13,7 +13,7 @@ returns-clause-reads g c clean =
     let old = state g.S.Store c.args.conn.now in
     let new = state g.S.Store c.select.new.conn in
     let early : HasCleanDisk old = omega (arith, c.select.ensures.survives.clean) in
-    selects table reading old new (of c.args.base.now) (c.requires.ready early) c.select.result (rw c.params-to_sql.ensures at (c.select.ensures.shown clean)) (c.select.ensures.rises clean)
+    selects table reading old new (of c.args.base.now) (c.requires.ready early) (λ up. tt) c.select.result (rw c.params-to_sql.ensures at (c.select.ensures.shown clean)) (c.select.ensures.rises clean)
 
 pub returns-clause-cause : goal.returns-clause-cause
 returns-clause-cause g c clean =
@@ -21,7 +21,7 @@ returns-clause-cause g c clean =
     let new = state g.S.Store c.select.new.conn in
     let early : HasCleanDisk old = omega (arith, c.select.ensures.survives.clean) in
     let ready = c.requires.ready early in
-    select_fails c.select.result old new _ _ _ (selects_not table reading old new (of c.args.base.now) (ready_settled old ready)) (never_amiss table reading old new (of c.args.base.now) ready) (rw c.params-to_sql.ensures at (c.select.ensures.cause clean))
+    select_fails c.select.result old new _ _ _ (selects_not table reading old new (of c.args.base.now) (ready_settled old ready).has) (never_amiss table reading old new (of c.args.base.now) ready (λ up. tt)) (rw c.params-to_sql.ensures at (c.select.ensures.cause clean))
 
 pub select-requires : goal.select-requires
 select-requires g c = of_read

@@ -15,11 +15,11 @@ returns-clause-done g c clean =
     let old = state g.S.Store c.args.tx.now.conn.now in
     let new = state g.S.Store c.remove.new.tx.conn.now in
     let early : HasCleanDisk old = omega (arith, c.remove.ensures.survives.clean) in
-    on_ok c.remove.result _ _ (λ ran. changes_by old new _ _ (λ x i. record x { runtime = none_kept pair_total pair_antisymmetric x.runtime i }) (removes table old new (c.requires early) removal_all ran.0 ran.1)) (c.remove.ensures.ran clean)
+    on_ok c.remove.result _ _ (λ ran. changes_by old new _ _ (λ x i. record x { runtime = none_kept pair_total pair_antisymmetric x.runtime i }) (removes table old new (c.requires early) (λ up. tt) removal_all ran.0 ran.1)) (c.remove.ensures.ran clean)
 
 pub returns-clause-cause : goal.returns-clause-cause
 returns-clause-cause g c clean =
     let old = state g.S.Store c.args.tx.now.conn.now in
     let new = state g.S.Store c.remove.new.tx.conn.now in
     let early : HasCleanDisk old = omega (arith, c.remove.ensures.survives.clean) in
-    removal_failed c.remove.result old new _ _ (c.remove.ensures.cause clean) (λ e h. removes_not table old new (c.requires early) removal_all e h)
+    removal_failed c.remove.result old new _ _ (c.remove.ensures.cause clean) (λ e h. removes_not table old new (c.requires early) (λ up. tt) removal_all e h)

@@ -28,4 +28,4 @@ returns-clause-cause g c clean =
     let old = state g.S.Store c.args.conn.now in
     let new = state g.S.Store c.check.new.conn in
     let early : HasCleanDisk old = omega (arith, c.check.ensures.survives.clean) in
-    err_with c.check.result _ _ (texts_fail old new _ (selects_not table reading old new all (c.requires.settled early))) (c.check.ensures.cause clean)
+    err_with c.check.result _ _ (texts_fail old new _ (selects_not table reading old new all (c.requires.settled early).has)) (c.check.ensures.cause clean)
