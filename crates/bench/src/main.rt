@@ -2,8 +2,9 @@
 #![tactic(auto)]
 
 mod archives;
-mod database;
+mod arrivals;
 mod derivations;
+mod liveness;
 mod memory;
 
 use std::{env, io};
@@ -13,14 +14,16 @@ fn main(rt: HostRuntime) -> io::Result<()> {
     match words.get(1) {
         Some(word) => match word.as_str() {
             "archives" => archives::run(&rt, &words),
+            "arrivals" => arrivals::run(&rt, &words),
             "derivations" => derivations::run(&rt, &words),
-            "database" => database::run(&rt, &words),
-            _ => println!(rt; "usage: bench [archives | derivations | database] .."),
+            "liveness" => liveness::run(&rt, &words),
+            _ => println!(rt; "usage: bench [archives | arrivals | derivations | liveness] .."),
         },
         None => {
             archives::example(&rt)?;
+            arrivals::example(&rt)?;
             derivations::example(&rt)?;
-            database::example(&rt)
+            liveness::example(&rt)
         }
     }
 }
