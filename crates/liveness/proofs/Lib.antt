@@ -10,3 +10,4 @@ pub mod Marked
 pub mod Sized
 pub mod Places
 pub mod Deleted
+pub mod Kept

@@ -1,22 +1,21 @@
 -- Keys of a map rise.
-use Rattle.std.proofs.Common.{◌≡◌, ℕ, ◌<◌, List, [], ◌∷◌, map, length, get_or, refl, sym, ap, subst, arith, T}
+use Rattle.std.proofs.Common.{◌≡◌, List, [], ◌∷◌, map, get_or, sym, subst, arith, T}
 use Rattle.std.specs.Prelude.{AllPairs, filter}
 use Rattle.std.specs.declared.cmp.Ordering.{Ordering}
 use Rattle.std.specs.declared.cmp.Ordering.TheVariants.{Less}
-use Rattle.std.specs.Ordering.{is_lt}
 use Rattle.std.specs.Cmp.{IsTotalOrder}
 use Rattle.std.specs.FinMap as finite
 use Rattle.std.specs.FinMap.Entries.{is_sorted, below_all}
 use Rattle.std.proofs.lemmas.List.Elements.{Contains-get_or}
 use Rattle.std.proofs.lemmas.List.Kept.{AllPairs-cons, AllPairs-filter}
-use Rattle.paths.specs.Root.{Root, Set, root_cmp, set_of, in_order}
+use Rattle.paths.specs.Root.{Root, root_cmp, set_of, in_order}
 use Rattle.live.proofs.Members.{below}
 use Rattle.live.proofs.Order.{root_total}
 use Rattle.live.specs.Numbering.{Rise, RootsRise, paths_of}
-use Rattle.index.specs.Outline.{Outline, Outlined}
+use Rattle.index.specs.Outline.{Outline}
 use Rattle.index.proofs.Ordered.{both_T}
 use Rattle.index.proofs.Orders.{bytes_total}
-use Rattle.world.specs.World.{Path, roots_of}
+use Rattle.world.specs.World.{roots_of}
 use Rattle.liveness.specs.Linked.{rows_in, row_in}
 use Rattle.liveness.specs.Rooted.{rooted}
 use Rattle.liveness.proofs.RootOrder.{map-map}

@@ -1,13 +1,13 @@
 -- What an outline tells of the roots and of what lives in its world.
-use Rattle.std.proofs.Common.{◌≡◌, List, [], ◌∷◌, map, refl, sym, ap, ◌∙◌, T}
-use Rattle.std.specs.Prelude.{Bool, not, filter}
+use Rattle.std.proofs.Common.{◌≡◌, List, [], ◌∷◌, map, sym, ap, ◌∙◌, T}
+use Rattle.std.specs.Prelude.{not, filter}
 use Rattle.std.specs.declared.cmp.Ordering.{Ordering}
 use Rattle.std.specs.Ordering.{is_lt}
 use Rattle.std.specs.FinMap as finite
 use Rattle.std.specs.FinMap.Entries.{is_sorted, below_all}
 use Rattle.paths.specs.Root.{bytes_cmp}
 use Rattle.live.specs.Live.{is_live}
-use Rattle.live.specs.Numbering.{Row, graph_of}
+use Rattle.live.specs.Numbering.{graph_of}
 use Rattle.policy.specs.Settings.{Settings}
 use Rattle.world.specs.World.{Path, Object, World, all_paths, roots_of}
 use Rattle.index.specs.Outline.{Outline, Outlined, outlined, outline_of}

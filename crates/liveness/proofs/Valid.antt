@@ -1,24 +1,24 @@
 -- Roots whose targets are valid: the others reach nothing.
-use Rattle.std.proofs.Common.{◌≡◌, ℕ, suc, ◌+◌, ◌<◌, Bool, true, false, cond, ◌&&◌, ◌||◌, List, [], ◌∷◌, map, length, get_or, Option, Some, None, is_some, refl, sym, ap, ◌∙◌, subst, arith, IsTrue}
+use Rattle.std.proofs.Common.{◌≡◌, ℕ, suc, ◌+◌, ◌<◌, Bool, true, false, cond, ◌||◌, List, [], ◌∷◌, map, length, get_or, Option, Some, None, is_some, refl, sym, ap, ◌∙◌, subst, arith}
 use Rattle.std.specs.Prelude.{All, Contains, filter}
 use Rattle.std.specs.List.{list_any, find, range_with_len}
 use Rattle.std.specs.Option.{option_map}
 use Rattle.std.specs.Ordering.{eq_by_cmp}
 use Rattle.std.specs.FinMap as finite
-use Rattle.std.proofs.lemmas.Bool.{and_parts, false≢true, false_from_ne_true}
+use Rattle.std.proofs.lemmas.Bool.{and_parts, false≢true}
 use Rattle.std.proofs.lemmas.List.{length-map}
 use Rattle.std.proofs.lemmas.List.Elements.{All-cons}
 use Rattle.paths.specs.Root.{Root, bytes_cmp, in_order}
 use Rattle.live.specs.Exact.{IsExact}
 use Rattle.live.specs.Graph.{Keep}
-use Rattle.live.specs.Live.{is_live, first_root}
+use Rattle.live.specs.Live.{is_live}
 use Rattle.live.specs.Marking.{Marking, first_of}
 use Rattle.live.specs.Numbering.{AllValid, RootsRise, graph_of, no_root, path_at, paths_of, root_at}
 use Rattle.live.specs.Reach.{reaches}
 use Rattle.live.proofs.Members.{some_of_any}
 use Rattle.live.proofs.Order.{in_order_is}
 use Rattle.world.specs.World.{Path}
-use Rattle.index.specs.Outline.{Outline, Outlined}
+use Rattle.index.specs.Outline.{Outline}
 use Rattle.index.proofs.Orders.{bytes_total, bytes_antisymmetric}
 use Rattle.index.proofs.Puts.{tied_is}
 use Rattle.index.proofs.Told.{has-told}
@@ -82,7 +82,7 @@ module _ {X : Type 0} (f p : X → Bool) (keeps : (x : X) → f x ≡ true → p
 
 -- ---- what the marks say
 
-some_found : {X : Type 0} (f : X → Bool) (xs : List X) → is_some (find f xs) ≡ list_any f xs
+pub some_found : {X : Type 0} (f : X → Bool) (xs : List X) → is_some (find f xs) ≡ list_any f xs
 some_found f [] = refl
 some_found f (x ∷ xs) = by (f x) (some_found f xs)
   where

@@ -3,3 +3,4 @@ pub mod View
 pub mod Rooted
 pub mod Linked
 pub mod Sizes
+pub mod Keeping

@@ -3,6 +3,7 @@
 
 mod all_roots;
 mod deleting;
+mod keeping;
 mod labels;
 mod lending;
 mod linking;
@@ -14,6 +15,7 @@ mod seen;
 mod sizes;
 
 pub use deleting::deleted_paths;
+pub use keeping::first_kept;
 pub use living::{dead_paths, live_and_dead, live_paths};
 pub use reaching::seen_roots_of;
 pub use root_lists::seen_roots;

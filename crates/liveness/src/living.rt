@@ -33,11 +33,17 @@ pub(crate) fn keep_of(config: &Config) -> Keep
 }
 
 /// The marks of the paths that live, by their places.
-fn marks(alloc: Global, keep: Keep, rows: &[Row], roots: &[Root]) -> Result<Marks, AllocError>
+pub(crate) fn marks(
+    alloc: Global,
+    keep: Keep,
+    rows: &[Row],
+    roots: &[Root],
+) -> Result<Marks, AllocError>
     requires rows { Rise (paths_of (rows_view rows.now)) }
     requires roots { RootsRise (roots_view roots.now) }
     requires targets { AllValid (rows_view rows.now) (roots_view roots.now) }
-    ensures { IfOk result (IsExact (keep_view keep) (rows_view rows.now) (roots_view roots.now)) }
+    ensures exact { IfOk result (IsExact (keep_view keep) (rows_view rows.now) (roots_view roots.now)) }
+    ensures roots { IfOk result (λ m. m.none ≡ length roots.now) }
 {
     let graph = Graph::new(alloc, rows)?;
     let aims = Roots::new(alloc, rows, roots)?;

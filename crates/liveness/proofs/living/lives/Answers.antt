@@ -37,5 +37,5 @@ returns c =
     ap roots_view c.deref-3.ensures.value ∙ c.in_ok-valid.ensures
     ∙ ap (filter (aims_well o)) (ap roots_view c.deref-2.ensures.value ∙ c.in_ok-given.ensures ∙ ap (map root_view) c.deref.ensures.value ∙ c.in_ok-roots.ensures) in
     IfOk-weaker c.flags.result _ _
-    (λ v e. e ∙ lives_marked o (rows_view c.args.rows.now) c.requires (roots_view c.deref-3.result.now) same c.args.config.now (keep_view c.keep_of.result) c.in_ok-marks.marks _ c.keep_of.ensures c.in_ok-marks.ensures (sym (length-map c.args.rows.now row_view)))
+    (λ v e. e ∙ lives_marked o (rows_view c.args.rows.now) c.requires (roots_view c.deref-3.result.now) same c.args.config.now (keep_view c.keep_of.result) c.in_ok-marks.marks _ c.keep_of.ensures c.in_ok-marks.ensures.exact (sym (length-map c.args.rows.now row_view)))
     c.flags.ensures

@@ -1,10 +1,9 @@
 use Rattle.std.proofs.Common.{◌≡◌, ◌<◌, ℕ, length, map, subst, sym, ap, ◌∙◌}
 use Rattle.std.specs.Prelude.{filter}
 use Rattle.std.proofs.lemmas.Result.{IfOk-weaker}
-use Rattle.live.specs.Graph.{same}
 use Rattle.live.specs.Handed.{roots_view, rows_view}
 use Rattle.live.specs.Keeping.{keep_view}
-use Rattle.live.specs.Numbering.{path_at, paths_of}
+use Rattle.live.specs.Numbering.{path_at}
 use Rattle.world.specs.World.{roots_of}
 use Rattle.index.specs.Maps.{labelled_bytes}
 use Rattle.store.specs.Seen.{seen}

@@ -1,4 +1,4 @@
-use Rattle.std.proofs.Common.{Some, None, ap, ◌∙◌}
+use Rattle.std.proofs.Common.{Some, None, ◌∙◌}
 use Rattle.liveness.proofs.Sized.{size_found}
 use Rattle.liveness.proofs.sizes.size_of.Goals as goal
 
