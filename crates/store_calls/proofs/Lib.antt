@@ -17,5 +17,7 @@ pub mod RuntimePairs
 pub mod AddedSources
 pub mod AddedImports
 pub mod Addresses
+pub mod Removed
 pub mod Collected
+pub mod Deleted
 pub mod Runs

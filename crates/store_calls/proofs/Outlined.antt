@@ -76,3 +76,7 @@ record_by o w p x is at = by (finite.get w.objects p) (found_by o w p (Some x) i
 pub complete_by : (o : Outline) (w : World) (p : Path) (refs : List Path) → outline_of w ≡ o → is_complete w p refs ≡ is_complete_in o p refs
 complete_by o w p refs is =
     (λ i. sym (has_outlined w p) i || list_all (λ r. sym (has_outlined w r) i || same r p) refs) ∙ ap (λ (x : Outline). is_complete_in x p refs) is
+
+-- whether paths are all valid
+pub all_valid_by : (o : Outline) (w : World) (ps : List Path) → outline_of w ≡ o → list_all (has w) ps ≡ list_all (finite.contains_key o.objects) ps
+all_valid_by o w ps is = (λ i. list_all (λ p. sym (has_outlined w p) i) ps) ∙ ap (λ (x : Outline). list_all (finite.contains_key x.objects) ps) is

@@ -1,54 +1,29 @@
 -- The step of a call.
-use Rattle.std.proofs.Common.{◌≡◌, [], Some, None, Result, Ok, Err, refl, sym, subst}
+use Rattle.std.specs.List.{list_any}
+use Rattle.std.proofs.Common.{◌≡◌, true, false, Some, None, Result, Ok, Err, refl, sym, subst}
 use Rattle.sqlite_trees.specs.declared.store.Store.{Ghosts}
 use Rattle.sqlite.specs.State.{HasCleanDisk}
 use Rattle.sqlite.specs.Held.{state}
 use Rattle.policy.specs.Settings.{Settings}
 use Rattle.policy.specs.Caller.{Caller}
 use Rattle.policy.specs.declared.kinds.Rule.{Rule}
+use Rattle.policy.specs.declared.kinds.Rule.TheVariants.{Live}
 use Rattle.policy.specs.Class.{class_of}
 use Rattle.policy.specs.Rules.{first_broken}
-use Rattle.world.specs.World.{World}
+use Rattle.world.specs.World.{Pair, World}
 use Rattle.store.specs.Request.{Request}
-use Rattle.store.specs.Reply.{Reply, denied}
-use Rattle.store.specs.Verdict.{operation_of, named_in, verdict}
+use Rattle.store.specs.Liveness.{lives}
+use Rattle.store.specs.Reply.{Failure, Reply, denied, failed}
+use Rattle.store.specs.Verdict.{operation_of, named_in, shown, verdict}
 use Rattle.store.specs.Step.{IsNoneOrLive}
 use Rattle.tables.specs.Kept.{Kept, Tells}
-use Rattle.store_calls.specs.declared.requests.Request as asked
-use Rattle.store_calls.specs.declared.requests.Request.TheVariants.{AddText, Info, Nar, Ls, List as ListAll, ListLive, ListDead, ListRoots, ListRootsOf, Report, SetPermanent, DropPermanent, SetUserRoot, DropUserRoot, Rollback, Switch, DeleteGeneration, SetProfile, ReplaceRuntime, AddSource, Import, Collect}
 use Rattle.store_calls.specs.declared.replies.Answer.{Answer}
 use Rattle.store_calls.specs.declared.replies.Stop.{Stop}
 use Rattle.store_calls.specs.declared.replies.Stop.TheVariants.{Refused, Failed}
-use Rattle.store_calls.specs.View.{request_view}
 use Rattle.store_calls.specs.Standing.{IsDone, IsStill}
 use Rattle.store_calls.specs.Disk.{StepOver}
 use Rattle.store_calls.specs.Meets.{MeetsOver, IsMet, IsAnswered, IsRefused, reply_to}
-use Rattle.store_calls.proofs.Verdicts.{denied_by, permitted}
-
--- no request deletes by name yet
-pub names_none : (q : asked.Request) → named_in (request_view q) ≡ []
-names_none (AddText name refs contents) = refl
-names_none (Info p) = refl
-names_none (Nar p) = refl
-names_none (Ls p) = refl
-names_none ListAll = refl
-names_none ListLive = refl
-names_none ListDead = refl
-names_none ListRoots = refl
-names_none (ListRootsOf p) = refl
-names_none Report = refl
-names_none (SetPermanent name p) = refl
-names_none (DropPermanent name) = refl
-names_none (SetUserRoot owner name p) = refl
-names_none (DropUserRoot owner name) = refl
-names_none (Rollback owner name) = refl
-names_none (Switch owner name n) = refl
-names_none (DeleteGeneration owner name n) = refl
-names_none (SetProfile owner name p) = refl
-names_none (ReplaceRuntime pairs) = refl
-names_none (AddSource name refs nar) = refl
-names_none (Import i) = refl
-names_none (Collect ignores) = refl
+use Rattle.store_calls.proofs.Verdicts.{denied_by, denied_live, none_or_live, permitted}
 
 -- where no rule forbids it, what becomes of a request is a step
 step_of : (is_clean : Type 0) (s : Settings) (w : World) (c : Caller) (q : Request) (r : Result Answer Stop) (next : World) → verdict s w c q ≡ None → MeetsOver is_clean s w c q r next
@@ -75,10 +50,24 @@ module _ {S : Type 0} (g : Ghosts S) (s : Settings) (c : Caller) (q : Request) w
       let d = denied_by s w c q rule broken in
       (w, (d.0, d.1, refl), t)
 
+  -- a denial for a live path
+  pub step_living : (root : Pair) (k : Kept S) → first_broken (class_of s c) c (operation_of q) ≡ None
+      → ((w : World) → Tells g k w → (list_any (lives s w) (named_in q) ≡ true) × (shown s w c q Live ≡ Some root))
+      → (w : World) → Tells g k w → (next : World) × StepOver (HasCleanDisk (state g k.connection)) s w c q (denied Live (Some root)) next × Tells g k next
+  step_living root k allowed living w t =
+      let l = living w t in
+      (w, (denied_live s w c q allowed l.0, sym l.1, refl), t)
+
+  -- whether a path lives couldn't be told
+  pub step_failing : (f : Failure) (k : Kept S) → first_broken (class_of s c) c (operation_of q) ≡ None → (w : World) → Tells g k w
+      → (next : World) × StepOver (HasCleanDisk (state g k.connection)) s w c q (failed f) next × Tells g k next
+  step_failing f k allowed w t = (w, (none_or_live s w c q allowed, refl), t)
+
   -- what no rule forbids
-  pub step_met : (r : Result Answer Stop) (reply : Reply) (old new : Kept S) → first_broken (class_of s c) c (operation_of q) ≡ None → named_in q ≡ [] → reply ≡ reply_to r → IsMet g s c q r old new
+  pub step_met : (r : Result Answer Stop) (reply : Reply) (old new : Kept S) → first_broken (class_of s c) c (operation_of q) ≡ None
+      → ((w : World) → Tells g old w → list_any (lives s w) (named_in q) ≡ false) → reply ≡ reply_to r → IsMet g s c q r old new
       → (w : World) → Tells g old w → (next : World) × StepOver (HasCleanDisk (state g new.connection)) s w c q reply next × Tells g new next
-  step_met r reply old new allowed none is met w t =
+  step_met r reply old new allowed dead is met w t =
       let m = met.world w t in
       let is_clean = HasCleanDisk (state g new.connection) in
-      (m.0, subst (λ (x : Reply). StepOver is_clean s w c q x m.0) (sym is) (step_of is_clean s w c q r m.0 (permitted s w c q allowed none) m.1), m.2)
+      (m.0, subst (λ (x : Reply). StepOver is_clean s w c q x m.0) (sym is) (step_of is_clean s w c q r m.0 (permitted s w c q allowed (dead w t)) m.1), m.2)

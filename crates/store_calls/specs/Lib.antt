@@ -8,3 +8,4 @@ pub mod Tested
 pub mod Parts
 pub mod Adding
 pub mod Writing
+pub mod Removing

@@ -8,7 +8,7 @@ use Rattle.table_statements.specs.declared.failure.Failure.{Failure}
 use Rattle.table_statements.specs.declared.failure.Failure.TheVariants.{Memory, Size, Disk}
 use Rattle.store_calls.specs.declared.requests.Imported.{Imported}
 use Rattle.store_calls.specs.declared.requests.Request.{Request}
-use Rattle.store_calls.specs.declared.requests.Request.TheVariants.{AddText, Info as InfoOf, Nar, Ls, List as ListAll, ListLive, ListDead, ListRoots, ListRootsOf, Report, SetPermanent, DropPermanent, SetUserRoot, DropUserRoot, Rollback, Switch, DeleteGeneration, SetProfile, ReplaceRuntime, AddSource, Import, Collect}
+use Rattle.store_calls.specs.declared.requests.Request.TheVariants.{AddText, Info as InfoOf, Nar, Ls, List as ListAll, ListLive, ListDead, ListRoots, ListRootsOf, Report, SetPermanent, DropPermanent, SetUserRoot, DropUserRoot, Rollback, Switch, DeleteGeneration, SetProfile, ReplaceRuntime, AddSource, Import, Collect, Delete}
 use Rattle.store_calls.specs.declared.replies.Info.{Info}
 use Rattle.store_calls.specs.declared.replies.Usage.{Usage}
 use Rattle.store_calls.specs.declared.replies.Answer.{Answer}
@@ -45,6 +45,7 @@ request_view (ReplaceRuntime pairs) = asked.replace_runtime (map labelled_bytes 
 request_view (AddSource name refs nar) = asked.add_source name refs.items nar.items
 request_view (Import i) = asked.import_object (import_view i)
 request_view (Collect ignores) = asked.collect ignores None
+request_view (Delete named ignores) = asked.delete named.items ignores
 
 -- a caller's request
 abbrev pub call_view : Caller × Request → Caller × asked.Request

@@ -1,11 +1,17 @@
 //! What becomes of a request that no rule forbids.
 
-ghost use Rattle.std.specs.Prelude.{◌≡◌};
+ghost use Rattle.std.specs.Prelude.{◌≡◌, false};
+ghost use Rattle.std.specs.List.{list_any};
+ghost use Rattle.world.specs.World.{World};
+ghost use Rattle.store.specs.Liveness.{lives};
+ghost use Rattle.store.specs.Verdict.{named_in};
+ghost use Rattle.tables.specs.Kept.{Tells};
 ghost use Rattle.store_calls.specs.View.{request_view, reply_view};
 ghost use Rattle.store_calls.specs.Meets.{IsMet, reply_to};
 
 use crate::adding::add_text;
 use crate::collecting::collect;
+use crate::deleting::delete;
 use crate::imports::import_object;
 use crate::permanent::{drop_permanent, set_permanent};
 use crate::profiles::{delete_generation, rollback, set_profile, switch};
@@ -29,6 +35,8 @@ pub(crate) fn act<S: Alter>(
     request: Request,
 ) -> Result<Answer, Stop>
     requires dir { tables.old.dir ≡ config.now.store_dir }
+    // What is deleted by name is dead.
+    requires dead { (w : World) → Tells S.Store tables.old w → list_any (lives config.now w) (named_in (request_view request)) ≡ false }
     ensures { IsMet S.Store config.now caller.now (request_view request) result tables.old tables.new }
 {
     match request {
@@ -56,6 +64,7 @@ pub(crate) fn act<S: Alter>(
         Request::AddSource(name, refs, nar) => add_source(alloc, config, tables, name, refs, nar),
         Request::Import(object) => import_object(alloc, config, tables, object),
         Request::Collect(ignores) => collect(alloc, config, tables, ignores),
+        Request::Delete(named, ignores) => delete(alloc, tables, named, ignores),
     }
 }
 

@@ -12,13 +12,15 @@ ghost use Rattle.store_calls.specs.View.{request_view, reply_view};
 ghost use Rattle.store_calls.specs.Standing.{IsDone, IsStill};
 
 use crate::acting::{act, reply};
+use crate::deleting::denial;
 use crate::replies::Reply;
 use crate::requests::Request;
 use crate::rules::operation;
-use policy::{Caller, Config, class, decide};
+use policy::{Caller, Config, Rule, class, decide};
 use sqlite::Alter;
 use std::alloc::{AllocError, Global};
 use std::marker::Model;
+use table_statements::failure::Failure;
 use tables::Tables;
 
 /// A store. Contracts see it as its tables and its settings.
@@ -84,7 +86,7 @@ impl<S: Alter> Store<S> {
 
     /// Does what a caller asks, or says why not: the first rule that forbids it, or else the first of its tests that
     /// fails. What isn't done changes nothing, and neither a denial nor a refusal touches the tables. Only a call that no
-    /// rule forbids fails.
+    /// rule but the one on live paths forbids fails.
     pub fn call(&mut self, caller: &Caller, request: Request) -> Reply
         ensures settings { self.new.settings ≡ self.old.settings }
         // Of each world that the tables told, a step to one that they tell now; an answer from the disk is right if that is clean.
@@ -98,6 +100,17 @@ impl<S: Alter> Store<S> {
     {
         if let Some(rule) = decide(class(&self.config, caller), caller, &operation(&request)) {
             return Reply::Denied(rule, None);
+        }
+        match denial(
+            self.alloc,
+            &self.config,
+            caller,
+            self.tables.index(),
+            &request,
+        ) {
+            Ok(None) => {}
+            Ok(Some(root)) => return Reply::Denied(Rule::Live, Some(root)),
+            Err(_) => return Reply::Failed(Failure::Memory),
         }
         let met = act(self.alloc, &self.config, caller, &mut self.tables, request);
         reply(met)

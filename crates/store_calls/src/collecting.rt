@@ -1,6 +1,6 @@
 //! Dead objects are collected.
 
-ghost use Rattle.std.specs.Prelude.{◌≡◌, ◌<◌, true, false, None, [], IfOk, length};
+ghost use Rattle.std.specs.Prelude.{◌≡◌, None, IfOk};
 ghost use Rattle.policy.specs.Caller.{Caller};
 ghost use Rattle.world.specs.World.{World};
 ghost use Rattle.index.specs.Outline.{outline_of};
@@ -8,23 +8,15 @@ ghost use Rattle.store.specs.Liveness as spec;
 ghost use Rattle.store.specs.Request as asked;
 ghost use Rattle.store_calls.specs.Meets.{IsMet};
 
+use crate::removing::{Found, remove};
 use crate::replies::{Answer, Stop};
-use crate::writing::answered;
 use index::Index;
 use liveness::{bytes_in, dead_paths};
-use paths::StorePath;
 use policy::Config;
 use sqlite::Alter;
 use std::alloc::{AllocError, Global};
 use table_statements::failure::Failure;
 use tables::Tables;
-
-/// Paths in order, and the sum of the bytes of their archives.
-#[derive(Drop)]
-struct Found {
-    paths: Vec<StorePath>,
-    bytes: u128,
-}
 
 /// The paths that are dead.
 fn find_dead(alloc: Global, config: &Config, index: &Index) -> Result<Found, AllocError>
@@ -34,14 +26,6 @@ fn find_dead(alloc: Global, config: &Config, index: &Index) -> Result<Found, All
     let paths = dead_paths(alloc, config, index)?;
     let bytes = bytes_in(index, &paths);
     Ok(Found { paths, bytes })
-}
-
-/// Whether there is no path.
-fn is_nothing(paths: &[StorePath]) -> bool
-    ensures none { result ≡ true → paths.now ≡ [] }
-    ensures some { result ≡ false → 0 < length paths.now }
-{
-    paths.is_empty()
 }
 
 /// The dead objects go, if there are any.
@@ -54,13 +38,7 @@ pub(crate) fn collect<S: Alter>(
     ensures { (c : Caller) → IsMet S.Store config.now c (asked.collect ignores None) result tables.old tables.new }
 {
     match find_dead(alloc, config, tables.index()) {
-        Ok(dead) => {
-            let Found { paths, bytes } = dead;
-            if is_nothing(&paths) {
-                return Ok(Answer::Freed(paths, bytes));
-            }
-            answered(tables.remove_objects(&paths), Answer::Freed(paths, bytes))
-        }
+        Ok(dead) => remove(tables, dead),
         Err(_) => Err(Stop::Failed(Failure::Memory)),
     }
 }

@@ -66,4 +66,6 @@ pub enum Request {
     Import(Imported),
     /// Dead paths are deleted; whether liveness is to be ignored.
     Collect(bool),
+    /// Paths are deleted with all that refer to them; whether liveness is to be ignored.
+    Delete(Vec<StorePath>, bool),
 }

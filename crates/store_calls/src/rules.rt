@@ -39,5 +39,8 @@ pub(crate) fn operation(request: &Request) -> Op<'_>
         Request::Collect(ignores) => Op::Collect {
             ignores_liveness: *ignores,
         },
+        Request::Delete(_, ignores) => Op::Delete {
+            ignores_liveness: *ignores,
+        },
     }
 }

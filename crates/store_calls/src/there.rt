@@ -1,6 +1,7 @@
 //! Tests that what a request names is there.
 
 ghost use Rattle.std.specs.Prelude.{◌≡◌, IsTrue, OnOk, string_bytes};
+ghost use Rattle.std.specs.List.{list_all};
 ghost use Rattle.std.specs.FinMap as finite;
 ghost use Rattle.world.specs.World.{World, has};
 ghost use Rattle.world.specs.Profiles as profiles;
@@ -18,6 +19,23 @@ pub(crate) fn is_valid(index: &Index, path: &StorePath) -> Result<(), Stop>
     ensures { (w : World) → outline_of w ≡ index.now → Tested result (unless (has w path.now) replied.not_valid) }
 {
     if !index.has(path) {
+        return Err(Stop::Refused(Refusal::NotValid));
+    }
+    Ok(())
+}
+
+/// Whether each path is one of the index.
+fn has_all(index: &Index, paths: &[StorePath]) -> bool
+    ensures { result ≡ list_all (finite.contains_key index.now.objects) paths.now }
+{
+    paths.iter().all(|path| index.has(path))
+}
+
+/// Tests that paths are valid.
+pub(crate) fn are_valid(index: &Index, paths: &[StorePath]) -> Result<(), Stop>
+    ensures { (w : World) → outline_of w ≡ index.now → Tested result (unless (list_all (has w) paths.now) replied.not_valid) }
+{
+    if !has_all(index, paths) {
         return Err(Stop::Refused(Refusal::NotValid));
     }
     Ok(())

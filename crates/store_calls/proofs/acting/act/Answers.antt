@@ -1,7 +1,11 @@
-use Rattle.std.proofs.Common.{sym, subst}
+use Rattle.std.proofs.Common.{sym, ap, subst, ◌∙◌}
+use Rattle.std.specs.List.{list_any}
+use Rattle.store.specs.Liveness.{lives}
+use Rattle.store.specs.Verdict.{named_in}
 use Rattle.store_calls.specs.declared.requests.Request.{Request}
 use Rattle.store_calls.specs.View.{request_view}
 use Rattle.store_calls.specs.Meets.{IsMet}
+use Rattle.store_calls.proofs.Collected.{deleted_sound}
 use Rattle.store_calls.proofs.Untouched.{met_by_reading}
 use Rattle.store_calls.proofs.acting.act.Goals as goal
 
@@ -114,3 +118,12 @@ pub returns-in-Collect : goal.returns-in-Collect
 returns-in-Collect g c =
     subst (λ (q : Request). IsMet g.S.Store c.args.config.now c.args.caller.now (request_view q) c.collect.result c.args.tables.now c.collect.new.tables) (sym c.in-Collect.is)
     (c.collect.ensures c.args.caller.now)
+
+pub delete-requires : goal.delete-requires
+delete-requires g c w t =
+    deleted_sound c.args.config.now w c.in-Delete.named.items (ap (λ (q : Request). list_any (lives c.args.config.now w) (named_in (request_view q))) (sym c.in-Delete.is) ∙ c.requires.dead w t) c.args.tables.now.dir t.sound
+
+pub returns-in-Delete : goal.returns-in-Delete
+returns-in-Delete g c =
+    subst (λ (q : Request). IsMet g.S.Store c.args.config.now c.args.caller.now (request_view q) c.delete.result c.args.tables.now c.delete.new.tables) (sym c.in-Delete.is)
+    (c.delete.ensures c.args.config.now c.args.caller.now)

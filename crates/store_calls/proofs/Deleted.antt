@@ -1,0 +1,50 @@
+-- What a deletion finds, and what denies it.
+use Rattle.std.proofs.Common.{◌≡◌, List, [], ◌∷◌, String, Some, None, Option, is_some, option_map, refl, sym, ap, subst, ◌∙◌}
+use Rattle.std.specs.Prelude.{Bool, find}
+use Rattle.std.specs.List.{list_all, list_any}
+use Rattle.std.specs.declared.alloc.Global.{Global}
+use Rattle.policy.specs.Settings.{Settings}
+use Rattle.policy.specs.Caller.{Caller}
+use Rattle.policy.specs.Class.{class_of}
+use Rattle.policy.specs.declared.kinds.Class.{Class}
+use Rattle.world.specs.World.{Path, World, has}
+use Rattle.index.specs.Maps.{labelled_bytes}
+use Rattle.store.specs.Reply.{Refusal, not_valid, freed}
+use Rattle.store.specs.Request.{delete}
+use Rattle.store.specs.Liveness.{lives, deleted_paths, bytes_in}
+use Rattle.store.specs.Seen.{seen_root}
+use Rattle.store.specs.Tests.{first_failing, unless}
+use Rattle.store.specs.Verdict.{root_of_first}
+use Rattle.store_calls.specs.declared.removing.Found.{Found}
+use Rattle.store_calls.specs.declared.replies.Stop.{Stop}
+use Rattle.store_calls.specs.Removing.{IsDenial, Removes, found_view}
+use Rattle.store_calls.specs.Tested.{Stops}
+use Rattle.store_calls.proofs.Collected.{others_left}
+
+-- the only test
+alone : (t : Option Refusal) → first_failing (t ∷ []) ≡ t
+alone None = refl
+alone (Some r) = refl
+
+-- what denies a deletion
+pub denied_as : (s : Settings) (w : World) (c : Caller) (named : List Path) (ignores : Bool) (class : Class) → class ≡ class_of s c → (root : Option (String Global × Path))
+    → option_map labelled_bytes root ≡ option_map (seen_root class) (root_of_first s w (find (lives s w) named)) → is_some root ≡ list_any (lives s w) named → IsDenial s w c (delete named ignores) root
+denied_as s w c named ignores class is None shows living = sym living
+denied_as s w c named ignores class is (Some root) shows living = (sym living, sym (shows ∙ ap (λ k. option_map (seen_root k) (root_of_first s w (find (lives s w) named))) is))
+
+module _ (named handed : List Path) (same : handed ≡ named) (w : World) where
+  -- what stops it
+  pub stopped_as : (s : Settings) (ignores : Bool) (stop : Stop) → Stops stop (unless (list_all (has w) handed) not_valid) → Stops stop (first_failing (unless (list_all (has w) named) not_valid ∷ []))
+  stopped_as s ignores stop h = subst (Stops stop) (ap (λ (ps : List Path). unless (list_all (has w) ps) not_valid) same ∙ sym (alone (unless (list_all (has w) named) not_valid))) h
+
+  module _ (f : Found) (found : (unless (list_all (has w) handed) not_valid ≡ None) × (found_view f ≡ (deleted_paths w handed, bytes_in w (deleted_paths w handed)))) where
+    pub found_paths : f.paths.items ≡ deleted_paths w named
+    found_paths = ap (λ (x : List Path × _). x.0) found.1 ∙ ap (deleted_paths w) same
+
+    -- the paths that it finds go, and nothing else
+    pub deleted_as : (s : Settings) (c : Caller) (ignores : Bool) → Removes s w c (delete named ignores) f.paths.items f.bytes
+    deleted_as s c ignores = record {
+      passes = alone (unless (list_all (has w) named) not_valid) ∙ ap (λ (ps : List Path). unless (list_all (has w) ps) not_valid) (sym same) ∙ found.0;
+      answers = ap (λ (x : List Path × _). freed x.0 x.1) found.1 ∙ ap (λ (ps : List Path). freed (deleted_paths w ps) (bytes_in w (deleted_paths w ps))) same;
+      becomes = others_left w named f.paths.items found_paths;
+    }
