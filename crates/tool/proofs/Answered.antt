@@ -66,12 +66,12 @@ pub refuses : (out err err' : Option (List ℕ)) (status : ℕ) → ((text : Lis
 refuses out err err' status (inl told) = inl (Keeps-refl out, told)
 refuses out err err' status (inr said) = inr (Keeps-refl out, said)
 
-pub runs_unserved : (line : Line) (known out out' err err' : Option (List ℕ)) (status : ℕ) → is_served line.db line.asked ≡ false → Refuses out out' err err' status
+pub runs_unserved : (line : Line) (known out out' err err' : Option (List ℕ)) (status : ℕ) → is_served line.asked ≡ false → Refuses out out' err err' status
     → RunsLine line known out out' err err' status
 runs_unserved line known out out' err err' status unserved refused =
     inr (subst (λ b. MatchBool b (RunsServed line known out out' err err' status) (Refuses out out' err err' status)) (sym unserved) refused)
 
-pub runs_served : (line : Line) (known out out' err err' : Option (List ℕ)) (status : ℕ) → is_served line.db line.asked ≡ true → RunsServed line known out out' err err' status
+pub runs_served : (line : Line) (known out out' err err' : Option (List ℕ)) (status : ℕ) → is_served line.asked ≡ true → RunsServed line known out out' err err' status
     → RunsLine line known out out' err err' status
 runs_served line known out out' err err' status served ran =
     inr (subst (λ b. MatchBool b (RunsServed line known out out' err err' status) (Refuses out out' err err' status)) (sym served) ran)

@@ -17,10 +17,10 @@ use Rattle.tool.specs.declared.stops.Failure.TheVariants.{Memory as NoMemory, Fi
 use Rattle.tool.specs.declared.stops.Stop.{Stop}
 use Rattle.tool.specs.declared.stops.Stop.TheVariants.{Refused, Failed}
 use Rattle.tool.specs.Archive.{ls_answer}
-use Rattle.tool.specs.Calls.{AnswersNamed}
+use Rattle.tool.specs.Callers.{AnswersNamed}
 use Rattle.tool.specs.Object.{object_fault, text_path_answer, source_path_answer}
 use Rattle.store_commands.specs.Outputs.{Prints}
-use Rattle.tool.specs.Requests.{asks_of}
+use Rattle.tool.specs.Requests.{asks}
 use Rattle.tool.specs.Stream.{Answers, AnswersTo, Says}
 use Rattle.tool.specs.Who.{AnswersWho, verdict_of}
 
@@ -46,9 +46,9 @@ asks_nothing (text_path o) = true
 asks_nothing (source_path o) = true
 asks_nothing _ = false
 
--- whether a subcommand is there yet, by the file of its database
-abbrev pub is_served : Option Text → Asked → Bool
-is_served db asked = is_some (asks_of db asked) || asks_nothing asked
+-- whether a subcommand is there yet
+abbrev pub is_served : Asked → Bool
+is_served asked = is_some (asks asked) || asks_nothing asked
 
 -- what a subcommand that asks no store answers by the text of the configuration: `who` all on the first writer; one that isn't there
 -- yet is a usage fault
@@ -66,8 +66,8 @@ AnswersAlone config user group _ known out out' err err' status = Refuses out ou
 
 -- what any subcommand answers: what it asks of a store is answered to its caller, under the settings of the configuration
 abbrev pub AnswersAsked : List ℕ → Option Text → Option (List ℕ) → Option (List ℕ) → Asked → Option (List ℕ) → Option (List ℕ) → Option (List ℕ) → Option (List ℕ) → Option (List ℕ) → ℕ → Type 0
-AnswersAsked config db user group asked known out out' err err' status = MatchOption (asks_of db asked) (AnswersAlone config user group asked known out out' err err' status)
-    (λ ask. AnswersUnder (config_of config) (λ s. AnswersNamed s user group ask known out out' err err' status) out out' err err' status)
+AnswersAsked config db user group asked known out out' err err' status = MatchOption (asks asked) (AnswersAlone config user group asked known out out' err err' status)
+    (λ ask. AnswersUnder (config_of config) (λ s. AnswersNamed db s user group ask known out out' err err' status) out out' err err' status)
 
 -- what a command line answers by the text of its configuration
 abbrev pub AnswersLine : List ℕ → Line → Option (List ℕ) → Option (List ℕ) → Option (List ℕ) → Option (List ℕ) → Option (List ℕ) → ℕ → Type 0
@@ -96,7 +96,7 @@ RunsServed line known out out' err err' status = LacksFile line out out' err err
 -- the words were read.
 abbrev pub RunsLine : Line → Option (List ℕ) → Option (List ℕ) → Option (List ℕ) → Option (List ℕ) → Option (List ℕ) → ℕ → Type 0
 RunsLine line known out out' err err' status = Answers (Err (Failed NoMemory)) out out' err err' status
-    ⊎ MatchBool (is_served line.db line.asked) (RunsServed line known out out' err err' status) (Refuses out out' err err' status)
+    ⊎ MatchBool (is_served line.asked) (RunsServed line known out out' err err' status) (Refuses out out' err err' status)
 
 -- the fault of the words is that they ask for help or for the version
 abbrev pub AsksHelp : CommandError → Type 0

@@ -1,52 +1,51 @@
 -- What is answered to a subcommand that asks something of a store.
 use Rattle.std.specs.Prelude.{◌⊎◌, ℕ, List, Option, Some, None, Result, Ok, Err}
-use Rattle.world.specs.World.{World, no_world}
+use Rattle.sqlite_trees.specs.declared.store.Store.{Ghosts}
+use Rattle.world.specs.World.{World}
+use Rattle.tables.specs.Kept.{Kept}
 use Rattle.policy.specs.Settings.{Settings}
 use Rattle.policy.specs.Caller.{Caller}
 use Rattle.store.specs.Request.{Request}
-use Rattle.store.specs.Reply.{Failure as Lack, Reply, failed}
+use Rattle.store.specs.Reply.{Reply}
 use Rattle.store.specs.Step.{Step}
+use Rattle.store_calls.specs.Standing.{Standing}
 use Rattle.report.specs.declared.refusal.Refusal.{Refusal}
-use Rattle.report.specs.declared.refusal.Refusal.TheVariants.{BadCaller}
+use Rattle.store_commands.specs.Serving.{Calls}
 use Rattle.store_commands.specs.Telling.{IsTold}
-use Rattle.tool.specs.declared.stops.Failure.TheVariants.{Memory}
-use Rattle.tool.specs.declared.stops.Stop.TheVariants.{Refused, Failed}
-use Rattle.tool.specs.Requests.{Ask, caller_by}
+use Rattle.tool.specs.declared.stops.Stop.TheVariants.{Refused}
+use Rattle.tool.specs.Requests.{StepsAs}
 use Rattle.tool.specs.Stream.{Answers, GivesUp}
 
--- this request may have a reply in this world, and that reply is told
-abbrev pub AnswersStep : Settings → World → Caller → Request → Option (List ℕ) → Option (List ℕ) → Option (List ℕ) → Option (List ℕ) → ℕ → Type 0
-AnswersStep s w c q out out' err err' status = (reply : Reply) × (next : World) × Step s w c q reply next × IsTold s.store_dir reply out out' err err' status
+-- ---- by what is asked for the bytes of the input, where each request is answered so
 
--- that of a request, or the refusal of the arguments
-abbrev pub AnswersRequest : Settings → World → Caller → Result Request Refusal → Option (List ℕ) → Option (List ℕ) → Option (List ℕ) → Option (List ℕ) → ℕ → Type 0
-AnswersRequest s w c (Ok q) out out' err err' status = AnswersStep s w c q out out' err err' status
-AnswersRequest s w c (Err refusal) out out' err err' status = Answers (Err (Refused refusal)) out out' err err' status
+-- a request is answered, or its refusal is told
+abbrev pub AnswersRequest : (Request → Type 0) → Result Request Refusal → Option (List ℕ) → Option (List ℕ) → Option (List ℕ) → Option (List ℕ) → ℕ → Type 0
+AnswersRequest answered (Ok q) out out' err err' status = answered q
+AnswersRequest answered (Err refusal) out out' err err' status = Answers (Err (Refused refusal)) out out' err err' status
 
--- The same by what is asked for the bytes of the input. Those are some bytes, where it doesn't tell them.
-abbrev pub AnswersOver : Settings → World → Caller → (List ℕ → Result Request Refusal) → Option (List ℕ)
+-- the same by the input, whose bytes are some, where it doesn't tell them
+abbrev pub AnswersOver : (Request → Type 0) → (List ℕ → Result Request Refusal) → Option (List ℕ)
     → Option (List ℕ) → Option (List ℕ) → Option (List ℕ) → Option (List ℕ) → ℕ → Type 0
-AnswersOver s w c ask None out out' err err' status = (bytes : List ℕ) × AnswersRequest s w c (ask bytes) out out' err err' status
-AnswersOver s w c ask (Some bytes) out out' err err' status = AnswersRequest s w c (ask bytes) out out' err err' status
+AnswersOver answered ask None out out' err err' status = (bytes : List ℕ) × AnswersRequest answered (ask bytes) out out' err err' status
+AnswersOver answered ask (Some bytes) out out' err err' status = AnswersRequest answered (ask bytes) out out' err err' status
 
 -- the same; or memory or the input gave out before there was a request
-abbrev pub AnswersIn : Settings → World → Caller → (List ℕ → Result Request Refusal) → Option (List ℕ)
+abbrev pub AnswersIn : (Request → Type 0) → (List ℕ → Result Request Refusal) → Option (List ℕ)
     → Option (List ℕ) → Option (List ℕ) → Option (List ℕ) → Option (List ℕ) → ℕ → Type 0
-AnswersIn s w c ask known out out' err err' status = GivesUp out out' err err' status ⊎ AnswersOver s w c ask known out out' err err' status
+AnswersIn answered ask known out out' err err' status = GivesUp out out' err err' status ⊎ AnswersOver answered ask known out out' err err' status
 
--- what a caller is answered: in a store without a file there is nothing yet; or there was no store to be had
-abbrev pub AnswersCaller : Settings → Caller → (List ℕ → Result Request Refusal) → Option (List ℕ)
-    → Option (List ℕ) → Option (List ℕ) → Option (List ℕ) → Option (List ℕ) → ℕ → Type 0
-AnswersCaller s c ask known out out' err err' status = AnswersIn s no_world c ask known out out' err err' status
-    ⊎ ((f : Lack) × IsTold s.store_dir (failed f) out out' err err' status)
+-- ---- how a request is answered
 
--- the same of the caller of these names, who is refused where they aren't plain; or memory gave out before
-abbrev pub AnswersCalled : Settings → Option Caller → (Caller → List ℕ → Result Request Refusal) → Option (List ℕ)
-    → Option (List ℕ) → Option (List ℕ) → Option (List ℕ) → Option (List ℕ) → ℕ → Type 0
-AnswersCalled s None ask known out out' err err' status = Answers (Err (Refused BadCaller)) out out' err err' status
-AnswersCalled s (Some c) ask known out out' err err' status = AnswersCaller s c (ask c) known out out' err err' status
+-- it may have a reply in this world, and that reply is told
+abbrev pub AnswersStep : Settings → World → Caller → Option (List ℕ) → Option (List ℕ) → Option (List ℕ) → Option (List ℕ) → ℕ → Request → Type 0
+AnswersStep s w c out out' err err' status q = (reply : Reply) × (next : World) × Step s w c q reply next × IsTold s.store_dir reply out out' err err' status
 
-abbrev pub AnswersNamed : Settings → Option (List ℕ) → Option (List ℕ) → Ask → Option (List ℕ)
-    → Option (List ℕ) → Option (List ℕ) → Option (List ℕ) → Option (List ℕ) → ℕ → Type 0
-AnswersNamed s user group ask known out out' err err' status = Answers (Err (Failed Memory)) out out' err err' status
-    ⊎ AnswersCalled s (caller_by user group) (ask s.store_dir) known out out' err err' status
+-- It is served over tables, and the reply is told: of each world that they told, a step to one that the tables tell then. What is
+-- served may be another request whose every step is one of this request.
+pub record Serves {S : Type 0} (g : Ghosts S) (s : Settings) (t : Kept S) (c : Caller) (out out' err err' : Option (List ℕ)) (status : ℕ) (q : Request) : Type 0 where
+  pub made : Request
+  pub same : StepsAs made q
+  pub reply : Reply
+  pub new : Standing S
+  pub calls : Calls g c made reply (record { tables = t; settings = s }) new
+  pub told : IsTold s.store_dir reply out out' err err' status

@@ -6,3 +6,5 @@ pub mod Stream
 pub mod Object
 pub mod Requests
 pub mod Calls
+pub mod Files
+pub mod Callers

@@ -71,11 +71,6 @@ asks (unroot_permanent name) = Some (λ dir c bytes. Ok (request.drop_permanent 
 asks (unroot_user owner name) = Some (λ dir c bytes. Ok (request.drop_user_root (owner_of c owner) name))
 asks _ = None
 
--- a store on a file isn't there yet
-abbrev pub asks_of : Option Text → Asked → Option Ask
-asks_of None asked = asks asked
-asks_of (Some file) asked = None
-
 -- ---- what a program makes of the words and the input
 
 -- whatever the one request may be replied, and do, the other may

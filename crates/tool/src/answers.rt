@@ -19,6 +19,7 @@ use command_line::{CommandLine, Task};
 use policy::store_dir;
 use std::alloc::Global;
 use std::io::{Read, Write};
+use std::rt::HostRuntime;
 
 /// Answers `ls`, by the text of the configuration.
 fn ls_under<R: Read, W: Write, E: Write>(
@@ -74,10 +75,10 @@ fn answer_alone<R: Read, W: Write, E: Write>(
 /// failed, 2 a subcommand that isn't there yet, 3 refused, 4 denied.
 ///
 /// Results go to `output`; refusals and failures go to `errors`, but for `who`, which puts everything
-/// on `output`. The file that the command line names isn't read. No more than 16,777,224 bytes of the input
+/// on `output`. The configuration file that the command line names isn't read. No more than 16,777,224 bytes of the input
 /// are.
 pub fn answer<R: Read, W: Write, E: Write>(
-    alloc: Global,
+    rt: &HostRuntime,
     config: &[u8],
     line: &CommandLine<'_>,
     input: &mut R,
@@ -87,8 +88,8 @@ pub fn answer<R: Read, W: Write, E: Write>(
     ensures answer { AnswersLine config.now (line_view line.now) (R.remaining input.old) (W.contents output.old) (W.contents output.new) (E.contents errors.old) (E.contents errors.new) result }
     ensures reads { TakesAtMost max_front (R.remaining input.old) (R.remaining input.new) }
 {
-    if asks_store(line) {
-        return call(alloc, config, line, input, output, errors);
+    if asks_store(&line.task) {
+        return call(rt, config, line, input, output, errors);
     }
-    answer_alone(alloc, config, line, input, output, errors)
+    answer_alone(rt.alloc(), config, line, input, output, errors)
 }

@@ -19,7 +19,7 @@ use std::alloc::Global;
 use std::convert::AsStr;
 use std::io;
 use std::io::{ErrorKind, Read, Write};
-use std::rt::Files;
+use std::rt::HostRuntime;
 
 const NOT_UTF8: &str = "error: a word of the command line isn't UTF-8\n";
 
@@ -29,8 +29,8 @@ const NOT_UTF8: &str = "error: a word of the command line isn't UTF-8\n";
 /// The configuration is read from its file, if one is named. Results go to `output`; refusals,
 /// failures and what is wrong with the words go to `errors`, but for `who`, which puts everything
 /// on `output` once its words are read.
-pub fn run<Rt: Files + AllocGlobal, S: AsStr, R: Read, W: Write, E: Write>(
-    rt: &Rt,
+pub fn run<S: AsStr, R: Read, W: Write, E: Write>(
+    rt: &HostRuntime,
     words: &[S],
     input: &mut R,
     output: &mut W,
@@ -48,8 +48,8 @@ pub fn run<Rt: Files + AllocGlobal, S: AsStr, R: Read, W: Write, E: Write>(
     }
 }
 
-fn execute<Rt: Files + AllocGlobal, R: Read, W: Write, E: Write>(
-    rt: &Rt,
+fn execute<R: Read, W: Write, E: Write>(
+    rt: &HostRuntime,
     line: &CommandLine<'_>,
     input: &mut R,
     output: &mut W,
@@ -58,11 +58,11 @@ fn execute<Rt: Files + AllocGlobal, R: Read, W: Write, E: Write>(
     ensures answer { RunsLine (line_view line.now) (R.remaining input.old) (W.contents output.old) (W.contents output.new) (E.contents errors.old) (E.contents errors.new) result }
     ensures reads { TakesAtMost max_front (R.remaining input.old) (R.remaining input.new) }
 {
-    if !is_served(line) {
+    if !is_served(&line.task) {
         return refuse_task(rt.alloc(), errors);
     }
     match configuration::text(rt, line.config) {
-        Ok(text) => answer(rt.alloc(), text.as_slice(), line, input, output, errors),
+        Ok(text) => answer(rt, text.as_slice(), line, input, output, errors),
         Err(stop) => match line.task {
             Task::Who => say(stop, output),
             _ => say(stop, errors),

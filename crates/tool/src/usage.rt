@@ -1,6 +1,6 @@
 //! What is said of words that are no command line, and of subcommands that aren't there yet.
 ghost use Rattle.std.specs.Prelude.{◌≡◌, ◌⊎◌, ℕ, List};
-ghost use Rattle.command_line.specs.Asked.{asked_view, optional_text};
+ghost use Rattle.command_line.specs.Asked.{asked_view};
 ghost use Rattle.tool.specs.Answer as spec;
 ghost use Rattle.store_commands.specs.Outputs.{Prints};
 ghost use Rattle.tool.specs.Stream.{Says};
@@ -8,7 +8,7 @@ ghost use Rattle.tool.specs.Stream.{Says};
 use crate::calls::asks_store;
 use crate::stops::{Failure, Stop};
 use crate::stream::{print, say};
-use command_line::{CommandLine, Task};
+use command_line::Task;
 use std::alloc::Global;
 use std::io::Write;
 
@@ -38,14 +38,14 @@ fn asks_nothing(task: &Task<'_>) -> bool
     )
 }
 
-/// Whether the subcommand of a command line is there yet.
-pub(crate) fn is_served(line: &CommandLine<'_>) -> bool
-    ensures { result ≡ spec.is_served (optional_text line.now.db) (asked_view line.now.task) }
+/// Whether a subcommand is there yet.
+pub(crate) fn is_served(task: &Task<'_>) -> bool
+    ensures { result ≡ spec.is_served (asked_view task.now) }
 {
-    if asks_store(line) {
+    if asks_store(task) {
         return true;
     }
-    asks_nothing(&line.task)
+    asks_nothing(task)
 }
 
 /// Says that a subcommand isn't there yet, and gives the exit status.

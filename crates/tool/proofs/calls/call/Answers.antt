@@ -1,9 +1,9 @@
 use Rattle.std.proofs.Common.{inl}
-use Rattle.command_line.specs.Asked.{asked_view, optional_text}
+use Rattle.command_line.specs.Asked.{optional_text}
 use Rattle.policy.specs.Toml.{config_of}
-use Rattle.tool.specs.Calls.{AnswersNamed}
+use Rattle.tool.specs.Callers.{AnswersNamed}
 use Rattle.tool.proofs.Answered.{stopped_under}
-use Rattle.tool.proofs.Called.{asks_then, named, under}
+use Rattle.tool.proofs.Called.{named, under}
 use Rattle.tool.proofs.calls.call.Goals as goal
 
 pub returns-in-Err-clause-answer : goal.returns-in-Err-clause-answer
@@ -13,11 +13,12 @@ pub returns-in-Ok-caller_of-clause-answer : goal.returns-in-Ok-caller_of-clause-
 returns-in-Ok-caller_of-clause-answer g c = λ ask is.
     let known = g.R.Read.remaining c.args.input.now in
     let out = g.W.Write.contents c.args.output.now in
-    let out' = g.W.Write.contents c.call_in_memory.new.output in
+    let out' = g.W.Write.contents c.call_in.new.output in
     let err = g.E.Write.contents c.args.errors.now in
-    let err' = g.E.Write.contents c.call_in_memory.new.errors in
+    let err' = g.E.Write.contents c.call_in.new.errors in
+    let db = optional_text c.args.line.now.db in
     let user = optional_text c.args.line.now.user in
     let group = optional_text c.args.line.now.group in
-    under (config_of c.args.config.now) c.in-Ok.config (λ s. AnswersNamed s user group ask known out out' err err' c.call_in_memory.result) out out' err err' c.call_in_memory.result c.in-Ok.ensures.ok
-    (named c.in-Ok.config user group ask known c.in-Ok-caller_of.caller out out' err err' c.call_in_memory.result c.in-Ok-caller_of.ensures.ok
-    (c.call_in_memory.ensures.answer ask (asks_then (optional_text c.args.line.now.db) (asked_view c.args.line.now.task) ask is)))
+    under (config_of c.args.config.now) c.in-Ok.config (λ s. AnswersNamed db s user group ask known out out' err err' c.call_in.result) out out' err err' c.call_in.result c.in-Ok.ensures.ok
+    (named db c.in-Ok.config user group ask known c.in-Ok-caller_of.caller out out' err err' c.call_in.result c.in-Ok-caller_of.ensures.ok
+    (c.call_in.ensures.answer ask is))

@@ -1,0 +1,111 @@
+//! A request over the store of a database file.
+ghost use Rattle.std.specs.Prelude.{◌≡◌, IsSome, Some};
+ghost use Rattle.command_line.specs.Asked.{asked_view};
+ghost use Rattle.streams.specs.Reads.{TakesAtMost};
+ghost use Rattle.tool.specs.Archive.{max_front};
+ghost use Rattle.tool.specs.Files as spec;
+ghost use Rattle.tool.specs.Files.{AnswersFile, TellsCause};
+ghost use Rattle.tool.specs.Requests.{Ask, asks};
+
+use crate::stops::Stop;
+use crate::stores::call_over;
+use crate::stream::say;
+use command_line::Task;
+use opening::{Cause, Unadopted, Unopened};
+use paths::StoreDir;
+use policy::{Caller, Config, store_dir};
+use report::Refusal;
+use sqlite::{Alter, Unknown};
+use sqlite_disk::Disk;
+use std::alloc::Global;
+use std::io::{Read, Write};
+use std::rt::HostRuntime;
+use store_calls::Reply;
+use store_commands::tell;
+use table_opening::file::{self, Untold};
+
+/// Why no connection to a file was taken up, which is given up: what isn't a database is no store.
+fn file_cause<S: Alter + Drop, D: Disk + Drop>(unopened: file::Unopened<S, D>) -> Cause
+    ensures { result ≡ spec.file_cause unopened }
+{
+    match unopened {
+        file::Unopened::Refused {
+            failure: Some(failure),
+            left: _left,
+        } => Cause::Failed(failure),
+        file::Unopened::Refused {
+            failure: None,
+            left: _left,
+        } => Cause::BadSchema,
+        file::Unopened::Untold(
+            Untold {
+                conn: _conn,
+                failure,
+            },
+        ) => Cause::Failed(failure),
+    }
+}
+
+/// Why a file isn't taken up, which is given up.
+fn cause_of<S: Alter + Drop, D: Disk + Drop>(unopened: Unopened<S, D>) -> Cause
+    ensures { result ≡ spec.cause_of unopened }
+{
+    match unopened {
+        Unopened::File(unopened) => file_cause(unopened),
+        Unopened::Store(Unadopted { conn: _conn, cause }) => cause,
+    }
+}
+
+/// Says why a file isn't taken up, and gives the exit status.
+fn refuse_file<W: Write, E: Write>(
+    alloc: Global,
+    dir: &StoreDir,
+    cause: Cause,
+    output: &mut W,
+    errors: &mut E,
+) -> u8
+    ensures { TellsCause dir.now cause (W.contents output.old) (W.contents output.new) (E.contents errors.old) (E.contents errors.new) result }
+{
+    match cause {
+        Cause::BadSchema => say(Stop::Refused(Refusal::BadSchema), errors),
+        Cause::OtherStoreDir => say(Stop::Refused(Refusal::OtherStoreDir), errors),
+        Cause::Failed(failure) => tell(alloc, dir, Reply::Failed(failure), output, errors),
+    }
+}
+
+/// Asks the store of the database file at a path, which is made where it isn't there.
+pub(crate) fn call_in_file<R: Read, W: Write, E: Write>(
+    rt: &HostRuntime,
+    path: &str,
+    config: Config,
+    caller: &Caller,
+    task: &Task<'_>,
+    input: &mut R,
+    output: &mut W,
+    errors: &mut E,
+) -> u8
+    requires { IsSome (asks (asked_view task.now)) }
+    ensures answer { (ask : Ask) → asks (asked_view task.now) ≡ Some ask
+        → AnswersFile config (ask config.store_dir caller.now) (R.remaining input.old) (W.contents output.old) (W.contents output.new) (E.contents errors.old) (E.contents errors.new) result }
+    ensures reads { TakesAtMost max_front (R.remaining input.old) (R.remaining input.new) }
+{
+    match opening::open(rt, path, store_dir(&config), Unknown) {
+        Ok(tables) => call_over(
+            rt.alloc(),
+            config,
+            tables,
+            caller,
+            task,
+            input,
+            output,
+            errors,
+        ),
+        Err(unopened) => refuse_file(
+            rt.alloc(),
+            store_dir(&config),
+            cause_of(unopened),
+            output,
+            errors,
+        ),
+    }
+}
