@@ -1,12 +1,11 @@
 -- How many references of others left there are to a place, and whether another path left refers to its path.
-use Rattle.std.proofs.Common.{◌≡◌, ℕ, zero, suc, ◌+◌, ◌<◌, ◌≤◌, ◌&&◌, ◌==◌, Bool, true, false, cond, List, [], ◌∷◌, ◌++◌, length, map, refl, sym, ap, ◌∙◌, subst, inl, inr, arith, IsTrue}
-use Rattle.std.specs.Prelude.{Contains, sum_by, count_by, filter, not, nat_lt, if◌then◌else◌}
-use Rattle.std.specs.List.{range_with_len, list_any}
+use Rattle.std.proofs.Common.{◌≡◌, ℕ, zero, suc, ◌<◌, ◌==◌, Bool, true, cond, List, [], ◌∷◌, ◌++◌, length, map, refl, sym, ap, ◌∙◌, subst, inl, inr, arith, IsTrue}
+use Rattle.std.specs.Prelude.{Contains, count_by, not, nat_lt, if◌then◌else◌}
 use Rattle.std.proofs.lemmas.Bool.{cases_eq, cases_Bool, false≢true, ltb-true, lt-ltb, le-ltb, and_parts, and_from, false_from_ne_true, eq-eqb, ne_eqb}
 use Rattle.std.proofs.lemmas.List.{length-map, append-nil}
 use Rattle.std.proofs.lemmas.List.Sums.{sum_by-cons}
-use Rattle.live.specs.Graph.{Path, Keep, references_alone, same, is_edge}
-use Rattle.live.specs.Places.{Entries, edges_at, entries_at}
+use Rattle.live.specs.Graph.{references_alone, same, is_edge}
+use Rattle.live.specs.Places.{edges_at, entries_at}
 use Rattle.live.specs.Limited.{refers, is_referred_to}
 use Rattle.live.specs.Numbering.{Row, Rise, graph_of, numbered, path_at, paths_of}
 use Rattle.live.specs.Leaving.{is_in, times_in, times, times_left, referred, places_left}

@@ -1,13 +1,13 @@
 -- What a collection up to a limit has left as it goes, by places.
 use Rattle.std.proofs.Common.{Vec, Global}
-use Rattle.std.specs.Prelude.{nat_lt, ◌-◌, ◌≡◌, ℕ, ◌+◌, ◌<◌, ◌==◌, Bool, false, if◌then◌else◌, List, [], ◌∷◌, length, map, IsTrue, Contains, Option, Some, None}
-use Rattle.std.specs.List.{slice_index, slice_index_or, filter, sum_by, count_by, range_with_len, list_any}
+use Rattle.std.specs.Prelude.{nat_lt, ◌-◌, ◌≡◌, ℕ, ◌+◌, ◌<◌, ◌==◌, Bool, false, if◌then◌else◌, List, [], ◌∷◌, length, map, IsTrue, Contains}
+use Rattle.std.specs.List.{slice_index, slice_index_or, filter, sum_by, count_by, range_with_len}
 use Rattle.std.specs.Option.{option_map_or}
 use Rattle.std.specs.Ordering.{nat_cmp}
 use Rattle.std.specs.BinaryHeap.{IsHeap}
 use Rattle.std.specs.declared.cmp.Ordering.{Ordering}
 use Rattle.std.specs.declared.cmp.Reverse.{Reverse}
-use Rattle.live.specs.Graph.{Path, Graph, holds}
+use Rattle.live.specs.Graph.{Path, Graph}
 use Rattle.live.specs.Places.{Entries, entries_at}
 use Rattle.live.specs.Limited.{next_group, without}
 use Rattle.live.specs.Numbering.{Row, Rise, numbered, path_at, paths_of}

@@ -1,5 +1,4 @@
-use Rattle.std.proofs.Common.{◌∙◌, ap, replicate}
-use Rattle.live.proofs.Counts.{no_object_counted, object_counted}
+use Rattle.live.proofs.Counts.{object_counted}
 use Rattle.live.proofs.referring.referrers_of.Goals as goal
 
 pub loop-place-preserved : goal.loop-place-preserved
