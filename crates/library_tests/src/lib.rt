@@ -1,4 +1,4 @@
-//! Tests of libraries that no command reaches: archives, paths, derivations, requests and their parts.
+//! Tests of libraries that no command reaches: archives, paths, derivations, graphs, requests and their parts.
 #![tactic(auto)]
 
 #[cfg(test)]

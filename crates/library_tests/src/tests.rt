@@ -6,6 +6,8 @@ mod arrivals;
 mod beginnings;
 mod body_texts;
 mod derivation_texts;
+mod graphs;
+mod objects;
 mod refused_memory;
 mod settings;
 mod streaming;

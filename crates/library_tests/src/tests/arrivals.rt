@@ -43,6 +43,38 @@ fn a_file_in_steps(rt: HostRuntime) -> Result<(), Fail> {
 }
 
 #[test]
+fn a_file_cut_in_two(rt: HostRuntime) -> Result<(), Fail> {
+    let alloc = rt.alloc();
+    for cut in 0..=MY_FILE.len() {
+        let (first, second) = MY_FILE.split_at(cut);
+        let mut intake = Intake::new(alloc);
+        intake.push(first)?;
+        intake.push(second)?;
+        let arrived = intake.finish()?;
+        assert_eq!(rt; arrived.fault, None);
+        assert_eq!(rt; arrived.facts.nar_hash, Sha256::digest(MY_FILE));
+        assert_eq!(rt; arrived.pieces.joined()?.as_slice(), MY_FILE);
+    }
+    Ok(())
+}
+
+#[test]
+fn archives_at_the_seams_byte_by_byte(rt: HostRuntime) -> Result<(), Fail> {
+    let alloc = rt.alloc();
+    for len in [65_424, 65_432] {
+        let contents = vec![in alloc; 7u8; len]?;
+        let whole = Intake::of_text(alloc, contents.as_slice())?.finish()?;
+        let archive = whole.pieces.joined()?;
+        let arrived = in_steps(alloc, archive.as_slice(), 1)?;
+        assert_eq!(rt; arrived.fault, None);
+        assert_eq!(rt; arrived.facts.nar_hash, whole.facts.nar_hash);
+        assert_eq!(rt; arrived.facts.plain, whole.facts.plain);
+        assert_eq!(rt; arrived.pieces.joined()?.as_slice(), archive.as_slice());
+    }
+    Ok(())
+}
+
+#[test]
 fn texts_at_the_seams(rt: HostRuntime) -> Result<(), Fail> {
     let alloc = rt.alloc();
     for (len, size, pieces, fault) in [
