@@ -7,7 +7,7 @@ ghost use Rattle.store_calls.specs.View as views;
 ghost use Rattle.responder.specs.Courses.{if_there};
 
 use asking::Request as Asked;
-use bodies::{CollectHead, ImportHead, NamedHead};
+use bodies::{CollectHead, DeleteHead, ImportHead, NamedHead};
 use store_calls::{Imported, Request};
 
 /// An object that is handed in with its path: what the body says of it, and the archive.
@@ -39,6 +39,17 @@ fn collect(head: CollectHead) -> Option<Request>
         Some(_) => None,
         None => Some(Request::Collect(head.ignore_liveness.unwrap_or(false))),
     }
+}
+
+/// A deletion of the paths that are named.
+fn delete(head: DeleteHead) -> Request
+    ensures { views.request_view result ≡ asked.delete head.paths.items (flag head.ignore_liveness) }
+{
+    let DeleteHead {
+        paths,
+        ignore_liveness,
+    } = head;
+    Request::Delete(paths, ignore_liveness.unwrap_or(false))
 }
 
 /// The request of the store that is asked, or none where the store has none of this kind yet.
@@ -74,6 +85,7 @@ pub(crate) fn call_of(asked: Asked) -> Option<Request>
         Asked::DeleteGeneration(owner, name, n) => Request::DeleteGeneration(owner, name, n),
         Asked::ReplaceRuntime(roots) => Request::ReplaceRuntime(roots),
         Asked::Collect(head) => return collect(head),
+        Asked::Delete(head) => delete(head),
         _ => return None,
     })
 }
