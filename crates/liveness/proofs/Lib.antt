@@ -11,3 +11,4 @@ pub mod Sized
 pub mod Places
 pub mod Deleted
 pub mod Kept
+pub mod Limited

@@ -20,6 +20,9 @@ outlined_size (Some o) = refl
 size_told : (w : World) → size_in (outline_of w) ≡ spec.size_of w
 size_told w = λ i p. (ap size (get-told bytes_total bytes_antisymmetric (λ _ x. outlined x) w.objects p) ∙ outlined_size (finite.get w.objects p)) i
 
+pub sizes_told : (w : World) (o : Outline) → outline_of w ≡ o → size_in o ≡ spec.size_of w
+sizes_told w o is = ap (λ (x : Outline). size_in x) (sym is) ∙ size_told w
+
 pub bytes_told : (w : World) (o : Outline) → outline_of w ≡ o → (ps : List Path) → bytes_within o ps ≡ spec.bytes_in w ps
 bytes_told w o is ps = ap (λ (x : Outline). bytes_within x ps) (sym is) ∙ ap (λ f. sum_by f ps) (size_told w)
 

@@ -34,7 +34,11 @@ fn places(alloc: Global, rows: &[Row], named: &[StorePath]) -> Result<Vec<usize>
 }
 
 /// The paths at some places.
-fn paths_at(alloc: Global, rows: &[Row], places: &[usize]) -> Result<Vec<StorePath>, AllocError>
+pub(crate) fn paths_at(
+    alloc: Global,
+    rows: &[Row],
+    places: &[usize],
+) -> Result<Vec<StorePath>, AllocError>
     requires { All (λ k. k < length rows.now) places.now }
     ensures { IfOk result (λ v. v.items ≡ map (path_at (rows_view rows.now)) places.now) }
 {

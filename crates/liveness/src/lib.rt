@@ -2,6 +2,7 @@
 #![tactic(auto)]
 
 mod all_roots;
+mod collecting;
 mod deleting;
 mod keeping;
 mod labels;
@@ -14,6 +15,7 @@ mod root_lists;
 mod seen;
 mod sizes;
 
+pub use collecting::collected_paths;
 pub use deleting::deleted_paths;
 pub use keeping::first_kept;
 pub use living::{dead_paths, live_and_dead, live_paths};

@@ -9,7 +9,7 @@ ghost use Rattle.liveness.specs.Sizes.{bytes_within, size_in};
 use index::Index;
 use paths::StorePath;
 
-fn size_of(index: &Index, path: &StorePath) -> usize
+pub(crate) fn size_of(index: &Index, path: &StorePath) -> usize
     ensures { result ≡ size_in index.now path.now }
 {
     match index.object(path) {
