@@ -1,2 +1,0 @@
--- A path at a number of a profile.
-pub use Rattle.world.specs.Profiles.{put_at}
