@@ -7,6 +7,13 @@ ghost use Rattle.command_line.specs.Asked.{optional_text, on_profile_view, on_se
 use crate::error::UsageFault;
 use crate::line::{ProfileAction, ServeArguments, TempAction, UnrootArguments, Unrooted};
 
+/// The number of a generation, 1 to 9,999; any other text stands for 0, which no profile has.
+fn generation(text: &str) -> u32
+    ensures { result ≡ action.generation text.now }
+{
+    numbers::generation(text) as u32
+}
+
 /// An ACTION of `profile`, with its VALUE.
 pub(crate) fn profile_action<'a>(
     action: &str,
@@ -25,11 +32,11 @@ pub(crate) fn profile_action<'a>(
             None => Ok(ProfileAction::Rollback),
         },
         "switch" => match value {
-            Some(number) => Ok(ProfileAction::Switch(numbers::generation(number))),
+            Some(number) => Ok(ProfileAction::Switch(generation(number))),
             None => Err(UsageFault::MissingValue),
         },
         "delete" => match value {
-            Some(number) => Ok(ProfileAction::Delete(numbers::generation(number))),
+            Some(number) => Ok(ProfileAction::Delete(generation(number))),
             None => Err(UsageFault::MissingValue),
         },
         _ => Err(UsageFault::UnknownAction),

@@ -121,9 +121,9 @@ pub enum ProfileAction<'a> {
     /// The generation below the current one becomes current.
     Rollback,
     /// The generation of this number becomes current.
-    Switch(u64),
+    Switch(u32),
     /// The generation of this number goes.
-    Delete(u64),
+    Delete(u32),
 }
 
 /// A profile that is changed.

@@ -1,5 +1,7 @@
 -- The answer of a command line whose configuration or words are refused, or for which memory ran out.
-use Rattle.std.proofs.Common.{◌≡◌, ◌⊎◌, ℕ, true, false, MatchBool, List, Option, Result, Ok, Err, inl, inr, subst, refl, sym, ◌∙◌}
+use Rattle.std.proofs.Common.{◌≡◌, ◌≢◌, ◌⊎◌, ℕ, true, false, MatchBool, List, Option, Some, None, Result, Ok, Err, inl, inr, subst, refl, sym, ◌∙◌}
+use Rattle.std.specs.Prelude.{IsSome}
+use Rattle.std.specs.Borrow.{Bor}
 use Rattle.std.proofs.KnownBytes.{Keeps-refl}
 use Rattle.clap.specs.Kinds.{IsAmong}
 use Rattle.clap.specs.Values.{kind_of}
@@ -9,16 +11,21 @@ use Rattle.policy.specs.Toml.{config_of}
 use Rattle.policy.specs.declared.error.KeyWord.{KeyWord}
 use Rattle.command_line.specs.declared.error.CommandError.{CommandError}
 use Rattle.command_line.specs.declared.error.CommandError.TheVariants.{Usage, Misuse, Memory}
-use Rattle.tool.specs.declared.stops.Failure.TheVariants.{Memory as NoMemory}
+use Rattle.tool.specs.declared.stops.Failure.TheVariants.{Memory as NoMemory, File}
 use Rattle.tool.specs.declared.stops.Stop.{Stop}
 use Rattle.tool.specs.declared.stops.Stop.TheVariants.{Failed}
 use Rattle.command_line.specs.declared.error.UsageFault.{UsageFault}
-use Rattle.command_line.specs.Asked.{text_path, source_path}
-use Rattle.command_line.specs.Line.{Line, IsLine, IsUsageFault}
+use Rattle.command_line.specs.declared.line.CommandLine.{CommandLine}
+use Rattle.command_line.specs.declared.line.Task.{Task}
+use Rattle.command_line.specs.declared.line.Task.TheVariants as task
+use Rattle.command_line.specs.declared.line.Unrooted.{Unrooted}
+use Rattle.command_line.specs.declared.line.Unrooted.TheVariants as unrooted
+use Rattle.command_line.specs.Asked.{asked_view, optional_text, source_path, text_path, unroot_view}
+use Rattle.command_line.specs.Line.{Line, IsLine, IsUsageFault, line_view}
 use Rattle.store_commands.specs.Outputs.{Prints}
 use Rattle.tool.specs.Stream.{Answers, Says}
 use Rattle.tool.specs.Who.{StopsFor}
-use Rattle.tool.specs.Answer.{AnswersAlone, AnswersUnder, Explains, Refuses, RunsLine, RunsServed, is_served}
+use Rattle.tool.specs.Answer.{AnswersAlone, AnswersUnder, Explains, Refuses, RunsLine, RunsServed, Stops, is_served}
 
 -- the stop of a configuration was said: the first writer got nothing
 pub stopped_under : (outcome : Result Settings KeyWord) (answered : Settings → Type 0) (stop : Stop) (out err err' : Option (List ℕ)) (status : ℕ)
@@ -75,3 +82,29 @@ pub runs_served : (line : Line) (known out out' err err' : Option (List ℕ)) (s
     → RunsLine line known out out' err err' status
 runs_served line known out out' err err' status served ran =
     inr (subst (λ b. MatchBool b (RunsServed line known out out' err err' status) (Refuses out out' err err' status)) (sym served) ran)
+
+-- ---- a configuration that can't be had
+
+stops_unroot : (root : Unrooted) (name : Text) (stop : Stop) (out out' err err' : Option (List ℕ)) (status : ℕ) → Answers (Err stop) out out' err err' status
+    → Stops (unroot_view root name) stop out out' err err' status
+stops_unroot unrooted.Permanent name stop out out' err err' status said = said
+stops_unroot (unrooted.User owner) name stop out out' err err' status said = said
+
+-- any subcommand but `who` says it as an answer
+pub stops_else : (t : Task) (stop : Stop) (out out' err err' : Option (List ℕ)) (status : ℕ) → t ≢ task.Who → Answers (Err stop) out out' err err' status
+    → Stops (asked_view t) stop out out' err err' status
+stops_else task.Who stop out out' err err' status not said = absurd (not refl)
+stops_else (task.Unroot r) stop out out' err err' status not said = stops_unroot r.root r.name.now stop out out' err err' status said
+stops_else t stop out out' err err' status not said = said
+
+config_is : (o : Option (Bor Text)) → IsSome o → IsSome (optional_text o)
+config_is None is = is
+config_is (Some text) is = refl
+
+pub lacks : (line : CommandLine) (stop : Stop) (known out out' err err' : Option (List ℕ)) (status : ℕ) → IsSome line.config
+    → (stop ≡ Failed NoMemory) ⊎ (stop ≡ Failed File) → Stops (asked_view line.task) stop out out' err err' status
+    → RunsServed (line_view line) known out out' err err' status
+lacks line stop known out out' err err' status named (inl memory) said =
+    inl (config_is line.config named, inl (subst (λ x. Stops (asked_view line.task) x out out' err err' status) memory said))
+lacks line stop known out out' err err' status named (inr file) said =
+    inl (config_is line.config named, inr (subst (λ x. Stops (asked_view line.task) x out out' err err' status) file said))

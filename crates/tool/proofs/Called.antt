@@ -25,10 +25,10 @@ use Rattle.tool.specs.declared.stops.Stop.{Stop}
 use Rattle.tool.specs.declared.stops.Stop.TheVariants.{Refused, Failed}
 use Rattle.tool.specs.Answer.{AnswersUnder}
 use Rattle.tool.specs.Callers.{AnswersCaller, AnswersCalled, AnswersNamed}
-use Rattle.tool.specs.Calls.{AnswersStep, AnswersRequest, AnswersIn, Serves}
+use Rattle.tool.specs.Calls.{AnswersStep, AnswersRequest, AnswersWanted, AnswersIn, Serves}
 use Rattle.tool.specs.Files.{AnswersSome}
 use Rattle.clap.specs.Walk.{Text}
-use Rattle.tool.specs.Requests.{Ask, IsAsked, IsAskedOver, StepsAs, caller_by}
+use Rattle.tool.specs.Requests.{Ask, IsAsked, IsAskedOver, StepsAs, Wants, caller_by}
 use Rattle.tool.specs.Stream.{Says}
 
 module _ {S : Type 0} (g : Ghosts S) (c : Caller) (out out' err err' : Option (List ℕ)) (status : ℕ) where
@@ -52,12 +52,11 @@ module _ {S : Type 0} (g : Ghosts S) (c : Caller) (out out' err err' : Option (L
   pub told_some : (s : Settings) (t : Kept S) (q : Request) → Serves g s t c out out' err err' status q → AnswersSome s out out' err err' status q
   told_some s t q x = (x.reply, x.told)
 
-module _ (answered : Request → Type 0) (ask : List ℕ → Result Request Refusal) where
+module _ (answered : Request → Type 0) (ask : List ℕ → Result Request Refusal → Type 0) where
   -- the request that was made does what is asked
-  made_as : (q : Made) (out out' err err' : Option (List ℕ)) (status : ℕ) (wanted : Result Request Refusal) → IsAsked wanted (Ok q)
-      → ((r : Request) → StepsAs (request_view q) r → answered r) → AnswersRequest answered wanted out out' err err' status
-  made_as q out out' err err' status wanted is each =
-      subst (λ r. AnswersRequest answered r out out' err err' status) (sym is.1) (each is.0 is.2)
+  made_as : (q : Made) (out out' err err' : Option (List ℕ)) (status : ℕ) (asks : Result Request Refusal → Type 0) → IsAsked asks (Ok q)
+      → ((r : Request) → StepsAs (request_view q) r → answered r) → AnswersWanted answered asks out out' err err' status
+  made_as q out out' err err' status asks is each = (Ok is.0, is.1, each is.0 is.2)
 
   pub asked : (known : Option (List ℕ)) (q : Made) (out out' err err' : Option (List ℕ)) (status : ℕ) → IsAskedOver ask known (Ok q)
       → ((r : Request) → StepsAs (request_view q) r → answered r) → AnswersIn answered ask known out out' err err' status
@@ -67,10 +66,8 @@ module _ (answered : Request → Type 0) (ask : List ℕ → Result Request Refu
   -- a refusal of the arguments was said
   refused_over : (known : Option (List ℕ)) (refusal : Refusal) (out err err' : Option (List ℕ)) (status : ℕ) → IsAskedOver ask known (Err (Refused refusal))
       → Says (Refused refusal) err err' status → AnswersIn answered ask known out out err err' status
-  refused_over None refusal out err err' status is said =
-      inr (is.0, subst (λ r. AnswersRequest answered r out out err err' status) (sym is.1) (Keeps-refl out, said))
-  refused_over (Some bytes) refusal out err err' status is said =
-      inr (subst (λ r. AnswersRequest answered r out out err err' status) (sym is) (Keeps-refl out, said))
+  refused_over None refusal out err err' status is said = inr (is.0, (Err refusal, is.1, (Keeps-refl out, said)))
+  refused_over (Some bytes) refusal out err err' status is said = inr (Err refusal, is, (Keeps-refl out, said))
 
   no_file : (known : Option (List ℕ)) → IsAskedOver ask known (Err (Failed File)) → ⊥
   no_file None is = is.1
@@ -95,17 +92,17 @@ module _ (answered also : Request → Type 0) (each : (q : Request) → answered
   of_request (Ok q) told = each q told
   of_request (Err refusal) told = told
 
-  pub of_each : (ask : List ℕ → Result Request Refusal) (known : Option (List ℕ)) → AnswersIn answered ask known out out' err err' status
+  pub of_each : (ask : List ℕ → Result Request Refusal → Type 0) (known : Option (List ℕ)) → AnswersIn answered ask known out out' err err' status
       → AnswersIn also ask known out out' err err' status
   of_each ask known (inl gone) = inl gone
-  of_each ask None (inr told) = inr (told.0, of_request (ask told.0) told.1)
-  of_each ask (Some bytes) (inr told) = inr (of_request (ask bytes) told)
+  of_each ask None (inr told) = inr (told.0, (told.1.0, told.1.1, of_request told.1.0 told.1.2))
+  of_each ask (Some bytes) (inr told) = inr (told.0, told.1, of_request told.0 told.2)
 
 module _ (db : Option Text) (s : Settings) (user group : Option (List ℕ)) (ask : Ask) (known : Option (List ℕ)) where
   -- the caller of the names was answered
   pub named : (c : Caller) (out out' err err' : Option (List ℕ)) (status : ℕ) → caller_by user group ≡ Some c
-      → AnswersCaller db s c (ask s.store_dir c) known out out' err err' status → AnswersNamed db s user group ask known out out' err err' status
-  named c out out' err err' status is answered = inr (subst (λ o. AnswersCalled db s o (ask s.store_dir) known out out' err err' status) (sym is) answered)
+      → AnswersCaller db s c (Wants ask s.store_dir c) known out out' err err' status → AnswersNamed db s user group ask known out out' err err' status
+  named c out out' err err' status is answered = inr (subst (λ o. AnswersCalled db s o (Wants ask s.store_dir) known out out' err err' status) (sym is) answered)
 
   -- why there is no caller was said
   pub unnamed : (stop : Stop) (out err err' : Option (List ℕ)) (status : ℕ)
@@ -113,7 +110,7 @@ module _ (db : Option Text) (s : Settings) (user group : Option (List ℕ)) (ask
       → AnswersNamed db s user group ask known out out err err' status
   unnamed stop out err err' status (inl memory) said = inl (Keeps-refl out, subst (λ x. Says x err err' status) memory said)
   unnamed stop out err err' status (inr why) said =
-      inr (subst (λ o. AnswersCalled db s o (ask s.store_dir) known out out err err' status) (sym why.1)
+      inr (subst (λ o. AnswersCalled db s o (Wants ask s.store_dir) known out out err err' status) (sym why.1)
       (Keeps-refl out, subst (λ x. Says x err err' status) why.0 said))
 
 -- the settings of the configuration are these

@@ -23,14 +23,18 @@ abbrev pub AnswersRequest : (Request → Type 0) → Result Request Refusal → 
 AnswersRequest answered (Ok q) out out' err err' status = answered q
 AnswersRequest answered (Err refusal) out out' err err' status = Answers (Err (Refused refusal)) out out' err err' status
 
+-- the same of something that is asked
+abbrev pub AnswersWanted : (Request → Type 0) → (Result Request Refusal → Type 0) → Option (List ℕ) → Option (List ℕ) → Option (List ℕ) → Option (List ℕ) → ℕ → Type 0
+AnswersWanted answered asks out out' err err' status = (wanted : Result Request Refusal) × asks wanted × AnswersRequest answered wanted out out' err err' status
+
 -- the same by the input, whose bytes are some, where it doesn't tell them
-abbrev pub AnswersOver : (Request → Type 0) → (List ℕ → Result Request Refusal) → Option (List ℕ)
+abbrev pub AnswersOver : (Request → Type 0) → (List ℕ → Result Request Refusal → Type 0) → Option (List ℕ)
     → Option (List ℕ) → Option (List ℕ) → Option (List ℕ) → Option (List ℕ) → ℕ → Type 0
-AnswersOver answered ask None out out' err err' status = (bytes : List ℕ) × AnswersRequest answered (ask bytes) out out' err err' status
-AnswersOver answered ask (Some bytes) out out' err err' status = AnswersRequest answered (ask bytes) out out' err err' status
+AnswersOver answered ask None out out' err err' status = (bytes : List ℕ) × AnswersWanted answered (ask bytes) out out' err err' status
+AnswersOver answered ask (Some bytes) out out' err err' status = AnswersWanted answered (ask bytes) out out' err err' status
 
 -- the same; or memory or the input gave out before there was a request
-abbrev pub AnswersIn : (Request → Type 0) → (List ℕ → Result Request Refusal) → Option (List ℕ)
+abbrev pub AnswersIn : (Request → Type 0) → (List ℕ → Result Request Refusal → Type 0) → Option (List ℕ)
     → Option (List ℕ) → Option (List ℕ) → Option (List ℕ) → Option (List ℕ) → ℕ → Type 0
 AnswersIn answered ask known out out' err err' status = GivesUp out out' err err' status ⊎ AnswersOver answered ask known out out' err err' status
 

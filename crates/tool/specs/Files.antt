@@ -41,7 +41,7 @@ abbrev pub AnswersSome : Settings → Option (List ℕ) → Option (List ℕ) �
 AnswersSome s out out' err err' status q = (reply : Reply) × IsTold s.store_dir reply out out' err err' status
 
 -- what is asked is answered; or the file isn't taken up, and its cause is told
-abbrev pub AnswersFile : Settings → (List ℕ → Result Request Refusal) → Option (List ℕ)
+abbrev pub AnswersFile : Settings → (List ℕ → Result Request Refusal → Type 0) → Option (List ℕ)
     → Option (List ℕ) → Option (List ℕ) → Option (List ℕ) → Option (List ℕ) → ℕ → Type 0
 AnswersFile s ask known out out' err err' status = AnswersIn (AnswersSome s out out' err err' status) ask known out out' err err' status
     ⊎ ((cause : Cause) × TellsCause s.store_dir cause out out' err err' status)

@@ -4,6 +4,7 @@ pub mod Stop
 pub mod Who
 pub mod Stream
 pub mod Object
+pub mod Bodies
 pub mod Requests
 pub mod Calls
 pub mod Files

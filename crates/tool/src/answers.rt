@@ -1,15 +1,17 @@
 //! What a command line answers, by the text of its configuration.
-ghost use Rattle.std.specs.Prelude.{None};
+ghost use Rattle.std.specs.Prelude.{◌≡◌, None, false};
 ghost use Rattle.tool.specs.Answer.{AnswersAlone, AnswersLine};
 ghost use Rattle.tool.specs.Archive.{max_front};
 ghost use Rattle.command_line.specs.Asked as asked;
 ghost use Rattle.command_line.specs.Asked.{optional_text};
 ghost use Rattle.command_line.specs.Line.{line_view};
+ghost use Rattle.tool.specs.Requests.{reads_all};
 ghost use Rattle.streams.specs.Reads.{TakesAtMost};
 
-use crate::calls::{asks_store, call};
+use crate::calls::call;
 use crate::configuration::settings;
 use crate::listings::ls;
+use crate::requests::is_asked;
 use crate::sources::source_path;
 use crate::stream::say;
 use crate::texts::text_path;
@@ -76,7 +78,7 @@ fn answer_alone<R: Read, W: Write, E: Write>(
 ///
 /// Results go to `output`; refusals and failures go to `errors`, but for `who`, which puts everything
 /// on `output`. The configuration file that the command line names isn't read. No more than 16,777,224 bytes of the input
-/// are.
+/// are, but for `import` and `runtime`, which read all of it.
 pub fn answer<R: Read, W: Write, E: Write>(
     rt: &HostRuntime,
     config: &[u8],
@@ -86,9 +88,9 @@ pub fn answer<R: Read, W: Write, E: Write>(
     errors: &mut E,
 ) -> u8
     ensures answer { AnswersLine config.now (line_view line.now) (R.remaining input.old) (W.contents output.old) (W.contents output.new) (E.contents errors.old) (E.contents errors.new) result }
-    ensures reads { TakesAtMost max_front (R.remaining input.old) (R.remaining input.new) }
+    ensures reads { reads_all (asked.asked_view line.now.task) ≡ false → TakesAtMost max_front (R.remaining input.old) (R.remaining input.new) }
 {
-    if asks_store(&line.task) {
+    if is_asked(&line.task) {
         return call(rt, config, line, input, output, errors);
     }
     answer_alone(rt.alloc(), config, line, input, output, errors)

@@ -1,12 +1,12 @@
 //! Subcommands that ask something of a store.
-ghost use Rattle.std.specs.Prelude.{◌≡◌, ◌⊎◌, IfOk, IfErr, IsSome, Some, None, is_some};
+ghost use Rattle.std.specs.Prelude.{◌≡◌, ◌⊎◌, IfOk, IfErr, IsSome, Some, None, false};
 ghost use Rattle.command_line.specs.Asked.{asked_view, optional_text};
 ghost use Rattle.policy.specs.Toml.{config_of};
 ghost use Rattle.streams.specs.Reads.{TakesAtMost};
 ghost use Rattle.tool.specs.Answer.{AnswersUnder};
 ghost use Rattle.tool.specs.Archive.{max_front};
 ghost use Rattle.tool.specs.Callers.{AnswersCaller, AnswersNamed};
-ghost use Rattle.tool.specs.Requests.{Ask, asks, caller_by};
+ghost use Rattle.tool.specs.Requests.{Ask, Wants, asks, reads_all, caller_by};
 
 use crate::configuration::settings;
 use crate::files::call_in_file;
@@ -19,16 +19,6 @@ use report::Refusal;
 use std::alloc::Global;
 use std::io::{Read, Write};
 use std::rt::HostRuntime;
-
-/// Whether a subcommand asks something of a store.
-pub(crate) fn asks_store(task: &Task<'_>) -> bool
-    ensures { result ≡ is_some (asks (asked_view task.now)) }
-{
-    matches!(
-        task,
-        Task::List | Task::Info(_) | Task::AddText(_) | Task::Root(_) | Task::Unroot(_)
-    )
-}
 
 /// The caller of these names.
 fn caller_of(alloc: Global, user: Option<&str>, group: Option<&str>) -> Result<Caller, Stop>
@@ -58,8 +48,8 @@ fn call_in<R: Read, W: Write, E: Write>(
 ) -> u8
     requires { IsSome (asks (asked_view task.now)) }
     ensures answer { (ask : Ask) → asks (asked_view task.now) ≡ Some ask
-        → AnswersCaller (optional_text db.entry) config caller.now (ask config.store_dir caller.now) (R.remaining input.old) (W.contents output.old) (W.contents output.new) (E.contents errors.old) (E.contents errors.new) result }
-    ensures reads { TakesAtMost max_front (R.remaining input.old) (R.remaining input.new) }
+        → AnswersCaller (optional_text db.entry) config caller.now (Wants ask config.store_dir caller.now) (R.remaining input.old) (W.contents output.old) (W.contents output.new) (E.contents errors.old) (E.contents errors.new) result }
+    ensures reads { reads_all (asked_view task.now) ≡ false → TakesAtMost max_front (R.remaining input.old) (R.remaining input.new) }
 {
     match db {
         Some(path) => call_in_file(rt, path, config, caller, task, input, output, errors),
@@ -80,7 +70,7 @@ pub(crate) fn call<R: Read, W: Write, E: Write>(
     ensures answer { (ask : Ask) → asks (asked_view line.now.task) ≡ Some ask
         → AnswersUnder (config_of config.now) (λ s. AnswersNamed (optional_text line.now.db) s (optional_text line.now.user) (optional_text line.now.group) ask (R.remaining input.old) (W.contents output.old) (W.contents output.new) (E.contents errors.old) (E.contents errors.new) result)
         (W.contents output.old) (W.contents output.new) (E.contents errors.old) (E.contents errors.new) result }
-    ensures reads { TakesAtMost max_front (R.remaining input.old) (R.remaining input.new) }
+    ensures reads { reads_all (asked_view line.now.task) ≡ false → TakesAtMost max_front (R.remaining input.old) (R.remaining input.new) }
 {
     let config = match settings(rt.alloc(), config) {
         Ok(config) => config,

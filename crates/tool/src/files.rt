@@ -1,11 +1,11 @@
 //! A request over the store of a database file.
-ghost use Rattle.std.specs.Prelude.{◌≡◌, IsSome, Some};
+ghost use Rattle.std.specs.Prelude.{◌≡◌, IsSome, Some, false};
 ghost use Rattle.command_line.specs.Asked.{asked_view};
 ghost use Rattle.streams.specs.Reads.{TakesAtMost};
 ghost use Rattle.tool.specs.Archive.{max_front};
 ghost use Rattle.tool.specs.Files as spec;
 ghost use Rattle.tool.specs.Files.{AnswersFile, TellsCause};
-ghost use Rattle.tool.specs.Requests.{Ask, asks};
+ghost use Rattle.tool.specs.Requests.{Ask, Wants, asks, reads_all};
 
 use crate::stops::Stop;
 use crate::stores::call_over;
@@ -86,8 +86,8 @@ pub(crate) fn call_in_file<R: Read, W: Write, E: Write>(
 ) -> u8
     requires { IsSome (asks (asked_view task.now)) }
     ensures answer { (ask : Ask) → asks (asked_view task.now) ≡ Some ask
-        → AnswersFile config (ask config.store_dir caller.now) (R.remaining input.old) (W.contents output.old) (W.contents output.new) (E.contents errors.old) (E.contents errors.new) result }
-    ensures reads { TakesAtMost max_front (R.remaining input.old) (R.remaining input.new) }
+        → AnswersFile config (Wants ask config.store_dir caller.now) (R.remaining input.old) (W.contents output.old) (W.contents output.new) (E.contents errors.old) (E.contents errors.new) result }
+    ensures reads { reads_all (asked_view task.now) ≡ false → TakesAtMost max_front (R.remaining input.old) (R.remaining input.new) }
 {
     match opening::open(rt, path, store_dir(&config), Unknown) {
         Ok(tables) => call_over(

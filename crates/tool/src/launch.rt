@@ -6,6 +6,7 @@ ghost use Rattle.tool.specs.Archive.{max_front};
 ghost use Rattle.command_line.specs.Line.{IsLine, IsUsageFault, Line, line_view};
 ghost use Rattle.streams.specs.Reads.{TakesAtMost};
 ghost use Rattle.store_commands.specs.Outputs.{Prints};
+ghost use Rattle.tool.specs.Requests.{reads_all};
 ghost use Rattle.tool.specs.Stream.{Says};
 ghost use Rattle.command_line.specs.declared.error.CommandError.{CommandError};
 
@@ -40,7 +41,7 @@ pub fn run<S: AsStr, R: Read, W: Write, E: Write>(
         → RunsLine line (R.remaining input.old) (W.contents output.old) (W.contents output.new) (E.contents errors.old) (E.contents errors.new) result }
     ensures words { ¬ ((line : Line) × IsLine (map S.text words.now) line)
         → (fault : CommandError) × IsUsageFault (map S.text words.now) fault × Explains fault (W.contents output.old) (W.contents output.new) (E.contents errors.old) (E.contents errors.new) result }
-    ensures reads { TakesAtMost max_front (R.remaining input.old) (R.remaining input.new) }
+    ensures reads { ((line : Line) → IsLine (map S.text words.now) line → reads_all line.asked ≡ false) → TakesAtMost max_front (R.remaining input.old) (R.remaining input.new) }
 {
     match command(rt.alloc(), words) {
         Ok(line) => execute(rt, &line, input, output, errors),
@@ -56,7 +57,7 @@ fn execute<R: Read, W: Write, E: Write>(
     errors: &mut E,
 ) -> u8
     ensures answer { RunsLine (line_view line.now) (R.remaining input.old) (W.contents output.old) (W.contents output.new) (E.contents errors.old) (E.contents errors.new) result }
-    ensures reads { TakesAtMost max_front (R.remaining input.old) (R.remaining input.new) }
+    ensures reads { reads_all (line_view line.now).asked ≡ false → TakesAtMost max_front (R.remaining input.old) (R.remaining input.new) }
 {
     if !is_served(&line.task) {
         return refuse_task(rt.alloc(), errors);

@@ -1,16 +1,19 @@
 //! The command line of `nixkeep`: what its words stand for, and the engine of each subcommand.
 #![tactic(auto)]
 
+mod adds;
 mod answers;
 mod archive;
 mod calls;
 mod configuration;
 mod files;
+mod handed;
 mod input;
 mod launch;
 mod listings;
 mod named;
 mod object;
+mod profiles;
 mod requests;
 mod sources;
 mod stops;

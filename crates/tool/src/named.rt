@@ -3,7 +3,7 @@ ghost use Rattle.std.specs.Prelude.{◌≡◌, IfOk, IfErr, Ok, string_bytes};
 ghost use Rattle.command_line.specs.Asked.{optional_text};
 ghost use Rattle.store_calls.specs.View.{request_view};
 ghost use Rattle.tool.specs.Requests as spec;
-ghost use Rattle.tool.specs.Requests.{IsAsked, on_path, owner_of};
+ghost use Rattle.tool.specs.Requests.{Gives, IsAsked, on_path, owner_of};
 
 use crate::object::parse_reference;
 use crate::stops::{Failure, Stop};
@@ -14,7 +14,7 @@ use std::alloc::{AllocError, Global};
 use store_calls::Request;
 
 /// A request that was made, or memory was refused.
-fn made(request: Result<Request, AllocError>) -> Result<Request, Stop>
+pub(crate) fn made(request: Result<Request, AllocError>) -> Result<Request, Stop>
     ensures ok { IfOk result (λ q. request ≡ Ok q) }
     ensures err { IfErr result (λ e. e ≡ Stop.Failed Failure.Memory) }
 {
@@ -25,7 +25,11 @@ fn made(request: Result<Request, AllocError>) -> Result<Request, Stop>
 }
 
 /// The owner who is named, else the caller.
-fn owner(alloc: Global, caller: &Caller, named: Option<&str>) -> Result<String, AllocError>
+pub(crate) fn owner(
+    alloc: Global,
+    caller: &Caller,
+    named: Option<&str>,
+) -> Result<String, AllocError>
     ensures { IfOk result (λ s. string_bytes s ≡ owner_of caller.now (optional_text named.entry)) }
 {
     match named {
@@ -60,7 +64,7 @@ pub(crate) fn set_root(
     caller: &Caller,
     root: &RootArguments<'_>,
 ) -> Result<Request, Stop>
-    ensures { IsAsked (on_path dir.now root.now.path.now (spec.set_root root.now.kind caller.now root.now.name.now)) result }
+    ensures { IsAsked (Gives (on_path dir.now root.now.path.now (spec.set_root root.now.kind caller.now root.now.name.now))) result }
 {
     match parse_reference(alloc, dir, root.path) {
         Ok(path) => made(root_at(alloc, caller, root, path)),
@@ -92,7 +96,7 @@ pub(crate) fn drop_root(
     caller: &Caller,
     root: &UnrootArguments<'_>,
 ) -> Result<Request, Stop>
-    ensures { IsAsked (Ok (spec.drop_root root.now.root caller.now root.now.name.now)) result }
+    ensures { IsAsked (Gives (Ok (spec.drop_root root.now.root caller.now root.now.name.now))) result }
 {
     made(dropped(alloc, caller, root))
 }

@@ -1,27 +1,51 @@
 //! What a subcommand asks of a store: its arguments, and its input where it reads one.
-ghost use Rattle.std.specs.Prelude.{◌≡◌, IsSome, Some};
+ghost use Rattle.std.specs.Prelude.{◌≡◌, IsSome, Some, is_some, false};
 ghost use Rattle.command_line.specs.Asked.{asked_view};
-ghost use Rattle.command_line.specs.Asked as spelled;
 ghost use Rattle.store.specs.Request as asked;
 ghost use Rattle.streams.specs.Reads.{TakesAtMost};
 ghost use Rattle.tool.specs.Archive.{max_front};
-ghost use Rattle.tool.specs.Requests.{Ask, IsAsked, IsAskedOver, asks, on_object, on_path};
+ghost use Rattle.tool.specs.Requests.{Ask, Gives, IsAsked, IsAskedOver, Wants, asks, on_path, reads_all};
 
-use crate::input::read_input;
+use crate::adds::{add_source, add_text};
+use crate::handed::{import, replace_runtime};
 use crate::named::{drop_root, set_root};
-use crate::object::{parse_name, parse_reference, parse_references};
+use crate::object::parse_reference;
+use crate::profiles::change_profile;
 use crate::stops::Stop;
-use crate::texts::MOST_READ;
-use command_line::{ObjectArguments, Task};
+use command_line::Task;
 use paths::StoreDir;
 use policy::Caller;
 use std::alloc::Global;
 use std::io::Read;
 use store_calls::Request;
 
+/// Whether a subcommand asks something of a store.
+pub(crate) fn is_asked(task: &Task<'_>) -> bool
+    ensures { result ≡ is_some (asks (asked_view task.now)) }
+{
+    match task {
+        Task::Gc(gc) => gc.max_freed.is_none(),
+        Task::List | Task::Live | Task::Dead | Task::Roots | Task::Report => true,
+        Task::Info(_) | Task::CatNar(_) | Task::Why(_) => true,
+        Task::AddText(_) | Task::AddSource(_) | Task::Import | Task::Runtime => true,
+        Task::Root(_) | Task::Unroot(_) | Task::Profile(_) => true,
+        _ => false,
+    }
+}
+
+/// The roots that reach a path are asked for.
+fn why(alloc: Global, dir: &StoreDir, text: &str) -> Result<Request, Stop>
+    ensures { IsAsked (Gives (on_path dir.now text.now asked.list_roots_of)) result }
+{
+    match parse_reference(alloc, dir, text) {
+        Ok(path) => Ok(Request::ListRootsOf(path)),
+        Err(stop) => Err(stop),
+    }
+}
+
 /// The record of an object is asked for.
 fn info(alloc: Global, dir: &StoreDir, text: &str) -> Result<Request, Stop>
-    ensures { IsAsked (on_path dir.now text.now asked.info) result }
+    ensures { IsAsked (Gives (on_path dir.now text.now asked.info)) result }
 {
     match parse_reference(alloc, dir, text) {
         Ok(path) => Ok(Request::Info(path)),
@@ -29,26 +53,12 @@ fn info(alloc: Global, dir: &StoreDir, text: &str) -> Result<Request, Stop>
     }
 }
 
-/// A text is to be added. Nothing is read where the name or a reference is refused.
-fn add_text<R: Read>(
-    alloc: Global,
-    dir: &StoreDir,
-    object: &ObjectArguments<'_>,
-    input: &mut R,
-) -> Result<Request, Stop>
-    ensures asked { IsAskedOver (λ bytes. on_object dir.now (spelled.object_view object.now) (λ name refs. asked.add_text name refs bytes)) (R.remaining input.old) result }
-    ensures reads { TakesAtMost max_front (R.remaining input.old) (R.remaining input.new) }
+/// The archive of an object is asked for.
+fn cat_nar(alloc: Global, dir: &StoreDir, text: &str) -> Result<Request, Stop>
+    ensures { IsAsked (Gives (on_path dir.now text.now asked.nar)) result }
 {
-    let name = match parse_name(alloc, object.name) {
-        Ok(name) => name,
-        Err(stop) => return Err(stop),
-    };
-    let references = match parse_references(alloc, dir, object.references.as_slice()) {
-        Ok(references) => references,
-        Err(stop) => return Err(stop),
-    };
-    match read_input(alloc, input, MOST_READ) {
-        Ok(contents) => Ok(Request::AddText(name, references, contents)),
+    match parse_reference(alloc, dir, text) {
+        Ok(path) => Ok(Request::Nar(path)),
         Err(stop) => Err(stop),
     }
 }
@@ -62,15 +72,26 @@ pub(crate) fn request<R: Read>(
     input: &mut R,
 ) -> Result<Request, Stop>
     requires { IsSome (asks (asked_view task.now)) }
-    ensures asked { (ask : Ask) → asks (asked_view task.now) ≡ Some ask → IsAskedOver (ask dir.now caller.now) (R.remaining input.old) result }
-    ensures reads { TakesAtMost max_front (R.remaining input.old) (R.remaining input.new) }
+    ensures asked { (ask : Ask) → asks (asked_view task.now) ≡ Some ask → IsAskedOver (Wants ask dir.now caller.now) (R.remaining input.old) result }
+    ensures reads { reads_all (asked_view task.now) ≡ false → TakesAtMost max_front (R.remaining input.old) (R.remaining input.new) }
 {
     match task {
         Task::List => Ok(Request::List),
+        Task::Live => Ok(Request::ListLive),
+        Task::Dead => Ok(Request::ListDead),
+        Task::Roots => Ok(Request::ListRoots),
+        Task::Report => Ok(Request::Report),
+        Task::Gc(gc) => Ok(Request::Collect(gc.ignore_liveness)),
         Task::Info(text) => info(alloc, dir, text),
+        Task::Why(text) => why(alloc, dir, text),
+        Task::CatNar(text) => cat_nar(alloc, dir, text),
         Task::AddText(object) => add_text(alloc, dir, object, input),
+        Task::AddSource(object) => add_source(alloc, dir, object, input),
+        Task::Import => import(alloc, dir, input),
+        Task::Runtime => replace_runtime(alloc, dir, input),
         Task::Root(root) => set_root(alloc, dir, caller, root),
         Task::Unroot(root) => drop_root(alloc, caller, root),
+        Task::Profile(profile) => change_profile(alloc, dir, caller, profile),
         _ => unreachable!(),
     }
 }

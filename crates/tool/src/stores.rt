@@ -1,11 +1,11 @@
 //! A request over the tables of a store, and over a store that is in memory for one run.
-ghost use Rattle.std.specs.Prelude.{◌≡◌, IsSome, Some};
+ghost use Rattle.std.specs.Prelude.{◌≡◌, IsSome, Some, false};
 ghost use Rattle.command_line.specs.Asked.{asked_view};
 ghost use Rattle.streams.specs.Reads.{TakesAtMost};
 ghost use Rattle.tool.specs.Archive.{max_front};
 ghost use Rattle.tool.specs.Callers.{AnswersNew};
 ghost use Rattle.tool.specs.Calls.{AnswersIn, Serves};
-ghost use Rattle.tool.specs.Requests.{Ask, asks};
+ghost use Rattle.tool.specs.Requests.{Ask, Wants, asks, reads_all};
 
 use crate::requests::request;
 use crate::stream::say;
@@ -32,8 +32,8 @@ pub(crate) fn call_over<S: Alter + Drop, R: Read, W: Write, E: Write>(
     requires asked { IsSome (asks (asked_view task.now)) }
     requires dir { tables.dir ≡ config.store_dir }
     ensures answer { (ask : Ask) → asks (asked_view task.now) ≡ Some ask
-        → AnswersIn (Serves S.Store config tables caller.now (W.contents output.old) (W.contents output.new) (E.contents errors.old) (E.contents errors.new) result) (ask config.store_dir caller.now) (R.remaining input.old) (W.contents output.old) (W.contents output.new) (E.contents errors.old) (E.contents errors.new) result }
-    ensures reads { TakesAtMost max_front (R.remaining input.old) (R.remaining input.new) }
+        → AnswersIn (Serves S.Store config tables caller.now (W.contents output.old) (W.contents output.new) (E.contents errors.old) (E.contents errors.new) result) (Wants ask config.store_dir caller.now) (R.remaining input.old) (W.contents output.old) (W.contents output.new) (E.contents errors.old) (E.contents errors.new) result }
+    ensures reads { reads_all (asked_view task.now) ≡ false → TakesAtMost max_front (R.remaining input.old) (R.remaining input.new) }
 {
     match request(alloc, store_dir(&config), caller, task, input) {
         Ok(request) => {
@@ -61,8 +61,8 @@ pub(crate) fn call_in_memory<R: Read, W: Write, E: Write>(
 ) -> u8
     requires { IsSome (asks (asked_view task.now)) }
     ensures answer { (ask : Ask) → asks (asked_view task.now) ≡ Some ask
-        → AnswersNew config caller.now (ask config.store_dir caller.now) (R.remaining input.old) (W.contents output.old) (W.contents output.new) (E.contents errors.old) (E.contents errors.new) result }
-    ensures reads { TakesAtMost max_front (R.remaining input.old) (R.remaining input.new) }
+        → AnswersNew config caller.now (Wants ask config.store_dir caller.now) (R.remaining input.old) (W.contents output.old) (W.contents output.new) (E.contents errors.old) (E.contents errors.new) result }
+    ensures reads { reads_all (asked_view task.now) ≡ false → TakesAtMost max_front (R.remaining input.old) (R.remaining input.new) }
 {
     match Tables::open_in_memory(alloc, store_dir(&config)) {
         Ok(tables) => call_over(alloc, config, tables, caller, task, input, output, errors),

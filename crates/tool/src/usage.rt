@@ -5,7 +5,7 @@ ghost use Rattle.tool.specs.Answer as spec;
 ghost use Rattle.store_commands.specs.Outputs.{Prints};
 ghost use Rattle.tool.specs.Stream.{Says};
 
-use crate::calls::asks_store;
+use crate::requests::is_asked;
 use crate::stops::{Failure, Stop};
 use crate::stream::{print, say};
 use command_line::Task;
@@ -42,7 +42,7 @@ fn asks_nothing(task: &Task<'_>) -> bool
 pub(crate) fn is_served(task: &Task<'_>) -> bool
     ensures { result ≡ spec.is_served (asked_view task.now) }
 {
-    if asks_store(task) {
+    if is_asked(task) {
         return true;
     }
     asks_nothing(task)

@@ -1,3 +1,4 @@
+use Rattle.command_line.specs.Line.{line_view}
 use Rattle.tool.proofs.Answered.{line_refused, line_run}
 use Rattle.tool.proofs.launch.run.Goals as goal
 
@@ -9,3 +10,6 @@ returns-in-Err-clause-words g c = λ none. (c.in-Err.fault, c.in-Err.ensures.err
 
 pub returns-in-Err-clause-line : goal.returns-in-Err-clause-line
 returns-in-Err-clause-line g c = line_refused _ _ _ _ _ _ _ _ c.in-Err.ensures.err c.explain.ensures
+
+pub returns-in-Ok-clause-reads : goal.returns-in-Ok-clause-reads
+returns-in-Ok-clause-reads g c = λ each. c.execute.ensures.reads (each (line_view c.in-Ok.line) c.in-Ok.ensures.ok)

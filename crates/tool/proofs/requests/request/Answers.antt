@@ -1,35 +1,88 @@
-use Rattle.std.proofs.Common.{ap, refl, Ok, ◌∙◌}
+use Rattle.std.proofs.Common.{◌≡◌, true, false, ap, refl, Ok, sym, ◌∙◌}
 use Rattle.store.specs.Request as request
-use Rattle.store_calls.specs.declared.requests.Request.TheVariants.{List}
-use Rattle.command_line.specs.Asked.{asked_view}
-use Rattle.tool.specs.Requests.{asks, drop_root, on_path, set_root}
-use Rattle.tool.proofs.Requested.{arm, over, plain_asked, unroot_asks}
+use Rattle.store_calls.specs.declared.requests.Request.TheVariants.{Collect, List, ListDead, ListLive, ListRoots, Report}
+use Rattle.command_line.specs.Asked.{asked_view, on_profile_view, optional_text}
+use Rattle.tool.specs.Requests.{asks, import_body, reads_all, runtime_body, change_profile, drop_root, on_path, owner_of, set_root}
+use Rattle.tool.proofs.Requested.{arm, collect_arm, plain_arm, unread_arm, unroot_asks}
 use Rattle.tool.proofs.requests.request.Goals as goal
 
 pub returns-in-List-clause-asked : goal.returns-in-List-clause-asked
-returns-in-List-clause-asked g c = λ ask is.
-    arm (asked_view c.args.task.now) _ c.args.dir.now c.args.caller.now (g.R.Read.remaining c.args.input.now) (Ok List) (ap (λ t. asks (asked_view t)) c.in-List.is)
-    (over (λ bytes. Ok request.list) (g.R.Read.remaining c.args.input.now) (Ok List) (λ bytes. plain_asked request.list List refl)) ask is
+returns-in-List-clause-asked g c =
+    plain_arm (asked_view c.args.task.now) request.list c.args.dir.now c.args.caller.now (g.R.Read.remaining c.args.input.now) List (ap (λ t. asks (asked_view t)) c.in-List.is) refl
+
+pub returns-in-Live-clause-asked : goal.returns-in-Live-clause-asked
+returns-in-Live-clause-asked g c =
+    plain_arm (asked_view c.args.task.now) request.list_live c.args.dir.now c.args.caller.now (g.R.Read.remaining c.args.input.now) ListLive (ap (λ t. asks (asked_view t)) c.in-Live.is) refl
+
+pub returns-in-Dead-clause-asked : goal.returns-in-Dead-clause-asked
+returns-in-Dead-clause-asked g c =
+    plain_arm (asked_view c.args.task.now) request.list_dead c.args.dir.now c.args.caller.now (g.R.Read.remaining c.args.input.now) ListDead (ap (λ t. asks (asked_view t)) c.in-Dead.is) refl
+
+pub returns-in-Roots-clause-asked : goal.returns-in-Roots-clause-asked
+returns-in-Roots-clause-asked g c =
+    plain_arm (asked_view c.args.task.now) request.list_roots c.args.dir.now c.args.caller.now (g.R.Read.remaining c.args.input.now) ListRoots (ap (λ t. asks (asked_view t)) c.in-Roots.is) refl
+
+pub returns-in-Report-clause-asked : goal.returns-in-Report-clause-asked
+returns-in-Report-clause-asked g c =
+    plain_arm (asked_view c.args.task.now) request.report c.args.dir.now c.args.caller.now (g.R.Read.remaining c.args.input.now) Report (ap (λ t. asks (asked_view t)) c.in-Report.is) refl
 
 pub returns-in-Info-clause-asked : goal.returns-in-Info-clause-asked
-returns-in-Info-clause-asked g c = λ ask is.
-    arm (asked_view c.args.task.now) _ c.args.dir.now c.args.caller.now (g.R.Read.remaining c.args.input.now) c.info.result (ap (λ t. asks (asked_view t)) c.in-Info.is)
-    (over (λ bytes. on_path c.args.dir.now c.in-Info.text.now request.info) (g.R.Read.remaining c.args.input.now) c.info.result (λ bytes. c.info.ensures)) ask is
+returns-in-Info-clause-asked g c =
+    unread_arm (asked_view c.args.task.now) (λ dir caller. on_path dir c.in-Info.text.now request.info) c.args.dir.now c.args.caller.now (g.R.Read.remaining c.args.input.now) c.info.result
+    (ap (λ t. asks (asked_view t)) c.in-Info.is) c.info.ensures
+
+pub returns-in-Why-clause-asked : goal.returns-in-Why-clause-asked
+returns-in-Why-clause-asked g c =
+    unread_arm (asked_view c.args.task.now) (λ dir caller. on_path dir c.in-Why.text.now request.list_roots_of) c.args.dir.now c.args.caller.now (g.R.Read.remaining c.args.input.now) c.why.result
+    (ap (λ t. asks (asked_view t)) c.in-Why.is) c.why.ensures
+
+pub returns-in-CatNar-clause-asked : goal.returns-in-CatNar-clause-asked
+returns-in-CatNar-clause-asked g c =
+    unread_arm (asked_view c.args.task.now) (λ dir caller. on_path dir c.in-CatNar.text.now request.nar) c.args.dir.now c.args.caller.now (g.R.Read.remaining c.args.input.now)
+    c.cat_nar.result (ap (λ t. asks (asked_view t)) c.in-CatNar.is) c.cat_nar.ensures
+
+pub returns-in-Root-clause-asked : goal.returns-in-Root-clause-asked
+returns-in-Root-clause-asked g c =
+    unread_arm (asked_view c.args.task.now) (λ dir caller. on_path dir c.in-Root.root.path.now (set_root c.in-Root.root.kind caller c.in-Root.root.name.now)) c.args.dir.now c.args.caller.now (g.R.Read.remaining c.args.input.now) c.set_root.result
+    (ap (λ t. asks (asked_view t)) c.in-Root.is) c.set_root.ensures
+
+pub returns-in-Unroot-clause-asked : goal.returns-in-Unroot-clause-asked
+returns-in-Unroot-clause-asked g c =
+    unread_arm (asked_view c.args.task.now) (λ dir caller. Ok (drop_root c.in-Unroot.root.root caller c.in-Unroot.root.name.now)) c.args.dir.now c.args.caller.now (g.R.Read.remaining c.args.input.now) c.drop_root.result
+    (ap (λ t. asks (asked_view t)) c.in-Unroot.is ∙ unroot_asks c.in-Unroot.root.root c.in-Unroot.root.name.now) c.drop_root.ensures
+
+pub returns-in-Profile-clause-asked : goal.returns-in-Profile-clause-asked
+returns-in-Profile-clause-asked g c =
+    unread_arm (asked_view c.args.task.now) (λ dir caller. change_profile dir (owner_of caller (optional_text c.in-Profile.profile.owner)) c.in-Profile.profile.name.now (on_profile_view c.in-Profile.profile.action)) c.args.dir.now c.args.caller.now (g.R.Read.remaining c.args.input.now) c.change_profile.result
+    (ap (λ t. asks (asked_view t)) c.in-Profile.is) c.change_profile.ensures
+
+pub returns-in-Gc-clause-asked : goal.returns-in-Gc-clause-asked
+returns-in-Gc-clause-asked g c = λ ask is.
+    collect_arm c.in-Gc.gc.ignore_liveness c.in-Gc.gc.max_freed c.args.dir.now c.args.caller.now (g.R.Read.remaining c.args.input.now) (Collect c.in-Gc.gc.ignore_liveness) refl ask
+    (sym (ap (λ t. asks (asked_view t)) c.in-Gc.is) ∙ is)
 
 pub returns-in-AddText-clause-asked : goal.returns-in-AddText-clause-asked
 returns-in-AddText-clause-asked g c = λ ask is.
     arm (asked_view c.args.task.now) _ c.args.dir.now c.args.caller.now (g.R.Read.remaining c.args.input.now) c.add_text.result (ap (λ t. asks (asked_view t)) c.in-AddText.is)
     c.add_text.ensures.asked ask is
 
-pub returns-in-Root-clause-asked : goal.returns-in-Root-clause-asked
-returns-in-Root-clause-asked g c = λ ask is.
-    let wanted = on_path c.args.dir.now c.in-Root.root.path.now (set_root c.in-Root.root.kind c.args.caller.now c.in-Root.root.name.now) in
-    arm (asked_view c.args.task.now) _ c.args.dir.now c.args.caller.now (g.R.Read.remaining c.args.input.now) c.set_root.result (ap (λ t. asks (asked_view t)) c.in-Root.is)
-    (over (λ bytes. wanted) (g.R.Read.remaining c.args.input.now) c.set_root.result (λ bytes. c.set_root.ensures)) ask is
+pub returns-in-AddSource-clause-asked : goal.returns-in-AddSource-clause-asked
+returns-in-AddSource-clause-asked g c = λ ask is.
+    arm (asked_view c.args.task.now) _ c.args.dir.now c.args.caller.now (g.R.Read.remaining c.args.input.now) c.add_source.result (ap (λ t. asks (asked_view t)) c.in-AddSource.is)
+    c.add_source.ensures.asked ask is
 
-pub returns-in-Unroot-clause-asked : goal.returns-in-Unroot-clause-asked
-returns-in-Unroot-clause-asked g c = λ ask is.
-    let wanted = drop_root c.in-Unroot.root.root c.args.caller.now c.in-Unroot.root.name.now in
-    arm (asked_view c.args.task.now) _ c.args.dir.now c.args.caller.now (g.R.Read.remaining c.args.input.now) c.drop_root.result
-    (ap (λ t. asks (asked_view t)) c.in-Unroot.is ∙ unroot_asks c.in-Unroot.root.root c.in-Unroot.root.name.now)
-    (over (λ bytes. Ok wanted) (g.R.Read.remaining c.args.input.now) c.drop_root.result (λ bytes. c.drop_root.ensures)) ask is
+pub returns-in-Import-clause-asked : goal.returns-in-Import-clause-asked
+returns-in-Import-clause-asked g c = λ ask is.
+    arm (asked_view c.args.task.now) import_body c.args.dir.now c.args.caller.now (g.R.Read.remaining c.args.input.now) c.import.result (ap (λ t. asks (asked_view t)) c.in-Import.is)
+    c.import.ensures ask is
+
+pub returns-in-Import-clause-reads : goal.returns-in-Import-clause-reads
+returns-in-Import-clause-reads g c = λ is. let no : true ≡ false = sym (ap (λ t. reads_all (asked_view t)) c.in-Import.is) ∙ is in cc
+
+pub returns-in-Runtime-clause-asked : goal.returns-in-Runtime-clause-asked
+returns-in-Runtime-clause-asked g c = λ ask is.
+    arm (asked_view c.args.task.now) runtime_body c.args.dir.now c.args.caller.now (g.R.Read.remaining c.args.input.now) c.replace_runtime.result (ap (λ t. asks (asked_view t)) c.in-Runtime.is)
+    c.replace_runtime.ensures ask is
+
+pub returns-in-Runtime-clause-reads : goal.returns-in-Runtime-clause-reads
+returns-in-Runtime-clause-reads g c = λ is. let no : true ≡ false = sym (ap (λ t. reads_all (asked_view t)) c.in-Runtime.is) ∙ is in cc

@@ -1,0 +1,104 @@
+-- A front of what is added that is refused does for all of it.
+use Rattle.std.proofs.Common.{◌≡◌, ℕ, ◌+◌, ◌<◌, ◌≤◌, Bool, true, false, List, [], ◌∷◌, length, take, Option, Some, None, Result, Ok, Err, inl, inr, ap, subst, refl, sym, ◌∙◌, arith, take_all, length-take}
+use Rattle.std.specs.Prelude.{nat_le, not}
+use Rattle.std.proofs.lemmas.Bool.{cases_lt, lt-leb}
+use Rattle.nar.specs.String.{padded}
+use Rattle.nar.specs.Tree.{IsBytes, Tree}
+use Rattle.nar.specs.Outcome.{outcome_of}
+use Rattle.nar.specs.Archive.{IsArchive, limit}
+use Rattle.nar.specs.declared.error.NarError.{NarError}
+use Rattle.nar.specs.declared.error.NarError.TheVariants.{TooLarge}
+use Rattle.nar.proofs.Strings.{padded_le}
+use Rattle.nar.proofs.Fronts.{outcome_front}
+use Rattle.nar.proofs.Decided.{outcome_archive}
+use Rattle.paths.specs.Path.{source_path, text_path}
+use Rattle.live.specs.Graph.{holds}
+use Rattle.drv.specs.Outcome.{outputs_of}
+use Rattle.world.specs.World.{Path, World}
+use Rattle.world.specs.Objects.{most_references}
+use Rattle.policy.specs.Settings.{Settings}
+use Rattle.policy.specs.Caller.{Caller}
+use Rattle.store.specs.Request.{add_source, add_text}
+use Rattle.store.specs.Reply as replied
+use Rattle.store.specs.Reply.{Reply, done, denied, refused, failed, archive, missing_reference, self_reference, too_many_references}
+use Rattle.store.specs.Adds.{text_archive_size}
+use Rattle.store.specs.Step.{Step}
+use Rattle.store.specs.Tests.{archive_fault, first_failing, if_derivation, is_complete, outputs_fault, refusal, tree_fault, unless}
+use Rattle.tool.specs.Requests.{StepsAs}
+
+-- what is refused for its archive, unless it has too many references
+abbrev fault_of : List Path → NarError → Option replied.Refusal
+fault_of refs e = first_failing (unless (nat_le (length refs) most_references) too_many_references ∷ Some (archive e) ∷ [])
+
+no_fault : (few : Bool) (e : NarError) → first_failing (unless few too_many_references ∷ Some (archive e) ∷ []) ≡ None → ⊥
+no_fault true e is = (let no : ◌≡◌ {A = Option replied.Refusal} (Some (archive e)) None = is in cc)
+no_fault false e is = (let no : ◌≡◌ {A = Option replied.Refusal} (Some too_many_references) None = is in cc)
+
+-- ---- contents that are too long
+
+long_fault : (few small : Bool) (rest : List (Option replied.Refusal)) → small ≡ false
+    → first_failing (unless few too_many_references ∷ unless small (archive TooLarge) ∷ rest) ≡ first_failing (unless few too_many_references ∷ Some (archive TooLarge) ∷ [])
+long_fault true small rest is = ap (λ b. first_failing (unless b (archive TooLarge) ∷ rest)) is
+long_fault false small rest is = refl
+
+too_long : (contents : List ℕ) → 16777104 < length contents → nat_le (text_archive_size contents) limit ≡ false
+too_long contents long = lt-leb (112 + padded (length contents)) 16777216 (omega (arith, padded_le (length contents), long))
+
+-- ---- archives with a fault
+
+broken_fault : (few : Bool) (e : NarError) (outcome : Result Tree NarError) (rest : List (Option replied.Refusal)) → outcome ≡ Err e
+    → first_failing (unless few too_many_references ∷ archive_fault outcome ∷ rest) ≡ first_failing (unless few too_many_references ∷ Some (archive e) ∷ [])
+broken_fault true e outcome rest is = ap (λ r. first_failing (archive_fault r ∷ rest)) is
+broken_fault false e outcome rest is = refl
+
+module _ (s : Settings) (w : World) (name : List ℕ) (refs : List Path) where
+  long_refused : (contents : List ℕ) → nat_le (text_archive_size contents) limit ≡ false → refusal s w (add_text name refs contents) ≡ fault_of refs TooLarge
+  long_refused contents long =
+      let p = text_path s.store_dir name refs contents in
+      long_fault (nat_le (length refs) most_references) (nat_le (text_archive_size contents) limit)
+      (unless (not (holds refs p)) self_reference ∷ if_derivation p (outputs_fault (outputs_of s.store_dir contents)) ∷ unless (is_complete w p refs) missing_reference ∷ [])
+      long
+
+  broken_refused : (b : List ℕ) (e : NarError) → outcome_of b ≡ Err e → refusal s w (add_source name refs b) ≡ fault_of refs e
+  broken_refused b e is =
+      let p = source_path s.store_dir name refs b in
+      broken_fault (nat_le (length refs) most_references) e (outcome_of b)
+      (unless (not (holds refs p)) self_reference ∷ if_derivation p (tree_fault s.store_dir (outcome_of b)) ∷ unless (is_complete w p refs) missing_reference ∷ [])
+      is
+
+  -- both are refused alike, whatever the rules say
+  steps_long : (c : Caller) (front all : List ℕ) → nat_le (text_archive_size front) limit ≡ false → nat_le (text_archive_size all) limit ≡ false
+      → (reply : Reply) (next : World) → Step s w c (add_text name refs front) reply next → Step s w c (add_text name refs all) reply next
+  steps_long c front all hf hl (denied rule root) next step = step
+  steps_long c front all hf hl (refused r) next step = (step.0, long_refused all hl ∙ sym (long_refused front hf) ∙ step.1, step.2)
+  steps_long c front all hf hl (failed f) next step = step
+  steps_long c front all hf hl (done a) next step = absurd (no_fault (nat_le (length refs) most_references) TooLarge (sym (long_refused front hf) ∙ step.1))
+
+  steps_broken : (c : Caller) (front all : List ℕ) (e : NarError) → outcome_of front ≡ Err e → outcome_of all ≡ Err e
+      → (reply : Reply) (next : World) → Step s w c (add_source name refs front) reply next → Step s w c (add_source name refs all) reply next
+  steps_broken c front all e hf ha (denied rule root) next step = step
+  steps_broken c front all e hf ha (refused r) next step = (step.0, broken_refused all e ha ∙ sym (broken_refused front e hf) ∙ step.1, step.2)
+  steps_broken c front all e hf ha (failed f) next step = step
+  steps_broken c front all e hf ha (done a) next step = absurd (no_fault (nat_le (length refs) most_references) e (sym (broken_refused front e hf) ∙ step.1))
+
+-- contents that are read to one byte above the limit do for all of them
+pub contents_step : (name : List ℕ) (refs : List Path) (all : List ℕ) → StepsAs (add_text name refs (take 16777105 all)) (add_text name refs all)
+contents_step name refs all s w c reply next step =
+    elim (cases_lt 16777104 (length all)) [
+      | inl long ↦
+          let cut : 16777104 < length (take 16777105 all) = omega (arith, length-take 16777105 all) in
+          steps_long s w name refs c (take 16777105 all) all (too_long (take 16777105 all) cut) (too_long all long) reply next step
+      | inr short ↦ subst (λ b. Step s w c (add_text name refs b) reply next) (take_all 16777105 all (omega arith)) step
+    ]
+
+module _ (name : List ℕ) (refs : List Path) (all : List ℕ) (bytes : IsBytes (take 16777224 all)) where
+  front_step : (r : Result Tree NarError) → outcome_of (take 16777224 all) ≡ r → StepsAs (add_source name refs (take 16777224 all)) (add_source name refs all)
+  front_step (Ok t) is s w c reply next step =
+      let whole : IsArchive t (take 16777224 all) = (outcome_archive (take 16777224 all) t bytes).0 is in
+      let few : length (take 16777224 all) ≤ 16777216 = whole.fits in
+      subst (λ b. Step s w c (add_source name refs b) reply next) (take_all 16777224 all (omega (arith, length-take 16777224 all))) step
+  front_step (Err e) is s w c reply next step = steps_broken s w name refs c (take 16777224 all) all e is (sym (outcome_front all) ∙ is) reply next step
+
+  -- as many bytes as an archive may have, and 8 more, do for all of them
+  pub archive_step : StepsAs (add_source name refs (take 16777224 all)) (add_source name refs all)
+  archive_step = front_step (outcome_of (take 16777224 all)) refl

@@ -1,0 +1,40 @@
+-- What a body on the input asks, of which all is read.
+use Rattle.std.proofs.Common.{◌≡◌, ◌⊎◌, ℕ, ◌<◌, List, length, take, Option, Some, None, Result, Err, inl, inr, ap, subst, refl, sym, ◌∙◌, arith, take_all, length-take}
+use Rattle.std.specs.Prelude.{IfSome}
+use Rattle.store.specs.Request.{Request}
+use Rattle.store_calls.specs.declared.requests.Request.{Request as Made}
+use Rattle.bodies.specs.declared.error.BodyError.{BodyError}
+use Rattle.bodies.specs.declared.error.BodyError.TheVariants as body_error
+use Rattle.report.specs.declared.refusal.Refusal.{Refusal}
+use Rattle.tool.specs.declared.stops.Failure.TheVariants.{Memory, Input}
+use Rattle.tool.specs.declared.stops.Stop.{Stop}
+use Rattle.tool.specs.declared.stops.Stop.TheVariants.{Failed}
+use Rattle.tool.specs.Bodies.{Said, body_stop}
+use Rattle.tool.specs.Requests.{IsAsked, IsAskedOver}
+use Rattle.tool.proofs.Requested.{over}
+
+-- more bytes than a `Vec` has there are not
+pub whole_is : (known : Option (List ℕ)) (bytes : List ℕ) → length bytes < 9223372036854775808 → IfSome known (λ all. bytes ≡ take 18446744073709551615 all)
+    → IfSome known (λ all. bytes ≡ all)
+whole_is None bytes short is = is
+whole_is (Some all) bytes short is =
+    let cut : length bytes ≡ length (take 18446744073709551615 all) = ap length is in
+    is ∙ take_all 18446744073709551615 all (omega (arith, cut, short, length-take 18446744073709551615 all))
+
+module _ (ask : List ℕ → Result Request Refusal → Type 0) where
+  -- what the whole input asks
+  pub whole_asked : (known : Option (List ℕ)) (body : List ℕ) (made : Result Made Stop) → IfSome known (λ all. body ≡ all) → IsAsked (ask body) made
+      → IsAskedOver ask known made
+  whole_asked None body made is h = (body, h)
+  whole_asked (Some all) body made is h = subst (λ b. IsAsked (ask b) made) is h
+
+  -- memory or the input gave out
+  pub gone : (known : Option (List ℕ)) (stop : Stop) → (stop ≡ Failed Memory) ⊎ (stop ≡ Failed Input) → IsAskedOver ask known (Err stop)
+  gone known stop (inl memory) = over ask known (Err stop) (λ bytes. subst (λ e. IsAsked (ask bytes) (Err e)) (sym memory) tt)
+  gone known stop (inr input) = over ask known (Err stop) (λ bytes. subst (λ e. IsAsked (ask bytes) (Err e)) (sym input) tt)
+
+-- why a body asks nothing
+pub body_refused : (says : Request → Type 0) (fault : BodyError) (stop : Stop) → stop ≡ body_stop fault → (fault ≡ body_error.BadBodyHead → (q : Request) → says q → ⊥)
+    → IsAsked (Said says) (Err stop)
+body_refused says body_error.BadBodyHead stop is none = subst (λ e. IsAsked (Said says) (Err e)) (sym is) (refl, none refl)
+body_refused says body_error.Memory stop is none = subst (λ e. IsAsked (Said says) (Err e)) (sym is) tt

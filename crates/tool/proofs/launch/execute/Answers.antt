@@ -1,0 +1,17 @@
+use Rattle.std.proofs.Common.{sym, ◌∙◌}
+use Rattle.std.proofs.KnownBytes.{Keeps-refl}
+use Rattle.command_line.specs.Line.{line_view}
+use Rattle.tool.proofs.Answered.{lacks, runs_served, stops_else}
+use Rattle.tool.proofs.launch.execute.Goals as goal
+
+pub returns-in_default-clause-answer : goal.returns-in_default-clause-answer
+returns-in_default-clause-answer g c =
+    let line = c.args.line.now in
+    let known = g.R.Read.remaining c.args.input.now in
+    let out = g.W.Write.contents c.args.output.now in
+    let err = g.E.Write.contents c.args.errors.now in
+    let err' = g.E.Write.contents c.say-in_default.new.writer in
+    let status = c.say-in_default.result in
+    runs_served (line_view line) known out out err err' status (sym c.is_served.ensures ∙ c.if-not-is_served.false)
+    (lacks line c.in-Err.stop known out out err err' status c.in-Err.ensures.named c.in-Err.ensures.err
+    (stops_else line.task c.in-Err.stop out out err err' status c.in_default.not-Who (Keeps-refl out, c.say-in_default.ensures)))

@@ -1,0 +1,85 @@
+//! What is asked of a store to which an object is added.
+ghost use Rattle.std.specs.Prelude.{◌≡◌, IfOk, IfErr, Ok, Err, List, ℕ};
+ghost use Rattle.command_line.specs.Asked.{object_view};
+ghost use Rattle.nar.specs.Tree.{IsBytes};
+ghost use Rattle.store.specs.Request as asked;
+ghost use Rattle.streams.specs.Reads.{TakesAtMost};
+ghost use Rattle.tool.specs.Archive.{max_front};
+ghost use Rattle.tool.specs.Requests.{Gives, IsAsked, IsAskedOver, on_object};
+
+use crate::input::read_input;
+use crate::object::{parse_name, parse_references};
+use crate::stops::Stop;
+use crate::{archive, texts};
+use command_line::ObjectArguments;
+use paths::{Name, StoreDir, StorePath};
+use std::alloc::Global;
+use std::io::Read;
+use store_calls::Request;
+
+/// The name and the references of an object that is to be added.
+fn parse_arguments(
+    alloc: Global,
+    dir: &StoreDir,
+    object: &ObjectArguments<'_>,
+) -> Result<(Name, Vec<StorePath>), Stop>
+    ensures ok { IfOk result (λ o. (ask : List ℕ → List (List ℕ) → asked.Request) → on_object dir.now (object_view object.now) ask ≡ Ok (ask o.0 o.1.items)) }
+    ensures err { IfErr result (λ e. (ask : List ℕ → List (List ℕ) → asked.Request) → IsAsked (Gives (on_object dir.now (object_view object.now) ask)) (Err e)) }
+{
+    let name = match parse_name(alloc, object.name) {
+        Ok(name) => name,
+        Err(stop) => return Err(stop),
+    };
+    match parse_references(alloc, dir, object.references.as_slice()) {
+        Ok(references) => Ok((name, references)),
+        Err(stop) => Err(stop),
+    }
+}
+
+/// A text is to be added. Nothing is read where the name or a reference is refused.
+pub(crate) fn add_text<R: Read>(
+    alloc: Global,
+    dir: &StoreDir,
+    object: &ObjectArguments<'_>,
+    input: &mut R,
+) -> Result<Request, Stop>
+    ensures asked { IsAskedOver (λ bytes. Gives (on_object dir.now (object_view object.now) (λ name refs. asked.add_text name refs bytes))) (R.remaining input.old) result }
+    ensures reads { TakesAtMost max_front (R.remaining input.old) (R.remaining input.new) }
+{
+    let (name, references) = match parse_arguments(alloc, dir, object) {
+        Ok(arguments) => arguments,
+        Err(stop) => return Err(stop),
+    };
+    match read_input(alloc, input, texts::MOST_READ) {
+        Ok(contents) => Ok(Request::AddText(name, references, contents)),
+        Err(stop) => Err(stop),
+    }
+}
+
+/// What a slice of bytes holds is below 256: a law, that does nothing.
+fn are_bytes(_bytes: &[u8])
+    ensures { IsBytes _bytes.now }
+{}
+
+/// An archive is to be added, at its own path. Nothing is read where the name or a reference is refused.
+pub(crate) fn add_source<R: Read>(
+    alloc: Global,
+    dir: &StoreDir,
+    object: &ObjectArguments<'_>,
+    input: &mut R,
+) -> Result<Request, Stop>
+    ensures asked { IsAskedOver (λ bytes. Gives (on_object dir.now (object_view object.now) (λ name refs. asked.add_source name refs bytes))) (R.remaining input.old) result }
+    ensures reads { TakesAtMost max_front (R.remaining input.old) (R.remaining input.new) }
+{
+    let (name, references) = match parse_arguments(alloc, dir, object) {
+        Ok(arguments) => arguments,
+        Err(stop) => return Err(stop),
+    };
+    match read_input(alloc, input, archive::MOST_READ) {
+        Ok(nar) => {
+            are_bytes(nar.as_slice());
+            Ok(Request::AddSource(name, references, nar))
+        }
+        Err(stop) => Err(stop),
+    }
+}

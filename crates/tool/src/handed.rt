@@ -1,0 +1,104 @@
+//! What is asked of a store by a body on the input.
+ghost use Rattle.std.specs.Prelude.{◌≡◌, ◌⊎◌, IfOk, IfErr, IfSome};
+ghost use Rattle.store_calls.specs.View.{import_view};
+ghost use Rattle.tool.specs.Bodies as spec;
+ghost use Rattle.tool.specs.Bodies.{imported};
+ghost use Rattle.tool.specs.Requests.{IsAsked, IsAskedOver};
+
+use crate::input::read_input;
+use crate::stops::{Failure, Stop};
+use bodies::{BodyError, ImportHead, import_body, runtime_body};
+use paths::StoreDir;
+use report::Refusal;
+use std::alloc::Global;
+use std::io::Read;
+use store_calls::{Imported, Request};
+
+/// All bytes of standard input.
+fn read_whole<R: Read>(alloc: Global, input: &mut R) -> Result<Vec<u8>, Stop>
+    ensures ok { IfOk result (λ bytes. IfSome (R.remaining input.old) (λ all. bytes.items ≡ all)) }
+    ensures err { IfErr result (λ e. (e ≡ Stop.Failed Failure.Memory) ⊎ (e ≡ Stop.Failed Failure.Input)) }
+{
+    match read_input(alloc, input, usize::MAX) {
+        Ok(bytes) => Ok(bytes),
+        Err(stop) => Err(stop),
+    }
+}
+
+/// Why a body asks nothing.
+fn stop_by(fault: BodyError) -> Stop
+    ensures { result ≡ spec.body_stop fault }
+{
+    match fault {
+        BodyError::BadBodyHead => Stop::Refused(Refusal::BadBodyHead),
+        BodyError::Memory => Stop::Failed(Failure::Memory),
+    }
+}
+
+/// An object that is handed in with its path, and its archive.
+fn imported_of(head: ImportHead, nar: Vec<u8>) -> Imported
+    ensures { import_view result ≡ imported head nar.items }
+{
+    let ImportHead {
+        path,
+        nar_hash,
+        references,
+        deriver,
+        ca,
+    } = head;
+    Imported {
+        path,
+        nar_hash,
+        refs: references,
+        deriver,
+        ca,
+        nar,
+    }
+}
+
+/// The object that a body hands in, at its path.
+fn parse_import(alloc: Global, dir: &StoreDir, body: &[u8]) -> Result<Request, Stop>
+    ensures { IsAsked (spec.Imports dir.now body.now) result }
+{
+    match import_body(alloc, dir, body) {
+        Ok((head, nar)) => match nar.to_vec(alloc) {
+            Ok(nar) => Ok(Request::Import(imported_of(head, nar))),
+            Err(_) => Err(Stop::Failed(Failure::Memory)),
+        },
+        Err(fault) => Err(stop_by(fault)),
+    }
+}
+
+/// The runtime roots that a body names.
+fn parse_runtime(alloc: Global, dir: &StoreDir, body: &[u8]) -> Result<Request, Stop>
+    ensures { IsAsked (spec.Replaces dir.now body.now) result }
+{
+    match runtime_body(alloc, dir, body) {
+        Ok(roots) => Ok(Request::ReplaceRuntime(roots)),
+        Err(fault) => Err(stop_by(fault)),
+    }
+}
+
+/// An object is to be added at the path that the input says.
+pub(crate) fn import<R: Read>(alloc: Global, dir: &StoreDir, input: &mut R) -> Result<Request, Stop>
+    ensures { IsAskedOver (spec.Imports dir.now) (R.remaining input.old) result }
+{
+    match read_whole(alloc, input) {
+        Ok(body) => parse_import(alloc, dir, body.as_slice()),
+        Err(stop) => Err(stop),
+    }
+}
+
+/// The runtime roots are to be those on the input.
+pub(crate) fn replace_runtime<R: Read>(
+    alloc: Global,
+    dir: &StoreDir,
+    input: &mut R,
+) -> Result<Request, Stop>
+    ensures { IsAskedOver (spec.Replaces dir.now) (R.remaining input.old) result }
+{
+    match read_whole(alloc, input) {
+        Ok(body) => parse_runtime(alloc, dir, body.as_slice()),
+        Err(stop) => Err(stop),
+    }
+}

@@ -1,0 +1,101 @@
+//! What is asked of profiles.
+ghost use Rattle.std.specs.Prelude.{◌≡◌, IfOk, string_bytes};
+ghost use Rattle.command_line.specs.Asked.{on_profile_view, optional_text};
+ghost use Rattle.store.specs.Request as asked;
+ghost use Rattle.store_calls.specs.View.{request_view};
+ghost use Rattle.tool.specs.Requests as spec;
+ghost use Rattle.tool.specs.Requests.{Gives, IsAsked, owner_of};
+
+use crate::named::{made, owner};
+use crate::object::parse_reference;
+use crate::stops::Stop;
+use command_line::{ProfileAction, ProfileArguments};
+use paths::{StoreDir, StorePath};
+use policy::Caller;
+use std::alloc::{AllocError, Global};
+use store_calls::Request;
+
+/// Whose a profile is, and its name.
+fn names(
+    alloc: Global,
+    caller: &Caller,
+    profile: &ProfileArguments<'_>,
+) -> Result<(String, String), AllocError>
+    ensures owner { IfOk result (λ n. string_bytes n.0 ≡ owner_of caller.now (optional_text profile.now.owner)) }
+    ensures name { IfOk result (λ n. string_bytes n.1 ≡ profile.now.name.now) }
+{
+    let owner = owner(alloc, caller, profile.owner)?;
+    let name = String::from_str(alloc, profile.name)?;
+    Ok((owner, name))
+}
+
+/// A path becomes the current generation.
+fn set(
+    alloc: Global,
+    caller: &Caller,
+    profile: &ProfileArguments<'_>,
+    path: StorePath,
+) -> Result<Request, AllocError>
+    ensures { IfOk result (λ q. request_view q ≡ asked.set_profile (owner_of caller.now (optional_text profile.now.owner)) profile.now.name.now path) }
+{
+    let (owner, name) = names(alloc, caller, profile)?;
+    Ok(Request::SetProfile(owner, name, path))
+}
+
+/// The generation below the current one becomes current.
+fn rollback(
+    alloc: Global,
+    caller: &Caller,
+    profile: &ProfileArguments<'_>,
+) -> Result<Request, AllocError>
+    ensures { IfOk result (λ q. request_view q ≡ asked.rollback (owner_of caller.now (optional_text profile.now.owner)) profile.now.name.now) }
+{
+    let (owner, name) = names(alloc, caller, profile)?;
+    Ok(Request::Rollback(owner, name))
+}
+
+/// The generation of a number becomes current.
+fn switch(
+    alloc: Global,
+    caller: &Caller,
+    profile: &ProfileArguments<'_>,
+    number: u32,
+) -> Result<Request, AllocError>
+    ensures { IfOk result (λ q. request_view q ≡ asked.switch (owner_of caller.now (optional_text profile.now.owner)) profile.now.name.now number) }
+{
+    let (owner, name) = names(alloc, caller, profile)?;
+    Ok(Request::Switch(owner, name, number))
+}
+
+/// The generation of a number goes.
+fn delete(
+    alloc: Global,
+    caller: &Caller,
+    profile: &ProfileArguments<'_>,
+    number: u32,
+) -> Result<Request, AllocError>
+    ensures { IfOk result (λ q. request_view q ≡ asked.delete_generation (owner_of caller.now (optional_text profile.now.owner)) profile.now.name.now number) }
+{
+    let (owner, name) = names(alloc, caller, profile)?;
+    Ok(Request::DeleteGeneration(owner, name, number))
+}
+
+/// Something is to happen to a profile.
+pub(crate) fn change_profile(
+    alloc: Global,
+    dir: &StoreDir,
+    caller: &Caller,
+    profile: &ProfileArguments<'_>,
+) -> Result<Request, Stop>
+    ensures { IsAsked (Gives (spec.change_profile dir.now (owner_of caller.now (optional_text profile.now.owner)) profile.now.name.now (on_profile_view profile.now.action))) result }
+{
+    match profile.action {
+        ProfileAction::Set(text) => match parse_reference(alloc, dir, text) {
+            Ok(path) => made(set(alloc, caller, profile, path)),
+            Err(stop) => Err(stop),
+        },
+        ProfileAction::Rollback => made(rollback(alloc, caller, profile)),
+        ProfileAction::Switch(number) => made(switch(alloc, caller, profile, number)),
+        ProfileAction::Delete(number) => made(delete(alloc, caller, profile, number)),
+    }
+}
