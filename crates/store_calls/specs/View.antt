@@ -1,5 +1,5 @@
 -- What the values of the program stand for.
-use Rattle.std.specs.Prelude.{map, option_map, None, string_bytes}
+use Rattle.std.specs.Prelude.{map, option_map, string_bytes}
 use Rattle.policy.specs.Caller.{Caller}
 use Rattle.store.specs.Request as asked
 use Rattle.store.specs.Reply as replied
@@ -44,7 +44,7 @@ request_view (SetProfile owner name p) = asked.set_profile (string_bytes owner) 
 request_view (ReplaceRuntime pairs) = asked.replace_runtime (map labelled_bytes pairs.items)
 request_view (AddSource name refs nar) = asked.add_source name refs.items nar.items
 request_view (Import i) = asked.import_object (import_view i)
-request_view (Collect ignores) = asked.collect ignores None
+request_view (Collect ignores limit) = asked.collect ignores limit
 request_view (Delete named ignores) = asked.delete named.items ignores
 
 -- a caller's request

@@ -63,7 +63,7 @@ pub(crate) fn act<S: Alter>(
         Request::ReplaceRuntime(pairs) => replace_runtime(alloc, tables, pairs),
         Request::AddSource(name, refs, nar) => add_source(alloc, config, tables, name, refs, nar),
         Request::Import(object) => import_object(alloc, config, tables, object),
-        Request::Collect(ignores) => collect(alloc, config, tables, ignores),
+        Request::Collect(ignores, limit) => collect(alloc, config, tables, ignores, limit),
         Request::Delete(named, ignores) => delete(alloc, tables, named, ignores),
     }
 }

@@ -64,8 +64,8 @@ pub enum Request {
     AddSource(Name, Vec<StorePath>, Vec<u8>),
     /// An object is added at a path.
     Import(Imported),
-    /// Dead paths are deleted; whether liveness is to be ignored.
-    Collect(bool),
+    /// Dead paths are deleted; whether liveness is to be ignored, and how many bytes are to be freed, if there is a limit.
+    Collect(bool, Option<u64>),
     /// Paths are deleted with all that refer to them; whether liveness is to be ignored.
     Delete(Vec<StorePath>, bool),
 }

@@ -36,7 +36,7 @@ pub(crate) fn operation(request: &Request) -> Op<'_>
         Request::Import(object) => Op::Import {
             has_address: object.ca.is_some(),
         },
-        Request::Collect(ignores) => Op::Collect {
+        Request::Collect(ignores, _) => Op::Collect {
             ignores_liveness: *ignores,
         },
         Request::Delete(_, ignores) => Op::Delete {
