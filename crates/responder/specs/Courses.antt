@@ -14,7 +14,7 @@ use Rattle.routes.specs.Methods.{method_of, kind_of, allowed}
 use Rattle.routes.specs.Table.{requests_of}
 use Rattle.routes.specs.declared.kind.Kind.{Kind}
 use Rattle.routes.specs.declared.requests.Requests.{Requests}
-use Rattle.store.specs.Request.{Request, add_temp, end_session, collect}
+use Rattle.store.specs.Request.{Request, add_temp, end_session}
 use Rattle.store_calls.specs.View as views
 use Rattle.asking.specs.Asks.{Asks, has_bad_path}
 use Rattle.report.specs.Stops.{denial_text}
@@ -29,11 +29,10 @@ pub data Course : Type 0 where
   replies : Replied → Course
   calls : Caller → Request → Course
 
--- the requests that the store has by now: not yet what sessions keep, and a collection up to a limit
+-- the requests that the store has by now: not yet what sessions keep
 abbrev pub is_there : Request → Bool
 is_there (add_temp owner session p) = false
 is_there (end_session owner session) = false
-is_there (collect ignores (Some limit)) = false
 is_there _ = true
 
 abbrev pub if_there : Request → Option Request

@@ -31,14 +31,11 @@ fn imported(head: ImportHead, nar: Vec<u8>) -> Imported
     }
 }
 
-/// A collection without a limit.
-fn collect(head: CollectHead) -> Option<Request>
-    ensures { option_map views.request_view result ≡ if_there (asked.collect (flag head.ignore_liveness) head.max_freed) }
+/// A collection, up to a limit if there is one.
+fn collect(head: CollectHead) -> Request
+    ensures { views.request_view result ≡ asked.collect (flag head.ignore_liveness) head.max_freed }
 {
-    match head.max_freed {
-        Some(_) => None,
-        None => Some(Request::Collect(head.ignore_liveness.unwrap_or(false))),
-    }
+    Request::Collect(head.ignore_liveness.unwrap_or(false), head.max_freed)
 }
 
 /// A deletion of the paths that are named.
@@ -84,7 +81,7 @@ pub(crate) fn call_of(asked: Asked) -> Option<Request>
         Asked::Switch(owner, name, number) => Request::Switch(owner, name, number),
         Asked::DeleteGeneration(owner, name, n) => Request::DeleteGeneration(owner, name, n),
         Asked::ReplaceRuntime(roots) => Request::ReplaceRuntime(roots),
-        Asked::Collect(head) => return collect(head),
+        Asked::Collect(head) => collect(head),
         Asked::Delete(head) => delete(head),
         _ => return None,
     })
