@@ -36,12 +36,12 @@ stopped_under (Err word) answered stop out err err' status (inl memory) said end
 stopped_under outcome answered stop out err err' status (inr why) said end =
     rw why.1 (inl (Keeps-refl out, subst (λ x. Says x err err' status) why.2 said))
 
-module _ (config : List ℕ) (user group : Option (List ℕ)) (o : Text × List Text) (known out err err' : Option (List ℕ)) (status : ℕ) (stop : Stop) where
+module _ (config : List ℕ) (db : Option Text) (user group : Option (List ℕ)) (o : Text × List Text) (known out err err' : Option (List ℕ)) (status : ℕ) (stop : Stop) where
   -- so `text-path` and `source-path` answer a refused configuration
-  pub text_stopped : StopsFor (config_of config) stop → Says stop err err' status → AnswersAlone config user group (text_path o) known out out err err' status
+  pub text_stopped : StopsFor (config_of config) stop → Says stop err err' status → AnswersAlone config db user group (text_path o) known out out err err' status
   text_stopped why said = stopped_under (config_of config) _ stop out err err' status why said (λ s memory. inl (inl memory))
 
-  pub source_stopped : StopsFor (config_of config) stop → Says stop err err' status → AnswersAlone config user group (source_path o) known out out err err' status
+  pub source_stopped : StopsFor (config_of config) stop → Says stop err err' status → AnswersAlone config db user group (source_path o) known out out err err' status
   source_stopped why said = stopped_under (config_of config) _ stop out err err' status why said (λ s memory. inl (inl memory))
 
 -- ---- words

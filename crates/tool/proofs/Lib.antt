@@ -5,4 +5,5 @@ pub mod Fronted
 pub mod Objects
 pub mod Requested
 pub mod Results
+pub mod Served
 pub mod Whole

@@ -11,7 +11,7 @@ use Rattle.policy.specs.declared.error.KeyWord.{KeyWord}
 use Rattle.report.specs.declared.refusal.Refusal.TheVariants.{BadConfig}
 use Rattle.command_line.specs.declared.error.CommandError.{CommandError}
 use Rattle.command_line.specs.declared.error.CommandError.TheVariants.{Usage, Misuse, Memory}
-use Rattle.command_line.specs.Asked.{Asked, who, ls, text_path, source_path}
+use Rattle.command_line.specs.Asked.{Asked, who, ls, text_path, source_path, serve}
 use Rattle.command_line.specs.Line.{Line}
 use Rattle.tool.specs.declared.stops.Failure.TheVariants.{Memory as NoMemory, File}
 use Rattle.tool.specs.declared.stops.Stop.{Stop}
@@ -21,6 +21,7 @@ use Rattle.tool.specs.Callers.{AnswersNamed}
 use Rattle.tool.specs.Object.{object_fault, text_path_answer, source_path_answer}
 use Rattle.store_commands.specs.Outputs.{Prints}
 use Rattle.tool.specs.Requests.{asks}
+use Rattle.tool.specs.Serving.{ServesIn}
 use Rattle.tool.specs.Stream.{Answers, AnswersTo, Says}
 use Rattle.tool.specs.Who.{AnswersWho, verdict_of}
 
@@ -38,35 +39,38 @@ RefusesWords out out' err err' status = Keeps out out' × ((text : List ℕ) × 
 abbrev pub Refuses : Option (List ℕ) → Option (List ℕ) → Option (List ℕ) → Option (List ℕ) → ℕ → Type 0
 Refuses out out' err err' status = RefusesWords out out' err err' status ⊎ Answers (Err (Failed NoMemory)) out out' err err' status
 
--- the subcommands that ask no store
+-- the subcommands that ask nothing of a store themselves
 abbrev pub asks_nothing : Asked → Bool
 asks_nothing who = true
 asks_nothing ls = true
 asks_nothing (text_path o) = true
 asks_nothing (source_path o) = true
+asks_nothing (serve a) = true
 asks_nothing _ = false
 
 -- whether a subcommand is there yet
 abbrev pub is_served : Asked → Bool
 is_served asked = is_some (asks asked) || asks_nothing asked
 
--- what a subcommand that asks no store answers by the text of the configuration: `who` all on the first writer; one that isn't there
+-- what a subcommand that asks nothing of a store answers by the text of the configuration: `who` all on the first writer; one that isn't there
 -- yet is a usage fault
-abbrev pub AnswersAlone : List ℕ → Option (List ℕ) → Option (List ℕ) → Asked → Option (List ℕ) → Option (List ℕ) → Option (List ℕ) → Option (List ℕ) → Option (List ℕ) → ℕ → Type 0
-AnswersAlone config user group who known out out' err err' status = AnswersWho (verdict_of config user group) out out' status × Keeps err err'
-AnswersAlone config user group ls known out out' err err' status =
+abbrev pub AnswersAlone : List ℕ → Option Text → Option (List ℕ) → Option (List ℕ) → Asked → Option (List ℕ) → Option (List ℕ) → Option (List ℕ) → Option (List ℕ) → Option (List ℕ) → ℕ → Type 0
+AnswersAlone config db user group who known out out' err err' status = AnswersWho (verdict_of config user group) out out' status × Keeps err err'
+AnswersAlone config db user group ls known out out' err err' status =
     AnswersUnder (config_of config) (λ s. AnswersTo None ls_answer known out out' err err' status) out out' err err' status
-AnswersAlone config user group (text_path o) known out out' err err' status =
+AnswersAlone config db user group (text_path o) known out out' err err' status =
     AnswersUnder (config_of config) (λ s. AnswersTo (object_fault s.store_dir o.0 o.1) (text_path_answer s.store_dir o.0 (map (base_of s.store_dir) o.1)) known out out' err err' status)
     out out' err err' status
-AnswersAlone config user group (source_path o) known out out' err err' status =
+AnswersAlone config db user group (source_path o) known out out' err err' status =
     AnswersUnder (config_of config) (λ s. AnswersTo (object_fault s.store_dir o.0 o.1) (source_path_answer s.store_dir o.0 (map (base_of s.store_dir) o.1)) known out out' err err' status)
     out out' err err' status
-AnswersAlone config user group _ known out out' err err' status = Refuses out out' err err' status
+AnswersAlone config db user group (serve a) known out out' err err' status =
+    AnswersUnder (config_of config) (λ s. ServesIn db s a known out out' err err' status) out out' err err' status
+AnswersAlone config db user group _ known out out' err err' status = Refuses out out' err err' status
 
 -- what any subcommand answers: what it asks of a store is answered to its caller, under the settings of the configuration
 abbrev pub AnswersAsked : List ℕ → Option Text → Option (List ℕ) → Option (List ℕ) → Asked → Option (List ℕ) → Option (List ℕ) → Option (List ℕ) → Option (List ℕ) → Option (List ℕ) → ℕ → Type 0
-AnswersAsked config db user group asked known out out' err err' status = MatchOption (asks asked) (AnswersAlone config user group asked known out out' err err' status)
+AnswersAsked config db user group asked known out out' err err' status = MatchOption (asks asked) (AnswersAlone config db user group asked known out out' err err' status)
     (λ ask. AnswersUnder (config_of config) (λ s. AnswersNamed db s user group ask known out out' err err' status) out out' err err' status)
 
 -- what a command line answers by the text of its configuration

@@ -9,3 +9,4 @@ pub mod Requests
 pub mod Calls
 pub mod Files
 pub mod Callers
+pub mod Serving

@@ -14,7 +14,7 @@ use Rattle.store.specs.Step.{Step}
 use Rattle.report.specs.declared.refusal.Refusal.{Refusal}
 use Rattle.report.specs.declared.refusal.Refusal.TheVariants.{BadStoreName, BadStorePath}
 use Rattle.command_line.specs.Asked as asked
-use Rattle.command_line.specs.Asked.{Asked, OnProfile, add_source, add_text, cat_nar, gc, import_object, info, list_dead, list_live, list_paths, optional_text, profile, report, root, roots, runtime, unroot_permanent, unroot_user, why}
+use Rattle.command_line.specs.Asked.{Asked, OnProfile, add_source, add_text, cat_nar, gc, import_object, info, list_dead, list_live, list_paths, optional_text, profile, report, root, roots, runtime, unroot_permanent, unroot_user, why, serve}
 use Rattle.command_line.specs.declared.line.Unrooted.{Unrooted}
 use Rattle.command_line.specs.declared.line.Unrooted.TheVariants as unrooted
 use Rattle.command_line.specs.declared.line.RootKind.{RootKind}
@@ -100,10 +100,11 @@ asks import_object = Some import_body
 asks runtime = Some runtime_body
 asks _ = None
 
--- the subcommands that read all of their input, however much that is
+-- the subcommands that read all of their input, however much that is; `serve` reads what its connection sends
 abbrev pub reads_all : Asked → Bool
 reads_all import_object = true
 reads_all runtime = true
+reads_all (serve a) = true
 reads_all _ = false
 
 -- ---- what a program makes of the words and the input

@@ -12,6 +12,7 @@ use crate::calls::call;
 use crate::configuration::settings;
 use crate::listings::ls;
 use crate::requests::is_asked;
+use crate::serve::serve;
 use crate::sources::source_path;
 use crate::stream::say;
 use crate::texts::text_path;
@@ -31,7 +32,7 @@ fn ls_under<R: Read, W: Write, E: Write>(
     output: &mut W,
     errors: &mut E,
 ) -> u8
-    ensures answer { AnswersAlone config.now None None asked.ls (R.remaining input.old) (W.contents output.old) (W.contents output.new) (E.contents errors.old) (E.contents errors.new) result }
+    ensures answer { AnswersAlone config.now None None None asked.ls (R.remaining input.old) (W.contents output.old) (W.contents output.new) (E.contents errors.old) (E.contents errors.new) result }
     ensures reads { TakesAtMost max_front (R.remaining input.old) (R.remaining input.new) }
 {
     if let Err(stop) = settings(alloc, config) {
@@ -40,18 +41,19 @@ fn ls_under<R: Read, W: Write, E: Write>(
     ls(alloc, input, output, errors)
 }
 
-/// Answers a command line that asks no store.
+/// Answers a command line that asks nothing of a store itself.
 fn answer_alone<R: Read, W: Write, E: Write>(
-    alloc: Global,
+    rt: &HostRuntime,
     config: &[u8],
     line: &CommandLine<'_>,
     input: &mut R,
     output: &mut W,
     errors: &mut E,
 ) -> u8
-    ensures answer { AnswersAlone config.now (optional_text line.now.user) (optional_text line.now.group) (asked.asked_view line.now.task) (R.remaining input.old) (W.contents output.old) (W.contents output.new) (E.contents errors.old) (E.contents errors.new) result }
-    ensures reads { TakesAtMost max_front (R.remaining input.old) (R.remaining input.new) }
+    ensures answer { AnswersAlone config.now (optional_text line.now.db) (optional_text line.now.user) (optional_text line.now.group) (asked.asked_view line.now.task) (R.remaining input.old) (W.contents output.old) (W.contents output.new) (E.contents errors.old) (E.contents errors.new) result }
+    ensures reads { reads_all (asked.asked_view line.now.task) ≡ false → TakesAtMost max_front (R.remaining input.old) (R.remaining input.new) }
 {
+    let alloc = rt.alloc();
     match &line.task {
         Task::Who => who(alloc, config, line.user, line.group, output),
         Task::Ls => ls_under(alloc, config, input, output, errors),
@@ -69,6 +71,7 @@ fn answer_alone<R: Read, W: Write, E: Write>(
             }
             Err(stop) => say(stop, errors),
         },
+        Task::Serve(serving) => serve(rt, config, line.db, *serving, input, output, errors),
         _ => refuse_task(alloc, errors),
     }
 }
@@ -78,7 +81,7 @@ fn answer_alone<R: Read, W: Write, E: Write>(
 ///
 /// Results go to `output`; refusals and failures go to `errors`, but for `who`, which puts everything
 /// on `output`. The configuration file that the command line names isn't read. No more than 16,777,224 bytes of the input
-/// are, but for `import` and `runtime`, which read all of it.
+/// are, but for `import` and `runtime`, which read all of it, and `serve`, which reads what its connection sends.
 pub fn answer<R: Read, W: Write, E: Write>(
     rt: &HostRuntime,
     config: &[u8],
@@ -93,5 +96,5 @@ pub fn answer<R: Read, W: Write, E: Write>(
     if is_asked(&line.task) {
         return call(rt, config, line, input, output, errors);
     }
-    answer_alone(rt.alloc(), config, line, input, output, errors)
+    answer_alone(rt, config, line, input, output, errors)
 }

@@ -47,7 +47,7 @@ fn file_cause<S: Alter + Drop, D: Disk + Drop>(unopened: file::Unopened<S, D>) -
 }
 
 /// Why a file isn't taken up, which is given up.
-fn cause_of<S: Alter + Drop, D: Disk + Drop>(unopened: Unopened<S, D>) -> Cause
+pub(crate) fn cause_of<S: Alter + Drop, D: Disk + Drop>(unopened: Unopened<S, D>) -> Cause
     ensures { result ≡ spec.cause_of unopened }
 {
     match unopened {
@@ -57,7 +57,7 @@ fn cause_of<S: Alter + Drop, D: Disk + Drop>(unopened: Unopened<S, D>) -> Cause
 }
 
 /// Says why a file isn't taken up, and gives the exit status.
-fn refuse_file<W: Write, E: Write>(
+pub(crate) fn refuse_file<W: Write, E: Write>(
     alloc: Global,
     dir: &StoreDir,
     cause: Cause,

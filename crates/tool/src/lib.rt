@@ -15,6 +15,7 @@ mod named;
 mod object;
 mod profiles;
 mod requests;
+mod serve;
 mod sources;
 mod stops;
 mod stores;

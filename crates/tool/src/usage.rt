@@ -28,13 +28,13 @@ pub(crate) fn refuse<W: Write>(alloc: Global, fault: &str, errors: &mut W) -> u8
     }
 }
 
-/// Whether a subcommand is one of those that ask no store.
+/// Whether a subcommand is one of those that ask nothing of a store themselves.
 fn asks_nothing(task: &Task<'_>) -> bool
     ensures { result ≡ spec.asks_nothing (asked_view task.now) }
 {
     matches!(
         task,
-        Task::Who | Task::Ls | Task::TextPath(_) | Task::SourcePath(_)
+        Task::Who | Task::Ls | Task::TextPath(_) | Task::SourcePath(_) | Task::Serve(_)
     )
 }
 

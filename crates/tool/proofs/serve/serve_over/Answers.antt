@@ -1,0 +1,5 @@
+use Rattle.std.proofs.KnownBytes.{Keeps-refl}
+use Rattle.tool.proofs.serve.serve_over.Goals as goal
+
+pub returns-in-Port-clause-worlds : goal.returns-in-Port-clause-worlds
+returns-in-Port-clause-worlds g c = λ clean w told. rw c.in-Port.is (Keeps-refl (g.W.Write.contents c.args.output.now), c.serve_port.ensures.worlds clean w told)
