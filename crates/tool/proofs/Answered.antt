@@ -11,9 +11,9 @@ use Rattle.policy.specs.Toml.{config_of}
 use Rattle.policy.specs.declared.error.KeyWord.{KeyWord}
 use Rattle.command_line.specs.declared.error.CommandError.{CommandError}
 use Rattle.command_line.specs.declared.error.CommandError.TheVariants.{Usage, Misuse, Memory}
-use Rattle.tool.specs.declared.stops.Failure.TheVariants.{Memory as NoMemory, File}
-use Rattle.tool.specs.declared.stops.Stop.{Stop}
-use Rattle.tool.specs.declared.stops.Stop.TheVariants.{Failed}
+use Rattle.pure_commands.specs.declared.stops.Failure.TheVariants.{Memory as NoMemory, File}
+use Rattle.pure_commands.specs.declared.stops.Stop.{Stop}
+use Rattle.pure_commands.specs.declared.stops.Stop.TheVariants.{Failed}
 use Rattle.command_line.specs.declared.error.UsageFault.{UsageFault}
 use Rattle.command_line.specs.declared.line.CommandLine.{CommandLine}
 use Rattle.command_line.specs.declared.line.Task.{Task}
@@ -23,8 +23,8 @@ use Rattle.command_line.specs.declared.line.Unrooted.TheVariants as unrooted
 use Rattle.command_line.specs.Asked.{asked_view, optional_text, source_path, text_path, unroot_view}
 use Rattle.command_line.specs.Line.{Line, IsLine, IsUsageFault, line_view}
 use Rattle.store_commands.specs.Outputs.{Prints}
-use Rattle.tool.specs.Stream.{Answers, Says}
-use Rattle.tool.specs.Who.{StopsFor}
+use Rattle.pure_commands.specs.Stream.{Answers, Says}
+use Rattle.pure_commands.specs.Who.{StopsFor}
 use Rattle.tool.specs.Answer.{AnswersAlone, AnswersUnder, Explains, Refuses, RunsLine, RunsServed, Stops, is_served}
 
 -- the stop of a configuration was said: the first writer got nothing

@@ -20,16 +20,16 @@ use Rattle.store_calls.specs.View.{request_view}
 use Rattle.store_calls.proofs.Clean.{step_clean}
 use Rattle.store_commands.specs.Serving.{Calls}
 use Rattle.store_commands.specs.Telling.{IsTold}
-use Rattle.tool.specs.declared.stops.Failure.TheVariants.{Memory, File, Input, Output}
-use Rattle.tool.specs.declared.stops.Stop.{Stop}
-use Rattle.tool.specs.declared.stops.Stop.TheVariants.{Refused, Failed}
+use Rattle.pure_commands.specs.declared.stops.Failure.TheVariants.{Memory, File, Input, Output}
+use Rattle.pure_commands.specs.declared.stops.Stop.{Stop}
+use Rattle.pure_commands.specs.declared.stops.Stop.TheVariants.{Refused, Failed}
 use Rattle.tool.specs.Answer.{AnswersUnder}
 use Rattle.tool.specs.Callers.{AnswersCaller, AnswersCalled, AnswersNamed}
 use Rattle.tool.specs.Calls.{AnswersStep, AnswersRequest, AnswersWanted, AnswersIn, Serves}
 use Rattle.tool.specs.Files.{AnswersSome}
 use Rattle.clap.specs.Walk.{Text}
 use Rattle.tool.specs.Requests.{Ask, IsAsked, IsAskedOver, StepsAs, Wants, caller_by}
-use Rattle.tool.specs.Stream.{Says}
+use Rattle.pure_commands.specs.Stream.{Says}
 
 module _ {S : Type 0} (g : Ghosts S) (c : Caller) (out out' err err' : Option (List ℕ)) (status : ℕ) where
   -- what was served over a store that was made of the tables

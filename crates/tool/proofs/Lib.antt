@@ -1,9 +1,6 @@
 pub mod Answered
-pub mod Archives
 pub mod Called
 pub mod Fronted
-pub mod Objects
 pub mod Requested
-pub mod Results
 pub mod Served
 pub mod Whole

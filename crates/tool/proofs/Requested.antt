@@ -18,11 +18,11 @@ use Rattle.clap.specs.Walk.{Text}
 use Rattle.command_line.specs.Asked.{Asked, gc, unroot_view}
 use Rattle.command_line.specs.declared.line.Unrooted.{Unrooted}
 use Rattle.command_line.specs.declared.line.Unrooted.TheVariants as unrooted
-use Rattle.tool.specs.declared.stops.Failure.TheVariants.{Memory}
-use Rattle.tool.specs.declared.stops.Stop.{Stop}
-use Rattle.tool.specs.declared.stops.Stop.TheVariants.{Refused, Failed}
-use Rattle.tool.specs.Object.{is_path_text}
-use Rattle.tool.specs.Requests.{Ask, Gives, IsAsked, IsAskedOver, StepsAs, Wants, asks, by, drop_root, on_object, on_path}
+use Rattle.pure_commands.specs.declared.stops.Failure.TheVariants.{Memory}
+use Rattle.pure_commands.specs.declared.stops.Stop.{Stop}
+use Rattle.pure_commands.specs.declared.stops.Stop.TheVariants.{Refused, Failed}
+use Rattle.pure_commands.specs.Object.{is_path_text}
+use Rattle.tool.specs.Requests.{Ask, Gives, IsAsked, IsAskedOver, StepsAs, Wants, asks, by, drop_root, on_object, on_path, on_paths}
 
 -- ---- requests that are made
 
@@ -43,6 +43,16 @@ pub path_asked : (dir text : List ℕ) (ask : Path → Request) (p : Path) (q : 
     → IsAsked (Gives (on_path dir text ask)) (Ok q)
 path_asked dir text ask p q same base is =
     (ask (base_of dir text), rw is refl, same_steps (request_view q) (ask (base_of dir text)) (same ∙ ap ask base))
+
+pub paths_asked : (dir : List ℕ) (named : List Text) (ask : List Path → Request) (ps : List Path) (q : Made) → request_view q ≡ ask ps → ps ≡ map (base_of dir) named
+    → list_all (is_path_text dir) named ≡ true → IsAsked (Gives (on_paths dir named ask)) (Ok q)
+paths_asked dir named ask ps q same based is =
+    (ask (map (base_of dir) named), rw is refl, same_steps (request_view q) (ask (map (base_of dir) named)) (same ∙ ap ask based))
+
+pub paths_refused : (dir : List ℕ) (named : List Text) (ask : List Path → Request) (stop : Stop)
+    → (stop ≡ Failed Memory) ⊎ ((stop ≡ Refused BadStorePath) × (list_all (is_path_text dir) named ≡ false)) → IsAsked (Gives (on_paths dir named ask)) (Err stop)
+paths_refused dir named ask stop (inl memory) = subst (λ e. IsAsked (Gives (on_paths dir named ask)) (Err e)) (sym memory) tt
+paths_refused dir named ask stop (inr bad) = subst (λ e. IsAsked (Gives (on_paths dir named ask)) (Err e)) (sym bad.0) (let wrong = bad.1 in rw wrong refl)
 
 -- ---- objects that are added
 

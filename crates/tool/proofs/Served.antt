@@ -6,10 +6,10 @@ use Rattle.policy.specs.Settings.{Settings}
 use Rattle.store.specs.Reply.{memory}
 use Rattle.opening.specs.declared.refusing.Cause.TheVariants.{Failed as Lacks}
 use Rattle.command_line.specs.declared.line.ServeArguments.{ServeArguments}
-use Rattle.tool.specs.declared.stops.Failure.TheVariants.{Memory}
-use Rattle.tool.specs.declared.stops.Stop.TheVariants.{Failed}
+use Rattle.pure_commands.specs.declared.stops.Failure.TheVariants.{Memory}
+use Rattle.pure_commands.specs.declared.stops.Stop.TheVariants.{Failed}
 use Rattle.tool.specs.Serving.{ServesIn}
-use Rattle.tool.specs.Stream.{Answers}
+use Rattle.pure_commands.specs.Stream.{Answers}
 
 -- there was no memory for the settings
 pub serves_lacking : (db : Option Text) (s : Settings) (a : ServeArguments) (known out err err' : Option (List ℕ)) (status : ℕ) → Answers (Err (Failed Memory)) out out err err' status

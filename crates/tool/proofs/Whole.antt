@@ -6,9 +6,9 @@ use Rattle.store_calls.specs.declared.requests.Request.{Request as Made}
 use Rattle.bodies.specs.declared.error.BodyError.{BodyError}
 use Rattle.bodies.specs.declared.error.BodyError.TheVariants as body_error
 use Rattle.report.specs.declared.refusal.Refusal.{Refusal}
-use Rattle.tool.specs.declared.stops.Failure.TheVariants.{Memory, Input}
-use Rattle.tool.specs.declared.stops.Stop.{Stop}
-use Rattle.tool.specs.declared.stops.Stop.TheVariants.{Failed}
+use Rattle.pure_commands.specs.declared.stops.Failure.TheVariants.{Memory, Input}
+use Rattle.pure_commands.specs.declared.stops.Stop.{Stop}
+use Rattle.pure_commands.specs.declared.stops.Stop.TheVariants.{Failed}
 use Rattle.tool.specs.Bodies.{Said, body_stop}
 use Rattle.tool.specs.Requests.{IsAsked, IsAskedOver}
 use Rattle.tool.proofs.Requested.{over}

@@ -9,9 +9,9 @@ use Rattle.bodies.specs.declared.error.BodyError.TheVariants as body_error
 use Rattle.bodies.specs.declared.import.ImportHead.{ImportHead}
 use Rattle.report.specs.declared.refusal.Refusal.{Refusal}
 use Rattle.report.specs.declared.refusal.Refusal.TheVariants.{BadBodyHead}
-use Rattle.tool.specs.declared.stops.Failure.TheVariants.{Memory}
-use Rattle.tool.specs.declared.stops.Stop.{Stop}
-use Rattle.tool.specs.declared.stops.Stop.TheVariants.{Refused, Failed}
+use Rattle.pure_commands.specs.declared.stops.Failure.TheVariants.{Memory}
+use Rattle.pure_commands.specs.declared.stops.Stop.{Stop}
+use Rattle.pure_commands.specs.declared.stops.Stop.TheVariants.{Refused, Failed}
 
 -- an import, with the archive behind the empty line
 abbrev pub imported : ImportHead → List ℕ → request.Imported

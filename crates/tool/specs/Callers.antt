@@ -9,12 +9,12 @@ use Rattle.store.specs.Reply.{Failure as Lack, failed}
 use Rattle.report.specs.declared.refusal.Refusal.{Refusal}
 use Rattle.report.specs.declared.refusal.Refusal.TheVariants.{BadCaller}
 use Rattle.store_commands.specs.Telling.{IsTold}
-use Rattle.tool.specs.declared.stops.Failure.TheVariants.{Memory}
-use Rattle.tool.specs.declared.stops.Stop.TheVariants.{Refused, Failed}
+use Rattle.pure_commands.specs.declared.stops.Failure.TheVariants.{Memory}
+use Rattle.pure_commands.specs.declared.stops.Stop.TheVariants.{Refused, Failed}
 use Rattle.tool.specs.Calls.{AnswersIn, AnswersStep}
 use Rattle.tool.specs.Files.{AnswersFile}
 use Rattle.tool.specs.Requests.{Ask, Wants, caller_by}
-use Rattle.tool.specs.Stream.{Answers}
+use Rattle.pure_commands.specs.Stream.{Answers}
 
 -- in a store in memory there is nothing yet; or there was no store to be had
 abbrev pub AnswersNew : Settings → Caller → (List ℕ → Result Request Refusal → Type 0) → Option (List ℕ)

@@ -12,9 +12,9 @@ use Rattle.store_calls.specs.Standing.{Standing}
 use Rattle.report.specs.declared.refusal.Refusal.{Refusal}
 use Rattle.store_commands.specs.Serving.{Calls}
 use Rattle.store_commands.specs.Telling.{IsTold}
-use Rattle.tool.specs.declared.stops.Stop.TheVariants.{Refused}
+use Rattle.pure_commands.specs.declared.stops.Stop.TheVariants.{Refused}
 use Rattle.tool.specs.Requests.{StepsAs}
-use Rattle.tool.specs.Stream.{Answers, GivesUp}
+use Rattle.pure_commands.specs.Stream.{Answers, GivesUp}
 
 -- ---- by what is asked for the bytes of the input, where each request is answered so
 

@@ -15,9 +15,9 @@ use Rattle.opening.specs.declared.refusing.Unopened.TheVariants.{File, Store}
 use Rattle.report.specs.declared.refusal.Refusal.{Refusal}
 use Rattle.report.specs.declared.refusal.Refusal.TheVariants as refusal
 use Rattle.store_commands.specs.Telling.{IsTold}
-use Rattle.tool.specs.declared.stops.Stop.TheVariants.{Refused}
+use Rattle.pure_commands.specs.declared.stops.Stop.TheVariants.{Refused}
 use Rattle.tool.specs.Calls.{AnswersIn}
-use Rattle.tool.specs.Stream.{Answers}
+use Rattle.pure_commands.specs.Stream.{Answers}
 
 module _ {S D : Type 0} {g : disk.Ghosts D} where
   -- why no connection was taken up: what isn't a database is no store

@@ -14,18 +14,18 @@ use Rattle.store.specs.Step.{Step}
 use Rattle.report.specs.declared.refusal.Refusal.{Refusal}
 use Rattle.report.specs.declared.refusal.Refusal.TheVariants.{BadStoreName, BadStorePath}
 use Rattle.command_line.specs.Asked as asked
-use Rattle.command_line.specs.Asked.{Asked, OnProfile, add_source, add_text, cat_nar, gc, import_object, info, list_dead, list_live, list_paths, optional_text, profile, report, root, roots, runtime, unroot_permanent, unroot_user, why, serve}
+use Rattle.command_line.specs.Asked.{Asked, OnProfile, add_source, add_text, cat_nar, delete, gc, import_object, info, list_dead, list_live, list_paths, optional_text, profile, report, root, roots, runtime, unroot_permanent, unroot_user, why, serve}
 use Rattle.command_line.specs.declared.line.Unrooted.{Unrooted}
 use Rattle.command_line.specs.declared.line.Unrooted.TheVariants as unrooted
 use Rattle.command_line.specs.declared.line.RootKind.{RootKind}
 use Rattle.command_line.specs.declared.line.RootKind.TheVariants.{Permanent, User}
 use Rattle.store_calls.specs.declared.requests.Request.{Request as Made}
 use Rattle.store_calls.specs.View.{request_view}
-use Rattle.tool.specs.declared.stops.Failure.TheVariants.{Memory, File, Input, Output}
-use Rattle.tool.specs.declared.stops.Stop.{Stop}
-use Rattle.tool.specs.declared.stops.Stop.TheVariants.{Refused, Failed}
+use Rattle.pure_commands.specs.declared.stops.Failure.TheVariants.{Memory, File, Input, Output}
+use Rattle.pure_commands.specs.declared.stops.Stop.{Stop}
+use Rattle.pure_commands.specs.declared.stops.Stop.TheVariants.{Refused, Failed}
 use Rattle.tool.specs.Bodies.{Imports, Replaces}
-use Rattle.tool.specs.Object.{is_path_text}
+use Rattle.pure_commands.specs.Object.{is_path_text}
 
 -- the caller of these names: one has to be named, and they have to be plain
 abbrev pub caller_by : Option (List ℕ) → Option (List ℕ) → Option Caller
@@ -35,6 +35,10 @@ caller_by (Some name) group = if is_caller (caller_of name group) then Some (cal
 -- a request on a path, where the text is one
 abbrev pub on_path : List ℕ → Text → (Path → Request) → Result Request Refusal
 on_path dir text ask = if is_path_text dir text then Ok (ask (base_of dir text)) else Err BadStorePath
+
+-- a request on paths, where all texts are such
+abbrev pub on_paths : List ℕ → List Text → (List Path → Request) → Result Request Refusal
+on_paths dir texts ask = if list_all (is_path_text dir) texts then Ok (ask (map (base_of dir) texts)) else Err BadStorePath
 
 -- a request on a name and references, where they are such
 abbrev pub on_object : List ℕ → Text × List Text → (List ℕ → List Path → Request) → Result Request Refusal
@@ -87,6 +91,7 @@ asks list_dead = Some (by (λ dir c bytes. Ok request.list_dead))
 asks roots = Some (by (λ dir c bytes. Ok request.list_roots))
 asks report = Some (by (λ dir c bytes. Ok request.report))
 asks (gc ignores None) = Some (by (λ dir c bytes. Ok (request.collect ignores None)))
+asks (delete ignores texts) = Some (by (λ dir c bytes. on_paths dir texts (λ named. request.delete named ignores)))
 asks (info text) = Some (by (λ dir c bytes. on_path dir text request.info))
 asks (why text) = Some (by (λ dir c bytes. on_path dir text request.list_roots_of))
 asks (cat_nar text) = Some (by (λ dir c bytes. on_path dir text request.nar))

@@ -4,15 +4,14 @@ ghost use Rattle.command_line.specs.Asked.{object_view};
 ghost use Rattle.nar.specs.Tree.{IsBytes};
 ghost use Rattle.store.specs.Request as asked;
 ghost use Rattle.streams.specs.Reads.{TakesAtMost};
-ghost use Rattle.tool.specs.Archive.{max_front};
+ghost use Rattle.pure_commands.specs.Archive.{max_front};
 ghost use Rattle.tool.specs.Requests.{Gives, IsAsked, IsAskedOver, on_object};
 
-use crate::input::read_input;
-use crate::object::{parse_name, parse_references};
-use crate::stops::Stop;
-use crate::{archive, texts};
 use command_line::ObjectArguments;
 use paths::{Name, StoreDir, StorePath};
+use pure_commands::{
+    MOST_OF_ARCHIVE, MOST_OF_CONTENTS, Stop, parse_name, parse_references, read_input,
+};
 use std::alloc::Global;
 use std::io::Read;
 use store_calls::Request;
@@ -50,7 +49,7 @@ pub(crate) fn add_text<R: Read>(
         Ok(arguments) => arguments,
         Err(stop) => return Err(stop),
     };
-    match read_input(alloc, input, texts::MOST_READ) {
+    match read_input(alloc, input, MOST_OF_CONTENTS) {
         Ok(contents) => Ok(Request::AddText(name, references, contents)),
         Err(stop) => Err(stop),
     }
@@ -75,7 +74,7 @@ pub(crate) fn add_source<R: Read>(
         Ok(arguments) => arguments,
         Err(stop) => return Err(stop),
     };
-    match read_input(alloc, input, archive::MOST_READ) {
+    match read_input(alloc, input, MOST_OF_ARCHIVE) {
         Ok(nar) => {
             are_bytes(nar.as_slice());
             Ok(Request::AddSource(name, references, nar))

@@ -1,7 +1,7 @@
 //! What a command line answers, by the text of its configuration.
 ghost use Rattle.std.specs.Prelude.{◌≡◌, None, false};
 ghost use Rattle.tool.specs.Answer.{AnswersAlone, AnswersLine};
-ghost use Rattle.tool.specs.Archive.{max_front};
+ghost use Rattle.pure_commands.specs.Archive.{max_front};
 ghost use Rattle.command_line.specs.Asked as asked;
 ghost use Rattle.command_line.specs.Asked.{optional_text};
 ghost use Rattle.command_line.specs.Line.{line_view};
@@ -9,17 +9,12 @@ ghost use Rattle.tool.specs.Requests.{reads_all};
 ghost use Rattle.streams.specs.Reads.{TakesAtMost};
 
 use crate::calls::call;
-use crate::configuration::settings;
-use crate::listings::ls;
 use crate::requests::is_asked;
 use crate::serve::serve;
-use crate::sources::source_path;
-use crate::stream::say;
-use crate::texts::text_path;
 use crate::usage::refuse_task;
-use crate::verdicts::who;
 use command_line::{CommandLine, Task};
 use policy::store_dir;
+use pure_commands::{ls, say, settings, source_path, text_path, who};
 use std::alloc::Global;
 use std::io::{Read, Write};
 use std::rt::HostRuntime;

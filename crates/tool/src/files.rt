@@ -2,18 +2,17 @@
 ghost use Rattle.std.specs.Prelude.{◌≡◌, IsSome, Some, false};
 ghost use Rattle.command_line.specs.Asked.{asked_view};
 ghost use Rattle.streams.specs.Reads.{TakesAtMost};
-ghost use Rattle.tool.specs.Archive.{max_front};
+ghost use Rattle.pure_commands.specs.Archive.{max_front};
 ghost use Rattle.tool.specs.Files as spec;
 ghost use Rattle.tool.specs.Files.{AnswersFile, TellsCause};
 ghost use Rattle.tool.specs.Requests.{Ask, Wants, asks, reads_all};
 
-use crate::stops::Stop;
 use crate::stores::call_over;
-use crate::stream::say;
 use command_line::Task;
 use opening::{Cause, Unadopted, Unopened};
 use paths::StoreDir;
 use policy::{Caller, Config, store_dir};
+use pure_commands::{Stop, say};
 use report::Refusal;
 use sqlite::{Alter, Unknown};
 use sqlite_disk::Disk;

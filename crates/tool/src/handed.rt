@@ -5,10 +5,9 @@ ghost use Rattle.tool.specs.Bodies as spec;
 ghost use Rattle.tool.specs.Bodies.{imported};
 ghost use Rattle.tool.specs.Requests.{IsAsked, IsAskedOver};
 
-use crate::input::read_input;
-use crate::stops::{Failure, Stop};
 use bodies::{BodyError, ImportHead, import_body, runtime_body};
 use paths::StoreDir;
+use pure_commands::{Failure, Stop, read_input};
 use report::Refusal;
 use std::alloc::Global;
 use std::io::Read;

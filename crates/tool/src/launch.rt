@@ -2,20 +2,18 @@
 ghost use Rattle.std.specs.Prelude.{◌≡◌, ◌≢◌, ℕ, List, map, true, false};
 ghost use Rattle.std.specs.IoError.{error_kind};
 ghost use Rattle.tool.specs.Answer.{Explains, Helps, RefusesWords, RunsLine};
-ghost use Rattle.tool.specs.Archive.{max_front};
+ghost use Rattle.pure_commands.specs.Archive.{max_front};
 ghost use Rattle.command_line.specs.Line.{IsLine, IsUsageFault, Line, line_view};
 ghost use Rattle.streams.specs.Reads.{TakesAtMost};
 ghost use Rattle.store_commands.specs.Outputs.{Prints};
 ghost use Rattle.tool.specs.Requests.{reads_all};
-ghost use Rattle.tool.specs.Stream.{Says};
+ghost use Rattle.pure_commands.specs.Stream.{Says};
 ghost use Rattle.command_line.specs.declared.error.CommandError.{CommandError};
 
 use crate::answers::answer;
-use crate::configuration;
-use crate::stops::{Failure, Stop};
-use crate::stream::{give, print, say};
 use crate::usage::{USAGE, is_served, refuse, refuse_task};
 use command_line::{CommandError, CommandLine, Task, command};
+use pure_commands::{Failure, Stop, config_text, give, print, say};
 use std::alloc::Global;
 use std::convert::AsStr;
 use std::io;
@@ -63,7 +61,7 @@ fn execute<R: Read, W: Write, E: Write>(
     if !is_served(&line.task) {
         return refuse_task(rt.alloc(), errors);
     }
-    match configuration::text(rt, line.config) {
+    match config_text(rt, line.config) {
         Ok(text) => answer(rt, text.as_slice(), line, input, output, errors),
         Err(stop) => match line.task {
             Task::Who => say(stop, output),

@@ -3,26 +3,17 @@
 
 mod adds;
 mod answers;
-mod archive;
 mod calls;
-mod configuration;
+mod deletions;
 mod files;
 mod handed;
-mod input;
 mod launch;
-mod listings;
 mod named;
-mod object;
 mod profiles;
 mod requests;
 mod serve;
-mod sources;
-mod stops;
 mod stores;
-mod stream;
-mod texts;
 mod usage;
-mod verdicts;
 
 pub use answers::answer;
 pub use command_line::{
@@ -31,9 +22,5 @@ pub use command_line::{
     UnrootArguments, Unrooted, UsageFault, command,
 };
 pub use launch::{refuse_words, run};
-pub use listings::ls;
+pub use pure_commands::{Failure, Stop, Verdict, judge, ls, source_path, text_path, who};
 pub use report::Refusal;
-pub use sources::source_path;
-pub use stops::{Failure, Stop};
-pub use texts::text_path;
-pub use verdicts::{Verdict, judge, who};

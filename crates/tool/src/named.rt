@@ -5,11 +5,10 @@ ghost use Rattle.store_calls.specs.View.{request_view};
 ghost use Rattle.tool.specs.Requests as spec;
 ghost use Rattle.tool.specs.Requests.{Gives, IsAsked, on_path, owner_of};
 
-use crate::object::parse_reference;
-use crate::stops::{Failure, Stop};
 use command_line::{RootArguments, RootKind, UnrootArguments, Unrooted};
 use paths::{StoreDir, StorePath};
 use policy::Caller;
+use pure_commands::{Failure, Stop, parse_reference};
 use std::alloc::{AllocError, Global};
 use store_calls::Request;
 

@@ -7,11 +7,10 @@ ghost use Rattle.tool.specs.Requests as spec;
 ghost use Rattle.tool.specs.Requests.{Gives, IsAsked, owner_of};
 
 use crate::named::{made, owner};
-use crate::object::parse_reference;
-use crate::stops::Stop;
 use command_line::{ProfileAction, ProfileArguments};
 use paths::{StoreDir, StorePath};
 use policy::Caller;
+use pure_commands::{Stop, parse_reference};
 use std::alloc::{AllocError, Global};
 use store_calls::Request;
 

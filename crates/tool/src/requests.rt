@@ -3,18 +3,18 @@ ghost use Rattle.std.specs.Prelude.{◌≡◌, IsSome, Some, is_some, false};
 ghost use Rattle.command_line.specs.Asked.{asked_view};
 ghost use Rattle.store.specs.Request as asked;
 ghost use Rattle.streams.specs.Reads.{TakesAtMost};
-ghost use Rattle.tool.specs.Archive.{max_front};
+ghost use Rattle.pure_commands.specs.Archive.{max_front};
 ghost use Rattle.tool.specs.Requests.{Ask, Gives, IsAsked, IsAskedOver, Wants, asks, on_path, reads_all};
 
 use crate::adds::{add_source, add_text};
+use crate::deletions::delete_paths;
 use crate::handed::{import, replace_runtime};
 use crate::named::{drop_root, set_root};
-use crate::object::parse_reference;
 use crate::profiles::change_profile;
-use crate::stops::Stop;
 use command_line::Task;
 use paths::StoreDir;
 use policy::Caller;
+use pure_commands::{Stop, parse_reference};
 use std::alloc::Global;
 use std::io::Read;
 use store_calls::Request;
@@ -26,7 +26,7 @@ pub(crate) fn is_asked(task: &Task<'_>) -> bool
     match task {
         Task::Gc(gc) => gc.max_freed.is_none(),
         Task::List | Task::Live | Task::Dead | Task::Roots | Task::Report => true,
-        Task::Info(_) | Task::CatNar(_) | Task::Why(_) => true,
+        Task::Info(_) | Task::CatNar(_) | Task::Why(_) | Task::Delete(_) => true,
         Task::AddText(_) | Task::AddSource(_) | Task::Import | Task::Runtime => true,
         Task::Root(_) | Task::Unroot(_) | Task::Profile(_) => true,
         _ => false,
@@ -82,6 +82,7 @@ pub(crate) fn request<R: Read>(
         Task::Roots => Ok(Request::ListRoots),
         Task::Report => Ok(Request::Report),
         Task::Gc(gc) => Ok(Request::Collect(gc.ignore_liveness)),
+        Task::Delete(deletion) => delete_paths(alloc, dir, deletion),
         Task::Info(text) => info(alloc, dir, text),
         Task::Why(text) => why(alloc, dir, text),
         Task::CatNar(text) => cat_nar(alloc, dir, text),

@@ -10,11 +10,10 @@ ghost use Rattle.server.specs.Worlds.{AnswersFrom, AnswersSome};
 ghost use Rattle.tool.specs.Answer.{AnswersUnder};
 ghost use Rattle.tool.specs.Serving.{ServesBy, ServesIn};
 
-use crate::configuration::settings;
 use crate::files::{cause_of, refuse_file};
-use crate::stream::say;
 use command_line::ServeArguments;
 use policy::{Config, store_dir};
+use pure_commands::{say, settings};
 use server::{serve_port, serve_streams};
 use sqlite::{Alter, Unknown};
 use std::io::{Read, Write};

@@ -2,15 +2,15 @@
 ghost use Rattle.std.specs.Prelude.{◌≡◌, IsSome, Some, false};
 ghost use Rattle.command_line.specs.Asked.{asked_view};
 ghost use Rattle.streams.specs.Reads.{TakesAtMost};
-ghost use Rattle.tool.specs.Archive.{max_front};
+ghost use Rattle.pure_commands.specs.Archive.{max_front};
 ghost use Rattle.tool.specs.Callers.{AnswersNew};
 ghost use Rattle.tool.specs.Calls.{AnswersIn, Serves};
 ghost use Rattle.tool.specs.Requests.{Ask, Wants, asks, reads_all};
 
 use crate::requests::request;
-use crate::stream::say;
 use command_line::Task;
 use policy::{Caller, Config, store_dir};
+use pure_commands::say;
 use sqlite::Alter;
 use std::alloc::Global;
 use std::io::{Read, Write};

@@ -3,12 +3,11 @@ ghost use Rattle.std.specs.Prelude.{◌≡◌, ◌⊎◌, ℕ, List};
 ghost use Rattle.command_line.specs.Asked.{asked_view};
 ghost use Rattle.tool.specs.Answer as spec;
 ghost use Rattle.store_commands.specs.Outputs.{Prints};
-ghost use Rattle.tool.specs.Stream.{Says};
+ghost use Rattle.pure_commands.specs.Stream.{Says};
 
 use crate::requests::is_asked;
-use crate::stops::{Failure, Stop};
-use crate::stream::{print, say};
 use command_line::Task;
+use pure_commands::{Failure, Stop, print, say};
 use std::alloc::Global;
 use std::io::Write;
 

@@ -5,7 +5,7 @@ use Rattle.std.proofs.lemmas.Simd.{map-map}
 use Rattle.clap.specs.Walk.{texts}
 use Rattle.paths.specs.StorePath.{base_of}
 use Rattle.command_line.specs.Asked.{object_view}
-use Rattle.tool.specs.Object.{is_path_text}
+use Rattle.pure_commands.specs.Object.{is_path_text}
 use Rattle.tool.proofs.Requested.{no_reference, object_is}
 use Rattle.tool.proofs.adds.parse_arguments.Goals as goal
 

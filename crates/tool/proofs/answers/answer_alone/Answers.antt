@@ -1,6 +1,6 @@
 use Rattle.std.proofs.Common.{None, arith}
 use Rattle.tool.proofs.Answered.{text_stopped, source_stopped}
-use Rattle.tool.proofs.Results.{within}
+use Rattle.pure_commands.proofs.Results.{within}
 use Rattle.command_line.specs.Asked.{object_view}
 use Rattle.tool.proofs.answers.answer_alone.Goals as goal
 

@@ -1,8 +1,9 @@
 use Rattle.std.proofs.Common.{◌≡◌, true, false, ap, refl, Ok, sym, ◌∙◌}
+use Rattle.clap.specs.Walk.{texts}
 use Rattle.store.specs.Request as request
 use Rattle.store_calls.specs.declared.requests.Request.TheVariants.{Collect, List, ListDead, ListLive, ListRoots, Report}
 use Rattle.command_line.specs.Asked.{asked_view, on_profile_view, optional_text}
-use Rattle.tool.specs.Requests.{asks, import_body, reads_all, runtime_body, change_profile, drop_root, on_path, owner_of, set_root}
+use Rattle.tool.specs.Requests.{asks, import_body, reads_all, runtime_body, change_profile, drop_root, on_path, on_paths, owner_of, set_root}
 use Rattle.tool.proofs.Requested.{arm, collect_arm, plain_arm, unread_arm, unroot_asks}
 use Rattle.tool.proofs.requests.request.Goals as goal
 
@@ -25,6 +26,11 @@ returns-in-Roots-clause-asked g c =
 pub returns-in-Report-clause-asked : goal.returns-in-Report-clause-asked
 returns-in-Report-clause-asked g c =
     plain_arm (asked_view c.args.task.now) request.report c.args.dir.now c.args.caller.now (g.R.Read.remaining c.args.input.now) Report (ap (λ t. asks (asked_view t)) c.in-Report.is) refl
+
+pub returns-in-Delete-clause-asked : goal.returns-in-Delete-clause-asked
+returns-in-Delete-clause-asked g c =
+    unread_arm (asked_view c.args.task.now) (λ dir caller. on_paths dir (texts c.in-Delete.deletion.paths.items) (λ named. request.delete named c.in-Delete.deletion.ignore_liveness)) c.args.dir.now c.args.caller.now (g.R.Read.remaining c.args.input.now) c.delete_paths.result
+    (ap (λ t. asks (asked_view t)) c.in-Delete.is) c.delete_paths.ensures
 
 pub returns-in-Info-clause-asked : goal.returns-in-Info-clause-asked
 returns-in-Info-clause-asked g c =

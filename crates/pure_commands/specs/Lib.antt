@@ -1,0 +1,5 @@
+pub mod Archive
+pub mod Object
+pub mod Stop
+pub mod Stream
+pub mod Who
