@@ -7,7 +7,7 @@ use Rattle.paths.specs.Names.{is_store_name}
 use Rattle.paths.specs.StorePath.{base_of}
 use Rattle.world.specs.World.{Path}
 use Rattle.policy.specs.Caller.{Caller}
-use Rattle.store.specs.Request.{Request, collect}
+use Rattle.store.specs.Request.{Request}
 use Rattle.store.specs.Step.{Step}
 use Rattle.store_calls.specs.declared.requests.Request.{Request as Made}
 use Rattle.store_calls.specs.View.{request_view}
@@ -15,7 +15,7 @@ use Rattle.report.specs.declared.refusal.Refusal.{Refusal}
 use Rattle.report.specs.declared.refusal.Refusal.TheVariants.{BadStorePath}
 use Rattle.std.specs.declared.alloc.AllocError.{AllocError}
 use Rattle.clap.specs.Walk.{Text}
-use Rattle.command_line.specs.Asked.{Asked, gc, unroot_view}
+use Rattle.command_line.specs.Asked.{Asked, unroot_view}
 use Rattle.command_line.specs.declared.line.Unrooted.{Unrooted}
 use Rattle.command_line.specs.declared.line.Unrooted.TheVariants as unrooted
 use Rattle.pure_commands.specs.declared.stops.Failure.TheVariants.{Memory}
@@ -94,12 +94,6 @@ plain_arm t wanted dir c known q is same =
 pub unread_arm : (t : Asked) (own : List ℕ → Caller → Result Request Refusal) (dir : List ℕ) (c : Caller) (known : Option (List ℕ)) (made : Result Made Stop)
     → asks t ≡ Some (by (λ dir c bytes. own dir c)) → IsAsked (Gives (own dir c)) made → (ask : Ask) → asks t ≡ Some ask → IsAskedOver (Wants ask dir c) known made
 unread_arm t own dir c known made is h = arm t (by (λ dir c bytes. own dir c)) dir c known made is (over (λ bytes. Gives (own dir c)) known made (λ bytes. h))
-
--- a collection without a limit is asked, and one with a limit isn't there
-pub collect_arm : (ignores : Bool) (most : Option ℕ) (dir : List ℕ) (c : Caller) (known : Option (List ℕ)) (q : Made) → request_view q ≡ collect ignores None
-    → (ask : Ask) → asks (gc ignores most) ≡ Some ask → IsAskedOver (Wants ask dir c) known (Ok q)
-collect_arm ignores None dir c known q same = plain_arm (gc ignores None) (collect ignores None) dir c known q refl same
-collect_arm ignores (Some n) dir c known q same = λ ask is. let no : ◌≡◌ {A = Option Ask} None (Some ask) = is in cc
 
 -- ---- roots
 

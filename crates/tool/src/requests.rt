@@ -24,8 +24,7 @@ pub(crate) fn is_asked(task: &Task<'_>) -> bool
     ensures { result ≡ is_some (asks (asked_view task.now)) }
 {
     match task {
-        Task::Gc(gc) => gc.max_freed.is_none(),
-        Task::List | Task::Live | Task::Dead | Task::Roots | Task::Report => true,
+        Task::List | Task::Live | Task::Dead | Task::Roots | Task::Report | Task::Gc(_) => true,
         Task::Info(_) | Task::CatNar(_) | Task::Why(_) | Task::Delete(_) => true,
         Task::AddText(_) | Task::AddSource(_) | Task::Import | Task::Runtime => true,
         Task::Root(_) | Task::Unroot(_) | Task::Profile(_) => true,
@@ -81,7 +80,7 @@ pub(crate) fn request<R: Read>(
         Task::Dead => Ok(Request::ListDead),
         Task::Roots => Ok(Request::ListRoots),
         Task::Report => Ok(Request::Report),
-        Task::Gc(gc) => Ok(Request::Collect(gc.ignore_liveness)),
+        Task::Gc(gc) => Ok(Request::Collect(gc.ignore_liveness, gc.max_freed)),
         Task::Delete(deletion) => delete_paths(alloc, dir, deletion),
         Task::Info(text) => info(alloc, dir, text),
         Task::Why(text) => why(alloc, dir, text),

@@ -4,7 +4,7 @@ use Rattle.store.specs.Request as request
 use Rattle.store_calls.specs.declared.requests.Request.TheVariants.{Collect, List, ListDead, ListLive, ListRoots, Report}
 use Rattle.command_line.specs.Asked.{asked_view, on_profile_view, optional_text}
 use Rattle.tool.specs.Requests.{asks, import_body, reads_all, runtime_body, change_profile, drop_root, on_path, on_paths, owner_of, set_root}
-use Rattle.tool.proofs.Requested.{arm, collect_arm, plain_arm, unread_arm, unroot_asks}
+use Rattle.tool.proofs.Requested.{arm, plain_arm, unread_arm, unroot_asks}
 use Rattle.tool.proofs.requests.request.Goals as goal
 
 pub returns-in-List-clause-asked : goal.returns-in-List-clause-asked
@@ -63,9 +63,9 @@ returns-in-Profile-clause-asked g c =
     (ap (λ t. asks (asked_view t)) c.in-Profile.is) c.change_profile.ensures
 
 pub returns-in-Gc-clause-asked : goal.returns-in-Gc-clause-asked
-returns-in-Gc-clause-asked g c = λ ask is.
-    collect_arm c.in-Gc.gc.ignore_liveness c.in-Gc.gc.max_freed c.args.dir.now c.args.caller.now (g.R.Read.remaining c.args.input.now) (Collect c.in-Gc.gc.ignore_liveness) refl ask
-    (sym (ap (λ t. asks (asked_view t)) c.in-Gc.is) ∙ is)
+returns-in-Gc-clause-asked g c =
+    plain_arm (asked_view c.args.task.now) (request.collect c.in-Gc.gc.ignore_liveness c.in-Gc.gc.max_freed) c.args.dir.now c.args.caller.now (g.R.Read.remaining c.args.input.now)
+    (Collect c.in-Gc.gc.ignore_liveness c.in-Gc.gc.max_freed) (ap (λ t. asks (asked_view t)) c.in-Gc.is) refl
 
 pub returns-in-AddText-clause-asked : goal.returns-in-AddText-clause-asked
 returns-in-AddText-clause-asked g c = λ ask is.
