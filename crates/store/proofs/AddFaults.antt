@@ -1,5 +1,5 @@
 -- What an add is refused with.
-use Rattle.std.proofs.Common.{◌≡◌, ℕ, List, [], ◌∷◌, length, Bool, true, false, not, ◌&&◌, ◌||◌, Some, None, Option, refl, sym, ap, ◌∙◌, IsTrue, inl, inr, ◌⊎◌}
+use Rattle.std.proofs.Common.{◌≡◌, ℕ, List, [], ◌∷◌, length, Bool, true, false, not, ◌&&◌, ◌||◌, Some, None, Option, refl, sym, ap, ◌∙◌, IsTrue}
 use Rattle.std.specs.Prelude.{is_some, is_none, nat_le, IsFalse, Contains, Result, Ok, Err, if◌then◌else◌}
 use Rattle.std.specs.List.{list_all}
 use Rattle.std.proofs.lemmas.Bool.{false≢true, false_from_ne_true, le-leb}
@@ -14,12 +14,11 @@ use Rattle.drv.specs.Outcome.{outputs_of}
 use Rattle.live.specs.Graph.{same, holds}
 use Rattle.live.proofs.Members.{at_head, behind}
 use Rattle.live.proofs.Reach.{same_is, same_itself}
-use Rattle.world.specs.World.{Path, World, has}
+use Rattle.world.specs.World.{Path, has}
 use Rattle.world.specs.Objects.{most_references}
-use Rattle.policy.specs.Settings.{Settings}
-use Rattle.store.specs.Request.{Imported, import_object}
-use Rattle.store.specs.Reply.{Refusal, archive, ca_mismatch, derivation, missing_reference, nar_hash_mismatch, self_reference, too_many_references}
-use Rattle.store.specs.Adds.{text_archive, text_archive_size, added_import}
+use Rattle.store.specs.Request.{import_object}
+use Rattle.store.specs.Reply.{Refusal, ca_mismatch, missing_reference, nar_hash_mismatch, self_reference, too_many_references}
+use Rattle.store.specs.Adds.{text_archive, added_import}
 use Rattle.store.specs.Tests.{unless, first_failing, archive_fault, outputs_fault, tree_fault, if_derivation, is_verified, is_complete}
 use Rattle.store.specs.AddFaults.{TextsAreMeasured, DigestsComeFirst, MissingAreMissing}
 use Rattle.store.proofs.Faults.{refused_with}

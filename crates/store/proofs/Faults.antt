@@ -1,6 +1,7 @@
 -- Which fault of a request is told.
 use Rattle.std.proofs.Common.{◌≡◌, ℕ, List, [], ◌∷◌, Bool, true, false, ◌&&◌, Some, None, Option, refl, sym, ap, ◌∙◌, IsTrue, inl, inr, ◌⊎◌}
 use Rattle.std.specs.Prelude.{nat_le, is_some, IsFalse}
+use Rattle.std.specs.List.{list_all}
 use Rattle.std.proofs.lemmas.Bool.{and_parts, and_from, false≢true, leb-true, le-leb}
 use Rattle.std.proofs.lemmas.Option.{same_Some}
 use Rattle.paths.specs.Names.{is_plain_name}
@@ -13,7 +14,8 @@ use Rattle.store.specs.Reply.{Reply, Refusal, bad_root_name, bad_session, not_va
 use Rattle.store.specs.Profiles.{has_profile}
 use Rattle.store.specs.Tests.{unless, first_failing, refusal}
 use Rattle.store.specs.Step.{Step}
-use Rattle.store.specs.Faults.{IsInBounds, SessionFault, owner_, number, IsSessionOf, SessionFaultsAreTold, HasBadName, LacksProfile, IsRefusedWith, NamesComeFirst, ProfilesComeNext}
+use Rattle.store.specs.Faults.{IsInBounds, SessionFault, owner_, number, IsSessionOf, SessionFaultsAreTold, HasBadName, LacksProfile, IsRefusedWith, NamesComeFirst, ProfilesComeNext, PathsComeBeforeNumbers, NamedAreThere}
+use Rattle.store.proofs.Passed.{met, passed, all_member}
 
 -- ---- sessions
 
@@ -126,3 +128,13 @@ no_such s w _ h = absurd h
 
 pub profiles_come_next : ProfilesComeNext
 profiles_come_next s w c q reply new h none = refused_with s w c q no_profile (no_such s w q none) reply new h
+
+pub paths_come_before_numbers : PathsComeBeforeNumbers
+paths_come_before_numbers s w c owner name p reply new h plain_owner plain_name none =
+    refused_with s w c (set_profile owner name p) not_valid
+    (second_fails (is_plain_name owner && is_plain_name name) (has w p) bad_root_name not_valid _ (and_from (is_plain_name owner) (is_plain_name name) plain_owner plain_name) none) reply new h
+
+-- ---- deletions
+
+pub named_are_there : NamedAreThere
+named_are_there s w c named ignores a new h p listed = all_member (has w) named p (met (list_all (has w) named) _ (passed _ [] h.1).0) listed

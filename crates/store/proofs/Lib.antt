@@ -40,3 +40,6 @@ pub mod Kept
 pub mod Tellings
 pub mod Planting
 pub mod AddFaults
+pub mod Listings
+pub mod Leave
+pub mod RootsTold

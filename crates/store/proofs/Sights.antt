@@ -41,7 +41,7 @@ sees_root class r = record {
 
 -- ---- each pair once
 
-same_pair_is : (p q : Pair) → IsTrue (same_pair p q) → p ≡ q
+pub same_pair_is : (p q : Pair) → IsTrue (same_pair p q) → p ≡ q
 same_pair_is p q h =
     let parts = and_parts (same p.0 q.0) (same p.1 q.1) h in
     λ i. (same_is p.0 q.0 parts.0 i, same_is p.1 q.1 parts.1 i)

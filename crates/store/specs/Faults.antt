@@ -1,10 +1,10 @@
 -- Laws of refusals: which fault of a request is told.
-use Rattle.std.specs.Prelude.{◌≡◌, ℕ, ◌≤◌, ◌⊎◌, List, IsTrue, IsFalse}
+use Rattle.std.specs.Prelude.{◌≡◌, ℕ, ◌≤◌, ◌⊎◌, Bool, List, IsTrue, IsFalse, Contains}
 use Rattle.paths.specs.Names.{is_plain_name}
 use Rattle.world.specs.World.{Path, World, has}
 use Rattle.policy.specs.Settings.{Settings}
 use Rattle.policy.specs.Caller.{Caller}
-use Rattle.store.specs.Request.{Request, set_permanent, drop_permanent, set_user_root, drop_user_root, set_profile, rollback, switch, delete_generation, add_temp, end_session}
+use Rattle.store.specs.Request.{Request, set_permanent, drop_permanent, set_user_root, drop_user_root, set_profile, rollback, switch, delete_generation, add_temp, end_session, delete}
 use Rattle.store.specs.Reply.{Reply, Answer, Refusal, bad_root_name, bad_session, not_valid, no_profile, done, denied, refused, failed}
 use Rattle.store.specs.Profiles.{has_profile}
 use Rattle.store.specs.Step.{Step}
@@ -85,3 +85,15 @@ NamesComeFirst = (s : Settings) (w : World) (c : Caller) (q : Request) (reply : 
 -- a profile that isn't there is told before any fault of a generation
 abbrev pub ProfilesComeNext : Type 0
 ProfilesComeNext = (s : Settings) (w : World) (c : Caller) (q : Request) (reply : Reply) (new : World) → Step s w c q reply new → LacksProfile w q → IsRefusedWith no_profile reply
+
+-- of a profile a path that isn't valid is told before a number that is beyond the greatest
+abbrev pub PathsComeBeforeNumbers : Type 0
+PathsComeBeforeNumbers = (s : Settings) (w : World) (c : Caller) (owner name : List ℕ) (p : Path) (reply : Reply) (new : World) → Step s w c (set_profile owner name p) reply new
+    → IsTrue (is_plain_name owner) → IsTrue (is_plain_name name) → IsFalse (has w p) → IsRefusedWith not_valid reply
+
+-- ---- deletions
+
+-- a deletion that is done named valid paths alone
+abbrev pub NamedAreThere : Type 0
+NamedAreThere = (s : Settings) (w : World) (c : Caller) (named : List Path) (ignores : Bool) (a : Answer) (new : World)
+    → Step s w c (delete named ignores) (done a) new → (p : Path) → Contains named p → IsTrue (has w p)

@@ -24,3 +24,5 @@ pub mod Kept
 pub mod Tellings
 pub mod Planting
 pub mod AddFaults
+pub mod Leave
+pub mod RootsTold

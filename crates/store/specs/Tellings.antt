@@ -1,21 +1,44 @@
 -- Laws of answers that only tell: a record and an archive, listings, roots, the report.
-use Rattle.std.specs.Prelude.{◌≡◌, ◌↔◌, ℕ, ◌+◌, List, length, Some, IsTrue, IsFalse, Contains}
+use Rattle.std.specs.Prelude.{◌≡◌, ◌↔◌, ℕ, ◌+◌, List, length, codes, Some, IsTrue, IsFalse, Contains}
 use Rattle.std.specs.List.Sorted.{IsStrictlySortedBy}
 use Rattle.std.specs.FinMap as finite
 use Rattle.sha2.specs.Sha256.{sha256}
+use Rattle.nar.specs.Tree.{Tree}
+use Rattle.nar.specs.Archive.{IsArchive}
+use Rattle.nar.specs.Listing.{listing}
 use Rattle.paths.specs.Root.{bytes_cmp, Root, root_cmp}
 use Rattle.live.specs.Reach.{Reaches}
 use Rattle.world.specs.World.{Path, Object, World, has, roots_of}
+use Rattle.world.specs.Sound.{IsSound}
 use Rattle.policy.specs.Settings.{Settings}
 use Rattle.policy.specs.Caller.{Caller}
 use Rattle.policy.specs.Class.{class_of}
-use Rattle.store.specs.Request.{Request, info, nar, list, list_live, list_dead, list_roots, list_roots_of, report}
-use Rattle.store.specs.Reply.{Info, Answer, Reply, record_of, archive_of, paths, roots, usage, done}
+use Rattle.store.specs.Request.{Request, info, nar, ls, list, list_live, list_dead, list_roots, list_roots_of, report}
+use Rattle.store.specs.Reply.{Info, Answer, Reply, record_of, archive_of, listing_of, paths, roots, usage, done}
 use Rattle.store.specs.Liveness.{graph_of, keep_of, lives}
 use Rattle.store.specs.Seen.{seen}
 use Rattle.store.specs.Step.{Step}
 use Rattle.store.specs.Laws.{IsDone}
 use Rattle.store.specs.Changes.{HandedIn, Weigh}
+
+-- ---- nothing changes
+
+-- the request is for a record, an archive, a listing or the report
+abbrev pub OnlyTells : Request → Type 0
+OnlyTells (info p) = Unit {0}
+OnlyTells (nar p) = Unit {0}
+OnlyTells (ls p) = Unit {0}
+OnlyTells list = Unit {0}
+OnlyTells list_live = Unit {0}
+OnlyTells list_dead = Unit {0}
+OnlyTells list_roots = Unit {0}
+OnlyTells (list_roots_of p) = Unit {0}
+OnlyTells report = Unit {0}
+OnlyTells _ = ⊥
+
+-- such a request changes nothing
+abbrev pub TellingChangesNothing : Type 0
+TellingChangesNothing = (s : Settings) (w : World) (c : Caller) (q : Request) (reply : Reply) (new : World) → Step s w c q reply new → OnlyTells q → new ≡ w
 
 -- ---- objects
 
@@ -39,6 +62,11 @@ RecordsTell = (s : Settings) (w : World) (c : Caller) (p : Path) (a : Answer) (n
 abbrev pub ArchivesAreTheObjects : Type 0
 ArchivesAreTheObjects = (s : Settings) (w : World) (c : Caller) (p : Path) (a : Answer) (new : World) → Step s w c (nar p) (done a) new
     → (o : Object) × (finite.get w.objects p ≡ Some o) × (a ≡ archive_of o.nar)
+
+-- a listing that is answered is that of the tree of which the object's archive is
+abbrev pub ListingsAreTheObjects : Type 0
+ListingsAreTheObjects = (s : Settings) (w : World) (c : Caller) (p : Path) (a : Answer) (new : World) → IsSound s.store_dir w → Step s w c (ls p) (done a) new
+    → (o : Object) × (t : Tree) × (finite.get w.objects p ≡ Some o) × IsArchive t o.nar × (a ≡ listing_of (listing (codes ".") t))
 
 -- a record tells exactly what was handed in
 pub record TellsHandedIn (h : HandedIn) (a : Answer) : Type 0 where

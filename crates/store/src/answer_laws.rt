@@ -5,7 +5,7 @@ ghost use Rattle.world.specs.World.{Path};
 ghost use Rattle.store.specs.Changes.{with_import, with_source, with_text};
 ghost use Rattle.store.specs.Planting.{NobodyPlantsInRuns};
 ghost use Rattle.store.specs.Request.{Imported, add_source, add_text, import_object};
-ghost use Rattle.store.specs.Tellings.{ArchivesAreTheObjects, ListingsTell, RecordsAdds, RecordsTell, ReportsTell, RootListingsTell};
+ghost use Rattle.store.specs.Tellings.{ArchivesAreTheObjects, ListingsAreTheObjects, ListingsTell, RecordsAdds, RecordsTell, ReportsTell, RootListingsTell, TellingChangesNothing};
 
 /// A record and an archive are those of the object, and after an add the record tells exactly what was handed in.
 pub fn records_tell_what_was_added()
@@ -29,4 +29,14 @@ pub fn listings_tell_what_is_there()
 /// Each object that is there after a run stood before it, or has a content address that verifies, or a trusted caller imported it.
 pub fn nobody_plants_over_runs()
     ensures { NobodyPlantsInRuns }
+{}
+
+/// A request that only tells changes nothing: for a record, an archive, a listing or the report.
+pub fn what_only_tells_changes_nothing()
+    ensures { TellingChangesNothing }
+{}
+
+/// A listing that is answered is that of the tree of which the object's archive is.
+pub fn listings_are_of_the_object()
+    ensures { ListingsAreTheObjects }
 {}

@@ -7,7 +7,8 @@ mod more_laws;
 mod root_laws;
 
 pub use answer_laws::{
-    listings_tell_what_is_there, nobody_plants_over_runs, records_tell_what_was_added,
+    listings_are_of_the_object, listings_tell_what_is_there, nobody_plants_over_runs,
+    records_tell_what_was_added, what_only_tells_changes_nothing,
 };
 pub use laws::{
     a_root_pins_what_it_reaches, adds_are_exact, collection_is_exact, deletion_leaves_no_reference,
@@ -20,4 +21,7 @@ pub use more_laws::{
     adds_are_refused_for_their_faults, first_faults_are_told, limits_count_bytes,
     roots_are_labelled_in_order, settings_say_what_is_kept,
 };
-pub use root_laws::{owners_are_respected, roots_change_exactly};
+pub use root_laws::{
+    all_but_strangers_may_ask, owners_are_respected, roots_change_exactly,
+    roots_that_were_set_are_told,
+};

@@ -1,6 +1,6 @@
 //! Laws of what lives and of what is refused: each is the contract of a function that does nothing.
 ghost use Rattle.store.specs.AddFaults.{DigestsComeFirst, MissingAreMissing, TextsAreMeasured};
-ghost use Rattle.store.specs.Faults.{NamesComeFirst, ProfilesComeNext, SessionFaultsAreTold};
+ghost use Rattle.store.specs.Faults.{NamedAreThere, NamesComeFirst, PathsComeBeforeNumbers, ProfilesComeNext, SessionFaultsAreTold};
 ghost use Rattle.store.specs.Kept.{CollectsByBytes, EdgesAsSet, LivingKeep};
 ghost use Rattle.store.specs.LabelsAndOrder.{AreLabelled, KindsInOrder};
 
@@ -23,11 +23,14 @@ pub fn roots_are_labelled_in_order()
 {}
 
 /// A refusal tells the first fault: of a session, 1 to 4,194,304, before its path; a name before what it names; a profile before
-/// its generation.
+/// its generation, and a path that isn't valid before a profile that has no number left. A deletion that is done named valid paths
+/// alone.
 pub fn first_faults_are_told()
     ensures sessions { SessionFaultsAreTold }
     ensures names { NamesComeFirst }
     ensures profiles { ProfilesComeNext }
+    ensures paths { PathsComeBeforeNumbers }
+    ensures named { NamedAreThere }
 {}
 
 /// A text is refused by the size of its archive; an import for another digest before any fault of addresses, references and

@@ -1,6 +1,8 @@
-//! Laws of roots: each is the contract of a function that does nothing.
+//! Laws of roots and of what the rules leave to whom: each is the contract of a function that does nothing.
 ghost use Rattle.store.specs.Others.{OthersOnlyLose, OwnersMay, TrustedMay};
+ghost use Rattle.store.specs.Leave.{AllMayAsk, NobodyIgnoresLiveness};
 ghost use Rattle.store.specs.RootChanges.{AddsForSessions, DropsPermanent, DropsUserRoots, EndsSessions, ReplacesAsTold, SetsPermanent, SetsUserRoots};
+ghost use Rattle.store.specs.RootsTold.{RootsSetAreTold};
 
 /// A root that is set is there with its target, one that is dropped isn't, and nothing else changed: permanent and user roots,
 /// runtime roots, and what sessions keep.
@@ -20,4 +22,17 @@ pub fn owners_are_respected()
     ensures others { OthersOnlyLose }
     ensures trusted { TrustedMay }
     ensures own { OwnersMay }
+{}
+
+/// A root that was set is told to each caller who asks next, with the labels of runtime roots and of sessions hidden from those who
+/// aren't trusted.
+pub fn roots_that_were_set_are_told()
+    ensures { RootsSetAreTold }
+{}
+
+/// Each caller but a stranger may add what has an address, ask all that only tells, collect, and delete what doesn't live; and nobody
+/// may ask that liveness is ignored.
+pub fn all_but_strangers_may_ask()
+    ensures may { AllMayAsk }
+    ensures never { NobodyIgnoresLiveness }
 {}
