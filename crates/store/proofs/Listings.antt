@@ -1,17 +1,15 @@
 -- What only tells changes nothing, and a listing is that of the object's tree.
-use Rattle.std.proofs.Common.{◌≡◌, ℕ, List, [], Some, None, Option, refl, sym, ap, ◌∙◌, IsTrue, subst}
-use Rattle.std.specs.Prelude.{is_some, codes, Ok}
+use Rattle.std.proofs.Common.{◌≡◌, [], Some, None, Option, refl, ap, ◌∙◌, IsTrue}
+use Rattle.std.specs.Prelude.{is_some, codes}
 use Rattle.std.specs.FinMap as finite
 use Rattle.std.proofs.lemmas.Bool.{false≢true}
-use Rattle.nar.specs.Tree.{Tree, IsBytes}
-use Rattle.nar.specs.Archive.{archive, IsArchive}
+use Rattle.nar.specs.Tree.{Tree}
+use Rattle.nar.specs.Archive.{IsArchive}
 use Rattle.nar.specs.Listing.{listing}
 use Rattle.nar.specs.Outcome.{outcome_of}
-use Rattle.nar.proofs.Bytes.{archive_bytes}
-use Rattle.nar.proofs.Files.{spelling_bytes}
-use Rattle.nar.proofs.Decided.{outcome_archive}
 use Rattle.policy.specs.Settings.{Settings}
 use Rattle.world.specs.World.{Object, World, has}
+use Rattle.world.proofs.Recorded.{archive_is_read}
 use Rattle.store.specs.Request.{Request, info, nar, ls, list, list_live, list_dead, list_roots, list_roots_of, report}
 use Rattle.store.specs.Reply.{listing_of, done, denied, refused, failed}
 use Rattle.store.specs.Answers.{archive_at, listing_at}
@@ -40,10 +38,6 @@ telling_changes_nothing s w c q (refused r) new step h = step.2
 telling_changes_nothing s w c q (failed f) new step h = step.1
 
 -- ---- listings
-
--- bytes that are the archive of a tree are read as that tree
-pub archive_is_read : (t : Tree) (b : List ℕ) → IsArchive t b → outcome_of b ≡ Ok t
-archive_is_read t b a = (outcome_archive b t (subst IsBytes (sym a.spells) (spelling_bytes (archive t) (archive_bytes t a.legal)))).1 a
 
 pub listings_are_the_objects : ListingsAreTheObjects
 listings_are_the_objects s w c p a new sound h = by (finite.get w.objects p) refl (met (has w p) _ (passed _ [] h.1).0)

@@ -1,5 +1,5 @@
 -- What is read off rows, entry by entry.
-use Rattle.std.proofs.Common.{◌≡◌, ℕ, List, [], ◌∷◌, map, Bool, true, false, ◌&&◌, cond, Some, None, Option, option_map, refl, sym, ap, ap₂, ◌∙◌, IsTrue, inl, inr, ◌⊎◌}
+use Rattle.std.proofs.Common.{◌≡◌, ℕ, List, [], ◌∷◌, map, Bool, true, false, ◌&&◌, cond, Some, None, Option, option_map, refl, sym, ap, ap₂, ◌∙◌, IsTrue, inl, inr, ◌⊎◌, ◌↔◌}
 use Rattle.std.specs.Prelude.{ℤ, pos, is_some}
 use Rattle.std.specs.List.{filter, list_any}
 use Rattle.std.specs.declared.cmp.Ordering.{Ordering}
@@ -10,10 +10,13 @@ use Rattle.std.specs.Cmp.Lexicographic.{nat_list_cmp_total, on_texts}
 use Rattle.std.specs.FinMap as finite
 use Rattle.std.specs.FinMap.Entries.{find as find_entry}
 use Rattle.std.proofs.lemmas.Bool.{false≢true, or_left, or_right}
+use Rattle.std.proofs.lemmas.Option.{same_Some}
 use Rattle.paths.specs.Root.{bytes_cmp}
+use Rattle.paths.specs.ContentAddress.{ContentAddress, IsAddressText}
+use Rattle.paths.proofs.Addresses.{address-is, address-back}
 use Rattle.table_statements.specs.Contents.{triple_cmp}
 use Rattle.world.specs.World.{Path, Pair, pair_cmp, Profile, Temporary, temporary_cmp}
-use Rattle.world.specs.Rows.{Schema, piece_cmp, Kept, kept_cmp, Rows, references_in, outputs_in, pieces_in, object_in, number_in, generations_in, profile_in, temporary_in, world_of, IsSoundRows}
+use Rattle.world.specs.Rows.{Schema, piece_cmp, Kept, kept_cmp, Rows, references_in, outputs_in, pieces_in, address_in, object_in, number_in, generations_in, profile_in, temporary_in, world_of, IsSoundRows}
 use Rattle.world.specs.Laws.{TellsProfile, TellsWorld}
 
 -- ---- members
@@ -192,6 +195,14 @@ module _ (c : Rows) where
   pub profile_at : (owned : Pair) → finite.get (world_of c).profiles owned ≡ option_map (profile_in c owned) (finite.get c.profiles owned)
   profile_at owned = get_changed pair_total pair_antisymmetric (profile_in c) c.profiles owned
 
+-- an address is that of a text exactly where the text is its own
+addressed : (t : Option (List ℕ)) (ca : ContentAddress) → (address_in t ≡ Some ca) ↔ ((text : List ℕ) × (t ≡ Some text) × IsAddressText ca text)
+addressed None ca = ((λ e. absurd (false≢true (ap is_some e))), (λ k. absurd (false≢true (ap is_some k.1))))
+addressed (Some text) ca = (
+  (λ e. (text, refl, address-is text ca e)),
+  (λ k. address-back ca.method ca.digest text k.2.digest k.2.bytes (same_Some text k.0 k.1 ∙ k.2.spells)),
+)
+
 module _ (schema : Schema) (dir : List ℕ) (c : Rows) (sound : IsSoundRows schema dir c) where
   told_profile : (owner name : List ℕ) (o : Option ℤ) → finite.get c.profiles (owner, name) ≡ o → is_some o ≡ true → (x : Profile) × (finite.get (world_of c).profiles (owner, name) ≡ Some x) × TellsProfile c owner name x
   told_profile owner name None e h = absurd (false≢true h)
@@ -208,7 +219,7 @@ module _ (schema : Schema) (dir : List ℕ) (c : Rows) (sound : IsSoundRows sche
     object = λ p o e. (
       object_in c p o,
       object_at c p ∙ ap (option_map (object_in c p)) e,
-      record { archive = refl; piece = piece_at c p; reference = reference_at c p; output = output_at c p; deriver = refl; address = refl },
+      record { archive = refl; piece = piece_at c p; reference = reference_at c p; output = output_at c p; deriver = refl; address = addressed o.ca },
     );
     no_profile = λ owned e. profile_at c owned ∙ ap (option_map (profile_in c owned)) e;
     profile = λ owner name h. told_profile owner name (finite.get c.profiles (owner, name)) refl h;

@@ -7,3 +7,4 @@ mod Migrating
 pub mod SoundParts
 pub mod Told
 pub mod Schemas
+pub mod Recorded

@@ -8,7 +8,6 @@ use Rattle.std.specs.Cmp.Lexicographic.{nat_list_cmp_total}
 use Rattle.std.specs.FinMap as finite
 use Rattle.std.proofs.lemmas.Bool.{false≢true, and_parts, leb-true}
 use Rattle.table_statements.specs.Contents.{Stored}
-use Rattle.world.specs.World.{Path}
 use Rattle.world.specs.Pieces.{GoOn}
 use Rattle.world.specs.Rows.{Schema, one, two, three, schema_text, has_pieces, Rows, settings, pieces_in, IsSoundRows}
 use Rattle.world.specs.Schemas.{NamesSchema, SchemasDiffer, PiecesCountFromOne, SessionsKeepInBounds}

@@ -1,10 +1,16 @@
--- Laws of rows: how archives are cut, what rows tell, and that a migration keeps it.
-use Rattle.std.specs.Prelude.{◌≡◌, ℕ, ℤ, pos, List, ◌++◌, Some, None, IsTrue}
+-- Laws of objects and of rows: which outputs are recorded, how archives are cut, what rows tell, and that a migration keeps it.
+use Rattle.std.specs.Prelude.{◌≡◌, ◌↔◌, ℕ, ℤ, pos, Bool, List, ◌++◌, Some, None, IsTrue, IsFalse, Contains}
 use Rattle.std.specs.FinMap as finite
+use Rattle.nar.specs.Tree.{regular}
+use Rattle.nar.specs.Archive.{IsArchive}
+use Rattle.paths.specs.StorePath.{is_derivation}
+use Rattle.paths.specs.ContentAddress.{ContentAddress, IsAddressText}
+use Rattle.drv.specs.Derivation.{Records}
 use Rattle.table_statements.specs.Contents.{Stored}
 use Rattle.world.specs.World.{Path, Pair, Object, Profile, Temporary, World}
+use Rattle.world.specs.Objects.{outputs_at}
 use Rattle.world.specs.Pieces.{piece_size, joined, IsCut, row_part, further_pieces}
-use Rattle.world.specs.Rows.{Schema, three, Rows, pieces_in, address_in, world_of, IsSoundRows, migrated}
+use Rattle.world.specs.Rows.{Schema, three, Rows, pieces_in, world_of, IsSoundRows, migrated}
 
 -- Each archive can be cut the right way, and in one way alone: a row and pieces that are cut right are those of the archive that
 -- they tell.
@@ -15,14 +21,15 @@ pub record CutsOneWay (nar : List ℕ) : Type 0 where
   pub one : (row : List ℕ) (pieces : List (ℤ × List ℕ)) → IsCut row pieces → row ++ joined pieces ≡ nar
       → (row ≡ row_part nar) × (pieces ≡ further_pieces nar)
 
--- What an object is, by the rows that have its path: a reference for each row of `refs`, an output for each of `outs`.
+-- What an object is, by the rows that have its path: a reference for each row of `refs`, an output for each of `outs`, and the
+-- address of which its row has the text.
 pub record TellsObject (c : Rows) (p : Path) (o : Stored) (x : Object) : Type 0 where
   pub archive : x.nar ≡ o.nar ++ joined (finite.entries (pieces_in c p))
   pub piece : (n : ℤ) → finite.get (pieces_in c p) n ≡ finite.get c.pieces (p, n)
   pub reference : (r : Path) → finite.contains_key x.references r ≡ finite.contains_key c.refs (p, r)
   pub output : (name : List ℕ) → finite.get x.outputs name ≡ finite.get c.outs (p, name)
   pub deriver : x.deriver ≡ o.deriver
-  pub address : x.ca ≡ address_in o.ca
+  pub address : (ca : ContentAddress) → (x.ca ≡ Some ca) ↔ ((text : List ℕ) × (o.ca ≡ Some text) × IsAddressText ca text)
 
 -- what a profile is: a generation for each row of `generation` that has its owner and its name
 pub record TellsProfile (c : Rows) (owner name : List ℕ) (x : Profile) : Type 0 where
@@ -48,3 +55,13 @@ RowsTellTheWorld = (schema : Schema) (dir : List ℕ) (c : Rows) → IsSoundRows
 abbrev pub MigratesSoundly : Type 0
 MigratesSoundly = (schema : Schema) (dir : List ℕ) (c : Rows) → IsSoundRows schema dir c
     → IsSoundRows three dir (migrated schema dir c) × (world_of (migrated schema dir c) ≡ world_of c)
+
+-- What an object records: nothing where its name doesn't end in `.drv`; else, of its derivation text, each output that has a path, with
+-- that path by its name, and no other.
+pub record RecordsOutputs (dir : List ℕ) (p : Path) (nar : List ℕ) : Type 0 where
+  pub none : IsFalse (is_derivation p) → outputs_at dir p nar ≡ finite.empty
+  pub of : IsTrue (is_derivation p) → (executable : Bool) (contents : List ℕ) (found : List (List ℕ × Path)) → IsArchive (regular executable contents) nar → Records dir contents found
+      → (name : List ℕ) (base : Path) → (finite.get (outputs_at dir p nar) name ≡ Some base) ↔ Contains found (name, base)
+
+abbrev pub OutputsAreRecorded : Type 0
+OutputsAreRecorded = (dir : List ℕ) (p : Path) (nar : List ℕ) → RecordsOutputs dir p nar

@@ -4,7 +4,7 @@ ghost use Rattle.paths.specs.Names.{is_store_dir};
 ghost use Rattle.world.specs.World.{no_world};
 ghost use Rattle.world.specs.Sound.{IsSound};
 ghost use Rattle.world.specs.Rows.{Rows, Schema, IsSoundRows, new_rows, world_of};
-ghost use Rattle.world.specs.Laws.{CutsOneWay, MigratesSoundly, RowsTellTheWorld};
+ghost use Rattle.world.specs.Laws.{CutsOneWay, MigratesSoundly, OutputsAreRecorded, RowsTellTheWorld};
 ghost use Rattle.world.specs.Schemas.{PiecesCountFromOne, SchemasDiffer, SessionsKeepInBounds};
 ghost use Rattle.world.specs.Parts.{AreSoundByParts};
 
@@ -45,4 +45,9 @@ pub fn schemas_have_their_rows()
     ensures schemas { (dir : List ℕ) (c : Rows) → SchemasDiffer dir c }
     ensures pieces { PiecesCountFromOne }
     ensures sessions { SessionsKeepInBounds }
+{}
+
+/// An object whose name ends in `.drv` records the outputs of its derivation text that have a path, by their names, and any other none.
+pub fn outputs_are_those_of_the_derivation()
+    ensures { OutputsAreRecorded }
 {}
