@@ -43,3 +43,5 @@ pub mod AddFaults
 pub mod Listings
 pub mod Leave
 pub mod RootsTold
+pub mod Sources
+pub mod OneByOne

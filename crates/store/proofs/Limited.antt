@@ -173,7 +173,7 @@ module _ (s : Settings) (w : World) (limit : ℕ) where
   groups : List (List Path)
   groups = limited_groups (graph_of w) (λ p. not (lives s w p)) (size_of w) limit
 
-  upward : (q p : Path) → Reaches references_alone (graph_of w) q p → IsTrue (not (lives s w p)) → IsTrue (not (lives s w q))
+  pub upward : (q p : Path) → Reaches references_alone (graph_of w) q p → IsTrue (not (lives s w p)) → IsTrue (not (lives s w q))
   upward q p r d = not_from_false (lives s w q) (false_from_ne_true (lives s w q) (λ h.
       let l = (live_decided (keep_of s) (graph_of w) (roots_of w) q).0 h in
       let on = goes_on (keep_of s) (graph_of w) l.root.target q p l.reaches (reach_kept (keep_of s) (graph_of w) q p r) in

@@ -26,3 +26,4 @@ pub mod Planting
 pub mod AddFaults
 pub mod Leave
 pub mod RootsTold
+pub mod OneByOne

@@ -19,7 +19,7 @@ pub use laws::{
 };
 pub use more_laws::{
     adds_are_refused_for_their_faults, first_faults_are_told, limits_count_bytes,
-    roots_are_labelled_in_order, settings_say_what_is_kept,
+    referrers_go_first, roots_are_labelled_in_order, settings_say_what_is_kept,
 };
 pub use root_laws::{
     all_but_strangers_may_ask, owners_are_respected, roots_change_exactly,

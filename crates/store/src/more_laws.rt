@@ -3,6 +3,7 @@ ghost use Rattle.store.specs.AddFaults.{DigestsComeFirst, MissingAreMissing, Tex
 ghost use Rattle.store.specs.Faults.{NamedAreThere, NamesComeFirst, PathsComeBeforeNumbers, ProfilesComeNext, SessionFaultsAreTold};
 ghost use Rattle.store.specs.Kept.{CollectsByBytes, EdgesAsSet, LivingKeep};
 ghost use Rattle.store.specs.LabelsAndOrder.{AreLabelled, KindsInOrder};
+ghost use Rattle.store.specs.OneByOne.{ReferrersGoFirst};
 
 /// An object keeps its references; its outputs, if outputs are to be kept; and its deriver, if derivations are. What a live path
 /// keeps is live.
@@ -14,6 +15,11 @@ pub fn settings_say_what_is_kept()
 /// A limit counts the bytes of archives: a collection stops as soon as so many are free, and not before while a dead path is left.
 pub fn limits_count_bytes()
     ensures { CollectsByBytes }
+{}
+
+/// Where no references make a cycle, a collection up to a limit takes one path after another, each after all that refer to it.
+pub fn referrers_go_first()
+    ensures { ReferrersGoFirst }
 {}
 
 /// Each root has its label, and roots come by their kinds: those of sessions last.

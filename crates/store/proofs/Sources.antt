@@ -1,0 +1,105 @@
+-- Where no references make a cycle, some dead path is left that no other refers to.
+use Rattle.std.proofs.Common.{◌≡◌, ℕ, zero, suc, ◌<◌, ◌≤◌, List, [], ◌∷◌, length, Bool, true, false, not, ◌&&◌, cond, Some, None, Option, refl, sym, ap, arith, ◌∙◌, IsTrue, inl, inr, ◌⊎◌}
+use Rattle.std.specs.Prelude.{is_some, Contains}
+use Rattle.std.specs.List.{filter, find}
+use Rattle.std.specs.Option.{option_map, option_or}
+use Rattle.std.proofs.lemmas.Bool.{and_parts, and_from, false≢true}
+use Rattle.live.specs.Graph.{Path, Graph, same, references_alone, is_valid, is_edge}
+use Rattle.live.specs.Reach.{Reaches, reaches}
+use Rattle.live.specs.Limited.{refers, is_referred_to, next_with_referrers, next_group}
+use Rattle.live.proofs.Groups.{filter_in}
+use Rattle.live.proofs.Members.{cases, no_member, some_of_any, found, not_found}
+use Rattle.live.proofs.Reach.{decided, goes_on, same_itself}
+
+-- ---- what passes a narrower test is shorter
+
+module _ (f g : Path → Bool) (narrower : (y : Path) → IsTrue (f y) → IsTrue (g y)) where
+  no_longer : (xs : List Path) → length (filter f xs) ≤ length (filter g xs)
+  no_longer [] = omega arith
+  no_longer (x ∷ xs) = by (f x) (g x) (narrower x) (no_longer xs)
+    where
+      by : (a b : Bool) → (IsTrue a → IsTrue b) → length (filter f xs) ≤ length (filter g xs) → length (cond a (x ∷ filter f xs) (filter f xs)) ≤ length (cond b (x ∷ filter g xs) (filter g xs))
+      by true true h le = omega arith
+      by true false h le = absurd (false≢true (h refl))
+      by false true h le = omega arith
+      by false false h le = le
+
+  shorter : (xs : List Path) (x : Path) → Contains xs x → IsTrue (g x) → (IsTrue (f x) → ⊥) → length (filter f xs) < length (filter g xs)
+  shorter [] x c t out = absurd (no_member x c)
+  shorter (y ∷ ys) x c t out = by (f y) (g y) refl refl (narrower y) (cases y x ys c) (λ later. shorter ys x later t out)
+    where
+      by : (a b : Bool) → f y ≡ a → g y ≡ b → (IsTrue a → IsTrue b) → (y ≡ x) ⊎ Contains ys x → (Contains ys x → length (filter f ys) < length (filter g ys)) → length (cond a (y ∷ filter f ys) (filter f ys)) < length (cond b (y ∷ filter g ys) (filter g ys))
+      by true b ea eb h (inl is) rest = absurd (out (ap f (sym is) ∙ ea))
+      by false true ea eb h (inl is) rest = let le = no_longer ys in omega arith
+      by false false ea eb h (inl is) rest = absurd (false≢true (sym eb ∙ ap g is ∙ t))
+      by true true ea eb h (inr later) rest = let lt = rest later in omega arith
+      by true false ea eb h (inr later) rest = absurd (false≢true (h refl))
+      by false true ea eb h (inr later) rest = let lt = rest later in omega arith
+      by false false ea eb h (inr later) rest = rest later
+
+-- ---- a path that no other left refers to
+
+module _ (g : Graph) (dead : Path → Bool) (upward : (q p : Path) → Reaches references_alone g q p → IsTrue (dead p) → IsTrue (dead q))
+    (apart : (p q : Path) → Reaches references_alone g p q → Reaches references_alone g q p → p ≡ q)
+    (left : List Path) (valid : (p : Path) → Contains left p → IsTrue (is_valid g p)) where
+  -- one that is dead and that none refers to
+  abbrev stands_alone : Path → Bool
+  stands_alone p = dead p && not (is_referred_to g left p)
+
+  itself : (p : Path) → Contains left p → IsTrue (reaches references_alone g p p)
+  itself p c = (decided references_alone g p p).1 (record { valid = valid p c; behind = []; leads = refl })
+
+  step : (q p : Path) → Contains left q → IsTrue (refers g q p) → Reaches references_alone g q p
+  step q p c r = record { valid = valid q c; behind = p ∷ []; leads = ((and_parts (not (same q p)) (is_edge references_alone g q p) r).1, refl) }
+
+  others : (q p : Path) → IsTrue (refers g q p) → q ≡ p → ⊥
+  others q p r is = false≢true (ap not (sym (ap (same q) (sym is) ∙ same_itself q)) ∙ (and_parts (not (same q p)) (is_edge references_alone g q p) r).0)
+
+  -- from a dead path one goes on to what refers to it, and on; those that reach it get fewer
+  climbs : find stands_alone left ≡ None → (n : ℕ) (p : Path) → Contains left p → IsTrue (dead p) → length (filter (λ y. reaches references_alone g y p) left) ≤ n → ⊥
+  climbs none zero p c d le = let k = filter_in (λ y. reaches references_alone g y p) left p c (itself p c) in let lt = k.1 in omega arith
+  climbs none (suc n) p c d le = by (is_referred_to g left p) refl (λ q listed is_dead fewer. climbs none n q listed is_dead fewer)
+    where
+      by : (b : Bool) → is_referred_to g left p ≡ b
+          → ((q : Path) → Contains left q → IsTrue (dead q) → length (filter (λ y. reaches references_alone g y q) left) ≤ n → ⊥) → ⊥
+      by false e on = not_found stands_alone left p none c (and_from (dead p) (not (is_referred_to g left p)) d (ap not e))
+      by true e on =
+          let q = some_of_any (λ y. refers g y p) left e in
+          let first = step q.0 p q.1 q.2 in
+          let lt = shorter (λ y. reaches references_alone g y q.0) (λ y. reaches references_alone g y p)
+          (λ y h. (decided references_alone g y p).1 (goes_on references_alone g y q.0 p ((decided references_alone g y q.0).0 h) first))
+          left p c (itself p c) (λ h. others q.0 p q.2 (apart q.0 p first ((decided references_alone g p q.0).0 h))) in
+          on q.0 q.1 (upward q.0 p first d) (omega arith)
+
+  -- the next group is one such path, wherever there is a group, and there is one wherever a dead path is left
+  pub next_is_alone : (group : List Path) → next_group g dead left ≡ Some group → (p : Path) × (group ≡ p ∷ []) × Contains left p × IsTrue (dead p) × (is_referred_to g left p ≡ false)
+  next_is_alone group e = by (find stands_alone left) refl e
+    where
+      same_group : (xs ys : List Path) → Some xs ≡ Some ys → ys ≡ xs
+      same_group xs ys d = cc
+
+      no_group : None ≡ Some group → ⊥
+      no_group d = cc
+
+      none_refers : (b : Bool) → IsTrue (not b) → b ≡ false
+      none_refers true h = absurd (false≢true h)
+      none_refers false h = refl
+
+      second : find stands_alone left ≡ None → (o : Option Path) → find dead left ≡ o → option_map (λ p. filter (λ q. reaches references_alone g q p) left) o ≡ Some group → ⊥
+      second none None f d = no_group d
+      second none (Some x) f d = let at = found dead left x f in climbs none (length (filter (λ y. reaches references_alone g y x) left)) x at.0 at.1 (omega arith)
+
+      by : (o : Option Path) → find stands_alone left ≡ o → option_or (option_map (λ p. p ∷ []) o) (next_with_referrers g dead left) ≡ Some group
+          → (p : Path) × (group ≡ p ∷ []) × Contains left p × IsTrue (dead p) × (is_referred_to g left p ≡ false)
+      by None f d = absurd (second f (find dead left) refl d)
+      by (Some p) f d =
+          let at = found stands_alone left p f in
+          let parts = and_parts (dead p) (not (is_referred_to g left p)) at.1 in
+          (p, same_group (p ∷ []) group d, at.0, parts.0, none_refers (is_referred_to g left p) parts.1)
+
+  pub none_left : next_group g dead left ≡ None → (p : Path) → Contains left p → IsTrue (dead p) → ⊥
+  none_left e p c d = by (find stands_alone left) refl e
+    where
+      by : (o : Option Path) → find stands_alone left ≡ o → option_or (option_map (λ x. x ∷ []) o) (next_with_referrers g dead left) ≡ None → ⊥
+      by None f h = climbs f (length (filter (λ y. reaches references_alone g y p) left)) p c d (omega arith)
+      by (Some x) f h = false≢true (sym (ap is_some h))
