@@ -45,3 +45,4 @@ pub mod Leave
 pub mod RootsTold
 pub mod Sources
 pub mod OneByOne
+pub mod AddOrder

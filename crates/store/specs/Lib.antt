@@ -27,3 +27,4 @@ pub mod AddFaults
 pub mod Leave
 pub mod RootsTold
 pub mod OneByOne
+pub mod AddOrder

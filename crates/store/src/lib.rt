@@ -18,8 +18,8 @@ pub use laws::{
     step_is_functional, step_is_total, the_freed_are_told, the_living_are_listed, usage_adds_up,
 };
 pub use more_laws::{
-    adds_are_refused_for_their_faults, first_faults_are_told, limits_count_bytes,
-    referrers_go_first, roots_are_labelled_in_order, settings_say_what_is_kept,
+    adds_are_refused_for_their_faults, faults_of_adds_come_in_order, first_faults_are_told,
+    limits_count_bytes, referrers_go_first, roots_are_labelled_in_order, settings_say_what_is_kept,
 };
 pub use root_laws::{
     all_but_strangers_may_ask, owners_are_respected, roots_change_exactly,

@@ -1,5 +1,6 @@
 //! Laws of what lives and of what is refused: each is the contract of a function that does nothing.
 ghost use Rattle.store.specs.AddFaults.{DigestsComeFirst, MissingAreMissing, TextsAreMeasured};
+ghost use Rattle.store.specs.AddOrder.{ImportFaultsInOrder, SourceFaultsInOrder, TextFaultsInOrder};
 ghost use Rattle.store.specs.Faults.{NamedAreThere, NamesComeFirst, PathsComeBeforeNumbers, ProfilesComeNext, SessionFaultsAreTold};
 ghost use Rattle.store.specs.Kept.{CollectsByBytes, EdgesAsSet, LivingKeep};
 ghost use Rattle.store.specs.LabelsAndOrder.{AreLabelled, KindsInOrder};
@@ -45,4 +46,12 @@ pub fn adds_are_refused_for_their_faults()
     ensures size { TextsAreMeasured }
     ensures digest { DigestsComeFirst }
     ensures missing { MissingAreMissing }
+{}
+
+/// Of an add that has several faults the first is told: the number of references; the archive, or its size; of an import its digest; a
+/// reference to itself; an address that doesn't verify; the derivation; and at last a missing reference.
+pub fn faults_of_adds_come_in_order()
+    ensures text { TextFaultsInOrder }
+    ensures source { SourceFaultsInOrder }
+    ensures import { ImportFaultsInOrder }
 {}
