@@ -21,6 +21,7 @@ pub mod Backs
 pub mod Asked
 pub mod Heads
 pub mod Headed
+pub mod Texts
 pub mod Groups
 pub mod Takings
 pub mod Ranges

@@ -1,6 +1,7 @@
--- The first bytes of texts as numbers: where these differ, texts are ordered as they are.
-use Rattle.std.specs.Prelude.{◌≡◌, ℕ, zero, suc, ◌+◌, ◌*◌, ◌^◌, ◌<◌, List, [], length}
+-- The first bytes of texts as numbers: where these differ, texts are ordered as they are. And texts as they are lent.
+use Rattle.std.specs.Prelude.{◌≡◌, ℕ, zero, suc, ◌+◌, ◌*◌, ◌^◌, ◌<◌, List, [], length, map}
 use Rattle.std.specs.List.{slice_index, slice_index_or}
+use Rattle.std.specs.Borrow.{Bor}
 use Rattle.live.specs.Graph.{Path}
 
 -- the number that some bytes are from a place on, each a digit of base 256; past the end there are zeros
@@ -21,3 +22,7 @@ pub record AreHeads (paths : List Path) (heads : List ℕ) : Type 0 where
   pub count : length heads ≡ length paths
   pub head : (k : ℕ) → k < length paths → slice_index heads k ≡ head_of (slice_index_or paths k [])
   pub bytes : (k : ℕ) → k < length paths → IsBytes (slice_index_or paths k [])
+
+-- the texts of some paths
+pub record AreTexts (paths : List Path) (texts : List (Bor (List ℕ))) : Type 0 where
+  pub are : map (λ t. t.now) texts ≡ paths

@@ -6,10 +6,12 @@ ghost use Rattle.live.specs.Flat.{IsFlat, entries_in};
 ghost use Rattle.live.specs.Marking.{told};
 
 mod conditions;
+mod guesses;
 mod heads;
 mod making;
 mod places;
 mod rows;
+mod texts;
 
 pub use conditions::{are_valid, do_rise};
 pub use rows::{Kind, Root, Row};

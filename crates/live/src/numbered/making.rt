@@ -3,9 +3,11 @@ ghost use Rattle.std.specs.Prelude.{◌≡◌, ◌<◌, IfOk, All, length};
 ghost use Rattle.live.specs.Numbering.{AllValid, IsAimed, Rise, numbered, paths_of};
 ghost use Rattle.live.specs.Handed.{rows_view, roots_view};
 
+use crate::numbered::guesses::Guesses;
 use crate::numbered::heads::heads_of;
 use crate::numbered::places::{add_row, place_of};
 use crate::numbered::rows::{Root, Row};
+use crate::numbered::texts::texts_of;
 use crate::numbered::{Graph, Roots};
 use std::alloc::{AllocError, Global};
 
@@ -16,10 +18,12 @@ impl Graph {
         ensures { IfOk result (λ g. g ≡ numbered (rows_view rows.now)) }
     {
         let heads = heads_of(alloc, rows)?;
+        let texts = texts_of(alloc, rows)?;
+        let mut guesses = Guesses::new(alloc, rows, &heads)?;
         let mut spans = Vec::new(alloc);
         let mut targets = Vec::new(alloc);
         for row in rows {
-            let span = add_row(&mut targets, rows, &heads, *row)?;
+            let span = add_row(&mut targets, rows, &heads, &texts, &mut guesses, *row)?;
             spans.push(span)?;
         }
         Ok(Graph { spans, targets })

@@ -2,11 +2,12 @@
 ghost use Rattle.std.specs.Prelude.{◌≡◌, ◌++◌, IfOk, OnOk};
 ghost use Rattle.live.specs.Numbering.{Rise, numbered_links, paths_of, place_of as place, places_of};
 ghost use Rattle.live.specs.Handed.{row_view, rows_view};
-ghost use Rattle.live.specs.Heads.{AreHeads};
+ghost use Rattle.live.specs.Heads.{AreHeads, AreTexts};
 ghost use Rattle.live.specs.Added.{IsAdded};
 ghost use Rattle.live.specs.Searched.{IsSearched};
 
 use crate::numbered::Span;
+use crate::numbered::guesses::Guesses;
 use crate::numbered::heads::head_of;
 use crate::numbered::rows::Row;
 use paths::StorePath;
@@ -64,19 +65,41 @@ fn place_by_head(rows: &[Row], heads: &[u64], path: &StorePath) -> Option<usize>
     place_between(rows, path, low, high)
 }
 
+/// The same, looked for first at a place where it may stand.
+fn place_guessed(
+    rows: &[Row],
+    heads: &[u64],
+    texts: &[&str],
+    path: &StorePath,
+    guess: usize,
+) -> Option<usize>
+    requires rise { Rise (paths_of (rows_view rows.now)) }
+    requires heads { AreHeads (paths_of (rows_view rows.now)) heads.now }
+    requires texts { AreTexts (paths_of (rows_view rows.now)) texts.now }
+    ensures { result ≡ place (paths_of (rows_view rows.now)) path.now }
+{
+    if guess < texts.len() && texts[guess] == path.as_str() {
+        return Some(guess);
+    }
+    place_by_head(rows, heads, path)
+}
+
 /// The places of the paths that are rows' go to the end of the list.
 fn add_places(
     targets: &mut Vec<usize>,
     rows: &[Row],
     heads: &[u64],
+    texts: &[&str],
+    guesses: &mut Guesses,
     paths: &[StorePath],
 ) -> Result<(), AllocError>
     requires rise { Rise (paths_of (rows_view rows.now)) }
     requires heads { AreHeads (paths_of (rows_view rows.now)) heads.now }
+    requires texts { AreTexts (paths_of (rows_view rows.now)) texts.now }
     ensures { OnOk result (targets.new.items ≡ targets.old.items ++ places_of (paths_of (rows_view rows.now)) paths.now) }
 {
     for path in paths {
-        if let Some(place) = place_by_head(rows, heads, path) {
+        if let Some(place) = place_guessed(rows, heads, texts, path, guesses.next()) {
             targets.push(place)?;
         }
     }
@@ -88,19 +111,22 @@ pub(crate) fn add_row(
     targets: &mut Vec<usize>,
     rows: &[Row],
     heads: &[u64],
+    texts: &[&str],
+    guesses: &mut Guesses,
     row: Row,
 ) -> Result<Span, AllocError>
     requires rise { Rise (paths_of (rows_view rows.now)) }
     requires heads { AreHeads (paths_of (rows_view rows.now)) heads.now }
+    requires texts { AreTexts (paths_of (rows_view rows.now)) texts.now }
     ensures { IfOk result (IsAdded (numbered_links (paths_of (rows_view rows.now)) (row_view row.entry).1) targets.old.items targets.new.items) }
 {
     let references = targets.len();
-    add_places(targets, rows, heads, row.references)?;
+    add_places(targets, rows, heads, texts, guesses, row.references)?;
     let outputs = targets.len();
-    add_places(targets, rows, heads, row.outputs)?;
+    add_places(targets, rows, heads, texts, guesses, row.outputs)?;
     let deriver = targets.len();
     if let Some(path) = row.deriver {
-        if let Some(place) = place_by_head(rows, heads, path) {
+        if let Some(place) = place_guessed(rows, heads, texts, path, guesses.next()) {
             targets.push(place)?;
         }
     }

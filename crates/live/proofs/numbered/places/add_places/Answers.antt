@@ -8,9 +8,9 @@ use Rattle.live.proofs.numbered.places.add_places.Goals.{in-Some+in_ok-push, in_
 
 pub loop-path-preserved : goal.loop-path-preserved
 loop-path-preserved c =
-    places_more (paths_of (rows_view c.args.rows.now)) c.args.paths.now c.loop-path.path-index c.path-item.result c.loop-path-test.true c.path-item.is c.place_by_head.result c.place_by_head.ensures
-    c.args.targets.now.items c.loop-path.targets.items c.match-place_by_head.targets.items c.loop-path.invariant
-    (elim c.match-place_by_head.branch [
+    places_more (paths_of (rows_view c.args.rows.now)) c.args.paths.now c.loop-path.path-index c.path-item.result c.loop-path-test.true c.path-item.is c.place_guessed.result c.place_guessed.ensures
+    c.args.targets.now.items c.loop-path.targets.items c.match-place_guessed.targets.items c.loop-path.invariant
+    (elim c.match-place_guessed.branch [
       | in-Some+in_ok-push w ↦ ap (λ (v : Vec ℕ Global). v.items) w.targets-is ∙ w.in_ok-push.ensures.items ∙ ap (λ o. c.loop-path.targets.items ++ option_to_list o) (sym w.in-Some.is)
       | in_default w ↦ ap (λ (v : Vec ℕ Global). v.items) w.targets-is ∙ sym (append-nil c.loop-path.targets.items) ∙ ap (λ o. c.loop-path.targets.items ++ option_to_list o) (sym w.in_default.is)
     ])
