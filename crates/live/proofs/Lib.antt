@@ -17,6 +17,7 @@ pub mod Makings
 pub mod Aims
 pub mod Conditions
 pub mod Turned
+pub mod Rooms
 pub mod Backs
 pub mod Asked
 pub mod Heads

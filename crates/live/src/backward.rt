@@ -26,7 +26,7 @@ pub(crate) fn backward(
     };
     walk.reach_all(1, 0, named)?;
     'work: while let Some(place) = walk.next() {
-        walk.reach_all(1, 0, &into[place])?;
+        walk.reach_all(1, 0, into.sources_of(place))?;
     }
     let Walk { first, work: _ } = walk;
     Ok(first)

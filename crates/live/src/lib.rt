@@ -11,6 +11,7 @@ mod limiting;
 mod marking;
 mod numbered;
 mod referring;
+mod room;
 mod taking;
 mod turning;
 mod walk;
