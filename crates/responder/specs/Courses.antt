@@ -15,7 +15,7 @@ use Rattle.routes.specs.Table.{requests_of}
 use Rattle.routes.specs.declared.kind.Kind.{Kind}
 use Rattle.routes.specs.declared.requests.Requests.{Requests}
 use Rattle.store.specs.Request.{Request, add_temp, end_session}
-use Rattle.store_calls.specs.View as views
+use Rattle.store_requests.specs.View as views
 use Rattle.asking.specs.Asks.{Asks, has_bad_path}
 use Rattle.report.specs.Stops.{denial_text}
 use Rattle.report.specs.declared.refusal.Refusal.TheVariants.{BadStorePath, BadCaller, NoRoute, BadMethod, BadBodyHead}

@@ -3,12 +3,12 @@ ghost use Rattle.std.specs.Prelude.{◌≡◌, option_map};
 ghost use Rattle.store.specs.Request as asked;
 ghost use Rattle.asking.specs.View as given;
 ghost use Rattle.asking.specs.View.{flag};
-ghost use Rattle.store_calls.specs.View as views;
+ghost use Rattle.store_requests.specs.View as views;
 ghost use Rattle.responder.specs.Courses.{if_there};
 
 use asking::Request as Asked;
 use bodies::{CollectHead, DeleteHead, ImportHead, NamedHead};
-use store_calls::{Imported, Request};
+use store_requests::{Imported, Request};
 
 /// An object that is handed in with its path: what the body says of it, and the archive.
 fn imported(head: ImportHead, nar: Vec<u8>) -> Imported

@@ -1,6 +1,6 @@
 //! What becomes of a message.
 use policy::Caller;
-use store_calls::Request;
+use store_requests::Request;
 use wire::Response;
 
 /// What becomes of a message: a reply at once, or a caller's request of the store.

@@ -1,15 +1,15 @@
 //! Replies of the store as responses.
 ghost use Rattle.std.specs.Prelude.{◌≡◌, IfOk};
 ghost use Rattle.wire.specs.Responses.{replied};
-ghost use Rattle.store_calls.specs.View.{reply_view};
+ghost use Rattle.store_requests.specs.View.{reply_view};
 ghost use Rattle.responder.specs.Replies as spec;
 ghost use Rattle.responder.specs.Replies.{response_to};
 
 use http::StatusCode;
 use paths::StoreDir;
 use std::alloc::{AllocError, Global};
-use store_calls::{Answer, Reply};
 use store_commands::{refusal_entry, reply_text};
+use store_requests::{Answer, Reply};
 use wire::{Response, refusal_status};
 
 /// The status of a reply.

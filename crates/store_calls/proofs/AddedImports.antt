@@ -12,8 +12,8 @@ use Rattle.store.specs.Adds.{Added, added_import}
 use Rattle.store.specs.Effects.{with_object}
 use Rattle.store.proofs.SoundAdds.{import_sound}
 use Rattle.tables.specs.Kept.{Kept, Tells}
-use Rattle.store_calls.specs.declared.replies.Stop.{Stop}
-use Rattle.store_calls.specs.Tested.{Stops}
+use Rattle.store_requests.specs.declared.replies.Stop.{Stop}
+use Rattle.store_requests.specs.Tested.{Stops}
 
 -- an import passes the tests, and this is its object
 abbrev pub IsImport : List ℕ → World → Imported → Added → Type 0

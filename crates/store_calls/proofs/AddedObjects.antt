@@ -20,17 +20,17 @@ use Rattle.paths.specs.Path.{text_path}
 use Rattle.store.specs.Tests.{refusal, first_failing, text_tests}
 use Rattle.store.specs.Adds.{Added, added_text}
 use Rattle.store.proofs.SoundAdds.{text_sound}
-use Rattle.store_calls.specs.Tested.{Stops}
+use Rattle.store_requests.specs.Tested.{Stops}
 use Rattle.store.specs.Effects.{with_object, effect}
 use Rattle.store.specs.Answers.{answer}
 use Rattle.tables.specs.Kept.{Kept, Tells, LeavesWorld}
-use Rattle.store_calls.specs.declared.replies.Answer.{Answer}
-use Rattle.store_calls.specs.declared.replies.Answer.TheVariants.{Path as Placed}
-use Rattle.store_calls.specs.declared.replies.Stop.{Stop}
-use Rattle.store_calls.specs.declared.replies.Stop.TheVariants.{Refused, Failed}
+use Rattle.store_requests.specs.declared.replies.Answer.{Answer}
+use Rattle.store_requests.specs.declared.replies.Answer.TheVariants.{Path as Placed}
+use Rattle.store_requests.specs.declared.replies.Stop.{Stop}
+use Rattle.store_requests.specs.declared.replies.Stop.TheVariants.{Refused, Failed}
 use Rattle.store_calls.specs.Meets.{MeetsOver, IsMet}
 use Rattle.store_calls.specs.Adding.{Adds, IsAdded}
-use Rattle.store_calls.proofs.Outlined.{has_outlined}
+use Rattle.store_requests.proofs.Outlined.{has_outlined}
 use Rattle.store_calls.proofs.Untouched.{survives_still, lasts_still}
 
 module _ {S : Type 0} (g : Ghosts S) (path : Path) (o : Outlined) (k : Kept S) where

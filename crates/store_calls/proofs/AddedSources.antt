@@ -13,8 +13,8 @@ use Rattle.store.specs.Adds.{Added, added_source}
 use Rattle.store.specs.Effects.{with_object}
 use Rattle.store.proofs.SoundAdds.{source_sound}
 use Rattle.tables.specs.Kept.{Kept, Tells}
-use Rattle.store_calls.specs.declared.replies.Stop.{Stop}
-use Rattle.store_calls.specs.Tested.{Stops}
+use Rattle.store_requests.specs.declared.replies.Stop.{Stop}
+use Rattle.store_requests.specs.Tested.{Stops}
 
 -- a source passes the tests, and this is its object
 abbrev pub IsSource : List ℕ → World → List ℕ → List Path → List ℕ → Added → Type 0

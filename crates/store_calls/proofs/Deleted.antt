@@ -1,36 +1,25 @@
--- What a deletion finds, and what denies it.
-use Rattle.std.proofs.Common.{◌≡◌, List, [], ◌∷◌, String, Some, None, Option, is_some, option_map, refl, sym, ap, subst, ◌∙◌}
-use Rattle.std.specs.Prelude.{Bool, find}
-use Rattle.std.specs.List.{list_all, list_any}
-use Rattle.std.specs.declared.alloc.Global.{Global}
+-- What a deletion finds.
+use Rattle.std.proofs.Common.{◌≡◌, List, [], ◌∷◌, Some, None, Option, refl, sym, ap, subst, ◌∙◌}
+use Rattle.std.specs.Prelude.{Bool}
+use Rattle.std.specs.List.{list_all}
 use Rattle.policy.specs.Settings.{Settings}
 use Rattle.policy.specs.Caller.{Caller}
-use Rattle.policy.specs.Class.{class_of}
-use Rattle.policy.specs.declared.kinds.Class.{Class}
 use Rattle.world.specs.World.{Path, World, has}
-use Rattle.index.specs.Maps.{labelled_bytes}
 use Rattle.store.specs.Reply.{Refusal, not_valid, freed}
 use Rattle.store.specs.Request.{delete}
-use Rattle.store.specs.Liveness.{lives, deleted_paths, bytes_in}
-use Rattle.store.specs.Seen.{seen_root}
+use Rattle.store.specs.Liveness.{deleted_paths, bytes_in}
 use Rattle.store.specs.Tests.{first_failing, unless}
-use Rattle.store.specs.Verdict.{root_of_first}
-use Rattle.store_calls.specs.declared.removing.Found.{Found}
-use Rattle.store_calls.specs.declared.replies.Stop.{Stop}
-use Rattle.store_calls.specs.Removing.{IsDenial, Removes, found_view}
-use Rattle.store_calls.specs.Tested.{Stops}
+use Rattle.store_requests.specs.declared.removing.Found.{Found}
+use Rattle.store_requests.specs.declared.replies.Stop.{Stop}
+use Rattle.store_requests.specs.Removing.{found_view}
+use Rattle.store_calls.specs.Removing.{Removes}
+use Rattle.store_requests.specs.Tested.{Stops}
 use Rattle.store_calls.proofs.Collected.{others_left}
 
 -- the only test
 alone : (t : Option Refusal) → first_failing (t ∷ []) ≡ t
 alone None = refl
 alone (Some r) = refl
-
--- what denies a deletion
-pub denied_as : (s : Settings) (w : World) (c : Caller) (named : List Path) (ignores : Bool) (class : Class) → class ≡ class_of s c → (root : Option (String Global × Path))
-    → option_map labelled_bytes root ≡ option_map (seen_root class) (root_of_first s w (find (lives s w) named)) → is_some root ≡ list_any (lives s w) named → IsDenial s w c (delete named ignores) root
-denied_as s w c named ignores class is None shows living = sym living
-denied_as s w c named ignores class is (Some root) shows living = (sym living, sym (shows ∙ ap (λ k. option_map (seen_root k) (root_of_first s w (find (lives s w) named))) is))
 
 module _ (named handed : List Path) (same : handed ≡ named) (w : World) where
   -- what stops it

@@ -9,8 +9,8 @@ use Rattle.policy.specs.Caller.{Caller}
 use Rattle.world.specs.World.{World}
 use Rattle.store.specs.Request.{Request}
 use Rattle.tables.specs.Kept.{Kept, Tells}
-use Rattle.store_calls.specs.declared.replies.Answer.{Answer}
-use Rattle.store_calls.specs.declared.replies.Stop.{Stop}
+use Rattle.store_requests.specs.declared.replies.Answer.{Answer}
+use Rattle.store_requests.specs.declared.replies.Stop.{Stop}
 use Rattle.store_calls.specs.Meets.{IsMet, IsRefused, MeetsOver, OnlyReads}
 
 module _ {S : Type 0} (g : Ghosts S) (s : Settings) (c : Caller) (q : Request) (old new : Kept S) where

@@ -19,8 +19,8 @@ use Rattle.store.specs.Request.{Request}
 use Rattle.store.proofs.MapMembers.{bytes_antisymmetric}
 use Rattle.store.proofs.Worlds.{get-keeping}
 use Rattle.tables.specs.Kept.{Kept, Tells, LeavesWorld}
-use Rattle.store_calls.specs.declared.replies.Answer.{Answer}
-use Rattle.store_calls.specs.View.{answer_view}
+use Rattle.store_requests.specs.declared.replies.Answer.{Answer}
+use Rattle.store_requests.specs.View.{answer_view}
 use Rattle.store_calls.specs.Meets.{IsMet}
 use Rattle.store_calls.specs.Removing.{Removes, without}
 use Rattle.store_calls.specs.Writing.{answered}

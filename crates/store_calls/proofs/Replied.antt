@@ -17,9 +17,9 @@ use Rattle.store.specs.Reply.{Failure, Reply, denied, failed}
 use Rattle.store.specs.Verdict.{operation_of, named_in, shown, verdict}
 use Rattle.store.specs.Step.{IsNoneOrLive}
 use Rattle.tables.specs.Kept.{Kept, Tells}
-use Rattle.store_calls.specs.declared.replies.Answer.{Answer}
-use Rattle.store_calls.specs.declared.replies.Stop.{Stop}
-use Rattle.store_calls.specs.declared.replies.Stop.TheVariants.{Refused, Failed}
+use Rattle.store_requests.specs.declared.replies.Answer.{Answer}
+use Rattle.store_requests.specs.declared.replies.Stop.{Stop}
+use Rattle.store_requests.specs.declared.replies.Stop.TheVariants.{Refused, Failed}
 use Rattle.store_calls.specs.Standing.{IsDone, IsStill}
 use Rattle.store_calls.specs.Disk.{StepOver}
 use Rattle.store_calls.specs.Meets.{MeetsOver, IsMet, IsAnswered, IsRefused, reply_to}

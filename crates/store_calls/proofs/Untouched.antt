@@ -12,12 +12,13 @@ use Rattle.index.specs.Outline.{Outline, outline_of}
 use Rattle.store.specs.Request.{Request}
 use Rattle.store.specs.Tests.{refusal}
 use Rattle.tables.specs.Kept.{Kept}
-use Rattle.store_calls.specs.declared.replies.Answer.{Answer}
-use Rattle.store_calls.specs.declared.replies.Stop.{Stop}
-use Rattle.store_calls.specs.declared.replies.Stop.TheVariants.{Refused, Failed}
-use Rattle.store_calls.specs.Tested.{Stops}
+use Rattle.store_requests.specs.declared.replies.Answer.{Answer}
+use Rattle.store_requests.specs.declared.replies.Stop.{Stop}
+use Rattle.store_requests.specs.declared.replies.Stop.TheVariants.{Refused, Failed}
+use Rattle.store_requests.specs.Tested.{Stops}
 use Rattle.store_calls.specs.Lasting.{Lasts}
-use Rattle.store_calls.specs.Meets.{Meets, MeetsOver, Reads, IsMet}
+use Rattle.store_requests.specs.Meets.{Meets, Reads}
+use Rattle.store_calls.specs.Meets.{MeetsOver, IsMet}
 
 -- nothing happened
 pub survives_still : (s : State) (P : Trees → Type 0) → Survives s s P

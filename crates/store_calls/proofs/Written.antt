@@ -16,10 +16,10 @@ use Rattle.store.specs.Tests.{refusal}
 use Rattle.store.specs.Effects.{effect}
 use Rattle.store.specs.Answers.{answer}
 use Rattle.tables.specs.Kept.{Kept, Tells, LeavesWorld}
-use Rattle.store_calls.specs.declared.replies.Answer.{Answer}
-use Rattle.store_calls.specs.declared.replies.Stop.{Stop}
-use Rattle.store_calls.specs.View.{answer_view}
-use Rattle.store_calls.specs.Tested.{Stops}
+use Rattle.store_requests.specs.declared.replies.Answer.{Answer}
+use Rattle.store_requests.specs.declared.replies.Stop.{Stop}
+use Rattle.store_requests.specs.View.{answer_view}
+use Rattle.store_requests.specs.Tested.{Stops}
 use Rattle.store_calls.specs.Writing.{answered}
 use Rattle.store_calls.specs.Meets.{IsMet}
 use Rattle.store_calls.proofs.Untouched.{met_by_reading, reads_stopped}

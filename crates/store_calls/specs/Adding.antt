@@ -8,10 +8,10 @@ use Rattle.store.specs.Reply.{path}
 use Rattle.store.specs.Adds.{Added}
 use Rattle.store.specs.Effects.{with_object}
 use Rattle.tables.specs.Kept.{Kept, Tells, LeavesWorld}
-use Rattle.store_calls.specs.declared.replies.Answer.{Answer}
-use Rattle.store_calls.specs.declared.replies.Stop.{Stop}
-use Rattle.store_calls.specs.declared.replies.Stop.TheVariants.{Refused, Failed}
-use Rattle.store_calls.specs.View.{answer_view}
+use Rattle.store_requests.specs.declared.replies.Answer.{Answer}
+use Rattle.store_requests.specs.declared.replies.Stop.{Stop}
+use Rattle.store_requests.specs.declared.replies.Stop.TheVariants.{Refused, Failed}
+use Rattle.store_requests.specs.View.{answer_view}
 use Rattle.store_calls.specs.Lasting.{Lasts}
 use Rattle.store_calls.specs.Meets.{IsAnswered, IsRefused}
 

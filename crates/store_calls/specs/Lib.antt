@@ -1,11 +1,7 @@
-pub mod View
-pub mod Told
 pub mod Standing
 pub mod Lasting
 pub mod Disk
 pub mod Meets
-pub mod Tested
-pub mod Parts
 pub mod Adding
 pub mod Writing
 pub mod Removing

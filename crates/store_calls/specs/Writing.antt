@@ -1,9 +1,9 @@
 -- What a write answers.
 use Rattle.std.specs.Prelude.{Result, Ok, Err}
 use Rattle.table_statements.specs.declared.failure.Failure.{Failure}
-use Rattle.store_calls.specs.declared.replies.Answer.{Answer}
-use Rattle.store_calls.specs.declared.replies.Stop.{Stop}
-use Rattle.store_calls.specs.declared.replies.Stop.TheVariants.{Failed}
+use Rattle.store_requests.specs.declared.replies.Answer.{Answer}
+use Rattle.store_requests.specs.declared.replies.Stop.{Stop}
+use Rattle.store_requests.specs.declared.replies.Stop.TheVariants.{Failed}
 
 -- the answer where it was written, else the failure
 abbrev pub answered : Result (Unit {0}) Failure → Answer → Result Answer Stop

@@ -6,24 +6,23 @@ ghost use Rattle.world.specs.World.{World};
 ghost use Rattle.store.specs.Liveness.{lives};
 ghost use Rattle.store.specs.Verdict.{named_in};
 ghost use Rattle.tables.specs.Kept.{Tells};
-ghost use Rattle.store_calls.specs.View.{request_view, reply_view};
+ghost use Rattle.store_requests.specs.View.{request_view, reply_view};
 ghost use Rattle.store_calls.specs.Meets.{IsMet, reply_to};
 
 use crate::adding::add_text;
 use crate::collecting::collect;
 use crate::deleting::delete;
+use crate::disk;
 use crate::imports::import_object;
 use crate::permanent::{drop_permanent, set_permanent};
 use crate::profiles::{delete_generation, rollback, set_profile, switch};
-use crate::replies::{Answer, Reply, Stop};
-use crate::requests::Request;
 use crate::runtime::replace_runtime;
 use crate::sources::add_source;
 use crate::user_roots::{drop_user_root, set_user_root};
-use crate::{disk, living, reading, root_listing};
 use policy::{Caller, Config};
 use sqlite::Alter;
 use std::alloc::Global;
+use store_requests::{Answer, Reply, Request, Stop, living, reading, root_listing};
 use tables::Tables;
 
 /// Does what is asked: its tests in their order, and then its one effect and its answer.

@@ -1,34 +1,23 @@
 //! Adds.
 
-ghost use Rattle.std.specs.Prelude.{◌≡◌, IfOk, OnOk, length};
+ghost use Rattle.std.specs.Prelude.{◌≡◌, length};
 ghost use Rattle.sha2.specs.Sha256.{sha256};
-ghost use Rattle.nar.specs.Tree.{IsBytes};
 ghost use Rattle.policy.specs.Caller.{Caller};
 ghost use Rattle.world.specs.World.{World};
 ghost use Rattle.world.specs.Sound.{IsSound};
-ghost use Rattle.index.specs.Outline.{outline_of};
-ghost use Rattle.store.specs.Adds.{added_text};
 ghost use Rattle.store.specs.Request as asked;
 ghost use Rattle.store.specs.Effects.{with_object};
-ghost use Rattle.store.specs.Tests as tests;
-ghost use Rattle.store.specs.Tests.{first_failing};
-ghost use Rattle.paths.specs.Path as paths;
 ghost use Rattle.tables.specs.Kept.{Tells};
-ghost use Rattle.store_calls.specs.Tested.{Gives};
-ghost use Rattle.store_calls.specs.Parts.{added_view};
+ghost use Rattle.store_requests.specs.Parts.{added_view};
 ghost use Rattle.store_calls.specs.Adding.{IsAdded};
 ghost use Rattle.store_calls.specs.Meets.{IsMet};
 
-use crate::archives::text_archive;
-use crate::examining::examine_text;
-use crate::replies::{Answer, Stop};
-use crate::summaries::{Added, summary};
-use index::Index;
-use paths::{Ca, Name, StoreDir, StorePath, text_path};
+use paths::{Name, StorePath};
 use policy::{Config, store_dir};
-use sha2::{Digest, Sha256};
 use sqlite::Alter;
 use std::alloc::Global;
+use store_requests::adding::prepare_text;
+use store_requests::{Added, Answer, Stop};
 use tables::Tables;
 
 /// An object is put at its path, unless the path is valid already.
@@ -46,37 +35,6 @@ pub(crate) fn add<S: Alter>(tables: &mut Tables<S>, added: Added) -> Result<Answ
         Ok(()) => Ok(Answer::Path(path)),
         Err(failure) => Err(Stop::Failed(failure)),
     }
-}
-
-/// The object of a text, tested.
-fn prepare_text(
-    alloc: Global,
-    dir: &StoreDir,
-    index: &Index,
-    name: &Name,
-    refs: Vec<StorePath>,
-    contents: &[u8],
-) -> Result<Added, Stop>
-    ensures told { (w : World) → outline_of w ≡ index.now → Gives added_view result
-        (first_failing (tests.text_tests dir.now w (paths.text_path dir.now name.now refs.items contents.now) refs.items contents.now)) (added_text dir.now name.now refs.items contents.now) }
-    ensures bytes { OnOk result (IsBytes contents.now) }
-    ensures size { IfOk result (λ a. a.object.size ≡ length a.nar.items) }
-    ensures hash { IfOk result (λ a. a.object.hash ≡ sha256 a.nar.items) }
-{
-    let path = text_path(alloc, dir, name, &refs, contents)?;
-    let outputs = examine_text(alloc, dir, index, &path, &refs, contents)?;
-    let nar = text_archive(alloc, contents)?;
-    let ca = Some(Ca::of_text(contents));
-    let object = summary(
-        alloc,
-        nar.len(),
-        Sha256::digest(&nar),
-        refs,
-        None,
-        ca,
-        outputs,
-    )?;
-    Ok(Added { path, nar, object })
 }
 
 /// A text is added.

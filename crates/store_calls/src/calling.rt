@@ -8,18 +8,16 @@ ghost use Rattle.store.specs.Effects.{effect};
 ghost use Rattle.tables.specs.Kept.{Tells, LeavesWorld};
 ghost use Rattle.store_calls.specs.Disk.{StepOver};
 ghost use Rattle.store_calls.specs.Lasting.{Lasts};
-ghost use Rattle.store_calls.specs.View.{request_view, reply_view};
+ghost use Rattle.store_requests.specs.View.{request_view, reply_view};
 ghost use Rattle.store_calls.specs.Standing.{IsDone, IsStill};
 
 use crate::acting::{act, reply};
-use crate::deleting::denial;
-use crate::replies::Reply;
-use crate::requests::Request;
-use crate::rules::operation;
 use policy::{Caller, Config, Rule, class, decide};
 use sqlite::Alter;
 use std::alloc::{AllocError, Global};
 use std::marker::Model;
+use store_requests::deleting::denial;
+use store_requests::{Reply, Request, operation};
 use table_statements::failure::Failure;
 use tables::Tables;
 

@@ -8,31 +8,18 @@ ghost use Rattle.nar.specs.Outcome.{outcome_of};
 ghost use Rattle.policy.specs.Settings.{Settings};
 ghost use Rattle.policy.specs.Caller.{Caller};
 ghost use Rattle.world.specs.World.{World};
-ghost use Rattle.index.specs.Outline.{outline_of};
 ghost use Rattle.store.specs.Request as asked;
 ghost use Rattle.store.specs.Answers.{archive_at, listing_at};
-ghost use Rattle.store.specs.Tests.{refusal};
 ghost use Rattle.tables.specs.Kept.{Tells};
-ghost use Rattle.store_calls.specs.Tested.{Tested};
 ghost use Rattle.store_calls.specs.Meets.{IsMet, OnlyReads};
 
-use crate::replies::{Answer, Stop};
-use crate::there::is_valid;
-use index::Index;
-use nar::NarError;
 use paths::StorePath;
 use sqlite::Alter;
 use std::alloc::Global;
+use store_requests::disk::{list, may_read};
+use store_requests::{Answer, Stop};
 use table_statements::failure::Failure;
 use tables::Tables;
-
-/// Tests a path whose archive is to be read.
-fn may_read(index: &Index, path: &StorePath) -> Result<(), Stop>
-    ensures { (s : Settings) (w : World) → outline_of w ≡ index.now → Tested result (refusal s w (asked.nar path.now)) }
-{
-    is_valid(index, path)?;
-    Ok(())
-}
 
 /// The archive of a valid path. A disk that gives back what it was given has one.
 fn read<S: Alter>(tables: &mut Tables<S>, path: &StorePath) -> Result<Vec<u8>, Failure>
@@ -44,20 +31,6 @@ fn read<S: Alter>(tables: &mut Tables<S>, path: &StorePath) -> Result<Vec<u8>, F
         Ok(None) => Err(Failure::Disk),
         Err(failure) => Err(failure),
     }
-}
-
-/// The listing of an archive. What is none was read of a disk that gave back something else than it was given.
-fn list(alloc: Global, bytes: &[u8]) -> Result<String, Failure>
-    ensures { IfOk result (λ text. string_bytes text ≡ listing_at (outcome_of bytes.now)) }
-{
-    let node = match nar::read(alloc, bytes) {
-        Ok(node) => node,
-        Err(NarError::Memory) => return Err(Failure::Memory),
-        Err(_) => return Err(Failure::Disk),
-    };
-    let mut text = String::new(alloc);
-    nar::list(alloc, &node, &mut text)?;
-    Ok(text)
 }
 
 /// The archive of an object.

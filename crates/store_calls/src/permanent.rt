@@ -1,41 +1,17 @@
 //! Permanent roots are set and dropped.
 
-ghost use Rattle.std.specs.Prelude.{◌≡◌, string_bytes};
+ghost use Rattle.std.specs.Prelude.{string_bytes};
 ghost use Rattle.policy.specs.Settings.{Settings};
 ghost use Rattle.policy.specs.Caller.{Caller};
-ghost use Rattle.world.specs.World.{World};
-ghost use Rattle.index.specs.Outline.{outline_of};
 ghost use Rattle.store.specs.Request as asked;
-ghost use Rattle.store.specs.Tests.{refusal};
-ghost use Rattle.store_calls.specs.Tested.{Tested};
 ghost use Rattle.store_calls.specs.Meets.{IsMet};
 
-use crate::naming::is_named;
-use crate::replies::{Answer, Stop};
-use crate::there::{has_permanent, is_valid};
 use crate::writing::answered;
-use index::Index;
 use paths::StorePath;
 use sqlite::Alter;
+use store_requests::permanent::{may_drop, may_set};
+use store_requests::{Answer, Stop};
 use tables::Tables;
-
-/// Tests a permanent root that is to be set.
-fn may_set(index: &Index, name: &str, path: &StorePath) -> Result<(), Stop>
-    ensures { (s : Settings) (w : World) → outline_of w ≡ index.now → Tested result (refusal s w (asked.set_permanent name.now path.now)) }
-{
-    is_named(name)?;
-    is_valid(index, path)?;
-    Ok(())
-}
-
-/// Tests a permanent root that is to be dropped.
-fn may_drop(index: &Index, name: &str) -> Result<(), Stop>
-    ensures { (s : Settings) (w : World) → outline_of w ≡ index.now → Tested result (refusal s w (asked.drop_permanent name.now)) }
-{
-    is_named(name)?;
-    has_permanent(index, name)?;
-    Ok(())
-}
 
 /// A permanent root is set or replaced.
 pub(crate) fn set_permanent<S: Alter>(

@@ -11,18 +11,11 @@ ghost use Rattle.tables.specs.Kept.{Tells};
 ghost use Rattle.store_calls.specs.Meets.{IsMet};
 ghost use Rattle.store_calls.specs.Removing.{Removes, without};
 
-use crate::replies::{Answer, Stop};
 use crate::writing::answered;
 use paths::StorePath;
 use sqlite::Alter;
+use store_requests::{Answer, Found, Stop};
 use tables::Tables;
-
-/// Paths in order, and the sum of the bytes of their archives.
-#[derive(Drop)]
-pub(crate) struct Found {
-    pub(crate) paths: Vec<StorePath>,
-    pub(crate) bytes: u128,
-}
 
 /// Whether there is no path.
 fn is_nothing(paths: &[StorePath]) -> bool

@@ -6,14 +6,13 @@ ghost use Rattle.sqlite.specs.Held.{state};
 ghost use Rattle.world.specs.World.{World};
 ghost use Rattle.tables.specs.Kept.{Tells};
 ghost use Rattle.store_calls.specs.Disk.{RunOver};
-ghost use Rattle.store_calls.specs.View.{call_view, reply_view};
+ghost use Rattle.store_requests.specs.View.{call_view, reply_view};
 
 use crate::calling::Store;
-use crate::replies::Reply;
-use crate::requests::Request;
 use policy::Caller;
 use sqlite::Alter;
 use std::alloc::AllocError;
+use store_requests::{Reply, Request};
 
 impl<S: Alter> Store<S> {
     /// Makes calls one after another, and gives their replies in order.

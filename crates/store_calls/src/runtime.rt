@@ -1,83 +1,19 @@
 //! The runtime roots are replaced.
 
-ghost use Rattle.std.specs.Prelude.{◌≡◌, IfOk, OnOk, if◌then◌else◌, map};
-ghost use Rattle.std.specs.List.{filter};
-ghost use Rattle.std.specs.FinMap as finite;
-ghost use Rattle.paths.specs.Root.{set_of};
+ghost use Rattle.std.specs.Prelude.{map};
 ghost use Rattle.policy.specs.Settings.{Settings};
 ghost use Rattle.policy.specs.Caller.{Caller};
-ghost use Rattle.world.specs.World.{World, pair_cmp};
-ghost use Rattle.index.specs.Maps.{labelled_bytes, seen_set};
-ghost use Rattle.index.specs.Outline.{outline_of};
+ghost use Rattle.index.specs.Maps.{labelled_bytes};
 ghost use Rattle.store.specs.Request as asked;
-ghost use Rattle.store.specs.Tests.{refusal};
-ghost use Rattle.store.specs.Effects.{valid_pairs as valid_pairs_of};
-ghost use Rattle.store_calls.specs.Tested.{Gives};
 ghost use Rattle.store_calls.specs.Meets.{IsMet};
 
-use crate::labels::are_runtime_labels;
-use crate::replies::{Answer, Refusal, Stop};
 use crate::writing::answered;
-use index::Index;
 use paths::StorePath;
 use sqlite::Alter;
-use std::alloc::{AllocError, Global};
-use std::collections::BTreeSet;
+use std::alloc::Global;
+use store_requests::runtime::{count_of, prepare_runtime};
+use store_requests::{Answer, Stop};
 use tables::Tables;
-
-/// Puts a pair among others, if its target is valid.
-fn put_valid(
-    index: &Index,
-    valid: &mut BTreeSet<(String, StorePath)>,
-    pair: (String, StorePath),
-) -> Result<(), AllocError>
-    ensures { OnOk result (seen_set pair_cmp labelled_bytes valid.new.keys ≡ (if finite.contains_key index.now.objects pair.1 then finite.insert (seen_set pair_cmp labelled_bytes valid.old.keys) (labelled_bytes pair) tt else seen_set pair_cmp labelled_bytes valid.old.keys)) }
-{
-    if !index.has(&pair.1) {
-        return Ok(());
-    }
-    valid.insert(pair)?;
-    Ok(())
-}
-
-/// The pairs whose target is valid, as a set.
-fn valid_pairs(
-    alloc: Global,
-    index: &Index,
-    pairs: Vec<(String, StorePath)>,
-) -> Result<BTreeSet<(String, StorePath)>, AllocError>
-    ensures { IfOk result (λ s. seen_set pair_cmp labelled_bytes s.keys ≡ set_of pair_cmp (filter (λ p. finite.contains_key index.now.objects p.1) (map labelled_bytes pairs.items))) }
-{
-    let mut left = pairs;
-    let mut valid = BTreeSet::new(alloc);
-    while let Some(pair) = left.pop() {
-        put_valid(index, &mut valid, pair)?;
-    }
-    Ok(valid)
-}
-
-/// Tests runtime roots that are to be set; gives those whose target is valid.
-fn prepare_runtime(
-    alloc: Global,
-    index: &Index,
-    pairs: Vec<(String, StorePath)>,
-) -> Result<BTreeSet<(String, StorePath)>, Stop>
-    ensures { (s : Settings) (w : World) → outline_of w ≡ index.now → Gives (λ v. seen_set pair_cmp labelled_bytes v.keys) result
-        (refusal s w (asked.replace_runtime (map labelled_bytes pairs.items))) (valid_pairs_of w (map labelled_bytes pairs.items)) }
-{
-    if !are_runtime_labels(&pairs) {
-        return Err(Stop::Refused(Refusal::BadLabel));
-    }
-    let valid = valid_pairs(alloc, index, pairs)?;
-    Ok(valid)
-}
-
-/// The number of runtime roots.
-fn count_of(roots: &BTreeSet<(String, StorePath)>) -> usize
-    ensures { result ≡ finite.len (seen_set pair_cmp labelled_bytes roots.now.keys) }
-{
-    roots.len()
-}
 
 /// The runtime roots become the pairs whose target is valid.
 pub(crate) fn replace_runtime<S: Alter>(

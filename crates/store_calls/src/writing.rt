@@ -3,7 +3,7 @@
 ghost use Rattle.std.specs.Prelude.{◌≡◌};
 ghost use Rattle.store_calls.specs.Writing.{answered as answer_of};
 
-use crate::replies::{Answer, Stop};
+use store_requests::{Answer, Stop};
 use table_statements::failure::Failure;
 
 /// The answer where it was written, and else the failure.

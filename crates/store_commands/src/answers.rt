@@ -4,12 +4,12 @@ ghost use Rattle.report.specs.Replies as spec;
 ghost use Rattle.store.specs.Reply.{freed};
 ghost use Rattle.report.specs.Narinfo as records;
 ghost use Rattle.report.specs.Usage as usages;
-ghost use Rattle.store_calls.specs.View.{answer_view, info_view, usage_view};
+ghost use Rattle.store_requests.specs.View.{answer_view, info_view, usage_view};
 
 use paths::{StoreDir, StorePath};
 use std::alloc::{AllocError, Global};
 use std::fmt::Write;
-use store_calls::{Answer, Info, Usage};
+use store_requests::{Answer, Info, Usage};
 
 /// The record of an object.
 fn record_text(alloc: Global, dir: &StoreDir, info: &Info) -> Result<String, AllocError>

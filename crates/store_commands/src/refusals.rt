@@ -2,12 +2,12 @@
 ghost use Rattle.std.specs.Prelude.{◌≡◌};
 ghost use Rattle.report.specs.Stops as spec;
 ghost use Rattle.report.specs.Stops.{failure_text, refused_text};
-ghost use Rattle.store_calls.specs.View.{failure_view, refusal_view};
+ghost use Rattle.store_requests.specs.View.{failure_view, refusal_view};
 
 use drv::DrvError;
 use nar::NarError;
 use report::Refusal as Entry;
-use store_calls::Refusal;
+use store_requests::Refusal;
 use table_statements::failure::Failure;
 
 /// Where a fault of an archive stands in the table; want of memory is no fault of an archive.

@@ -1,14 +1,14 @@
 //! The text of each reply.
 ghost use Rattle.std.specs.Prelude.{◌≡◌, IfOk};
 ghost use Rattle.report.specs.Replies as spec;
-ghost use Rattle.store_calls.specs.View.{reply_view};
+ghost use Rattle.store_requests.specs.View.{reply_view};
 
 use crate::answers::answer_text;
 use crate::denials::denial_line;
 use crate::refusals::{failure_line, refusal_line};
 use paths::StoreDir;
 use std::alloc::{AllocError, Global};
-use store_calls::Reply;
+use store_requests::Reply;
 
 /// The text of a reply, as it stands on a writer or in a body. An archive isn't copied.
 ///

@@ -1,6 +1,6 @@
 //! One request over a store.
 ghost use Rattle.store.specs.Reply as replied;
-ghost use Rattle.store_calls.specs.View.{request_view};
+ghost use Rattle.store_requests.specs.View.{request_view};
 ghost use Rattle.store_commands.specs.Serving.{Calls};
 ghost use Rattle.store_commands.specs.Telling.{IsTold};
 
@@ -9,7 +9,8 @@ use policy::{Caller, store_dir};
 use sqlite::Alter;
 use std::alloc::Global;
 use std::io::Write;
-use store_calls::{Request, Store};
+use store_calls::Store;
+use store_requests::Request;
 
 /// Does what a caller asks of a store, tells the reply on the two writers, and gives the exit status: 0 done, 1 failed, 3
 /// refused, 4 denied.

@@ -3,7 +3,7 @@ ghost use Rattle.std.specs.Prelude.{◌≡◌, ◌⊎◌, codes, option_map};
 ghost use Rattle.index.specs.Maps.{labelled_bytes};
 ghost use Rattle.report.specs.Stops.{denial_text};
 ghost use Rattle.report.specs.Replies as texts;
-ghost use Rattle.store_calls.specs.View.{answer_view, reply_view};
+ghost use Rattle.store_requests.specs.View.{answer_view, reply_view};
 ghost use Rattle.store_commands.specs.Outputs.{LacksMemory, Offers, Prints};
 ghost use Rattle.store_commands.specs.Telling.{IsTold};
 
@@ -15,7 +15,7 @@ use policy::Rule;
 use std::alloc::Global;
 use std::io;
 use std::io::{ErrorKind, Write};
-use store_calls::{Answer, Reply};
+use store_requests::{Answer, Reply};
 use streams::send_bytes;
 
 const NO_MEMORY: &str = "failed: memory\n";

@@ -14,9 +14,9 @@ use Rattle.report.specs.declared.refusal.Refusal.{Refusal}
 use Rattle.report.specs.declared.refusal.Refusal.TheVariants.{BadCaller}
 use Rattle.store.specs.Request.{Request}
 use Rattle.store.specs.Reply.{Reply}
-use Rattle.store_calls.specs.declared.requests.Request.{Request as Made}
+use Rattle.store_requests.specs.declared.requests.Request.{Request as Made}
 use Rattle.store_calls.specs.Standing.{Standing}
-use Rattle.store_calls.specs.View.{request_view}
+use Rattle.store_requests.specs.View.{request_view}
 use Rattle.store_calls.proofs.Clean.{step_clean}
 use Rattle.store_commands.specs.Serving.{Calls}
 use Rattle.store_commands.specs.Telling.{IsTold}

@@ -9,8 +9,8 @@ use Rattle.world.specs.World.{Path}
 use Rattle.policy.specs.Caller.{Caller}
 use Rattle.store.specs.Request.{Request}
 use Rattle.store.specs.Step.{Step}
-use Rattle.store_calls.specs.declared.requests.Request.{Request as Made}
-use Rattle.store_calls.specs.View.{request_view}
+use Rattle.store_requests.specs.declared.requests.Request.{Request as Made}
+use Rattle.store_requests.specs.View.{request_view}
 use Rattle.report.specs.declared.refusal.Refusal.{Refusal}
 use Rattle.report.specs.declared.refusal.Refusal.TheVariants.{BadStorePath}
 use Rattle.std.specs.declared.alloc.AllocError.{AllocError}

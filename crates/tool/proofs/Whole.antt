@@ -2,7 +2,7 @@
 use Rattle.std.proofs.Common.{◌≡◌, ◌⊎◌, ℕ, ◌<◌, List, length, take, Option, Some, None, Result, Err, inl, inr, ap, subst, refl, sym, ◌∙◌, arith, take_all, length-take}
 use Rattle.std.specs.Prelude.{IfSome}
 use Rattle.store.specs.Request.{Request}
-use Rattle.store_calls.specs.declared.requests.Request.{Request as Made}
+use Rattle.store_requests.specs.declared.requests.Request.{Request as Made}
 use Rattle.bodies.specs.declared.error.BodyError.{BodyError}
 use Rattle.bodies.specs.declared.error.BodyError.TheVariants as body_error
 use Rattle.report.specs.declared.refusal.Refusal.{Refusal}

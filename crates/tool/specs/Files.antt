@@ -5,7 +5,7 @@ use Rattle.sqlite_disk.specs.declared.Disk as disk
 use Rattle.policy.specs.Settings.{Settings}
 use Rattle.store.specs.Request.{Request}
 use Rattle.store.specs.Reply.{Reply, failed}
-use Rattle.store_calls.specs.View.{failure_view}
+use Rattle.store_requests.specs.View.{failure_view}
 use Rattle.table_opening.specs.declared.file.Unopened.{Unopened as NoFile}
 use Rattle.table_opening.specs.declared.file.Unopened.TheVariants as file
 use Rattle.opening.specs.declared.refusing.Cause.{Cause}

@@ -19,8 +19,8 @@ use Rattle.command_line.specs.declared.line.Unrooted.{Unrooted}
 use Rattle.command_line.specs.declared.line.Unrooted.TheVariants as unrooted
 use Rattle.command_line.specs.declared.line.RootKind.{RootKind}
 use Rattle.command_line.specs.declared.line.RootKind.TheVariants.{Permanent, User}
-use Rattle.store_calls.specs.declared.requests.Request.{Request as Made}
-use Rattle.store_calls.specs.View.{request_view}
+use Rattle.store_requests.specs.declared.requests.Request.{Request as Made}
+use Rattle.store_requests.specs.View.{request_view}
 use Rattle.pure_commands.specs.declared.stops.Failure.TheVariants.{Memory, File, Input, Output}
 use Rattle.pure_commands.specs.declared.stops.Stop.{Stop}
 use Rattle.pure_commands.specs.declared.stops.Stop.TheVariants.{Refused, Failed}

@@ -14,7 +14,7 @@ use pure_commands::{
 };
 use std::alloc::Global;
 use std::io::Read;
-use store_calls::Request;
+use store_requests::Request;
 
 /// The name and the references of an object that is to be added.
 fn parse_arguments(

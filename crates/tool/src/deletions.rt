@@ -7,7 +7,7 @@ use command_line::DeleteArguments;
 use paths::StoreDir;
 use pure_commands::{Stop, parse_references};
 use std::alloc::Global;
-use store_calls::Request;
+use store_requests::Request;
 
 /// Objects are to be deleted.
 pub(crate) fn delete_paths(

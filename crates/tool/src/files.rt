@@ -19,8 +19,8 @@ use sqlite_disk::Disk;
 use std::alloc::Global;
 use std::io::{Read, Write};
 use std::rt::HostRuntime;
-use store_calls::Reply;
 use store_commands::tell;
+use store_requests::Reply;
 use table_opening::file::{self, Untold};
 
 /// Why no connection to a file was taken up, which is given up: what isn't a database is no store.

@@ -1,6 +1,6 @@
 //! What is asked of a store by a body on the input.
 ghost use Rattle.std.specs.Prelude.{◌≡◌, ◌⊎◌, IfOk, IfErr, IfSome};
-ghost use Rattle.store_calls.specs.View.{import_view};
+ghost use Rattle.store_requests.specs.View.{import_view};
 ghost use Rattle.tool.specs.Bodies as spec;
 ghost use Rattle.tool.specs.Bodies.{imported};
 ghost use Rattle.tool.specs.Requests.{IsAsked, IsAskedOver};
@@ -11,7 +11,7 @@ use pure_commands::{Failure, Stop, read_input};
 use report::Refusal;
 use std::alloc::Global;
 use std::io::Read;
-use store_calls::{Imported, Request};
+use store_requests::{Imported, Request};
 
 /// All bytes of standard input.
 fn read_whole<R: Read>(alloc: Global, input: &mut R) -> Result<Vec<u8>, Stop>

@@ -1,7 +1,7 @@
 //! What is asked of roots that have names.
 ghost use Rattle.std.specs.Prelude.{◌≡◌, IfOk, IfErr, Ok, string_bytes};
 ghost use Rattle.command_line.specs.Asked.{optional_text};
-ghost use Rattle.store_calls.specs.View.{request_view};
+ghost use Rattle.store_requests.specs.View.{request_view};
 ghost use Rattle.tool.specs.Requests as spec;
 ghost use Rattle.tool.specs.Requests.{Gives, IsAsked, on_path, owner_of};
 
@@ -10,7 +10,7 @@ use paths::{StoreDir, StorePath};
 use policy::Caller;
 use pure_commands::{Failure, Stop, parse_reference};
 use std::alloc::{AllocError, Global};
-use store_calls::Request;
+use store_requests::Request;
 
 /// A request that was made, or memory was refused.
 pub(crate) fn made(request: Result<Request, AllocError>) -> Result<Request, Stop>

@@ -2,7 +2,7 @@
 ghost use Rattle.std.specs.Prelude.{◌≡◌, IfOk, string_bytes};
 ghost use Rattle.command_line.specs.Asked.{on_profile_view, optional_text};
 ghost use Rattle.store.specs.Request as asked;
-ghost use Rattle.store_calls.specs.View.{request_view};
+ghost use Rattle.store_requests.specs.View.{request_view};
 ghost use Rattle.tool.specs.Requests as spec;
 ghost use Rattle.tool.specs.Requests.{Gives, IsAsked, owner_of};
 
@@ -12,7 +12,7 @@ use paths::{StoreDir, StorePath};
 use policy::Caller;
 use pure_commands::{Stop, parse_reference};
 use std::alloc::{AllocError, Global};
-use store_calls::Request;
+use store_requests::Request;
 
 /// Whose a profile is, and its name.
 fn names(

@@ -17,7 +17,7 @@ use policy::Caller;
 use pure_commands::{Stop, parse_reference};
 use std::alloc::Global;
 use std::io::Read;
-use store_calls::Request;
+use store_requests::Request;
 
 /// Whether a subcommand asks something of a store.
 pub(crate) fn is_asked(task: &Task<'_>) -> bool

@@ -18,8 +18,8 @@ use server::{serve_port, serve_streams};
 use sqlite::{Alter, Unknown};
 use std::io::{Read, Write};
 use std::rt::HostRuntime;
-use store_calls::Reply;
 use store_commands::tell;
+use store_requests::Reply;
 use tables::Tables;
 
 /// Serves the store of these tables.

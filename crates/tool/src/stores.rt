@@ -14,8 +14,9 @@ use pure_commands::say;
 use sqlite::Alter;
 use std::alloc::Global;
 use std::io::{Read, Write};
-use store_calls::{Reply, Store};
+use store_calls::Store;
 use store_commands::{serve, tell};
+use store_requests::Reply;
 use tables::Tables;
 
 /// Asks a store over these tables.

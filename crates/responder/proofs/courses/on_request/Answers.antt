@@ -1,6 +1,6 @@
 use Rattle.std.proofs.Common.{◌≡◌, None}
 use Rattle.asking.specs.View as given
-use Rattle.store_calls.specs.View as views
+use Rattle.store_requests.specs.View as views
 use Rattle.report.specs.declared.refusal.Refusal.TheVariants.{NoRoute}
 use Rattle.wire.specs.Responses.{refused}
 use Rattle.responder.specs.Courses.{replies, is_there, course_to}

@@ -2,8 +2,8 @@ use Rattle.std.proofs.Common.{sym, ap, subst, ◌∙◌}
 use Rattle.std.specs.List.{list_any}
 use Rattle.store.specs.Liveness.{lives}
 use Rattle.store.specs.Verdict.{named_in}
-use Rattle.store_calls.specs.declared.requests.Request.{Request}
-use Rattle.store_calls.specs.View.{request_view}
+use Rattle.store_requests.specs.declared.requests.Request.{Request}
+use Rattle.store_requests.specs.View.{request_view}
 use Rattle.store_calls.specs.Meets.{IsMet}
 use Rattle.store_calls.proofs.Collected.{deleted_sound}
 use Rattle.store_calls.proofs.Untouched.{met_by_reading}

@@ -2,7 +2,7 @@ use Rattle.std.proofs.Common.{Err, refl, subst}
 use Rattle.nar.specs.Tree.{IsBytes}
 use Rattle.store.specs.Request.{add_text}
 use Rattle.store.specs.Adds.{added_text}
-use Rattle.store_calls.specs.Parts.{added_view}
+use Rattle.store_requests.specs.Parts.{added_view}
 use Rattle.store_calls.proofs.Untouched.{met_by_reading, reads_stopped}
 use Rattle.store_calls.proofs.AddedObjects.{met_by_adding, text_given, text_stopped, text_stays_sound}
 use Rattle.store_calls.proofs.adding.add_text.Goals as goal

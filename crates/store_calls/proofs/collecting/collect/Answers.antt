@@ -3,7 +3,7 @@ use Rattle.store.specs.Request.{collect}
 use Rattle.store.specs.Reply.{freed}
 use Rattle.store.specs.Effects.{effect}
 use Rattle.table_statements.specs.declared.failure.Failure.TheVariants.{Memory}
-use Rattle.store_calls.specs.declared.replies.Stop.TheVariants.{Failed}
+use Rattle.store_requests.specs.declared.replies.Stop.TheVariants.{Failed}
 use Rattle.store_calls.specs.Removing.{without}
 use Rattle.store_calls.proofs.Written.{sound_as, met_by_stopping}
 use Rattle.store_calls.proofs.Collected.{collected_left, sound_left}

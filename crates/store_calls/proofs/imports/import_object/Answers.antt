@@ -1,8 +1,8 @@
 use Rattle.std.proofs.Common.{Err, refl}
 use Rattle.store.specs.Request.{import_object}
 use Rattle.store.specs.Adds.{added_import}
-use Rattle.store_calls.specs.Parts.{added_view}
-use Rattle.store_calls.specs.View.{import_view}
+use Rattle.store_requests.specs.Parts.{added_view}
+use Rattle.store_requests.specs.View.{import_view}
 use Rattle.store_calls.proofs.Untouched.{met_by_reading, reads_stopped}
 use Rattle.store_calls.proofs.AddedObjects.{met_by_adding}
 use Rattle.store_calls.proofs.AddedImports.{import_given, import_stopped, import_stays_sound}

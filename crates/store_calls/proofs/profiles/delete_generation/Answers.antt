@@ -4,9 +4,9 @@ use Rattle.world.specs.World.{Pair}
 use Rattle.world.specs.Profiles.{profile_at, without_generation}
 use Rattle.store.specs.Request.{delete_generation}
 use Rattle.store.specs.Effects.{with_profile}
-use Rattle.store_calls.specs.declared.replies.Answer.{Answer}
-use Rattle.store_calls.specs.declared.replies.Answer.TheVariants.{Changed}
-use Rattle.store_calls.specs.declared.replies.Stop.{Stop}
+use Rattle.store_requests.specs.declared.replies.Answer.{Answer}
+use Rattle.store_requests.specs.declared.replies.Answer.TheVariants.{Changed}
+use Rattle.store_requests.specs.declared.replies.Stop.{Stop}
 use Rattle.store_calls.specs.Meets.{IsMet}
 use Rattle.store_calls.proofs.Written.{sound_as, met_by_stopping, met_by_writing}
 use Rattle.store_calls.proofs.ProfileChanges.{there_as, changed_as}

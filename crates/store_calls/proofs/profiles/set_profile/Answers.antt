@@ -6,9 +6,9 @@ use Rattle.index.specs.Outline.{Outline, profile_of}
 use Rattle.store.specs.Request.{set_profile}
 use Rattle.store.specs.Reply.{generation}
 use Rattle.store.specs.Effects.{with_profile}
-use Rattle.store_calls.specs.declared.replies.Answer.{Answer}
-use Rattle.store_calls.specs.declared.replies.Answer.TheVariants.{Generation}
-use Rattle.store_calls.specs.declared.replies.Stop.{Stop}
+use Rattle.store_requests.specs.declared.replies.Answer.{Answer}
+use Rattle.store_requests.specs.declared.replies.Answer.TheVariants.{Generation}
+use Rattle.store_requests.specs.declared.replies.Stop.{Stop}
 use Rattle.store_calls.specs.Meets.{IsMet}
 use Rattle.store_calls.proofs.Written.{sound_as, met_by_stopping, met_by_writing}
 use Rattle.store_calls.proofs.ProfileChanges.{same_owned, changed_as}

@@ -1,8 +1,8 @@
 use Rattle.std.proofs.Common.{◌<◌, List, Result, length, refl, sym, ap, subst, ◌∙◌}
 use Rattle.world.specs.World.{Path}
-use Rattle.store_calls.specs.declared.replies.Answer.{Answer}
-use Rattle.store_calls.specs.declared.replies.Answer.TheVariants.{Freed}
-use Rattle.store_calls.specs.declared.replies.Stop.{Stop}
+use Rattle.store_requests.specs.declared.replies.Answer.{Answer}
+use Rattle.store_requests.specs.declared.replies.Answer.TheVariants.{Freed}
+use Rattle.store_requests.specs.declared.replies.Stop.{Stop}
 use Rattle.store_calls.specs.Meets.{IsMet}
 use Rattle.store_calls.specs.Removing.{without}
 use Rattle.store_calls.proofs.Written.{sound_as}

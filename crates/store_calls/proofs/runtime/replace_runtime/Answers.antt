@@ -7,9 +7,9 @@ use Rattle.index.specs.Maps.{labelled_bytes, seen_set}
 use Rattle.store.specs.Request.{replace_runtime}
 use Rattle.store.specs.Reply.{runtime_count}
 use Rattle.store.specs.Effects.{valid_pairs, with_runtime}
-use Rattle.store_calls.specs.declared.replies.Answer.{Answer}
-use Rattle.store_calls.specs.declared.replies.Answer.TheVariants.{RuntimeCount}
-use Rattle.store_calls.specs.declared.replies.Stop.{Stop}
+use Rattle.store_requests.specs.declared.replies.Answer.{Answer}
+use Rattle.store_requests.specs.declared.replies.Answer.TheVariants.{RuntimeCount}
+use Rattle.store_requests.specs.declared.replies.Stop.{Stop}
 use Rattle.store_calls.specs.Meets.{IsMet}
 use Rattle.store_calls.proofs.Written.{sound_as, met_by_stopping, met_by_writing}
 use Rattle.store_calls.proofs.Fits.{no_settings, runtime_fits}

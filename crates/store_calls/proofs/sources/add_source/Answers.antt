@@ -1,7 +1,7 @@
 use Rattle.std.proofs.Common.{Err, refl}
 use Rattle.store.specs.Request.{add_source}
 use Rattle.store.specs.Adds.{added_source}
-use Rattle.store_calls.specs.Parts.{added_view}
+use Rattle.store_requests.specs.Parts.{added_view}
 use Rattle.store_calls.proofs.Untouched.{met_by_reading, reads_stopped}
 use Rattle.store_calls.proofs.AddedObjects.{met_by_adding}
 use Rattle.store_calls.proofs.AddedSources.{source_given, source_stopped, source_stays_sound}

@@ -2,9 +2,9 @@ use Rattle.std.proofs.Common.{ℕ, List, Result, refl, sym, ap₂, subst, ◌∙
 use Rattle.std.specs.Prelude.{string_bytes}
 use Rattle.store.specs.Request.{set_user_root}
 use Rattle.store.specs.Effects.{with_user_root}
-use Rattle.store_calls.specs.declared.replies.Answer.{Answer}
-use Rattle.store_calls.specs.declared.replies.Answer.TheVariants.{Changed}
-use Rattle.store_calls.specs.declared.replies.Stop.{Stop}
+use Rattle.store_requests.specs.declared.replies.Answer.{Answer}
+use Rattle.store_requests.specs.declared.replies.Answer.TheVariants.{Changed}
+use Rattle.store_requests.specs.declared.replies.Stop.{Stop}
 use Rattle.store_calls.specs.Meets.{IsMet}
 use Rattle.store_calls.proofs.Written.{sound_as, met_by_stopping, met_by_writing}
 use Rattle.store_calls.proofs.Fits.{no_settings, user_root_fits}

@@ -1,6 +1,6 @@
 use Rattle.std.proofs.Common.{◌≡◌, List, ℕ, ap, subst, ◌∙◌}
 use Rattle.policy.specs.Settings.{Settings}
-use Rattle.store_calls.specs.View.{reply_view}
+use Rattle.store_requests.specs.View.{reply_view}
 use Rattle.store_commands.specs.Telling.{IsTold}
 use Rattle.store_commands.proofs.serving.serve.Goals as goal
 

@@ -1,6 +1,6 @@
 use Rattle.std.proofs.Common.{Err, refl, subst, sym}
 use Rattle.store.specs.Request.{add_source}
-use Rattle.store_calls.specs.declared.requests.Request.TheVariants.{AddSource}
+use Rattle.store_requests.specs.declared.requests.Request.TheVariants.{AddSource}
 use Rattle.command_line.specs.Asked.{object_view}
 use Rattle.nar.specs.Tree.{IsBytes}
 use Rattle.tool.specs.Requests.{Gives, StepsAs, on_object}

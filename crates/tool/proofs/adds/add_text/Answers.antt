@@ -1,6 +1,6 @@
 use Rattle.std.proofs.Common.{Err, refl, subst, sym}
 use Rattle.store.specs.Request.{add_text}
-use Rattle.store_calls.specs.declared.requests.Request.TheVariants.{AddText}
+use Rattle.store_requests.specs.declared.requests.Request.TheVariants.{AddText}
 use Rattle.command_line.specs.Asked.{object_view}
 use Rattle.tool.specs.Requests.{Gives, StepsAs, on_object}
 use Rattle.tool.proofs.Fronted.{contents_step}

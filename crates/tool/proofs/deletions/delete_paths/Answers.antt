@@ -5,7 +5,7 @@ use Rattle.std.proofs.lemmas.Simd.{map-map}
 use Rattle.clap.specs.Walk.{texts}
 use Rattle.paths.specs.StorePath.{base_of}
 use Rattle.store.specs.Request.{delete}
-use Rattle.store_calls.specs.declared.requests.Request.TheVariants.{Delete}
+use Rattle.store_requests.specs.declared.requests.Request.TheVariants.{Delete}
 use Rattle.pure_commands.specs.Object.{is_path_text}
 use Rattle.tool.proofs.Requested.{paths_asked, paths_refused}
 use Rattle.tool.proofs.deletions.delete_paths.Goals as goal

@@ -1,8 +1,8 @@
 use Rattle.std.proofs.Common.{rules, ◌≡◌, Err, refl, ap, ◌∙◌}
 use Rattle.bodies.specs.Bodies.{IsImportBody}
 use Rattle.store.specs.Request.{import_object}
-use Rattle.store_calls.specs.declared.requests.Request.TheVariants.{Import}
-use Rattle.store_calls.specs.View.{request_view}
+use Rattle.store_requests.specs.declared.requests.Request.TheVariants.{Import}
+use Rattle.store_requests.specs.View.{request_view}
 use Rattle.tool.specs.Bodies.{IsImported, imported}
 use Rattle.tool.proofs.Whole.{body_refused}
 use Rattle.tool.proofs.Requested.{same_steps}

@@ -1,7 +1,7 @@
 use Rattle.std.proofs.Common.{Err, refl, ap, ◌∙◌}
 use Rattle.store.specs.Request.{replace_runtime}
-use Rattle.store_calls.specs.declared.requests.Request.TheVariants.{ReplaceRuntime}
-use Rattle.store_calls.specs.View.{request_view}
+use Rattle.store_requests.specs.declared.requests.Request.TheVariants.{ReplaceRuntime}
+use Rattle.store_requests.specs.View.{request_view}
 use Rattle.bodies.specs.Bodies.{labelled}
 use Rattle.tool.specs.Bodies.{IsReplaced}
 use Rattle.tool.proofs.Whole.{body_refused}

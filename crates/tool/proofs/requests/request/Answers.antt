@@ -1,7 +1,7 @@
 use Rattle.std.proofs.Common.{◌≡◌, true, false, ap, refl, Ok, sym, ◌∙◌}
 use Rattle.clap.specs.Walk.{texts}
 use Rattle.store.specs.Request as request
-use Rattle.store_calls.specs.declared.requests.Request.TheVariants.{Collect, List, ListDead, ListLive, ListRoots, Report}
+use Rattle.store_requests.specs.declared.requests.Request.TheVariants.{Collect, List, ListDead, ListLive, ListRoots, Report}
 use Rattle.command_line.specs.Asked.{asked_view, on_profile_view, optional_text}
 use Rattle.tool.specs.Requests.{asks, import_body, reads_all, runtime_body, change_profile, drop_root, on_path, on_paths, owner_of, set_root}
 use Rattle.tool.proofs.Requested.{arm, plain_arm, unread_arm, unroot_asks}

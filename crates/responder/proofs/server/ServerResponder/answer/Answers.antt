@@ -1,6 +1,6 @@
 use Rattle.std.proofs.Common.{◌≡◌, IfOk, subst, sym, ap, ◌∙◌}
 use Rattle.connection.specs.Answers.{Answered, body_in}
-use Rattle.store_calls.specs.View.{request_view, reply_view}
+use Rattle.store_requests.specs.View.{request_view, reply_view}
 use Rattle.store_commands.specs.Serving.{Calls}
 use Rattle.wire.specs.Responses.{replied}
 use Rattle.responder.specs.Replies.{response_to}

@@ -8,8 +8,8 @@ use Rattle.store.specs.Verdict.{operation_of}
 use Rattle.world.specs.World.{World}
 use Rattle.index.specs.Maps.{labelled_bytes}
 use Rattle.tables.specs.Kept.{Tells}
-use Rattle.store_calls.specs.Removing.{IsDenial}
-use Rattle.store_calls.specs.View.{request_view, reply_view}
+use Rattle.store_requests.specs.Removing.{IsDenial}
+use Rattle.store_requests.specs.View.{request_view, reply_view}
 use Rattle.store_calls.specs.Meets.{IsMet}
 use Rattle.store_calls.specs.Standing.{Standing}
 use Rattle.store_calls.proofs.Replied.{step_denied, step_failing, step_living, step_met}

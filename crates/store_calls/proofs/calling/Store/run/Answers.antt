@@ -6,7 +6,7 @@ use Rattle.policy.specs.Settings.{Settings}
 use Rattle.store.specs.Reply.{Reply}
 use Rattle.tables.proofs.Kept.{clean_before}
 use Rattle.store_calls.specs.Disk.{StepOver}
-use Rattle.store_calls.specs.View.{call_view, request_view, reply_view}
+use Rattle.store_requests.specs.View.{call_view, request_view, reply_view}
 use Rattle.store_calls.proofs.Runs.{HasRun, begun, one_more, ended}
 use Rattle.store_calls.proofs.calling.Store.run.Goals as goal
 

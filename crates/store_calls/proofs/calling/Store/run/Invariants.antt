@@ -4,7 +4,7 @@ use Rattle.sqlite.specs.State.{HasCleanDisk}
 use Rattle.sqlite.specs.Held.{state}
 use Rattle.world.specs.World.{World}
 use Rattle.tables.specs.Kept.{Tells}
-use Rattle.store_calls.specs.View.{call_view, reply_view}
+use Rattle.store_requests.specs.View.{call_view, reply_view}
 use Rattle.store_calls.proofs.Runs.{HasRun}
 use Rattle.store_calls.proofs.calling.Store.run.Given as goal
 

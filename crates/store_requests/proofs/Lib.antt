@@ -1,0 +1,9 @@
+pub mod Outlined
+pub mod Passing
+pub mod TextArchives
+pub mod Outputs
+pub mod Parted
+pub mod Ordered
+pub mod RuntimePairs
+pub mod Addresses
+pub mod Denied

@@ -1,0 +1,33 @@
+use Rattle.std.proofs.Common.{◌≡◌, ℕ, List, Some, arith, sym, ap, ◌∙◌}
+use Rattle.paths.specs.Path.{text_path}
+use Rattle.paths.specs.ContentAddress.{ContentAddress}
+use Rattle.world.specs.Objects.{outputs_at}
+use Rattle.index.specs.Outline.{Outlined}
+use Rattle.store.specs.Adds.{text_archive}
+use Rattle.store.specs.Tests.{first_failing, text_tests}
+use Rattle.store_requests.proofs.adding.prepare_text.Goals as goal
+
+pub returns-clause-bytes : goal.returns-clause-bytes
+returns-clause-bytes c = λ i. omega (arith, c.type_inv.contents i)
+
+pub returns-clause-told : goal.returns-clause-told
+returns-clause-told c w is =
+    let dir = c.args.dir.now in
+    let contents = c.args.contents.now in
+    let refs = c.args.refs.items in
+    let examined = c.in_ok-outputs.ensures.told w is in
+    let path_is : c.in_ok-path.path ≡ text_path dir c.args.name.now refs contents =
+    c.in_ok-path.ensures.value ∙ ap (λ (r : List (List ℕ)). text_path dir c.args.name.now r contents) c.deref.ensures.value in (
+      sym (ap (λ (p : List ℕ). first_failing (text_tests dir w p refs contents)) path_is)
+          ∙ ap (λ (r : List (List ℕ)). first_failing (text_tests dir w c.in_ok-path.path r contents)) (sym c.deref-2.ensures.value) ∙ examined.0,
+      λ i. record {
+        path = path_is i;
+        object = record {
+          nar = c.in_ok-nar.ensures i;
+          references = ap (λ (o : Outlined). o.references) c.in_ok-object.ensures i;
+          deriver = ap (λ (o : Outlined). o.deriver) c.in_ok-object.ensures i;
+          ca = (ap (λ (o : Outlined). o.ca) c.in_ok-object.ensures ∙ ap (λ (a : ContentAddress). Some a) c.of_text.ensures) i;
+          outputs = (ap (λ (o : Outlined). o.outputs) c.in_ok-object.ensures ∙ examined.1 ∙ ap (λ (p : List ℕ). outputs_at dir p (text_archive contents)) path_is) i;
+        };
+      },
+    )

@@ -1,0 +1,53 @@
+//! Texts that are handed in.
+
+ghost use Rattle.std.specs.Prelude.{◌≡◌, IfOk, OnOk, length};
+ghost use Rattle.sha2.specs.Sha256.{sha256};
+ghost use Rattle.nar.specs.Tree.{IsBytes};
+ghost use Rattle.world.specs.World.{World};
+ghost use Rattle.index.specs.Outline.{outline_of};
+ghost use Rattle.store.specs.Adds.{added_text};
+ghost use Rattle.store.specs.Tests as tests;
+ghost use Rattle.store.specs.Tests.{first_failing};
+ghost use Rattle.paths.specs.Path as paths;
+ghost use Rattle.store_requests.specs.Tested.{Gives};
+ghost use Rattle.store_requests.specs.Parts.{added_view};
+
+use crate::archives::text_archive;
+use crate::examining::examine_text;
+use crate::replies::Stop;
+use crate::summaries::{Added, summary};
+use index::Index;
+use paths::{Ca, Name, StoreDir, StorePath, text_path};
+use sha2::{Digest, Sha256};
+use std::alloc::Global;
+
+/// The object of a text, tested.
+pub fn prepare_text(
+    alloc: Global,
+    dir: &StoreDir,
+    index: &Index,
+    name: &Name,
+    refs: Vec<StorePath>,
+    contents: &[u8],
+) -> Result<Added, Stop>
+    ensures told { (w : World) → outline_of w ≡ index.now → Gives added_view result
+        (first_failing (tests.text_tests dir.now w (paths.text_path dir.now name.now refs.items contents.now) refs.items contents.now)) (added_text dir.now name.now refs.items contents.now) }
+    ensures bytes { OnOk result (IsBytes contents.now) }
+    ensures size { IfOk result (λ a. a.object.size ≡ length a.nar.items) }
+    ensures hash { IfOk result (λ a. a.object.hash ≡ sha256 a.nar.items) }
+{
+    let path = text_path(alloc, dir, name, &refs, contents)?;
+    let outputs = examine_text(alloc, dir, index, &path, &refs, contents)?;
+    let nar = text_archive(alloc, contents)?;
+    let ca = Some(Ca::of_text(contents));
+    let object = summary(
+        alloc,
+        nar.len(),
+        Sha256::digest(&nar),
+        refs,
+        None,
+        ca,
+        outputs,
+    )?;
+    Ok(Added { path, nar, object })
+}

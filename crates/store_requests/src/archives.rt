@@ -1,0 +1,48 @@
+//! Archives of objects.
+ghost use Rattle.std.specs.Prelude.{◌≡◌, ◌≤◌, false, nat_le, IfOk, OnOk};
+ghost use Rattle.nar.specs.Tree.{regular};
+ghost use Rattle.nar.specs.Archive.{limit};
+ghost use Rattle.nar.specs.View.{tree_of};
+ghost use Rattle.store.specs.Adds as adds;
+ghost use Rattle.store.specs.Adds.{text_archive_size};
+ghost use Rattle.store.specs.Reply as replied;
+ghost use Rattle.store.specs.Tests.{unless};
+ghost use Rattle.store_requests.specs.Tested.{Tested};
+ghost use Rattle.nar.specs.declared.error.NarError.TheVariants.{TooLarge as too_large};
+
+use crate::replies::{Refusal, Stop};
+use nar::{NarError, Node};
+use std::alloc::{AllocError, Global};
+
+/// A regular file that isn't executable.
+pub(crate) fn plain(contents: &[u8]) -> Node<'_>
+    ensures { tree_of result ≡ regular false contents.now }
+{
+    Node::Regular {
+        executable: false,
+        contents,
+    }
+}
+
+/// Tests that the archive of a text is small enough.
+pub(crate) fn has_archive(contents: &[u8]) -> Result<(), Stop>
+    ensures told { Tested result (unless (nat_le (text_archive_size contents.now) limit) (replied.archive too_large)) }
+    ensures fits { OnOk result (text_archive_size contents.now ≤ limit) }
+{
+    let file = plain(contents);
+    if !nar::is_writable(&file) {
+        return Err(Stop::Refused(Refusal::Archive(NarError::TooLarge)));
+    }
+    Ok(())
+}
+
+/// The archive of a text.
+pub(crate) fn text_archive(alloc: Global, contents: &[u8]) -> Result<Vec<u8>, AllocError>
+    requires { text_archive_size contents.now ≤ limit }
+    ensures { IfOk result (λ nar. nar.items ≡ adds.text_archive contents.now) }
+{
+    let file = plain(contents);
+    let mut nar = Vec::new(alloc);
+    nar::write(&file, &mut nar)?;
+    Ok(nar)
+}

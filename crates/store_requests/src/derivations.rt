@@ -1,0 +1,80 @@
+//! Derivations: the outputs that they record.
+ghost use Rattle.std.specs.Prelude.{◌≡◌, Ok, if◌then◌else◌, IfOk};
+ghost use Rattle.std.specs.FinMap as finite;
+ghost use Rattle.paths.specs.StorePath.{is_derivation};
+ghost use Rattle.nar.specs.declared.error.NarError.{NarError as Fault};
+ghost use Rattle.nar.specs.View.{tree_of};
+ghost use Rattle.drv.specs.Outcome as outcome;
+ghost use Rattle.drv.specs.View.{pairs};
+ghost use Rattle.world.specs.Objects as objects;
+ghost use Rattle.store.specs.Tests.{if_derivation, outputs_fault, tree_fault};
+ghost use Rattle.store_requests.specs.Tested.{Gives};
+ghost use Rattle.store_requests.specs.Parts.{outputs_view};
+
+use crate::replies::{Refusal, Stop};
+use drv::DrvError;
+use nar::Node;
+use paths::{StoreDir, StorePath};
+use std::alloc::{AllocError, Global};
+use std::collections::BTreeMap;
+use table_statements::failure::Failure;
+
+/// The paths of outputs by their names.
+fn by_name(
+    alloc: Global,
+    found: Vec<(String, StorePath)>,
+) -> Result<BTreeMap<String, StorePath>, AllocError>
+    ensures { IfOk result (λ map. outputs_view map.entries ≡ finite.from_entries (pairs found.items)) }
+{
+    let mut left = found;
+    let mut map = BTreeMap::new(alloc);
+    while let Some((name, path)) = left.pop() {
+        map.insert(name, path)?;
+    }
+    Ok(map)
+}
+
+/// The outputs of a derivation text.
+fn outputs_of(
+    alloc: Global,
+    dir: &StoreDir,
+    text: &[u8],
+) -> Result<BTreeMap<String, StorePath>, Stop>
+    ensures { Gives (λ map. outputs_view map.entries) result (outputs_fault (outcome.outputs_of dir.now text.now)) (objects.outputs_if_sound (outcome.outputs_of dir.now text.now)) }
+{
+    match drv::outputs(alloc, text, dir) {
+        Ok(found) => Ok(by_name(alloc, found)?),
+        Err(DrvError::Memory) => Err(Stop::Failed(Failure::Memory)),
+        Err(fault) => Err(Stop::Refused(Refusal::Derivation(fault))),
+    }
+}
+
+/// The outputs of a tree as a derivation: any other node than a regular file has no text.
+fn outputs_in(
+    alloc: Global,
+    dir: &StoreDir,
+    node: &Node<'_>,
+) -> Result<BTreeMap<String, StorePath>, Stop>
+    ensures { Gives (λ map. outputs_view map.entries) result (tree_fault dir.now (Ok (tree_of node.now))) (objects.tree_outputs {E = Fault} dir.now (Ok (tree_of node.now))) }
+{
+    match node {
+        Node::Regular { contents, .. } => outputs_of(alloc, dir, contents),
+        _ => Err(Stop::Refused(Refusal::Derivation(DrvError::BadDerivation))),
+    }
+}
+
+/// The outputs that an object records: those of its tree as a derivation if its name ends in `.drv`, and else none.
+pub(crate) fn outputs_at(
+    alloc: Global,
+    dir: &StoreDir,
+    path: &StorePath,
+    node: &Node<'_>,
+) -> Result<BTreeMap<String, StorePath>, Stop>
+    ensures { Gives (λ map. outputs_view map.entries) result (if_derivation path.now (tree_fault dir.now (Ok (tree_of node.now)))) (if is_derivation path.now then objects.tree_outputs {E = Fault} dir.now (Ok (tree_of node.now)) else finite.empty) }
+{
+    if path.is_derivation() {
+        outputs_in(alloc, dir, node)
+    } else {
+        Ok(BTreeMap::new(alloc))
+    }
+}

@@ -1,0 +1,73 @@
+//! Imports: objects that are added at given paths.
+
+ghost use Rattle.std.specs.Prelude.{◌≡◌, IfOk, OnOk, length};
+ghost use Rattle.sha2.specs.Sha256.{sha256};
+ghost use Rattle.world.specs.World.{World};
+ghost use Rattle.world.specs.Objects as objects;
+ghost use Rattle.index.specs.Outline.{outline_of};
+ghost use Rattle.store.specs.Adds.{added_import};
+ghost use Rattle.store.specs.Soundness.{IsWellFormedImport};
+ghost use Rattle.store.specs.Tests.{first_failing, import_tests};
+ghost use Rattle.store_requests.specs.Tested.{Gives};
+ghost use Rattle.store_requests.specs.Parts.{added_view, outputs_view};
+ghost use Rattle.store_requests.specs.View.{import_view};
+
+use crate::derivations::outputs_at;
+use crate::references::{are_few, are_there};
+use crate::replies::Stop;
+use crate::requests::Imported;
+use crate::sources::tree;
+use crate::summaries::{Added, summary};
+use index::Index;
+use paths::{StoreDir, StorePath};
+use std::alloc::Global;
+use std::collections::BTreeMap;
+
+/// Tests an object that is handed in with its path; gives the outputs that it records.
+fn examine_import(
+    alloc: Global,
+    dir: &StoreDir,
+    index: &Index,
+    import: &Imported,
+) -> Result<BTreeMap<String, StorePath>, Stop>
+    ensures told { (w : World) → outline_of w ≡ index.now → Gives (λ map. outputs_view map.entries) result
+        (first_failing (import_tests dir.now w (import_view import.now))) (objects.outputs_at dir.now (import_view import.now).path (import_view import.now).nar) }
+    ensures formed { OnOk result (IsWellFormedImport (import_view import.now)) }
+    ensures hash { OnOk result ((import_view import.now).nar_hash ≡ sha256 (import_view import.now).nar) }
+{
+    import.has_base_names();
+    are_few(&import.refs)?;
+    let node = tree(alloc, &import.nar)?;
+    import.has_digest()?;
+    import.refers_to_others()?;
+    import.is_verified(alloc, dir)?;
+    let outputs = outputs_at(alloc, dir, &import.path, &node)?;
+    are_there(index, &import.path, &import.refs)?;
+    Ok(outputs)
+}
+
+/// The object of an import, tested.
+pub fn prepare_import(
+    alloc: Global,
+    dir: &StoreDir,
+    index: &Index,
+    import: Imported,
+) -> Result<Added, Stop>
+    ensures told { (w : World) → outline_of w ≡ index.now → Gives added_view result
+        (first_failing (import_tests dir.now w (import_view import))) (added_import dir.now (import_view import)) }
+    ensures formed { OnOk result (IsWellFormedImport (import_view import)) }
+    ensures size { IfOk result (λ a. a.object.size ≡ length a.nar.items) }
+    ensures hash { IfOk result (λ a. a.object.hash ≡ sha256 a.nar.items) }
+{
+    let outputs = examine_import(alloc, dir, index, &import)?;
+    let Imported {
+        path,
+        nar_hash,
+        refs,
+        deriver,
+        ca,
+        nar,
+    } = import;
+    let object = summary(alloc, nar.len(), nar_hash, refs, deriver, ca, outputs)?;
+    Ok(Added { path, nar, object })
+}
