@@ -1,6 +1,7 @@
 pub mod Orders
 pub mod Trees
 pub mod SetTrees
+pub mod SessionTrees
 mod Generations
 pub mod Puts
 pub mod Written

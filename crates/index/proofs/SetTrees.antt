@@ -14,7 +14,7 @@ use Rattle.world.specs.World.{temporary_cmp}
 use Rattle.index.specs.Maps.{seen_set, temporary_bytes}
 use Rattle.index.proofs.Trees.{keys_seen}
 
-abbrev with_unit : {X : Type 0} → X → X × Unit {0}
+abbrev pub with_unit : {X : Type 0} → X → X × Unit {0}
 with_unit x = (x, tt)
 
 module _ {K L : Type 0} (R : L → L → Ordering) (key : K → L) (o : IsTotalOrder R) (same : finite.IsAntisymmetric R) where
@@ -68,12 +68,12 @@ set_keys {K} {L} R key o same keys sorted =
 
 -- ---- the order of temporary roots
 
-then_assoc : (a b c : Ordering) → ordering_then (ordering_then a b) c ≡ ordering_then a (ordering_then b c)
+pub then_assoc : (a b c : Ordering) → ordering_then (ordering_then a b) c ≡ ordering_then a (ordering_then b c)
 then_assoc Less b c = refl
 then_assoc Equal b c = refl
 then_assoc Greater b c = refl
 
-abbrev Kept : Type 0
+abbrev pub Kept : Type 0
 Kept = String Global × ℕ × List ℕ
 
 -- the order of tuples is that of what they are seen as

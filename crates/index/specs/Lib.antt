@@ -3,3 +3,4 @@ pub mod Outline
 pub mod Summary
 pub mod Index
 pub mod Filling
+pub mod Sessions

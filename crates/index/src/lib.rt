@@ -8,6 +8,7 @@ mod objects;
 mod outline;
 mod profiles;
 mod roots;
+mod sessions;
 mod summary;
 
 pub use outline::Index;

@@ -4,11 +4,10 @@ use Rattle.sqlite_trees.specs.declared.store.Store.{Ghosts}
 use Rattle.sqlite.specs.Effect.{Database}
 use Rattle.sqlite.specs.State.{State, HasCleanDisk}
 use Rattle.sqlite.specs.Held.{Held, state}
-use Rattle.table_forms.specs.Standing.{HasTables}
 use Rattle.table_statements.specs.Contents.{contents_of}
-use Rattle.table_statements.specs.Texts.{AreReadable}
-use Rattle.table_statements.specs.Calls.{IsReady}
+use Rattle.table_statements.specs.Calls.{IsReady, IsWhole}
 use Rattle.world.specs.Told.{IsSoundContents, world_in}
+use Rattle.world.specs.Rows.{three}
 use Rattle.index.specs.Outline.{Outline, outline_of}
 use Rattle.tables.specs.Kept.{Kept, Agrees}
 use Rattle.table_forms.specs.Finding.{HasNone}
@@ -16,39 +15,28 @@ use Rattle.table_making.specs.Making.{IsMade}
 use Rattle.paths.specs.Names.{is_store_dir}
 use Rattle.world.specs.World.{no_world}
 use Rattle.tables.proofs.Made.{made_tells}
-use Rattle.opening.specs.declared.reading.Taken.{Taken}
-use Rattle.opening.specs.Taken.{TakesOver, TakesNew}
-
--- no rows of a store, by what was read of them
-abbrev pub NoneIsRead : Database → Type 0
-NoneIsRead db = (dir : List ℕ) → ¬ IsSoundContents dir (contents_of db)
-
--- rows are sound, and have this outline
-abbrev pub AreRead : List ℕ → Database → Outline → Type 0
-AreRead dir db outline = IsSoundContents dir (contents_of db) × (outline_of (world_in (contents_of db)) ≡ outline)
-
-abbrev pub IsRead : Database → Taken → Type 0
-IsRead db r = AreRead r.dir db r.index
+use Rattle.opening.specs.Taken.{IsFoundBy, AreRead, TakesOver, TakesNew}
 
 module _ {S : Type 0} (g : Ghosts S) (conn : Held S) (db : Database) (own : List ℕ) (outline : Outline)
-    (same : HasCleanDisk (state g conn) → (state g conn).now ≡ db) (told : HasCleanDisk (state g conn) → AreRead own db outline)
+    (same : HasCleanDisk (state g conn) → (state g conn).now ≡ db) (told : HasCleanDisk (state g conn) → AreRead three own db outline)
   where
     abbrev pub kept : Kept S
     kept = record { connection = conn; dir = own; outline = outline }
 
-    pub agreed : conn.in_transaction ≡ false → (HasCleanDisk (state g conn) → IsTrue (state g conn).is_open → IsReady (state g conn)) → Agrees g kept
-    agreed alone ready = record {
+    pub agreed : (HasCleanDisk (state g conn) → IsWhole db) → conn.in_transaction ≡ false → (HasCleanDisk (state g conn) → IsTrue (state g conn).is_open → IsReady (state g conn)) → Agrees g kept
+    agreed whole alone ready = record {
       alone = alone;
       rows = λ clean is_open. record {
         ready = ready clean is_open;
+        whole = subst IsWhole (sym (same clean)) (whole clean);
         sound = subst (λ (d : Database). IsSoundContents own (contents_of d)) (sym (same clean)) (told clean).0;
         same = ap (λ (d : Database). outline_of (world_in (contents_of d))) (same clean) ∙ (told clean).1;
       };
     }
 
-    pub took_over : (dir : List ℕ) → own ≡ dir → HasTables db.schema → AreReadable (contents_of db) → HasCleanDisk (state g conn) → TakesOver g dir db kept
-    took_over dir is tables readable clean = record {
-      holds = record { tables = tables; readable = readable; sound = subst (λ (x : List ℕ). IsSoundContents x (contents_of db)) is (told clean).0 };
+    pub took_over : (dir : List ℕ) → own ≡ dir → IsFoundBy three db → HasCleanDisk (state g conn) → TakesOver g dir db kept
+    took_over dir is found clean = record {
+      holds = record { tables = found.tables; readable = found.readable; sound = subst (λ (x : List ℕ). IsSoundContents x (contents_of db)) is (told clean).0 };
       same = same clean;
       told = record {
         outline = (told clean).1;

@@ -1,6 +1,6 @@
 -- Sound settings, objects and roots are sound rows, and what they put into an index is the outline of their world.
 use Rattle.std.proofs.Common.{◌≡◌, ℕ, List, Some, None, Option, option_map, is_some, map, refl, sym, ap, subst, ◌∙◌, IsTrue, codes}
-use Rattle.std.specs.Prelude.{◌↔◌, MatchOption, Bool, false}
+use Rattle.std.specs.Prelude.{◌↔◌, MatchOption, Bool, false, IsFalse}
 use Rattle.std.specs.FinMap as finite
 use Rattle.std.proofs.lemmas.Bool.{false≢true}
 use Rattle.std.proofs.lemmas.Option.{same_Some}
@@ -8,40 +8,42 @@ use Rattle.paths.specs.Names.{is_store_dir}
 use Rattle.paths.specs.Root.{bytes_cmp}
 use Rattle.table_statements.specs.Contents.{Contents, Stored}
 use Rattle.world.specs.World.{Path, Object, no_world}
-use Rattle.world.specs.Rows.{one, settings, kept_cmp, piece_cmp, object_in, temporary_in}
-use Rattle.world.specs.Parts.{AreSoundObjects, AreSoundRoots, AreSoundParts}
-use Rattle.world.specs.Told.{rows_of, world_in, IsSoundContents}
+use Rattle.world.specs.Rows.{Schema, schema_text, has_pieces, has_temporary, settings, object_in}
+use Rattle.world.specs.Parts.{AreSoundParts}
+use Rattle.world.specs.Told.{rows_of, world_in, IsSoundBy}
 use Rattle.world.proofs.Columns.{object_at}
-use Rattle.world.proofs.Empty.{no_key, no_entries}
+use Rattle.world.proofs.Empty.{no_entries}
 use Rattle.world.proofs.SoundParts.{sound_by_parts}
 use Rattle.index.specs.Outline.{Outline, outlined, outline_of}
 use Rattle.index.proofs.Orders.{bytes_total, bytes_antisymmetric}
 use Rattle.index.proofs.Told.{has-told}
-use Rattle.opening_roots.specs.Taken.{Objects, AreObjects, with_roots}
+use Rattle.opening_objects.specs.Taken.{AreSoundInPieces}
+use Rattle.opening_roots.specs.Taken.{Objects, AreAllSound, AreObjects, with_roots}
 
-module _ (dir : List ℕ) (c : Contents) where
-  -- the tables of the first schema have neither pieces nor sessions
-  parts : IsTrue (is_store_dir dir) → c.meta ≡ settings one dir → AreSoundObjects dir (rows_of c) → AreSoundRoots (rows_of c) → AreSoundParts one dir (rows_of c)
-  parts valid are objects roots = record {
+module _ (schema : Schema) (dir : List ℕ) (c : Contents) where
+  parts : IsTrue (is_store_dir dir) → c.meta ≡ settings schema dir → (IsFalse (has_pieces schema) → c.pieces ≡ finite.empty) → (IsFalse (has_temporary schema) → c.temp_roots ≡ finite.empty)
+      → AreSoundInPieces schema dir (rows_of c) → AreAllSound (rows_of c) → AreSoundParts schema dir (rows_of c)
+  parts valid are no_pieces no_temporary objects roots = record {
     directory = valid;
     settings_are = are;
-    no_pieces = λ _. refl;
-    no_temporary = λ _. refl;
-    cut = λ has. absurd (false≢true has);
-    pieces = λ p n there. absurd (no_key (List ℕ) piece_cmp (p, n) there);
-    sessions = λ k there. absurd (no_key (Unit {0}) kept_cmp k there);
-    objects = objects;
-    roots = roots;
+    no_pieces = no_pieces;
+    no_temporary = no_temporary;
+    cut = objects.cut;
+    pieces = objects.pieces;
+    sessions = roots.sessions;
+    objects = objects.objects;
+    roots = roots.roots;
   }
 
-  pub sound_from : IsTrue (is_store_dir dir) → c.meta ≡ settings one dir → AreSoundObjects dir (rows_of c) → AreSoundRoots (rows_of c) → IsSoundContents dir c
-  sound_from valid are objects roots = (sound_by_parts one dir (rows_of c)).1 (parts valid are objects roots)
+  pub sound_from : IsTrue (is_store_dir dir) → c.meta ≡ settings schema dir → (IsFalse (has_pieces schema) → c.pieces ≡ finite.empty) → (IsFalse (has_temporary schema) → c.temp_roots ≡ finite.empty)
+      → AreSoundInPieces schema dir (rows_of c) → AreAllSound (rows_of c) → IsSoundBy schema dir c
+  sound_from valid are no_pieces no_temporary objects roots = (sound_by_parts schema dir (rows_of c)).1 (parts valid are no_pieces no_temporary objects roots)
 
-  pub objects_of : IsSoundContents dir c → AreSoundObjects dir (rows_of c)
-  objects_of sound = ((sound_by_parts one dir (rows_of c)).0 sound).objects
+  pub objects_of : IsSoundBy schema dir c → AreSoundInPieces schema dir (rows_of c)
+  objects_of sound = let it = (sound_by_parts schema dir (rows_of c)).0 sound in record { objects = it.objects; cut = it.cut; pieces = it.pieces }
 
-  pub roots_of : IsSoundContents dir c → AreSoundRoots (rows_of c)
-  roots_of sound = ((sound_by_parts one dir (rows_of c)).0 sound).roots
+  pub roots_of : IsSoundBy schema dir c → AreAllSound (rows_of c)
+  roots_of sound = let it = (sound_by_parts schema dir (rows_of c)).0 sound in record { roots = it.roots; sessions = it.sessions }
 
   some_mapped : (p : Path) (g : Option Stored) → is_some (option_map (object_in (rows_of c) p) g) ≡ is_some g
   some_mapped p None = refl
@@ -55,34 +57,30 @@ module _ (dir : List ℕ) (c : Contents) where
   some_key None h = absurd (false≢true h)
   some_key (Some o) h = (o, refl)
 
-  pub are_objects : (objects : Objects) → objects ≡ (outline_of (world_in c)).objects → AreSoundObjects dir (rows_of c) → AreObjects objects c
+  pub are_objects : (objects : Objects) → objects ≡ (outline_of (world_in c)).objects → AreSoundInPieces schema dir (rows_of c) → AreObjects objects c
   are_objects objects is sound = record {
     same = λ p. ap (λ (m : Objects). finite.contains_key m p) is ∙ same_objects p;
     named = λ p there.
         let o = some_key (finite.get c.objects p) (sym (ap (λ (m : Objects). finite.contains_key m p) is ∙ same_objects p) ∙ there) in
-        (sound.objects p o.0 o.1).path;
+        (sound.objects.objects p o.0 o.1).path;
   }
 
 -- a new index has no objects
 pub none_yet : (outline_of no_world).objects ≡ finite.empty
 none_yet = ap (λ (es : List (Path × Object)). finite.from_entries {R = bytes_cmp} (map (λ e. (e.0, outlined e.1)) es)) (no_entries Object bytes_cmp)
 
--- the rows of the first schema keep no session
-no_sessions : (c : Contents) → (outline_of (world_in c)).temporary ≡ finite.empty
-no_sessions c = ap (λ ks. finite.from_entries (map (λ t. (t, tt)) (map temporary_in (map (λ e. e.0) ks)))) (no_entries (Unit {0}) kept_cmp)
-
 -- an index with all objects and all roots of the rows
 pub whole_outline : (c : Contents) (o : Outline) → o ≡ record (outline_of no_world) { objects = (outline_of (world_in c)).objects } → with_roots o c ≡ outline_of (world_in c)
-whole_outline c o is = ap (λ (x : Outline). with_roots x c) is ∙ (λ i. record (outline_of (world_in c)) { temporary = sym (no_sessions c) i })
+whole_outline c o is = ap (λ (x : Outline). with_roots x c) is
 
 -- ---- what each test says of all rows
 
-at_dir : (d : List ℕ) → finite.get (settings one d) (codes "store-dir") ≡ Some d
-at_dir d = finite.get-insert bytes_total (finite.insert finite.empty (codes "schema") (codes "1")) (codes "store-dir") d (codes "store-dir")
+at_dir : (schema : Schema) (d : List ℕ) → finite.get (settings schema d) (codes "store-dir") ≡ Some d
+at_dir schema d = finite.get-insert bytes_total (finite.insert finite.empty (codes "schema") (schema_text schema)) (codes "store-dir") d (codes "store-dir")
 
 -- settings are those of one directory
-same_dir : (a b : List ℕ) → settings one a ≡ settings one b → a ≡ b
-same_dir a b is = same_Some a b (sym (at_dir a) ∙ ap (λ m. finite.get m (codes "store-dir")) is ∙ at_dir b)
+same_dir : (schema : Schema) (a b : List ℕ) → settings schema a ≡ settings schema b → a ≡ b
+same_dir schema a b is = same_Some a b (sym (at_dir schema a) ∙ ap (λ m. finite.get m (codes "store-dir")) is ∙ at_dir schema b)
 
 -- an option that is this
 pub none_told : {A : Type 0} (P : Type 0) (Q : A → Type 0) (o : Option A) → o ≡ None → MatchOption o P Q → P
@@ -94,19 +92,16 @@ some_told P Q None d is h = absurd (false≢true (ap is_some is))
 some_told P Q (Some x) d is h = subst Q (same_Some x d is) h
 
 -- settings that were found
-pub named_dir : (c : Contents) (o : Option (List ℕ)) (d : List ℕ) → o ≡ Some d
-    → MatchOption o ((dir : List ℕ) → IsTrue (is_store_dir dir) → ¬ (c.meta ≡ settings one dir)) (λ e. IsTrue (is_store_dir e) × (c.meta ≡ settings one e)) → IsTrue (is_store_dir d) × (c.meta ≡ settings one d)
-named_dir c o d is h = some_told ((dir : List ℕ) → IsTrue (is_store_dir dir) → ¬ (c.meta ≡ settings one dir)) (λ e. IsTrue (is_store_dir e) × (c.meta ≡ settings one e)) o d is h
+pub named_dir : (schema : Schema) (c : Contents) (o : Option (List ℕ)) (d : List ℕ) → o ≡ Some d
+    → MatchOption o ((dir : List ℕ) → IsTrue (is_store_dir dir) → ¬ (c.meta ≡ settings schema dir)) (λ e. IsTrue (is_store_dir e) × (c.meta ≡ settings schema e)) → IsTrue (is_store_dir d) × (c.meta ≡ settings schema d)
+named_dir schema c o d is h = some_told ((dir : List ℕ) → IsTrue (is_store_dir dir) → ¬ (c.meta ≡ settings schema dir)) (λ e. IsTrue (is_store_dir e) × (c.meta ≡ settings schema e)) o d is h
 
-pub unset : (c : Contents) → ((dir : List ℕ) → IsTrue (is_store_dir dir) → ¬ (c.meta ≡ settings one dir)) → (dir : List ℕ) → ¬ IsSoundContents dir c
-unset c none dir sound = none dir sound.directory sound.settings_are
+module _ (schema : Schema) (c : Contents) (d : List ℕ) (are : c.meta ≡ settings schema d) where
+  pub only : (dir : List ℕ) → IsSoundBy schema dir c → IsSoundBy schema d c
+  only dir sound = subst (λ (x : List ℕ). IsSoundBy schema x c) (same_dir schema dir d (sym sound.settings_are ∙ are)) sound
 
-module _ (c : Contents) (d : List ℕ) (are : c.meta ≡ settings one d) where
-  pub only : (dir : List ℕ) → IsSoundContents dir c → IsSoundContents d c
-  only dir sound = subst (λ (x : List ℕ). IsSoundContents x c) (same_dir dir d (sym sound.settings_are ∙ are)) sound
+  pub without_objects : (b : Bool) → (IsTrue b ↔ AreSoundInPieces schema d (rows_of c)) → b ≡ false → (dir : List ℕ) → ¬ IsSoundBy schema dir c
+  without_objects b told failed dir sound = false≢true (sym failed ∙ told.1 (objects_of schema d c (only dir sound)))
 
-  pub without_objects : (b : Bool) → (IsTrue b ↔ AreSoundObjects d (rows_of c)) → b ≡ false → (dir : List ℕ) → ¬ IsSoundContents dir c
-  without_objects b told failed dir sound = false≢true (sym failed ∙ told.1 (objects_of d c (only dir sound)))
-
-  pub without_roots : (b : Bool) → (IsTrue b ↔ AreSoundRoots (rows_of c)) → b ≡ false → (dir : List ℕ) → ¬ IsSoundContents dir c
-  without_roots b told failed dir sound = false≢true (sym failed ∙ told.1 (roots_of d c (only dir sound)))
+  pub without_roots : (b : Bool) → (IsTrue b ↔ AreAllSound (rows_of c)) → b ≡ false → (dir : List ℕ) → ¬ IsSoundBy schema dir c
+  without_roots b told failed dir sound = false≢true (sym failed ∙ told.1 (roots_of schema d c (only dir sound)))

@@ -1,3 +1,5 @@
 pub mod Joined
+pub mod Found
 pub mod Agreed
 pub mod Passed
+pub mod Brought

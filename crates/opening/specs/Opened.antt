@@ -11,12 +11,11 @@ use Rattle.sqlite.specs.State.{HasCleanDisk, Survives}
 use Rattle.sqlite.specs.Held.{Held}
 use Rattle.sqlite.specs.Start.{FindsIn}
 use Rattle.sqlite.specs.Files.{over_files, file_state}
-use Rattle.table_making.specs.Making.{LeavesMade}
 use Rattle.table_opening.specs.Opened.{IsAsOpened, FailsToOpenFile}
 use Rattle.tables.specs.Kept.{Kept}
 use Rattle.opening.specs.declared.refusing.Unopened.{Unopened}
 use Rattle.opening.specs.declared.refusing.Unopened.TheVariants.{File, Store}
-use Rattle.opening.specs.Taken.{TakesUp, IsCause}
+use Rattle.opening.specs.Taken.{TakesUp, LeavesTaken, IsCause}
 
 module _ {D : Type 0} {g : disk.Ghosts D} where
   -- The files held this, a connection opened over them, and it was taken up as the store of a directory.
@@ -26,7 +25,7 @@ module _ {D : Type 0} {g : disk.Ghosts D} where
     pub opened : IsAsOpened held was conn
     pub found : HasCleanDisk (file_state t.connection) → FindsIn held (file_state conn)
     pub took : HasCleanDisk (file_state t.connection) → TakesUp over_files dir (file_state conn).now t
-    pub survives : Survives (file_state conn) (file_state t.connection) (LeavesMade dir (file_state conn).now)
+    pub survives : Survives (file_state conn) (file_state t.connection) (LeavesTaken dir (file_state conn).now)
 
 module _ {S : Type 0} {c : calls.Ghosts Host} {start : Ghosts S} {g : disk.Ghosts (Modelled Host S c start)} where
   -- Why files that held this aren't taken up: no connection is taken up over them, or one is and the store isn't.

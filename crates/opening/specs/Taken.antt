@@ -1,29 +1,66 @@
 -- What taking up a database says of it.
-use Rattle.std.specs.Prelude.{◌≡◌, ◌≢◌, ◌⊎◌, ℕ, List, ⊤}
+use Rattle.std.specs.Prelude.{◌≡◌, ◌≢◌, ◌⊎◌, ℕ, List, IsTrue, IsFalse, ⊤}
+use Rattle.std.specs.FinMap as finite
 use Rattle.sqlite_trees.specs.declared.store.Store.{Ghosts}
+use Rattle.sqlite_trees.specs.Tree.{Trees}
+use Rattle.sqlite_schema.specs.declared.schema.Schema.{Schema as Shown}
 use Rattle.sqlite.specs.Effect.{Database}
 use Rattle.sqlite.specs.Held.{state}
-use Rattle.table_forms.specs.Standing.{HasTables}
-use Rattle.table_forms.specs.Finding.{HasNone}
+use Rattle.table_forms.specs.Forms.{piece, temp_root}
+use Rattle.table_forms.specs.Finding.{HasNone, HasFirst, HasSecond, HasThird}
 use Rattle.table_statements.specs.Contents.{contents_of}
 use Rattle.table_statements.specs.Texts.{AreReadable}
-use Rattle.table_statements.specs.Calls.{KeepsTheirs}
+use Rattle.table_statements.specs.Frozen.{KeepsFrozen}
+use Rattle.table_statements.specs.Calls.{HasFurther, KeepsTheirs}
+use Rattle.table_making.specs.Making.{LeavesMade, all_created}
+use Rattle.migration.specs.Migrated.{lacking, migrated_contents, LeavesMigrated}
 use Rattle.world.specs.World.{no_world}
-use Rattle.world.specs.Told.{IsSoundContents, world_in}
+use Rattle.world.specs.Rows.{Schema, one, two, three, has_pieces, has_temporary}
+use Rattle.world.specs.Told.{IsSoundBy, world_in}
+use Rattle.index.specs.Outline.{Outline, outline_of}
 use Rattle.tables.specs.Kept.{Kept, Tells}
 use Rattle.opening.specs.declared.refusing.Cause.{Cause}
 use Rattle.opening.specs.declared.refusing.Cause.TheVariants.{BadSchema, OtherStoreDir, Failed}
 
--- all nine tables stand, their texts can be read, and their rows are those of a database of this store directory
-pub record HoldsStore (dir : List ℕ) (db : Database) : Type 0 where
-  pub tables : HasTables db.schema
+-- each further table that a schema has stands, and one that it hasn't holds nothing
+pub record HasFurtherOf (schema : Schema) (db : Database) : Type 0 where
+  pub pieces : IsTrue (has_pieces schema) → HasFurther db piece
+  pub no_pieces : IsFalse (has_pieces schema) → (contents_of db).pieces ≡ finite.empty
+  pub temporary : IsTrue (has_temporary schema) → HasFurther db temp_root
+  pub no_temporary : IsFalse (has_temporary schema) → (contents_of db).temp_roots ≡ finite.empty
+
+-- our tables are those of a schema, and the names of those that it lacks are free
+abbrev pub HasTablesOf : Schema → Shown → Type 0
+HasTablesOf one s = HasFirst s
+HasTablesOf two s = HasSecond s
+HasTablesOf three s = HasThird s
+
+-- the tables of a schema stand, and of no other, and their texts can be read; the further ones too, as the schema has them
+pub record IsFoundBy (schema : Schema) (db : Database) : Type 0 where
+  pub tables : HasTablesOf schema db.schema
+  pub only : (other : Schema) → HasTablesOf other db.schema → other ≡ schema
+  pub some : ¬ HasNone db.schema
   pub readable : AreReadable (contents_of db)
-  pub sound : IsSoundContents dir (contents_of db)
+  pub further : HasFurtherOf schema db
+
+-- the tables of a schema stand, their texts can be read, and their rows are those of a database of this store directory
+pub record HoldsBy (schema : Schema) (dir : List ℕ) (db : Database) : Type 0 where
+  pub tables : HasTablesOf schema db.schema
+  pub readable : AreReadable (contents_of db)
+  pub sound : IsSoundBy schema dir (contents_of db)
+
+-- the same by one of the three schemas
+abbrev pub HoldsStore : List ℕ → Database → Type 0
+HoldsStore dir db = (schema : Schema) × HoldsBy schema dir db
+
+-- the rows are sound by a schema, and have this outline
+abbrev pub AreRead : Schema → List ℕ → Database → Outline → Type 0
+AreRead schema dir db outline = IsSoundBy schema dir (contents_of db) × (outline_of (world_in (contents_of db)) ≡ outline)
 
 module _ {S : Type 0} (g : Ghosts S) where
-  -- A store was there: nothing changed, and the tables tell the world of its rows.
+  -- A store of the third schema was there: nothing changed, and the tables tell the world of its rows.
   pub record TakesOver (dir : List ℕ) (db : Database) (t : Kept S) : Type 0 where
-    pub holds : HoldsStore dir db
+    pub holds : HoldsBy three dir db
     pub same : (state g t.connection).now ≡ db
     pub told : Tells g t (world_in (contents_of db))
 
@@ -33,9 +70,26 @@ module _ {S : Type 0} (g : Ghosts S) where
     pub theirs : KeepsTheirs db (state g t.connection).now
     pub told : Tells g t no_world
 
-  -- one of both
+  -- A store of an earlier schema was there: what it held was brought to the third, beside the tables of others, and the tables tell the world of the rows that it had.
+  pub record TakesMigrated (from : Schema) (dir : List ℕ) (db : Database) (t : Kept S) : Type 0 where
+    pub holds : HoldsBy from dir db
+    pub schema : (state g t.connection).now.schema ≡ all_created db.schema (lacking from)
+    pub contents_are : contents_of (state g t.connection).now ≡ migrated_contents from dir (contents_of db)
+    pub theirs : KeepsTheirs db (state g t.connection).now
+    pub frozen : KeepsFrozen db (state g t.connection).now.trees
+    pub told : Tells g t (world_in (contents_of db))
+
+  -- one of these
   abbrev pub TakesUp : List ℕ → Database → Kept S → Type 0
-  TakesUp dir db t = TakesOver dir db t ⊎ TakesNew db t
+  TakesUp dir db t = TakesNew db t ⊎ (TakesOver dir db t ⊎ (TakesMigrated one dir db t ⊎ TakesMigrated two dir db t))
+
+-- a store of an earlier schema was there, and this is what a crash may leave of bringing it to the third, if it leaves any of it
+abbrev pub LeavesBrought : Schema → List ℕ → Database → Trees → Type 0
+LeavesBrought from dir db trees = HoldsBy from dir db × LeavesMigrated from dir db trees
+
+-- What a crash may leave of taking up a database, beside what it could leave before: the new tables, or those that were brought to the third schema.
+abbrev pub LeavesTaken : List ℕ → Database → Trees → Type 0
+LeavesTaken dir db trees = LeavesMade dir db trees ⊎ (LeavesBrought one dir db trees ⊎ LeavesBrought two dir db trees)
 
 -- Why a database isn't taken up: something of ours is there, but no store; or the store of another directory is.
 abbrev pub IsCause : List ℕ → Database → Cause → Type 0

@@ -4,24 +4,25 @@ ghost use Rattle.std.specs.Prelude.{◌≡◌, false, IfOk, IfErr, MatchResult};
 ghost use Rattle.sqlite.specs.State.{HasCleanDisk, Survives};
 ghost use Rattle.sqlite.specs.Held.{state};
 ghost use Rattle.table_statements.specs.Calls.{KeepsShown};
-ghost use Rattle.table_making.specs.Making.{LeavesMade};
 ghost use Rattle.table_opening.specs.Opened.{IsFound};
-ghost use Rattle.opening.specs.Taken.{TakesUp, IsCause};
+ghost use Rattle.opening.specs.Taken.{TakesUp, LeavesTaken, IsCause};
 
+use crate::earlier::take_earlier;
 use crate::refusing::{Cause, Unadopted};
 use crate::taking::{take_new, take_ours};
 use paths::StoreDir;
 use sqlite::{Alter, Connection};
 use std::alloc::Global;
-use table_forms::finding::Finding;
+use table_forms::recognising::Recognised;
 use table_opening::file::{self, Opened, Untold};
 use tables::Tables;
+use world::Schema;
 
 /// Takes up a connection of which it was found what it holds of ours.
 pub(crate) fn take<S: Alter>(
     alloc: Global,
     conn: Connection<S>,
-    found: Finding,
+    found: Recognised,
     dir: &StoreDir,
 ) -> Result<Tables<S>, Unadopted<S>>
     requires alone { conn.in_transaction ≡ false }
@@ -31,12 +32,14 @@ pub(crate) fn take<S: Alter>(
     ensures alone { IfErr result (λ e. e.conn.in_transaction ≡ false) }
     ensures cause { IfErr result (λ e. HasCleanDisk (state S.Store e.conn) → IsCause dir.now (state S.Store conn).now e.cause) }
     ensures same { IfErr result (λ e. HasCleanDisk (state S.Store e.conn) → KeepsShown (state S.Store conn) (state S.Store e.conn)) }
-    ensures survives { MatchResult result (λ t. Survives (state S.Store conn) (state S.Store t.connection) (LeavesMade dir.now (state S.Store conn).now)) (λ e. Survives (state S.Store conn) (state S.Store e.conn) (LeavesMade dir.now (state S.Store conn).now)) }
+    ensures survives { MatchResult result (λ t. Survives (state S.Store conn) (state S.Store t.connection) (LeavesTaken dir.now (state S.Store conn).now)) (λ e. Survives (state S.Store conn) (state S.Store e.conn) (LeavesTaken dir.now (state S.Store conn).now)) }
 {
     match found {
-        Finding::Ours => take_ours(alloc, conn, dir),
-        Finding::Nothing => take_new(alloc, conn, dir),
-        Finding::Other => {
+        Recognised::Nothing => take_new(alloc, conn, dir),
+        Recognised::First => take_earlier(alloc, conn, dir, Schema::One),
+        Recognised::Second => take_earlier(alloc, conn, dir, Schema::Two),
+        Recognised::Third => take_ours(alloc, conn, dir),
+        Recognised::Other => {
             let cause = Cause::BadSchema;
             Err(Unadopted { conn, cause })
         }
@@ -44,7 +47,8 @@ pub(crate) fn take<S: Alter>(
 }
 
 /// Takes up a connection as the store of a directory. All of its rows are read and tested; where none of our tables is there, they
-/// are made. At an error the connection is handed back, with our tables as they were.
+/// are made, and those of an earlier schema are brought to the third. At an error the connection is handed back, with our tables as they
+/// were.
 ///
 /// # Errors
 ///
@@ -61,7 +65,7 @@ pub fn adopt<S: Alter>(
     ensures alone { IfErr result (λ e. e.conn.in_transaction ≡ false) }
     ensures cause { IfErr result (λ e. HasCleanDisk (state S.Store e.conn) → IsCause dir.now (state S.Store conn).now e.cause) }
     ensures same { IfErr result (λ e. HasCleanDisk (state S.Store e.conn) → KeepsShown (state S.Store conn) (state S.Store e.conn)) }
-    ensures survives { MatchResult result (λ t. Survives (state S.Store conn) (state S.Store t.connection) (LeavesMade dir.now (state S.Store conn).now)) (λ e. Survives (state S.Store conn) (state S.Store e.conn) (LeavesMade dir.now (state S.Store conn).now)) }
+    ensures survives { MatchResult result (λ t. Survives (state S.Store conn) (state S.Store t.connection) (LeavesTaken dir.now (state S.Store conn).now)) (λ e. Survives (state S.Store conn) (state S.Store e.conn) (LeavesTaken dir.now (state S.Store conn).now)) }
 {
     match file::take_up(alloc, conn) {
         Ok(opened) => {

@@ -2,6 +2,7 @@
 #![tactic(auto)]
 
 mod adopting;
+mod earlier;
 mod files;
 mod reading;
 mod refusing;

@@ -1,17 +1,15 @@
 //! Taking up what was found: our tables, or none of them.
 
-ghost use Rattle.std.specs.Prelude.{◌≡◌, ◌↔◌, false, IsTrue, IfOk, IfErr, MatchResult};
+ghost use Rattle.std.specs.Prelude.{◌≡◌, false, IfOk, IfErr, MatchResult};
 ghost use Rattle.sqlite.specs.State.{HasCleanDisk, Survives};
 ghost use Rattle.sqlite.specs.Held.{state};
-ghost use Rattle.table_forms.specs.Standing.{HasTables};
 ghost use Rattle.table_forms.specs.Finding.{HasNone};
-ghost use Rattle.table_statements.specs.Contents.{contents_of};
-ghost use Rattle.table_statements.specs.Texts.{AreReadable};
 ghost use Rattle.table_statements.specs.Calls.{KeepsShown, IsReady};
 ghost use Rattle.table_making.specs.Making.{LeavesMade};
-ghost use Rattle.opening.specs.Taken.{TakesOver, TakesNew, IsCause};
+ghost use Rattle.world.specs.Rows.{three};
+ghost use Rattle.opening.specs.Taken.{IsFoundBy, TakesOver, TakesNew, IsCause};
 
-use crate::reading::{self, Taken};
+use crate::reading::{Taken, read_as};
 use crate::refusing::{Cause, Unadopted};
 use index::Index;
 use paths::StoreDir;
@@ -20,24 +18,17 @@ use std::alloc::Global;
 use table_making::making;
 use table_statements::failure::Failure;
 use tables::Tables;
+use world::Schema;
 
-fn is_same(a: &StoreDir, b: &StoreDir) -> bool
-    ensures { IsTrue result ↔ a.now ≡ b.now }
-{
-    a.as_str() == b.as_str()
-}
-
-/// Takes up a connection that holds all of our tables.
+/// Takes up a connection that holds all eleven of our tables.
 pub(crate) fn take_ours<S: Alter>(
     alloc: Global,
     mut conn: Connection<S>,
     dir: &StoreDir,
 ) -> Result<Tables<S>, Unadopted<S>>
     requires alone { conn.in_transaction ≡ false }
-    requires tables { HasCleanDisk (state S.Store conn) → HasTables (state S.Store conn).now.schema }
-    requires readable { HasCleanDisk (state S.Store conn) → AreReadable (contents_of (state S.Store conn).now) }
-    requires none { HasCleanDisk (state S.Store conn) → ¬ HasNone (state S.Store conn).now.schema }
     requires ready { HasCleanDisk (state S.Store conn) → IsReady (state S.Store conn) }
+    requires found { HasCleanDisk (state S.Store conn) → IsFoundBy three (state S.Store conn).now }
     ensures dir { IfOk result (λ t. t.dir ≡ dir.now) }
     ensures took { IfOk result (λ t. HasCleanDisk (state S.Store t.connection) → TakesOver S.Store dir.now (state S.Store conn).now t) }
     ensures alone { IfErr result (λ e. e.conn.in_transaction ≡ false) }
@@ -45,26 +36,13 @@ pub(crate) fn take_ours<S: Alter>(
     ensures same { IfErr result (λ e. HasCleanDisk (state S.Store e.conn) → KeepsShown (state S.Store conn) (state S.Store e.conn)) }
     ensures survives { MatchResult result (λ t. Survives (state S.Store conn) (state S.Store t.connection) (λ _. ⊥)) (λ e. Survives (state S.Store conn) (state S.Store e.conn) (λ _. ⊥)) }
 {
-    let read = match reading::read(alloc, &mut conn) {
-        Ok(read) => read,
-        Err(failure) => {
-            let cause = Cause::Failed(failure);
-            return Err(Unadopted { conn, cause });
+    match read_as(alloc, &mut conn, dir, Schema::Three) {
+        Ok(taken) => {
+            let Taken { dir: own, index } = taken;
+            Ok(Tables::over(alloc, conn, own, index))
         }
-    };
-    let taken = match read {
-        Some(taken) => taken,
-        None => {
-            let cause = Cause::BadSchema;
-            return Err(Unadopted { conn, cause });
-        }
-    };
-    let Taken { dir: own, index } = taken;
-    if !is_same(&own, dir) {
-        let cause = Cause::OtherStoreDir;
-        return Err(Unadopted { conn, cause });
+        Err(cause) => Err(Unadopted { conn, cause }),
     }
-    Ok(Tables::over(alloc, conn, own, index))
 }
 
 /// Makes our tables, and takes them up. The directory comes twice, lent and to be kept.

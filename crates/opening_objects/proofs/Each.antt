@@ -6,6 +6,7 @@ use Rattle.sqlite.specs.State.{State, IsUnchanged}
 use Rattle.table_statements.specs.Calls.{KeepsShown}
 use Rattle.table_statements.specs.Contents.{Contents}
 use Rattle.world.specs.World.{Path}
+use Rattle.world.specs.Rows.{Schema}
 use Rattle.index.specs.Outline.{Outline}
 use Rattle.opening_objects.specs.Taken.{IsSoundOne, with_object, with_objects}
 
@@ -25,9 +26,9 @@ no_change s is_open = (
   refl,
 )
 
-module _ (dir : List ℕ) (c : Contents) (all : List Path) where
+module _ (schema : Schema) (dir : List ℕ) (c : Contents) (all : List Path) where
   abbrev P : Path → Type 0
-  P = IsSoundOne dir c
+  P = IsSoundOne schema dir c
 
   abbrev pub Decides : List (String Global) → Type 0
   Decides left = AllByRecursion P (map string_bytes left) ↔ AllByRecursion P all

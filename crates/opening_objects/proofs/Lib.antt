@@ -1,4 +1,5 @@
 pub mod Lists
+pub mod Cut
 pub mod Fronts
 pub mod SameOutputs
 pub mod OfArchive
@@ -9,4 +10,5 @@ pub mod ReadRows
 pub mod Takes
 pub mod EachEntry
 pub mod AllObjects
+pub mod AllTests
 pub mod Each

@@ -64,8 +64,8 @@ module _ (dir : List ℕ) (p : Path) (nar : List ℕ) (refs : Set bytes_cmp) whe
   fits_both (Some a) other verified = and_so (not (list_any (bytes_eq p) keys)) (verifies a dir p keys nar)
       (not_false (list_any (bytes_eq p) keys) (any_same p keys ∙ sym (finite.contains_key-keys refs p) ∙ other a refl)) (verified a refl)
 
-module _ (dir : List ℕ) (p : Path) (o : Stored) (refs : Set bytes_cmp) (outputs : finite.FinMap bytes_cmp Path) where
-  pub row_of_tested : IsSoundAt dir p o (finite.keys refs) (finite.entries outputs) → IsSoundRow dir p o o.nar refs outputs
+module _ (dir : List ℕ) (p : Path) (o : Stored) (nar : List ℕ) (refs : Set bytes_cmp) (outputs : finite.FinMap bytes_cmp Path) where
+  pub row_of_tested : IsSoundAt dir p (record o { nar = nar }) (finite.keys refs) (finite.entries outputs) → IsSoundRow dir p o nar refs outputs
   row_of_tested h = record {
     path = h.path;
     hash = h.archive.digest;
@@ -75,13 +75,13 @@ module _ (dir : List ℕ) (p : Path) (o : Stored) (refs : Set bytes_cmp) (output
     address_text = address_of_some o.ca h.address_text;
     names = λ r there. each_base None (finite.keys refs) h.names r (sym (finite.contains_key-keys refs r) ∙ there);
     reference_count = subst (λ n. n ≤ most_references) (sym (as_many refs)) h.count;
-    no_self_reference = fits_other dir p o.nar refs (address_in o.ca) h.archive.address;
-    address = fits_verified dir p o.nar refs (address_in o.ca) h.archive.address;
+    no_self_reference = fits_other dir p nar refs (address_in o.ca) h.archive.address;
+    address = fits_verified dir p nar refs (address_in o.ca) h.archive.address;
     derivation = h.archive.recorded.derivation;
-    outputs_are = finite.same_entries_map outputs (outputs_at dir p o.nar) h.archive.outputs_are;
+    outputs_are = finite.same_entries_map outputs (outputs_at dir p nar) h.archive.outputs_are;
   }
 
-  pub tested_of_row : IsSoundRow dir p o o.nar refs outputs → IsSoundAt dir p o (finite.keys refs) (finite.entries outputs)
+  pub tested_of_row : IsSoundRow dir p o nar refs outputs → IsSoundAt dir p (record o { nar = nar }) (finite.keys refs) (finite.entries outputs)
   tested_of_row h = record {
     path = h.path;
     deriver = some_of_base o.deriver h.deriver;
@@ -91,10 +91,10 @@ module _ (dir : List ℕ) (p : Path) (o : Stored) (refs : Set bytes_cmp) (output
     archive = record {
       digest = h.hash;
       recorded = record { tree = h.tree; archive = h.archive; derivation = h.derivation };
-      address = fits_both dir p o.nar refs (address_in o.ca) h.no_self_reference h.address;
+      address = fits_both dir p nar refs (address_in o.ca) h.no_self_reference h.address;
       outputs_are = ap finite.entries h.outputs_are;
     };
   }
 
-  pub tested_is_row : IsSoundAt dir p o (finite.keys refs) (finite.entries outputs) ↔ IsSoundRow dir p o o.nar refs outputs
+  pub tested_is_row : IsSoundAt dir p (record o { nar = nar }) (finite.keys refs) (finite.entries outputs) ↔ IsSoundRow dir p o nar refs outputs
   tested_is_row = (row_of_tested, tested_of_row)

@@ -1,73 +1,114 @@
 -- One object, tested by its rows and put among the others.
-use Rattle.std.proofs.Common.{◌≡◌, ℕ, List, length, Bool, Some, Option, sym, ap, subst, ◌∙◌, IsTrue}
-use Rattle.std.specs.Prelude.{◌↔◌}
+use Rattle.std.proofs.Common.{◌≡◌, ℕ, ℤ, List, length, Bool, Some, Option, sym, ap, subst, ◌∙◌, IsTrue}
+use Rattle.std.specs.Prelude.{◌↔◌, MatchOption}
 use Rattle.std.specs.FinMap as finite
 use Rattle.std.proofs.lemmas.Option.{same_Some}
 use Rattle.sha2.specs.Sha256.{sha256}
 use Rattle.paths.specs.Root.{bytes_cmp, Set}
 use Rattle.table_statements.specs.Contents.{Contents, Stored}
+use Rattle.table_entries.specs.declared.references.Reference.{Reference}
+use Rattle.table_entries.specs.declared.outputs.Output.{Output}
+use Rattle.table_entries.specs.declared.pieces.Piece.{Piece}
 use Rattle.table_entries.specs.Entries.{stored_of}
 use Rattle.world.specs.World.{Path}
 use Rattle.world.specs.Objects.{outputs_at}
-use Rattle.world.specs.Rows.{address_in, archive_in, references_in, outputs_in, object_in}
+use Rattle.world.specs.Rows.{Schema, address_in, archive_in, references_in, outputs_in, pieces_in, object_in}
 use Rattle.world.specs.Told.{rows_of}
 use Rattle.world.specs.Parts.{IsSoundRow}
-use Rattle.world.proofs.Told.{whole}
 use Rattle.index.specs.Outline.{Outlined, outlined}
 use Rattle.opening_objects.specs.declared.reading.ObjectRows.{ObjectRows}
+use Rattle.opening_objects.specs.Cut.{parts_of, whole_of}
 use Rattle.opening_objects.specs.Tested.{IsSoundAt, kept_of, named_of, targets_of}
 use Rattle.opening_objects.specs.Rows.{AreRowsOf}
-use Rattle.opening_objects.specs.Taken.{Objects, IsSoundOne, with_stored, with_object}
+use Rattle.opening_objects.specs.Taken.{Objects, IsCutBy, IsSoundOne, with_stored, with_object}
 use Rattle.opening_objects.proofs.Paths.{set_again}
 use Rattle.opening_objects.proofs.SoundRows.{row_of_tested, tested_of_row}
 
-module _ (dir : List ℕ) (c : Contents) (p : Path) (r : ObjectRows) (h : AreRowsOf c p r) where
+module _ (schema : Schema) (dir : List ℕ) (c : Contents) (p : Path) (r : ObjectRows) (h : AreRowsOf c p r) where
   abbrev stored : Stored
   stored = (stored_of r.object).1
 
+  -- the same with the whole archive
+  abbrev whole : Stored
+  whole = whole_of stored (parts_of r.pieces.items)
+
   abbrev Tested : Type 0
-  Tested = IsSoundAt dir (stored_of r.object).0 stored (targets_of r.references.items) (named_of r.outputs.items)
+  Tested = IsSoundAt dir (stored_of r.object).0 whole (targets_of r.references.items) (named_of r.outputs.items)
+
+  abbrev pub IsTested : Type 0
+  IsTested = IsCutBy schema stored.nar (parts_of r.pieces.items) × Tested
 
   abbrev Same : Type 0
-  Same = IsSoundAt dir p stored (finite.keys (references_in (rows_of c) p)) (finite.entries (outputs_in (rows_of c) p))
+  Same = IsSoundAt dir p (record stored { nar = archive_in (rows_of c) p stored }) (finite.keys (references_in (rows_of c) p)) (finite.entries (outputs_in (rows_of c) p))
+
+  whole_is : whole ≡ record stored { nar = archive_in (rows_of c) p stored }
+  whole_is = ap (whole_of stored) h.pieces
 
   to_same : Tested → Same
-  to_same t = subst (λ (q : Path). IsSoundAt dir q stored (finite.keys (references_in (rows_of c) p)) (finite.entries (outputs_in (rows_of c) p))) h.base
-      (subst (λ (l : List Path). IsSoundAt dir (stored_of r.object).0 stored l (finite.entries (outputs_in (rows_of c) p))) h.references
-      (subst (λ (l : List (List ℕ × Path)). IsSoundAt dir (stored_of r.object).0 stored (targets_of r.references.items) l) h.outputs t))
+  to_same t = subst (λ (o : Stored). IsSoundAt dir p o (finite.keys (references_in (rows_of c) p)) (finite.entries (outputs_in (rows_of c) p))) whole_is
+      (subst (λ (q : Path). IsSoundAt dir q whole (finite.keys (references_in (rows_of c) p)) (finite.entries (outputs_in (rows_of c) p))) h.base
+      (subst (λ (l : List Path). IsSoundAt dir (stored_of r.object).0 whole l (finite.entries (outputs_in (rows_of c) p))) h.references
+      (subst (λ (l : List (List ℕ × Path)). IsSoundAt dir (stored_of r.object).0 whole (targets_of r.references.items) l) h.outputs t)))
 
   of_same : Same → Tested
-  of_same t = subst (λ (l : List (List ℕ × Path)). IsSoundAt dir (stored_of r.object).0 stored (targets_of r.references.items) l) (sym h.outputs)
-      (subst (λ (l : List Path). IsSoundAt dir (stored_of r.object).0 stored l (finite.entries (outputs_in (rows_of c) p))) (sym h.references)
-      (subst (λ (q : Path). IsSoundAt dir q stored (finite.keys (references_in (rows_of c) p)) (finite.entries (outputs_in (rows_of c) p))) (sym h.base) t))
+  of_same t = subst (λ (l : List (List ℕ × Path)). IsSoundAt dir (stored_of r.object).0 whole (targets_of r.references.items) l) (sym h.outputs)
+      (subst (λ (l : List Path). IsSoundAt dir (stored_of r.object).0 whole l (finite.entries (outputs_in (rows_of c) p))) (sym h.references)
+      (subst (λ (q : Path). IsSoundAt dir q whole (finite.keys (references_in (rows_of c) p)) (finite.entries (outputs_in (rows_of c) p))) (sym h.base)
+      (subst (λ (o : Stored). IsSoundAt dir p o (finite.keys (references_in (rows_of c) p)) (finite.entries (outputs_in (rows_of c) p))) (sym whole_is) t)))
 
-  abbrev Row : List ℕ → Type 0
-  Row nar = IsSoundRow dir p stored nar (references_in (rows_of c) p) (outputs_in (rows_of c) p)
+  abbrev CutHere : List (ℤ × List ℕ) → Type 0
+  CutHere = IsCutBy schema stored.nar
 
-  pub one_of : Tested → IsSoundOne dir c p
-  one_of t = record { stored = stored; found = h.object; row = subst Row (sym (whole c p stored)) (row_of_tested dir p stored (references_in (rows_of c) p) (outputs_in (rows_of c) p) (to_same t)) }
+  pub one_of : IsTested → IsSoundOne schema dir c p
+  one_of t = record {
+    stored = stored;
+    found = h.object;
+    cut = subst CutHere h.pieces t.0;
+    row = row_of_tested dir p stored (archive_in (rows_of c) p stored) (references_in (rows_of c) p) (outputs_in (rows_of c) p) (to_same t.1);
+  }
 
   same_stored : (o : Stored) → finite.get c.objects p ≡ Some o → o ≡ stored
   same_stored o e = same_Some o stored (sym e ∙ h.object)
 
-  pub of_one : IsSoundOne dir c p → Tested
-  of_one s = of_same (tested_of_row dir p stored (references_in (rows_of c) p) (outputs_in (rows_of c) p)
-      (subst Row (whole c p stored) (subst (λ (o : Stored). IsSoundRow dir p o (archive_in (rows_of c) p o) (references_in (rows_of c) p) (outputs_in (rows_of c) p)) (same_stored s.stored s.found) s.row)))
+  pub of_one : IsSoundOne schema dir c p → IsTested
+  of_one s = (
+    subst CutHere (sym h.pieces) (subst (λ (o : Stored). IsCutBy schema o.nar (finite.entries (pieces_in (rows_of c) p))) (same_stored s.stored s.found) s.cut),
+    of_same (tested_of_row dir p stored (archive_in (rows_of c) p stored) (references_in (rows_of c) p) (outputs_in (rows_of c) p)
+        (subst (λ (o : Stored). IsSoundRow dir p o (archive_in (rows_of c) p o) (references_in (rows_of c) p) (outputs_in (rows_of c) p)) (same_stored s.stored s.found) s.row)),
+  )
 
-  pub told_one : (b : Bool) → IsTrue b ↔ Tested → IsTrue b ↔ IsSoundOne dir c p
+  pub told_one : (b : Bool) → IsTrue b ↔ IsTested → IsTrue b ↔ IsSoundOne schema dir c p
   told_one b t = (λ x. one_of (t.0 x), λ s. t.1 (of_one s))
 
   -- what is kept is the outline of the object
-  abbrev kept : List ℕ → Set bytes_cmp → finite.FinMap bytes_cmp Path → Outlined
-  kept nar refs outputs = record { size = length nar; hash = sha256 nar; references = refs; deriver = stored.deriver; ca = address_in stored.ca; outputs = outputs }
+  abbrev kept : Set bytes_cmp → finite.FinMap bytes_cmp Path → Outlined
+  kept refs outputs = record { size = length (archive_in (rows_of c) p stored); hash = sha256 (archive_in (rows_of c) p stored); references = refs; deriver = stored.deriver; ca = address_in stored.ca; outputs = outputs }
 
-  pub kept_is : Tested → kept_of dir (stored_of r.object).0 stored (targets_of r.references.items) ≡ outlined (object_in (rows_of c) p stored)
+  pub kept_is : Tested → kept_of dir (stored_of r.object).0 whole (targets_of r.references.items) ≡ outlined (object_in (rows_of c) p stored)
   kept_is t =
       let s = to_same t in
-      ap (λ (q : Path). kept_of dir q stored (targets_of r.references.items)) h.base ∙ ap (λ (l : List Path). kept_of dir p stored l) h.references
-      ∙ (λ i. kept (sym (whole c p stored) i) (set_again (references_in (rows_of c) p) i) (sym (finite.same_entries_map (outputs_in (rows_of c) p) (outputs_at dir p stored.nar) s.archive.outputs_are) i))
+      ap (λ (q : Path). kept_of dir q whole (targets_of r.references.items)) h.base ∙ ap (λ (l : List Path). kept_of dir p whole l) h.references
+      ∙ ap (λ (o : Stored). kept_of dir p o (finite.keys (references_in (rows_of c) p))) whole_is
+      ∙ (λ i. kept (set_again (references_in (rows_of c) p) i) (sym (finite.same_entries_map (outputs_in (rows_of c) p) (outputs_at dir p (archive_in (rows_of c) p stored)) s.archive.outputs_are) i))
 
-  pub put_is : (m : Objects) → Tested → finite.insert m (stored_of r.object).0 (kept_of dir (stored_of r.object).0 stored (targets_of r.references.items)) ≡ with_object c p m
+  pub put_is : (m : Objects) → IsTested → finite.insert m (stored_of r.object).0 (kept_of dir (stored_of r.object).0 whole (targets_of r.references.items)) ≡ with_object c p m
   put_is m t =
-      ap (λ (q : Path). finite.insert m q (kept_of dir (stored_of r.object).0 stored (targets_of r.references.items))) h.base
-      ∙ ap (finite.insert m p) (kept_is t) ∙ ap (λ (o : Option Stored). with_stored c p o m) (sym h.object)
+      ap (λ (q : Path). finite.insert m q (kept_of dir (stored_of r.object).0 whole (targets_of r.references.items))) h.base
+      ∙ ap (finite.insert m p) (kept_is t.1) ∙ ap (λ (o : Option Stored). with_stored c p o m) (sym h.object)
+
+-- ---- what was tested, of the same rows
+
+pub cut_so : (schema : Schema) (row same : List ℕ) (ps qs : List Piece) → row ≡ same → ps ≡ qs → IsCutBy schema row (parts_of ps) → IsCutBy schema same (parts_of qs)
+cut_so schema row same ps qs p q h = subst (λ (l : List Piece). IsCutBy schema same (parts_of l)) q (subst (λ (l : List ℕ). IsCutBy schema l (parts_of ps)) p h)
+
+pub sound_found : (dir : List ℕ) (w : Path × Stored) (refs : List Path) (outs : List (List ℕ × Path)) (o : Option (Path × Outlined)) (s : Path × Outlined) → o ≡ Some s
+    → MatchOption o (¬ IsSoundAt dir w.0 w.1 refs outs) (λ (x : Path × Outlined). IsSoundAt dir w.0 w.1 refs outs × (x.0 ≡ w.0) × (x.1 ≡ kept_of dir w.0 w.1 refs))
+    → IsSoundAt dir w.0 w.1 refs outs
+sound_found dir w refs outs o s is h =
+    (subst (λ (p : Option (Path × Outlined)). MatchOption p (¬ IsSoundAt dir w.0 w.1 refs outs) (λ (x : Path × Outlined). IsSoundAt dir w.0 w.1 refs outs × (x.0 ≡ w.0) × (x.1 ≡ kept_of dir w.0 w.1 refs))) is h).0
+
+pub sound_so : (dir : List ℕ) (w e : Path × Stored) → w ≡ e → (rs ss : List Reference) → rs ≡ ss → (os us : List Output) → os ≡ us
+    → IsSoundAt dir w.0 w.1 (targets_of rs) (named_of os) → IsSoundAt dir e.0 e.1 (targets_of ss) (named_of us)
+sound_so dir w e p rs ss q os us r h =
+    subst (λ (x : Path × Stored). IsSoundAt dir x.0 x.1 (targets_of ss) (named_of us)) p
+    (subst (λ (l : List Reference). IsSoundAt dir w.0 w.1 (targets_of l) (named_of us)) q (subst (λ (l : List Output). IsSoundAt dir w.0 w.1 (targets_of rs) (named_of l)) r h))

@@ -1,3 +1,4 @@
 pub mod Tested
+pub mod Cut
 pub mod Rows
 pub mod Taken

@@ -2,6 +2,8 @@
 #![tactic(auto)]
 
 mod address;
+mod cutting;
+mod joined;
 mod members;
 mod objects;
 mod outputs;

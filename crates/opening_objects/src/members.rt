@@ -1,15 +1,16 @@
-//! Rows of references and outputs beside the objects of the index.
+//! Rows of references, outputs and pieces beside the objects of the index.
 
 ghost use Rattle.std.specs.Prelude.{◌≡◌, IfOk, map};
 ghost use Rattle.std.specs.List.{list_all};
-ghost use Rattle.table_entries.specs.Entries.{reference_of, output_of};
+ghost use Rattle.table_entries.specs.Entries.{numbered_in, reference_of, output_of};
 ghost use Rattle.opening_objects.specs.Taken as taken;
-ghost use Rattle.opening_objects.specs.Taken.{is_object, is_reference};
+ghost use Rattle.opening_objects.specs.Taken.{is_object, is_owned, is_reference};
 
 use crate::texts::path_of;
 use index::Index;
 use std::alloc::{AllocError, Global};
 use table_entries::outputs::Output;
+use table_entries::pieces::PieceKey;
 use table_entries::references::Reference;
 
 /// Whether a text is the base name of an object.
@@ -50,6 +51,18 @@ pub(crate) fn are_references(
 /// Whether each output is an object's.
 pub(crate) fn are_outputs(alloc: Global, index: &Index, rows: &[Output]) -> Result<bool, AllocError>
     ensures { IfOk result (λ ok. ok ≡ list_all (taken.is_output index.now.objects) (map output_of rows.now)) }
+{
+    'rows: for row in rows {
+        if !is_object(alloc, index, row.base.as_str())? {
+            return Ok(false);
+        }
+    }
+    Ok(true)
+}
+
+/// Whether each piece is one of an object's archive.
+pub(crate) fn are_owned(alloc: Global, index: &Index, rows: &[PieceKey]) -> Result<bool, AllocError>
+    ensures { IfOk result (λ ok. ok ≡ list_all (is_owned index.now.objects) (map numbered_in rows.now)) }
 {
     'rows: for row in rows {
         if !is_object(alloc, index, row.base.as_str())? {

@@ -1,16 +1,21 @@
 //! Objects, tested one after another and put into the index.
 
-ghost use Rattle.std.specs.Prelude.{◌≡◌, ◌↔◌, false, IsTrue, IfOk, OnOk, map, string_bytes};
+ghost use Rattle.std.specs.Prelude.{◌≡◌, ◌↔◌, false, IsTrue, IsFalse, IfOk, OnOk, map, string_bytes};
 ghost use Rattle.std.specs.List.{AllByRecursion};
 ghost use Rattle.std.specs.FinMap as finite;
 ghost use Rattle.sqlite.specs.State.{HasCleanDisk, IsUnchanged, Survives};
 ghost use Rattle.sqlite.specs.Held.{state};
+ghost use Rattle.table_forms.specs.Forms.{piece};
 ghost use Rattle.table_statements.specs.Contents.{contents_of};
-ghost use Rattle.table_statements.specs.Calls.{IsReady, KeepsShown};
+ghost use Rattle.table_statements.specs.Calls.{HasFurther, IsReady, KeepsShown};
 ghost use Rattle.table_entries.specs.Entries.{stored_of};
+ghost use Rattle.world.specs.Rows.{has_pieces};
+ghost use Rattle.world.specs.View.{schema_view};
+ghost use Rattle.opening_objects.specs.Cut.{parts_of, whole_of, with_parts};
 ghost use Rattle.opening_objects.specs.Tested.{IsSoundAt, kept_of, named_of, targets_of};
-ghost use Rattle.opening_objects.specs.Taken.{IsSoundOne, with_object, with_objects};
+ghost use Rattle.opening_objects.specs.Taken.{IsCutBy, IsSoundOne, with_object, with_objects};
 
+use crate::cutting::{is_cut, whole};
 use crate::objects::sound_object;
 use crate::reading::{ObjectRows, rows_at};
 use index::Index;
@@ -18,26 +23,46 @@ use paths::StoreDir;
 use rows::objects;
 use sqlite::{Alter, Connection};
 use std::alloc::{AllocError, Global};
+use table_entries::pieces::Piece;
 use table_statements::failure::Failure;
+use world::Schema;
+
+/// Whether an archive is cut the right way, where there is a table of pieces.
+fn is_cut_by(schema: Schema, row: &[u8], pieces: &[Piece]) -> bool
+    ensures { IsTrue result ↔ IsCutBy (schema_view schema) row.now (parts_of pieces.now) }
+{
+    if !schema.has_pieces() {
+        return true;
+    }
+    is_cut(row, pieces)
+}
 
 /// Whether the rows of an object are sound. If so, it is put into the index.
 fn take_rows(
     alloc: Global,
+    schema: Schema,
     dir: &StoreDir,
     index: &mut Index,
-    rows: &ObjectRows,
+    rows: ObjectRows,
 ) -> Result<bool, AllocError>
-    ensures told { IfOk result (λ ok. IsTrue ok ↔ IsSoundAt dir.now (stored_of rows.now.object).0 (stored_of rows.now.object).1 (targets_of rows.now.references.items) (named_of rows.now.outputs.items)) }
-    ensures taken { IfOk result (λ ok. IsTrue ok → index.new ≡ record index.old { objects = finite.insert index.old.objects (stored_of rows.now.object).0 (kept_of dir.now (stored_of rows.now.object).0 (stored_of rows.now.object).1 (targets_of rows.now.references.items)) }) }
+    ensures told { IfOk result (λ ok. IsTrue ok ↔ (IsCutBy (schema_view schema) (stored_of rows.object).1.nar (parts_of rows.pieces.items)
+        × IsSoundAt dir.now (stored_of rows.object).0 (whole_of (stored_of rows.object).1 (parts_of rows.pieces.items)) (targets_of rows.references.items) (named_of rows.outputs.items))) }
+    ensures taken { IfOk result (λ ok. IsTrue ok → index.new ≡ record index.old {
+      objects = finite.insert index.old.objects (stored_of rows.object).0
+          (kept_of dir.now (stored_of rows.object).0 (whole_of (stored_of rows.object).1 (parts_of rows.pieces.items)) (targets_of rows.references.items));
+    }) }
 {
-    let Some((path, summary)) = sound_object(
-        alloc,
-        dir,
-        &rows.object,
-        &rows.references,
-        &rows.outputs,
-    )?
-    else {
+    let ObjectRows {
+        object,
+        pieces,
+        references,
+        outputs,
+    } = rows;
+    if !is_cut_by(schema, &object.nar, &pieces) {
+        return Ok(false);
+    }
+    let object = whole(object, pieces)?;
+    let Some((path, summary)) = sound_object(alloc, dir, &object, &references, &outputs)? else {
         return Ok(false);
     };
     index.insert_object(path, summary)?;
@@ -48,30 +73,34 @@ fn take_rows(
 fn take_object<S: Alter>(
     alloc: Global,
     conn: &mut Connection<S>,
+    schema: Schema,
     dir: &StoreDir,
     index: &mut Index,
     base: &str,
 ) -> Result<bool, Failure>
     requires alone { conn.old.in_transaction ≡ false }
     requires ready { HasCleanDisk (state S.Store conn.old) → IsTrue (state S.Store conn.old).is_open → IsReady (state S.Store conn.old) }
+    requires stands { HasCleanDisk (state S.Store conn.old) → IsTrue (has_pieces (schema_view schema)) → IsTrue (state S.Store conn.old).is_open → HasFurther (state S.Store conn.old).now piece }
+    requires no_table { HasCleanDisk (state S.Store conn.old) → IsFalse (has_pieces (schema_view schema)) → IsTrue (state S.Store conn.old).is_open → (contents_of (state S.Store conn.old).now).pieces ≡ finite.empty }
     ensures alone { conn.new.in_transaction ≡ false }
-    ensures told { HasCleanDisk (state S.Store conn.new) → IfOk result (λ ok. IsTrue ok ↔ IsSoundOne dir.now (contents_of (state S.Store conn.old).now) base.now) }
+    ensures told { HasCleanDisk (state S.Store conn.new) → IfOk result (λ ok. IsTrue ok ↔ IsSoundOne (schema_view schema) dir.now (contents_of (state S.Store conn.old).now) base.now) }
     ensures taken { HasCleanDisk (state S.Store conn.new) → IfOk result (λ ok. IsTrue ok → index.new ≡ record index.old { objects = with_object (contents_of (state S.Store conn.old).now) base.now index.old.objects }) }
     ensures unchanged { HasCleanDisk (state S.Store conn.new) → OnOk result (IsUnchanged (state S.Store conn.old) (state S.Store conn.new)) }
     ensures same { HasCleanDisk (state S.Store conn.new) → KeepsShown (state S.Store conn.old) (state S.Store conn.new) }
     ensures ready { HasCleanDisk (state S.Store conn.new) → IsTrue (state S.Store conn.new).is_open → IsReady (state S.Store conn.new) }
     ensures survives { Survives (state S.Store conn.old) (state S.Store conn.new) (λ _. ⊥) }
 {
-    let Some(rows) = rows_at(alloc, conn, base)? else {
+    let Some(rows) = rows_at(alloc, conn, schema, base)? else {
         return Ok(false);
     };
-    Ok(take_rows(alloc, dir, index, &rows)?)
+    Ok(take_rows(alloc, schema, dir, index, rows)?)
 }
 
 /// Whether each base is an object's, whose rows are sound. If so, they are put into the index.
 fn take_each<S: Alter>(
     alloc: Global,
     conn: &mut Connection<S>,
+    schema: Schema,
     dir: &StoreDir,
     index: &mut Index,
     bases: &[String],
@@ -79,8 +108,10 @@ fn take_each<S: Alter>(
     requires alone { conn.old.in_transaction ≡ false }
     requires ready { HasCleanDisk (state S.Store conn.old) → IsTrue (state S.Store conn.old).is_open → IsReady (state S.Store conn.old) }
     requires opened { HasCleanDisk (state S.Store conn.old) → IsTrue (state S.Store conn.old).is_open }
+    requires stands { HasCleanDisk (state S.Store conn.old) → IsTrue (has_pieces (schema_view schema)) → IsTrue (state S.Store conn.old).is_open → HasFurther (state S.Store conn.old).now piece }
+    requires no_table { HasCleanDisk (state S.Store conn.old) → IsFalse (has_pieces (schema_view schema)) → IsTrue (state S.Store conn.old).is_open → (contents_of (state S.Store conn.old).now).pieces ≡ finite.empty }
     ensures alone { conn.new.in_transaction ≡ false }
-    ensures told { HasCleanDisk (state S.Store conn.new) → IfOk result (λ ok. IsTrue ok ↔ AllByRecursion (IsSoundOne dir.now (contents_of (state S.Store conn.old).now)) (map string_bytes bases.now)) }
+    ensures told { HasCleanDisk (state S.Store conn.new) → IfOk result (λ ok. IsTrue ok ↔ AllByRecursion (IsSoundOne (schema_view schema) dir.now (contents_of (state S.Store conn.old).now)) (map string_bytes bases.now)) }
     ensures taken { HasCleanDisk (state S.Store conn.new) → IfOk result (λ ok. IsTrue ok → index.new ≡ record index.old { objects = with_objects (contents_of (state S.Store conn.old).now) (map string_bytes bases.now) index.old.objects }) }
     ensures unchanged { HasCleanDisk (state S.Store conn.new) → OnOk result (IsUnchanged (state S.Store conn.old) (state S.Store conn.new)) }
     ensures same { HasCleanDisk (state S.Store conn.new) → KeepsShown (state S.Store conn.old) (state S.Store conn.new) }
@@ -88,7 +119,7 @@ fn take_each<S: Alter>(
     ensures survives { Survives (state S.Store conn.old) (state S.Store conn.new) (λ _. ⊥) }
 {
     'bases: for base in bases {
-        if !take_object(alloc, conn, dir, index, base.as_str())? {
+        if !take_object(alloc, conn, schema, dir, index, base.as_str())? {
             return Ok(false);
         }
     }
@@ -99,13 +130,16 @@ fn take_each<S: Alter>(
 pub(crate) fn take_all<S: Alter>(
     alloc: Global,
     conn: &mut Connection<S>,
+    schema: Schema,
     dir: &StoreDir,
     index: &mut Index,
 ) -> Result<bool, Failure>
     requires alone { conn.old.in_transaction ≡ false }
     requires ready { HasCleanDisk (state S.Store conn.old) → IsTrue (state S.Store conn.old).is_open → IsReady (state S.Store conn.old) }
+    requires stands { HasCleanDisk (state S.Store conn.old) → IsTrue (has_pieces (schema_view schema)) → IsTrue (state S.Store conn.old).is_open → HasFurther (state S.Store conn.old).now piece }
+    requires no_table { HasCleanDisk (state S.Store conn.old) → IsFalse (has_pieces (schema_view schema)) → IsTrue (state S.Store conn.old).is_open → (contents_of (state S.Store conn.old).now).pieces ≡ finite.empty }
     ensures alone { conn.new.in_transaction ≡ false }
-    ensures told { HasCleanDisk (state S.Store conn.new) → IfOk result (λ ok. IsTrue ok ↔ AllByRecursion (IsSoundOne dir.now (contents_of (state S.Store conn.old).now)) (finite.keys (contents_of (state S.Store conn.old).now).objects)) }
+    ensures told { HasCleanDisk (state S.Store conn.new) → IfOk result (λ ok. IsTrue ok ↔ AllByRecursion (IsSoundOne (schema_view schema) dir.now (contents_of (state S.Store conn.old).now)) (finite.keys (contents_of (state S.Store conn.old).now).objects)) }
     ensures taken { HasCleanDisk (state S.Store conn.new) → IfOk result (λ ok. IsTrue ok → index.new ≡ record index.old { objects = with_objects (contents_of (state S.Store conn.old).now) (finite.keys (contents_of (state S.Store conn.old).now).objects) index.old.objects }) }
     ensures unchanged { HasCleanDisk (state S.Store conn.new) → OnOk result (IsUnchanged (state S.Store conn.old) (state S.Store conn.new)) }
     ensures same { HasCleanDisk (state S.Store conn.new) → KeepsShown (state S.Store conn.old) (state S.Store conn.new) }
@@ -113,5 +147,5 @@ pub(crate) fn take_all<S: Alter>(
     ensures survives { Survives (state S.Store conn.old) (state S.Store conn.new) (λ _. ⊥) }
 {
     let bases = objects::keys(alloc, conn)?;
-    take_each(alloc, conn, dir, index, &bases)
+    take_each(alloc, conn, schema, dir, index, &bases)
 }

@@ -5,3 +5,5 @@ pub mod Rows
 pub mod Filled
 pub mod SoundRoots
 pub mod TwoReads
+pub mod Sessions
+pub mod AllReads

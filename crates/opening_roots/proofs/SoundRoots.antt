@@ -20,19 +20,19 @@ use Rattle.opening_roots.specs.Taken.{Objects, is_target, is_permanent_root, is_
 use Rattle.opening_roots.proofs.EachEntry.{tested_entries}
 use Rattle.opening_roots.proofs.Filled.{is_positive, no_negative}
 
-first_true : (a b : Bool) → (a && b) ≡ true → a ≡ true
+pub first_true : (a b : Bool) → (a && b) ≡ true → a ≡ true
 first_true true b h = refl
 first_true false b h = h
 
-second_true : (a b : Bool) → (a && b) ≡ true → b ≡ true
+pub second_true : (a b : Bool) → (a && b) ≡ true → b ≡ true
 second_true true b h = h
 second_true false b h = absurd (false≢true h)
 
-both_true : (a b : Bool) → a ≡ true → b ≡ true → (a && b) ≡ true
+pub both_true : (a b : Bool) → a ≡ true → b ≡ true → (a && b) ≡ true
 both_true true b h k = k
 both_true false b h k = h
 
-some_key : {X : Type 0} (g : Option X) → IsTrue (is_some g) → (x : X) × (g ≡ Some x)
+pub some_key : {X : Type 0} (g : Option X) → IsTrue (is_some g) → (x : X) × (g ≡ Some x)
 some_key None h = absurd (false≢true h)
 some_key (Some x) h = (x, refl)
 
@@ -50,10 +50,10 @@ number_true : (n : ℕ) → 1 ≤ n → n ≤ 9999 → is_number (pos n) ≡ tru
 number_true n low high = let a : nat_le 1 n ≡ true = grind arith in let b : nat_le n 9999 ≡ true = grind arith in both_true (nat_le 1 n) (nat_le n 9999) a b
 
 module _ (objects : Objects) (c : Contents) (are : AreObjects objects c) where
-  from_target : (t : Path) → is_target objects t ≡ true → IsTrue (finite.contains_key c.objects t)
+  pub from_target : (t : Path) → is_target objects t ≡ true → IsTrue (finite.contains_key c.objects t)
   from_target t h = sym (are.same t) ∙ second_true (is_base_name t) (finite.contains_key objects t) h
 
-  to_target : (t : Path) → IsTrue (finite.contains_key c.objects t) → is_target objects t ≡ true
+  pub to_target : (t : Path) → IsTrue (finite.contains_key c.objects t) → is_target objects t ≡ true
   to_target t h = let there = are.same t ∙ h in both_true (is_base_name t) (finite.contains_key objects t) (are.named t there) there
 
   -- a current number is that of a row, where no number is negative

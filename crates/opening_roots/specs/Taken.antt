@@ -2,13 +2,14 @@
 use Rattle.std.specs.Prelude.{◌≡◌, ◌&&◌, Bool, IsTrue, true, false, List, [], ◌∷◌, map, ℕ, nat_le, ℤ, pos, negsuc}
 use Rattle.std.specs.List.{list_all}
 use Rattle.std.specs.FinMap as finite
-use Rattle.table_statements.specs.Contents.{Contents, Triple}
+use Rattle.table_statements.specs.Contents.{Contents, Triple, Kept}
 use Rattle.paths.specs.Names.{is_plain_name}
 use Rattle.paths.specs.StorePath.{is_base_name}
-use Rattle.paths.specs.Root.{bytes_cmp, is_runtime_label}
+use Rattle.paths.specs.Root.{bytes_cmp, is_runtime_label, is_session}
 use Rattle.world.specs.World.{Path, Pair, pair_cmp, Profile}
 use Rattle.world.specs.Profiles.{last_number}
-use Rattle.world.specs.Rows.{number_in}
+use Rattle.world.specs.Rows.{Rows, number_in}
+use Rattle.world.specs.Parts.{IsSoundSession, AreSoundRoots}
 use Rattle.world.specs.Told.{world_in}
 use Rattle.index.specs.Outline.{Outlined, Outline}
 use Rattle.index.specs.Filling.{has_currents}
@@ -41,6 +42,17 @@ is_user_root objects e = is_plain_name e.0.0 && (is_plain_name e.0.1 && is_targe
 -- a runtime root has a runtime label
 abbrev pub is_runtime_root : Objects → Pair × Unit {0} → Bool
 is_runtime_root objects e = is_runtime_label e.0.0 && is_target objects e.0.1
+
+-- ---- sessions
+
+-- a number of a session: 1 to 4,194,304
+abbrev pub is_session_number : ℤ → Bool
+is_session_number (pos n) = is_session n
+is_session_number (negsuc n) = false
+
+-- what a session keeps: its owner has a plain name, its number is one of a session, and the path is an object's
+abbrev pub is_temporary_root : Objects → Kept × Unit {0} → Bool
+is_temporary_root objects e = is_plain_name e.0.0 && (is_session_number e.0.1 && is_target objects e.0.2)
 
 -- ---- profiles
 
@@ -81,13 +93,26 @@ are_fixed objects c = list_all (is_permanent_root objects) (finite.entries c.per
 abbrev pub are_moving : Objects → Contents → Bool
 are_moving objects c = are_profiles objects c && list_all (is_runtime_root objects) (finite.entries c.runtime)
 
--- all roots are sound beside these objects
+-- all roots but the temporary ones are sound beside these objects
 abbrev pub are_roots : Objects → Contents → Bool
 are_roots objects c = are_fixed objects c && are_moving objects c
 
+-- what sessions keep is sound beside these objects
+abbrev pub are_temporary : Objects → Contents → Bool
+are_temporary objects c = list_all (is_temporary_root objects) (finite.entries c.temp_roots)
+
+-- an outline, and all roots of the rows but the temporary ones
+abbrev pub with_lasting : Outline → Contents → Outline
+with_lasting o c = record o { permanent = c.permanent; user_roots = c.user_roots; profiles = (world_in c).profiles; runtime = c.runtime }
+
 -- an outline, and all roots of the rows
 abbrev pub with_roots : Outline → Contents → Outline
-with_roots o c = record o { permanent = c.permanent; user_roots = c.user_roots; profiles = (world_in c).profiles; runtime = c.runtime }
+with_roots o c = record (with_lasting o c) { temporary = (world_in c).temporary }
+
+-- the roots of the rows are sound, and so is what sessions keep
+pub record AreAllSound (c : Rows) : Type 0 where
+  pub roots : AreSoundRoots c
+  pub sessions : (k : Kept) → IsTrue (finite.contains_key c.temp_roots k) → IsSoundSession c k
 
 -- the objects are those of the rows, and have base names for paths
 pub record AreObjects (objects : Objects) (c : Contents) : Type 0 where

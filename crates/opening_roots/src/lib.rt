@@ -11,6 +11,7 @@ pub mod runtime;
 pub mod settings;
 mod taking;
 mod targets;
+pub mod temporary;
 pub mod user_roots;
 
 pub use roots::take_roots;

@@ -1,7 +1,7 @@
-//! Numbers of generations.
+//! Numbers of generations and of sessions.
 
 ghost use Rattle.std.specs.Prelude.{◌≡◌, true, false, pos, MatchOption};
-ghost use Rattle.opening_roots.specs.Taken.{is_number};
+ghost use Rattle.opening_roots.specs.Taken.{is_number, is_session_number};
 
 /// The number of a generation that a row has, if it is one.
 pub(crate) fn number_of(value: i64) -> Option<u32>
@@ -10,6 +10,22 @@ pub(crate) fn number_of(value: i64) -> Option<u32>
     match u32::try_from(value) {
         Ok(number) => {
             if 1 <= number && number <= 9999 {
+                Some(number)
+            } else {
+                None
+            }
+        }
+        Err(_) => None,
+    }
+}
+
+/// The number of a session that a row has, if it is one.
+pub(crate) fn session_of(value: i64) -> Option<u32>
+    ensures { MatchOption result (is_session_number value ≡ false) (λ n. (value ≡ pos n) × (is_session_number value ≡ true)) }
+{
+    match u32::try_from(value) {
+        Ok(number) => {
+            if 1 <= number && number <= 4_194_304 {
                 Some(number)
             } else {
                 None

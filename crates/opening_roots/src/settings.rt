@@ -7,7 +7,8 @@ ghost use Rattle.table_statements.specs.Contents.{contents_of};
 ghost use Rattle.table_statements.specs.Calls.{IsReady, KeepsShown};
 ghost use Rattle.table_entries.specs.Entries.{setting_of};
 ghost use Rattle.paths.specs.Names.{is_store_dir};
-ghost use Rattle.world.specs.Rows.{one, settings};
+ghost use Rattle.world.specs.Rows.{settings};
+ghost use Rattle.world.specs.View.{schema_view};
 ghost use Rattle.opening_roots.specs.Settings.{two_settings};
 
 use paths::{StoreDir, StoreDirError};
@@ -15,17 +16,22 @@ use rows::meta::{self as stored, Setting};
 use sqlite::{Alter, Connection};
 use std::alloc::{AllocError, Global};
 use table_statements::failure::Failure;
+use world::Schema;
 
-/// The store directory of these settings, if they are the two of a database.
-fn directory_of(alloc: Global, all: &[Setting]) -> Result<Option<StoreDir>, AllocError>
+/// The store directory of these settings, if they are the two of a database of a schema.
+fn directory_of(
+    alloc: Global,
+    all: &[Setting],
+    schema: Schema,
+) -> Result<Option<StoreDir>, AllocError>
     ensures { IfOk result (λ o. MatchOption o
-        ((dir : List ℕ) → IsTrue (is_store_dir dir) → ¬ (map setting_of all.now ≡ two_settings dir))
-        (λ d. IsTrue (is_store_dir d) × (map setting_of all.now ≡ two_settings d))) }
+        ((dir : List ℕ) → IsTrue (is_store_dir dir) → ¬ (map setting_of all.now ≡ two_settings (schema_view schema) dir))
+        (λ d. IsTrue (is_store_dir d) × (map setting_of all.now ≡ two_settings (schema_view schema) d))) }
 {
-    let [schema, place] = all else {
+    let [form, place] = all else {
         return Ok(None);
     };
-    if schema.word.as_str() != "schema" || schema.value.as_str() != "1" {
+    if form.word.as_str() != "schema" || form.value.as_str() != schema.text() {
         return Ok(None);
     }
     if place.word.as_str() != "store-dir" {
@@ -38,19 +44,23 @@ fn directory_of(alloc: Global, all: &[Setting]) -> Result<Option<StoreDir>, Allo
     }
 }
 
-/// The store directory of the settings, if the rows are the two of a database of the first schema.
-pub fn read<S: Alter>(alloc: Global, conn: &mut Connection<S>) -> Result<Option<StoreDir>, Failure>
+/// The store directory of the settings, if the rows are the two of a database of this schema.
+pub fn read<S: Alter>(
+    alloc: Global,
+    conn: &mut Connection<S>,
+    schema: Schema,
+) -> Result<Option<StoreDir>, Failure>
     requires alone { conn.old.in_transaction ≡ false }
     requires ready { HasCleanDisk (state S.Store conn.old) → IsTrue (state S.Store conn.old).is_open → IsReady (state S.Store conn.old) }
     ensures alone { conn.new.in_transaction ≡ false }
     ensures told { HasCleanDisk (state S.Store conn.new) → IfOk result (λ o. MatchOption o
-        ((dir : List ℕ) → IsTrue (is_store_dir dir) → ¬ ((contents_of (state S.Store conn.old).now).meta ≡ settings one dir))
-        (λ d. IsTrue (is_store_dir d) × ((contents_of (state S.Store conn.old).now).meta ≡ settings one d))) }
+        ((dir : List ℕ) → IsTrue (is_store_dir dir) → ¬ ((contents_of (state S.Store conn.old).now).meta ≡ settings (schema_view schema) dir))
+        (λ d. IsTrue (is_store_dir d) × ((contents_of (state S.Store conn.old).now).meta ≡ settings (schema_view schema) d))) }
     ensures unchanged { HasCleanDisk (state S.Store conn.new) → OnOk result (IsUnchanged (state S.Store conn.old) (state S.Store conn.new)) }
     ensures same { HasCleanDisk (state S.Store conn.new) → KeepsShown (state S.Store conn.old) (state S.Store conn.new) }
     ensures ready { HasCleanDisk (state S.Store conn.new) → IsTrue (state S.Store conn.new).is_open → IsReady (state S.Store conn.new) }
     ensures survives { Survives (state S.Store conn.old) (state S.Store conn.new) (λ _. ⊥) }
 {
     let all = stored::all(alloc, conn)?;
-    Ok(directory_of(alloc, all.as_slice())?)
+    Ok(directory_of(alloc, all.as_slice(), schema)?)
 }

@@ -2,6 +2,7 @@
 #![tactic(auto)]
 
 pub mod generations;
+mod getting_within;
 pub mod meta;
 pub mod objects;
 pub mod outputs;
@@ -12,3 +13,4 @@ pub mod references;
 pub mod runtime;
 pub mod temp_roots;
 pub mod user_roots;
+mod within;

@@ -12,6 +12,7 @@ ghost use Rattle.table_statements.specs.Calls.{IsUnderWay, Changes, IsReady, Kee
 ghost use Rattle.table_statements.specs.Contents.{texts_cmp, contents_of, without_archive};
 ghost use Rattle.table_entries.specs.Entries.{text_or_null, stored_of, listed_of, IsStored, stored};
 
+pub use crate::getting_within::get_within;
 use sqlite::{Alter, Connection, Transaction, params};
 use std::alloc::Global;
 pub use table_entries::objects::{Listed, Object};

@@ -115,3 +115,26 @@ pub fn delete_of<S: Alter>(
         params![owner, session],
     )
 }
+
+/// Removes one temporary root, if it is there.
+pub fn delete<S: Alter>(
+    tx: &mut Transaction<'_, S>,
+    owner: &str,
+    session: u32,
+    target: &str,
+) -> Result<(), Failure>
+    requires under { HasCleanDisk (state S.Store tx.old.conn.now) → IsUnderWay (state S.Store tx.old.conn.now) }
+    requires stands { HasCleanDisk (state S.Store tx.old.conn.now) → IsTrue (state S.Store tx.old.conn.now).is_open → HasFurther (state S.Store tx.old.conn.now).now temp_root }
+    ensures same_reference { tx.new.conn.ghost_name ≡ tx.old.conn.ghost_name }
+    ensures done { HasCleanDisk (state S.Store tx.new.conn.now) → OnOk result (Changes (state S.Store tx.old.conn.now) (state S.Store tx.new.conn.now)
+        (λ c. record c { temp_roots = finite.retain_keys c.temp_roots (λ k. not (eq_by_cmp texts_cmp k.0 owner.now && (eq_by_cmp int_cmp k.1 (pos session) && eq_by_cmp texts_cmp k.2 target.now))) })) }
+    ensures cause { HasCleanDisk (state S.Store tx.new.conn.now) → IfErr result (FailsFor (state S.Store tx.old.conn.now) (state S.Store tx.new.conn.now)) }
+    ensures failed { HasCleanDisk (state S.Store tx.new.conn.now) → OnErr result (KeepsCommit (state S.Store tx.old.conn.now) (state S.Store tx.new.conn.now)) }
+    ensures survives { Survives (state S.Store tx.old.conn.now) (state S.Store tx.new.conn.now) (λ _. ⊥) }
+{
+    statement::remove(
+        tx,
+        "DELETE FROM temp_root WHERE owner = ?1 AND session = ?2 AND target = ?3",
+        params![owner, session, target],
+    )
+}

@@ -7,12 +7,13 @@ use Rattle.sqlite_trees.specs.View.{is_int}
 use Rattle.sqlite_schema.specs.declared.schema.Schema.{Schema}
 use Rattle.sqlite_schema.specs.declared.schema.Table.{Table}
 use Rattle.sqlite_schema.specs.Names.{same_name, table_named}
-use Rattle.sqlite.specs.Effect.{Database}
+use Rattle.sqlite.specs.Effect.{Database, IsDatabase}
 use Rattle.sqlite.specs.State.{State}
 use Rattle.table_forms.specs.Forms.{meta, object, refs, outs, permanent, user_root, profile, generation, runtime, piece, temp_root}
 use Rattle.table_forms.specs.Standing.{Stands, HasTables, tree_named}
+use Rattle.table_forms.specs.Finding.{IsFree}
 use Rattle.table_statements.specs.Contents.{Bytes, contents_of, rows_named, rows_if_any, map_of, texts_cmp, pair_cmp, triple_cmp, numbered_cmp, kept_cmp, is_text, is_pair, pair_of, member_of, is_triple, target_of, is_object, object_of, is_profile, profile_of, is_generation, generation_of, is_piece, piece_of, is_kept, kept_of}
-use Rattle.table_statements.specs.Calls.{IsOurs, HasFurther}
+use Rattle.table_statements.specs.Calls.{IsKeyed, IsOurs, HasFurther}
 use Rattle.table_statements.proofs.Finds.{found_by_place}
 use Rattle.table_statements.proofs.Orders.{numbered_total, numbered_antisymmetric, kept_total, kept_antisymmetric}
 use Rattle.table_statements.proofs.Rising.{AreKept}
@@ -23,28 +24,29 @@ use Rattle.table_entries.proofs.Places.{own_rows, others_kept, if_any_kept}
 use Rattle.table_entries.proofs.Typed.{pieces_typed, temp_roots_typed}
 use Rattle.table_entries.proofs.UniqueKeys.{texts_equal, ints_equal, agree_two, agree_three, one_key}
 
-module _ (db : Database) (ours : IsOurs db) where
-  pieces_once : HasFurther db piece → HasOneRowEach numbered_total numbered_antisymmetric is_piece piece_of (rows_named db piece.name)
-  pieces_once it a b here there ka kb same =
-      one_key db ours.sound piece.name piece.columns piece.primary it.stands it.keyed a b here there
+module _ (db : Database) (sound : IsDatabase db) where
+  pub pieces_once : Stands db.schema piece → IsKeyed (rows_named db piece.name) → HasOneRowEach numbered_total numbered_antisymmetric is_piece piece_of (rows_named db piece.name)
+  pieces_once stands keyed a b here there ka kb same =
+      one_key db sound piece.name piece.columns piece.primary stands keyed a b here there
       (agree_two a b 1 2 (texts_equal (column a 1) (column b 1) (key a ka).0 (key b kb).0 (ap (λ k. k.0) same)) (ints_equal (column a 2) (column b 2) (key a ka).1 (key b kb).1 (ap (λ k. k.1) same)))
     where
       key : (r : Row) → is_piece r ≡ true → (is_text (column r 1) ≡ true) × (is_int (column r 2) ≡ true)
       key r k = and_so _ _ (and_so (is_text (column r 1) && is_int (column r 2)) _ k).0
 
-  pub piece_kept : HasFurther db piece → AreKept is_piece (λ r. (piece_of r).0) 3 (rows_named db piece.name)
-  piece_kept it = record { typed = pieces_typed db ours.sound it.stands; once = pieces_once it; apart = it.keyed.apart; readable = it.readable }
-
-  temp_roots_once : HasFurther db temp_root → HasOneRowEach kept_total kept_antisymmetric is_kept kept_of (rows_named db temp_root.name)
-  temp_roots_once it a b here there ka kb same =
-      one_key db ours.sound temp_root.name temp_root.columns temp_root.primary it.stands it.keyed a b here there
+  pub temp_roots_once : Stands db.schema temp_root → IsKeyed (rows_named db temp_root.name) → HasOneRowEach kept_total kept_antisymmetric is_kept kept_of (rows_named db temp_root.name)
+  temp_roots_once stands keyed a b here there ka kb same =
+      one_key db sound temp_root.name temp_root.columns temp_root.primary stands keyed a b here there
       (agree_three a b 1 2 3 (texts_equal (column a 1) (column b 1) (front a ka).0 (front b kb).0 (ap (λ k. k.0) same)) (ints_equal (column a 2) (column b 2) (front a ka).1 (front b kb).1 (ap (λ k. k.1) same)) (texts_equal (column a 3) (column b 3) (and_so _ _ ka).1 (and_so _ _ kb).1 (ap (λ k. k.2) same)))
     where
       front : (r : Row) → is_kept r ≡ true → (is_text (column r 1) ≡ true) × (is_int (column r 2) ≡ true)
       front r k = and_so _ _ (and_so (is_text (column r 1) && is_int (column r 2)) _ k).0
 
+module _ (db : Database) (ours : IsOurs db) where
+  pub piece_kept : HasFurther db piece → AreKept is_piece (λ r. (piece_of r).0) 3 (rows_named db piece.name)
+  piece_kept it = record { typed = pieces_typed db ours.sound it.stands; once = pieces_once db ours.sound it.stands it.keyed; apart = it.keyed.apart; readable = it.readable }
+
   pub temp_root_kept : HasFurther db temp_root → AreKept is_kept (λ r. (kept_of r).0) 3 (rows_named db temp_root.name)
-  temp_root_kept it = record { typed = temp_roots_typed db ours.sound it.stands; once = temp_roots_once it; apart = it.keyed.apart; readable = it.readable }
+  temp_root_kept it = record { typed = temp_roots_typed db ours.sound it.stands; once = temp_roots_once db ours.sound it.stands it.keyed; apart = it.keyed.apart; readable = it.readable }
 
 -- where a table stands, its rows are those of the first table of its name
 pub if_any_named : (db : Database) (t : Table) → Stands db.schema t → rows_if_any db t.name ≡ rows_named db t.name
@@ -55,6 +57,12 @@ if_any_named db t stands =
   where
     there : option_and_then (slice_get db.schema.tables) (table_named db.schema t.name) ≡ Some (record t { tree = tree_named db.schema t.name })
     there = ap (option_and_then (slice_get db.schema.tables)) stands.known.named.0 ∙ stands.known.named.1
+
+-- where the name is free, there are none
+pub if_any_free : (db : Database) (name : Bytes) → IsFree db.schema name → rows_if_any db name ≡ []
+unfolding rows_if_any
+if_any_free db name free =
+    ap (λ (o : Option Table). unwrap_or (option_map (λ (x : Table). db.trees x.tree) o) []) (sym (found_by_place (λ (x : Table). same_name x.name name) db.schema.tables) ∙ ap (option_and_then (slice_get db.schema.tables)) free.table)
 
 pub pieces_held : (db : Database) → Stands db.schema piece → (contents_of db).pieces ≡ map_of numbered_cmp is_piece piece_of (rows_named db piece.name)
 pieces_held db stands = ap (map_of numbered_cmp is_piece piece_of) (if_any_named db piece stands)

@@ -24,6 +24,7 @@ pub mod UniqueKeys
 pub mod MappedRows
 pub mod ReadableValues
 pub mod ReadableMaps
+pub mod ReadableFurther
 pub mod KeyOrders
 pub mod Legible
 pub mod FreeKeys

@@ -25,7 +25,7 @@ use Rattle.sqlite_tied.specs.Compute.{everything}
 use Rattle.sqlite.specs.declared.error.Error.{Error}
 use Rattle.sqlite.specs.State.{State, FailsToQuery, IsUnchanged}
 use Rattle.table_forms.specs.Forms.{piece}
-use Rattle.table_forms.specs.Standing.{IsKnown}
+use Rattle.table_forms.specs.Standing.{Stands, IsKnown}
 use Rattle.table_statements.specs.Contents.{Bytes, Numbered, numbered_cmp, map_of, rows_named, contents_of, is_text, is_piece, piece_of}
 use Rattle.table_statements.specs.Queries.{IsSelect, HasBegunWith}
 use Rattle.table_statements.specs.Calls.{IsReady, IsOurs, HasFurther}
@@ -70,7 +70,7 @@ draft tree = record { from = chain (Inner tree ∷ []); filter = []; group = Non
 abbrev outputs : List Out
 outputs = shown_column (codes "base") 1 ∷ shown_column (codes "num") 2 ∷ []
 
-abbrev names : List (List ℕ)
+abbrev pub names : List (List ℕ)
 names = codes "base" ∷ codes "num" ∷ []
 
 abbrev pub keys_text : List ℕ
@@ -80,7 +80,7 @@ keys_typed : (s : Schema) (at tree : ℕ) → IsKnown s (codes "piece") at (reco
 unfolding everything
 keys_typed s at tree known = rw (known.low, known.by_tree)
 
-keys_is : Compiles piece.name piece.columns piece.primary keys_text 0 (λ at tree. Select (whole tree) names)
+pub keys_is : Compiles piece.name piece.columns piece.primary keys_text 0 (λ at tree. Select (whole tree) names)
 unfolding everything
 keys_is s at tree known =
     let there = known.named.1 in (
@@ -100,7 +100,7 @@ pub keys_read : IsSelect keys_text
 unfolding everything
 keys_read = (_, _, _, _, _, refl)
 
-scan : (tree : ℕ) → IsScan (keys_query tree) tree
+pub scan : (tree : ℕ) → IsScan (keys_query tree) tree
 scan tree = record { from = refl; group = refl; distinct = refl; whole = λ params rows. refl }
 
 -- ---- the keys of the rows are those of the pieces
@@ -123,6 +123,11 @@ module _ (old : State) (ours : IsOurs old.now) (mine : HasFurther old.now piece)
       map_made numbered_cmp (λ (x : Bytes). tt) is_piece piece_of has_key key_in numbered_total (rows_named old.now piece.name) (λ r there. let kind = (piece_kept old.now ours mine).typed r there in (kind, (and_so _ _ kind).0, refl))
       ∙ ap (λ (m : finite.FinMap numbered_cmp Bytes). map (λ e. (e.0, tt)) (finite.entries m)) (sym (pieces_held old.now mine.stands))
 
+-- why they aren't read
+pub standing_fails_keys : (old new : State) → (IsTrue old.is_open → Stands old.now.schema piece) → (e : Error) → FailsToQuery keys_text [] old new e → FailsWith old new ⊥ (IsSome old.step_limit) (failure_of e)
+unfolding everything
+standing_fails_keys old new stands = standing_read_fails piece.name piece.columns piece.primary old new stands keys_text [] names keys_query scan keys_is keys_read (λ s at tree known. rw (known.low, known.by_tree) refl)
+
 module _ (old new : State) (ready : IsTrue old.is_open → IsReady old) (own : IsTrue old.is_open → HasFurther old.now piece) where
   pub reads_keys : (r : Result (Vec PieceKey Global) Failure) → Selects ShowsPieceKey old new keys_text [] r → IfOk r (λ all. AllAdjacentBelow (λ x y. true ≡ is_lt (numbered_cmp (numbered_in x) (numbered_in y))) all.items (length all.items))
       → IfOk r (λ all. IsUnchanged old new × (map numbered_in all.items ≡ finite.keys (contents_of old.now).pieces))
@@ -136,8 +141,7 @@ module _ (old new : State) (ready : IsTrue old.is_open → IsReady old) (own : I
       (got.0, sym (map-map (λ (e : Numbered × Unit {0}). e.0) key_of all.items) ∙ ap (map (λ (e : Numbered × Unit {0}). e.0)) same ∙ map-map (λ (e : Numbered × Unit {0}). e.0) (λ (e : Numbered × Bytes). (e.0, tt)) (finite.entries (contents_of old.now).pieces))
 
   pub fails_keys : (e : Error) → FailsToQuery keys_text [] old new e → FailsWith old new ⊥ (IsSome old.step_limit) (failure_of e)
-  unfolding everything
-  fails_keys = standing_read_fails piece.name piece.columns piece.primary old new (λ up. (own up).stands) keys_text [] names keys_query scan keys_is keys_read (λ s at tree known. rw (known.low, known.by_tree) refl)
+  fails_keys = standing_fails_keys old new (λ up. (own up).stands)
 
   pub keys_never_amiss : (rows : List Row) → HasBegunWith keys_text [] old new rows → ¬ IsAmiss IsPieceKeyRow ShowsPieceKey (λ x y. is_lt (numbered_cmp (numbered_in x) (numbered_in y))) rows
   keys_never_amiss rows begun =

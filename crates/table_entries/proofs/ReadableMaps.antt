@@ -11,9 +11,9 @@ use Rattle.sqlite_schema.specs.Rules.{agree}
 use Rattle.sqlite.specs.Effect.{Database, IsDatabase}
 use Rattle.table_forms.specs.Forms.{meta, object, refs, outs, permanent, user_root, profile, generation, runtime, our_tables}
 use Rattle.table_forms.specs.Standing.{HasTables}
-use Rattle.table_statements.specs.Contents.{Bytes, Stored, contents_of, texts_cmp, pair_cmp, triple_cmp, is_text, text_if_any, is_pair, pair_of, member_of, is_triple, target_of, is_profile, profile_of, is_generation, generation_of, is_object, object_of, map_of, rows_named}
+use Rattle.table_statements.specs.Contents.{Bytes, Stored, contents_of, texts_cmp, pair_cmp, triple_cmp, numbered_cmp, kept_cmp, is_text, text_if_any, is_pair, pair_of, member_of, is_triple, target_of, is_profile, profile_of, is_generation, generation_of, is_object, object_of, map_of, rows_named}
 use Rattle.table_statements.specs.Texts.{IsReadable, AreReadable, HasReadableRows}
-use Rattle.table_statements.specs.Calls.{IsKeyed, IsOurs}
+use Rattle.table_statements.specs.Calls.{IsKeyed}
 use Rattle.table_statements.proofs.Orders.{texts_total, texts_antisymmetric, pair_total, pair_antisymmetric, triple_total, triple_antisymmetric}
 use Rattle.table_statements.proofs.Truths.{and_so}
 use Rattle.table_entries.proofs.Typed.{objects_typed, base_is, pairs_typed, triples_typed, profiles_typed, generations_typed}
@@ -21,8 +21,15 @@ use Rattle.table_entries.proofs.UniqueKeys.{texts_equal, ints_equal, agree_one, 
 use Rattle.table_entries.proofs.MappedRows.{row_of, HasOneRowEach, entry_of}
 use Rattle.table_entries.proofs.ReadableValues.{utf8_of, readable_of, readable_int, blob_readable, utf8_if, readable_if}
 
+-- each text in the keys of pieces is UTF-8, and each in those of temporary roots
+abbrev pub OfPieces : finite.FinMap numbered_cmp Bytes → Type 0
+OfPieces m = (base : Bytes) (n : ℤ) (bytes : Bytes) → finite.get m (base, n) ≡ Some bytes → IsUtf8 base
+
+abbrev pub OfTempRoots : finite.FinMap kept_cmp (Unit {0}) → Type 0
+OfTempRoots m = (owner : Bytes) (n : ℤ) (target : Bytes) → finite.get m (owner, n, target) ≡ Some tt → IsUtf8 owner × IsUtf8 target
+
 -- each text in the first so many columns of each row
-abbrev Rows : ℕ → List Row → Type 0
+abbrev pub Rows : ℕ → List Row → Type 0
 Rows n rows = (row : Row) (at : ℕ) → Has rows row → at < n → IsReadable (column row (at + 1))
 
 -- ---- two texts
@@ -209,11 +216,11 @@ module _ (db : Database) (sound : IsDatabase db) (has : HasTables db.schema) (ke
   pub runtime_once : HasOneRowEach pair_total pair_antisymmetric is_pair member_of (rows_named db runtime.name)
   runtime_once = pair_once runtime.name is_pair member_of (λ r k. k) (λ r. refl) (one_key db sound runtime.name runtime.columns runtime.primary has.1.1.1.1.1.1.1.1.0 keyed.1.1.1.1.1.1.1.1.0)
 
-  -- the texts of the rows, and those of the maps
-  pub readable_by_maps : HasReadableRows db ↔ AreReadable (contents_of db)
+  -- the texts of the rows, and those of the maps, where it is known of the further tables what says it of theirs
+  pub readable_by_maps : (P Q : Type 0) → P ↔ OfPieces (contents_of db).pieces → Q ↔ OfTempRoots (contents_of db).temp_roots → (HasReadableRows db × P × Q) ↔ AreReadable (contents_of db)
   unfolding HasReadableRows
-  readable_by_maps = (
-    λ h. record {
+  readable_by_maps P Q pieces temp_roots = (
+    λ all. let h = all.0 in record {
       meta = (map_readable (rows_named db meta.name) meta_typed meta_once).0 h.0;
       objects = (objects_readable (rows_named db object.name) object_typed object_once).0 h.1.0;
       refs = (set_readable (rows_named db refs.name) refs_typed refs_once).0 h.1.1.0;
@@ -223,31 +230,33 @@ module _ (db : Database) (sound : IsDatabase db) (has : HasTables db.schema) (ke
       profiles = (profiles_readable (rows_named db profile.name) profile_typed profile_once).0 h.1.1.1.1.1.1.0;
       generations = (generations_readable (rows_named db generation.name) generation_typed generation_once).0 h.1.1.1.1.1.1.1.0;
       runtime = (set_readable (rows_named db runtime.name) runtime_typed runtime_once).0 h.1.1.1.1.1.1.1.1.0;
+      pieces = pieces.0 all.1;
+      temp_roots = temp_roots.0 all.2;
     },
     λ c. (
-      (map_readable (rows_named db meta.name) meta_typed meta_once).1 c.meta,
       (
-        (objects_readable (rows_named db object.name) object_typed object_once).1 c.objects,
+        (map_readable (rows_named db meta.name) meta_typed meta_once).1 c.meta,
         (
-          (set_readable (rows_named db refs.name) refs_typed refs_once).1 c.refs,
+          (objects_readable (rows_named db object.name) object_typed object_once).1 c.objects,
           (
-            (triples_readable (rows_named db outs.name) outs_typed outs_once).1 c.outs,
+            (set_readable (rows_named db refs.name) refs_typed refs_once).1 c.refs,
             (
-              (map_readable (rows_named db permanent.name) permanent_typed permanent_once).1 c.permanent,
+              (triples_readable (rows_named db outs.name) outs_typed outs_once).1 c.outs,
               (
-                (triples_readable (rows_named db user_root.name) user_root_typed user_root_once).1 c.user_roots,
+                (map_readable (rows_named db permanent.name) permanent_typed permanent_once).1 c.permanent,
                 (
-                  (profiles_readable (rows_named db profile.name) profile_typed profile_once).1 c.profiles,
-                  ((generations_readable (rows_named db generation.name) generation_typed generation_once).1 c.generations, ((set_readable (rows_named db runtime.name) runtime_typed runtime_once).1 c.runtime, tt)),
+                  (triples_readable (rows_named db user_root.name) user_root_typed user_root_once).1 c.user_roots,
+                  (
+                    (profiles_readable (rows_named db profile.name) profile_typed profile_once).1 c.profiles,
+                    ((generations_readable (rows_named db generation.name) generation_typed generation_once).1 c.generations, ((set_readable (rows_named db runtime.name) runtime_typed runtime_once).1 c.runtime, tt)),
+                  ),
                 ),
               ),
             ),
           ),
         ),
       ),
+      pieces.1 c.pieces,
+      temp_roots.1 c.temp_roots,
     ),
   )
-
--- the texts of the maps can be read
-pub ours_readable : (db : Database) → IsOurs db → AreReadable (contents_of db)
-ours_readable db ours = (readable_by_maps db ours.sound ours.has ours.keyed).0 ours.readable

@@ -30,9 +30,9 @@ use Rattle.table_statements.specs.Calls.{HasFurther}
 use Rattle.table_statements.specs.Queries.{IsSelect}
 use Rattle.table_entries.specs.Entries.{temp_root_of, ShowsTempRoot, IsTempRootRow}
 use Rattle.table_statements.proofs.Orders.{kept_total, kept_antisymmetric}
-use Rattle.table_statements.proofs.Truths.{cast_null, cast_int, and_so, text_test, int_test, both_tests}
+use Rattle.table_statements.proofs.Truths.{cast_null, cast_int, and_so, text_test, int_test, both_tests, all_tests}
 use Rattle.table_statements.proofs.Means.{IsMeant, insert_means, delete_means, ordered_by_three, plain_state, shown_column}
-use Rattle.table_entries.proofs.Conditions.{where_two, equals, select_context, filter_in}
+use Rattle.table_entries.proofs.Conditions.{where_two, where_three, equals, select_context, filter_in}
 use Rattle.table_entries.proofs.Columns.{bounds_are, outputs_three, result_context, from_in, shown_in}
 use Rattle.table_statements.proofs.Writes.{rowids_where}
 use Rattle.table_entries.proofs.FurtherTables.{temp_root_kept, temp_roots_held, temp_roots_set}
@@ -123,6 +123,34 @@ removal owner session = record {
   given = refl;
   is = delete_of_is;
   said = said_two owner session;
+  accepts = λ s at tree known. rw (known.low, known.by_tree) refl;
+}
+
+-- ---- of the whole key
+
+abbrev pub of_three : List Term
+of_three = equals (col 1 1) (col 0 0) ∷ equals (col 1 2) (col 0 1) ∷ equals (col 1 3) (col 0 2) ∷ []
+
+said_three : (owner : List ℕ) (session : ℤ) (target : List ℕ) (r : Row) → is_kept r ≡ true → list_all (holds ((Text owner ∷ Int session ∷ Text target ∷ []) ∷ r ∷ [])) of_three
+    ≡ (let k = (kept_of r).0 in eq_by_cmp texts_cmp k.0 owner && (eq_by_cmp int_cmp k.1 session && eq_by_cmp texts_cmp k.2 target))
+said_three owner session target r kind = all_tests _ _ _ _ _ _ (text_test (column r 1) owner (and_so _ _ (and_so _ _ kind).0).0) (int_test (column r 2) session (and_so _ _ (and_so _ _ kind).0).1) (text_test (column r 3) target (and_so _ _ kind).1)
+
+abbrev pub delete_text : List ℕ
+delete_text = codes "DELETE FROM temp_root WHERE owner = ?1 AND session = ?2 AND target = ?3"
+
+pub delete_is : Compiles temp_root.name temp_root.columns temp_root.primary delete_text 3 (λ at tree. Delete at (record { lets = []; body = rowids_where tree of_three }))
+unfolding everything
+delete_is s at tree known =
+    let there = known.named.1 in
+    (_, delete_means delete_text refl s at (codes "temp_root") temp_root.columns temp_root.primary tree of_three (plain_state 99989 None) _ known.named (where_three (over s at (codes "temp_root")) (filter_in delete_text) refl refl refl refl refl refl (codes "owner") (codes "session") (codes "target") at 0 1 2 (col 1 1) (col 1 2) (col 1 3) (equals (col 1 1) (col 0 0)) (equals (col 1 2) (col 0 1)) (equals (col 1 3) (col 0 2)) None max_budget (record { left_is = refl; right_is = refl; found = rw there; column = rw there; compare = rw there }) (record { left_is = refl; right_is = refl; found = rw there; column = rw there; compare = rw there }) (record { left_is = refl; right_is = refl; found = rw there; column = rw there; compare = rw there }) (refl, (refl, (refl, (refl, (refl, (refl, (refl, (refl, (refl, (refl, (refl, tt)))))))))))) (rw (known.low, known.by_tree)), refl, refl, refl, refl, refl)
+
+pub removal_one : (owner : List ℕ) (session : ℤ) (target : List ℕ) → Removal table delete_text (Text owner ∷ Int session ∷ Text target ∷ []) (λ k. eq_by_cmp texts_cmp k.0 owner && (eq_by_cmp int_cmp k.1 session && eq_by_cmp texts_cmp k.2 target))
+removal_one owner session target = record {
+  count = 3;
+  filter = of_three;
+  given = refl;
+  is = delete_is;
+  said = said_three owner session target;
   accepts = λ s at tree known. rw (known.low, known.by_tree) refl;
 }
 

@@ -42,12 +42,12 @@ pub record HasNone (s : Schema) : Type 0 where
   pub further : AllByRecursion (λ t. IsFree s t.name) further_tables
   pub counted : lacks_sequence s ≡ false
 
--- the tables are those of the first schema, of the second, or of the third; the name of a table that the schema lacks is free
+-- the tables are those of the first schema, of the second, or of the third; the name of a table that the schema lacks is free, and a table that counts its rowids has its counter, so that the rest can be made
 abbrev pub HasFirst : Schema → Type 0
-HasFirst s = HasTables s × IsFree s piece.name × IsFree s temp_root.name
+HasFirst s = HasTables s × IsFree s piece.name × IsFree s temp_root.name × (lacks_sequence s ≡ false)
 
 abbrev pub HasSecond : Schema → Type 0
-HasSecond s = HasTables s × Stands s piece × IsFree s temp_root.name
+HasSecond s = HasTables s × Stands s piece × IsFree s temp_root.name × (lacks_sequence s ≡ false)
 
 abbrev pub HasThird : Schema → Type 0
 HasThird s = HasTables s × Stands s piece × Stands s temp_root

@@ -1,5 +1,5 @@
 -- The eleven tables, as the texts that make them say.
-use Rattle.std.specs.Prelude.{ℕ, true, false, Bool, List, [], ◌∷◌, ◌++◌, None, codes, bytes_eq}
+use Rattle.std.specs.Prelude.{ℕ, true, false, Bool, List, [], ◌∷◌, None, codes, bytes_eq}
 use Rattle.std.specs.List.{list_any}
 use Rattle.sqlite_value.specs.declared.value.Value.TheVariants.{Null}
 use Rattle.sqlite_value.specs.declared.keys.Collation.TheVariants.{Binary}
@@ -71,6 +71,10 @@ our_tables = meta ∷ object ∷ refs ∷ outs ∷ permanent ∷ user_root ∷ p
 abbrev pub further_tables : List Table
 further_tables = piece ∷ temp_root ∷ []
 
+-- all eleven, in the order in which they are made in a new database
+abbrev pub all_tables : List Table
+all_tables = meta ∷ object ∷ refs ∷ outs ∷ permanent ∷ user_root ∷ profile ∷ generation ∷ runtime ∷ piece ∷ temp_root ∷ []
+
 -- one of the eleven has this name
 abbrev pub is_our_name : List ℕ → Bool
-is_our_name name = list_any (λ t. bytes_eq t.name name) (our_tables ++ further_tables)
+is_our_name name = list_any (λ t. bytes_eq t.name name) all_tables

@@ -1,15 +1,12 @@
 -- That our tables hold what they held once further tables are made beside them, and that those stand.
-use Rattle.std.proofs.Common.{◌≡◌, List, [], ◌∷◌, map, false, refl, sym, ap, subst, ◌∙◌, IsTrue}
-use Rattle.std.specs.Prelude.{slice_get, option_and_then}
+use Rattle.std.proofs.Common.{◌≡◌, List, [], ◌∷◌, map, refl, sym, ap, subst, ◌∙◌, IsTrue}
 use Rattle.std.specs.Fmt.{digits}
 use Rattle.std.specs.List.{AllByRecursion}
 use Rattle.sqlite_value.specs.Order.{Row}
 use Rattle.sqlite_trees.proofs.ListLemmas.{all-slice_get}
 use Rattle.sqlite_schema.specs.declared.schema.Schema.{Schema}
 use Rattle.sqlite_schema.specs.declared.schema.Table.{Table}
-use Rattle.sqlite_schema.specs.Names.{same_name}
 use Rattle.sqlite_tied.specs.Compute.{everything}
-use Rattle.sqlite.specs.Does.{lacks_sequence}
 use Rattle.sqlite.specs.Effect.{Database, IsDatabase}
 use Rattle.sqlite.specs.State.{State}
 use Rattle.table_forms.specs.Forms.{meta, object, refs, outs, permanent, user_root, profile, generation, runtime, piece, temp_root}
@@ -18,13 +15,11 @@ use Rattle.table_forms.specs.Finding.{IsFree, HasFirst, HasSecond}
 use Rattle.table_statements.specs.Contents.{contents_of, texts_cmp, pair_cmp, triple_cmp, is_pair, pair_of, is_object, object_of, member_of, is_triple, target_of, is_profile, profile_of, is_generation, generation_of, numbered_cmp, is_piece, piece_of, kept_cmp, is_kept, kept_of, map_of, rows_named, rows_if_any}
 use Rattle.table_statements.specs.Texts.{AreReadableRows, HasReadableRows}
 use Rattle.table_statements.specs.Calls.{IsKeyed, IsOurs, HasFurther, KeepsFurther, IsUnderWay}
-use Rattle.table_statements.proofs.Finds.{found_by_place}
-use Rattle.table_entries.proofs.FurtherTables.{if_any_named}
+use Rattle.table_entries.proofs.FurtherTables.{if_any_named, if_any_free}
 use Rattle.table_making.specs.Making.{IsMaking, Makes, all_created, placed}
 use Rattle.table_making.specs.Further.{MakesFurther}
-use Rattle.table_making.proofs.Made.{nine, none_there, no_rows, theirs_of}
+use Rattle.table_making.proofs.Made.{nine, made_further, theirs_of}
 use Rattle.table_making.proofs.MakingTogether.{part}
-use Rattle.table_making.proofs.Settles.{keyed_none}
 use Rattle.table_making.proofs.Stood.{Parts, table_of, StandsAs, tree_is, all_still, all_stand, one_stands, each_stands, by_names, are_low}
 
 -- ---- the tables that were there
@@ -89,14 +84,10 @@ module _ (a b : Database) (sound : IsDatabase b) (fs : List Parts) (made : b.sch
 
 -- ---- the tables that were made
 
-made_further : (b : Database) (t : Table) → Stands b.schema t → rows_named b t.name ≡ [] → HasFurther b t
-made_further b t stands none = record { stands = stands; keyed = subst IsKeyed (sym none) keyed_none; readable = no_rows t _ none }
-
 -- neither before nor after is there a row
 none_either : (a b : Database) (t : Table) → IsFree a.schema t.name → Stands b.schema t → rows_named b t.name ≡ [] → rows_if_any b t.name ≡ rows_if_any a t.name
 none_either a b t free stands none =
-    if_any_named b t stands ∙ none
-    ∙ sym (none_there a t.name (sym (found_by_place (λ (u : Table). same_name u.name t.name) a.schema.tables) ∙ ap (option_and_then (slice_get a.schema.tables)) free.table))
+    if_any_named b t stands ∙ none ∙ sym (if_any_free a t.name free)
 
 module _ (a b : Database) (old_sound : IsDatabase a) (sound : IsDatabase b) where
   both_stand : IsFree a.schema piece.name → IsFree a.schema temp_root.name → b.schema ≡ all_created a.schema (piece ∷ temp_root ∷ []) → AllByRecursion (StandsAs b.schema) (placed a.schema (piece ∷ temp_root ∷ []))
@@ -157,21 +148,21 @@ makes_last a b under second h =
       mode = h.mode;
     }
 
-pub making_both : (s : State) → IsUnderWay s → (IsTrue s.is_open → HasFirst s.now.schema) → (IsTrue s.is_open → lacks_sequence s.now.schema ≡ false) → IsMaking (piece ∷ temp_root ∷ []) s
-making_both s under first counted = record {
+pub making_both : (s : State) → IsUnderWay s → (IsTrue s.is_open → HasFirst s.now.schema) → IsMaking (piece ∷ temp_root ∷ []) s
+making_both s under first = record {
   sound = λ up. (under.ours up).sound;
   free = λ up. let one = (first up).1 in let two = (first up).2 in ((one.table, one.index, one.view), ((two.table, two.index, two.view), tt));
   unawaited = λ up. ((first up).1.unawaited, ((first up).2.unawaited, tt));
-  counted = counted;
+  counted = λ up. (first up).3;
   mode = under.mode;
 }
 
-pub making_last : (s : State) → IsUnderWay s → (IsTrue s.is_open → HasSecond s.now.schema) → (IsTrue s.is_open → lacks_sequence s.now.schema ≡ false) → IsMaking (temp_root ∷ []) s
-making_last s under second counted = record {
+pub making_last : (s : State) → IsUnderWay s → (IsTrue s.is_open → HasSecond s.now.schema) → IsMaking (temp_root ∷ []) s
+making_last s under second = record {
   sound = λ up. (under.ours up).sound;
   free = λ up. let one = (second up).2 in ((one.table, one.index, one.view), tt);
   unawaited = λ up. ((second up).2.unawaited, tt);
-  counted = counted;
+  counted = λ up. (second up).3;
   mode = under.mode;
 }
 

@@ -118,7 +118,12 @@ module _ (large refused : Type 0) (a b c : State) where
   fails_wider large_too refused_too grows more ts us rise Disk (inr (inr (inl few))) = inr (inr (inl (omega (arith, length-append ts us, few))))
   fails_wider large_too refused_too grows more ts us rise Disk (inr (inr (inr taken))) = inr (inr (inr (list_any-append (λ (t : Table). is_used a.now.schema (index_of t.name)) ts us ∙ or_left _ _ taken)))
 
--- one of several, after these were made
+-- one of several, after these were made, where the whole may fail for further reasons
+pub fails_after : (large refused : Type 0) (a b c : State) (fs : List Parts) (ts us : List Table) → are_clear fs (ts ++ us) ≡ true → IsTrue a.is_open → b.now.schema ≡ all_created a.now.schema (map table_of fs) → IsTrue b.is_open → a.faults ≤ b.faults
+    → (f : Failure) → FailsToMakeThese ts ⊥ ⊥ b c f → FailsToMakeThese (map table_of fs ++ (ts ++ us)) large refused a c f
+fails_after large refused a b c fs ts us clear was_open made is_open rise f h = fails_then large refused a b c fs (ts ++ us) clear was_open made is_open rise f (fails_wider ⊥ ⊥ b c c large refused (λ no. absurd no) (λ no. absurd no) ts us (omega arith) f h)
+
+-- the same for the same reasons
 pub fails_among : (large refused : Type 0) (a b c : State) (fs : List Parts) (ts us : List Table) → are_clear fs (ts ++ us) ≡ true → Makes (map table_of fs) a b → a.faults ≤ b.faults → (f : Failure) → FailsToMakeThese ts large refused b c f
     → FailsToMakeThese (map table_of fs ++ (ts ++ us)) large refused a c f
 fails_among large refused a b c fs ts us clear made rise f h = fails_then large refused a b c fs (ts ++ us) clear made.was_open made.schema made.is_open rise f (fails_wider large refused b c c large refused (λ x. x) (λ x. x) ts us (omega arith) f h)

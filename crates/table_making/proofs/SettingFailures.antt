@@ -54,9 +54,9 @@ record IsNew (rows : List Row) (word value : Bytes) : Type 0 where
   pub apart : (r : Row) → Has rows r → agree plain (1 ∷ []) r (1 ∷ []) (row_of rows word value) ≡ false
 
 abbrev first_row : Row
-first_row = Int (pos 1) ∷ Text (codes "schema") ∷ Text (codes "1") ∷ []
+first_row = Int (pos 1) ∷ Text (codes "schema") ∷ Text (codes "3") ∷ []
 
-first_new : IsNew [] (codes "schema") (codes "1")
+first_new : IsNew [] (codes "schema") (codes "3")
 first_new = record { fits = refl; fresh = refl; apart = λ r none. absurd none }
 
 second_new : (dir : Bytes) → IsNew (first_row ∷ []) (codes "store-dir") dir
@@ -151,10 +151,10 @@ module _ (a : State) (free : IsFree a.now.schema (codes "meta")) (sound : IsData
     rows_b : rows_named b.now meta.name ≡ []
     rows_b = ap b.now.trees tree_b ∙ made.empty.0
 
-    pub first_fails : (dir : Bytes) (c : State) (f : Failure) → IsWriteFailure insert_text (Text (codes "schema") ∷ Text (codes "1") ∷ []) b c f → FailsToMakeThese (meta ∷ []) (IsTooLong dir) (IsSome a.step_limit) a c f
-    first_fails dir c f h = in_meta b c [] (codes "schema") (codes "1") (IsTooLong dir) made.was_open made.schema made.is_open made.sound rows_b first_new (omega arith) (λ big. absurd (omega (arith, big))) rise limit f h
+    pub first_fails : (dir : Bytes) (c : State) (f : Failure) → IsWriteFailure insert_text (Text (codes "schema") ∷ Text (codes "3") ∷ []) b c f → FailsToMakeThese (meta ∷ []) (IsTooLong dir) (IsSome a.step_limit) a c f
+    first_fails dir c f h = in_meta b c [] (codes "schema") (codes "3") (IsTooLong dir) made.was_open made.schema made.is_open made.sound rows_b first_new (omega arith) (λ big. absurd (omega (arith, big))) rise limit f h
 
-    pub second_fails : (dir : Bytes) (c d : State) → Puts (codes "schema") (codes "1") b c → b.faults ≤ c.faults → c.step_limit ≡ b.step_limit → (f : Failure) → IsWriteFailure insert_text (Text (codes "store-dir") ∷ Text dir ∷ []) c d f → FailsToMakeThese (meta ∷ []) (IsTooLong dir) (IsSome a.step_limit) a d f
+    pub second_fails : (dir : Bytes) (c d : State) → Puts (codes "schema") (codes "3") b c → b.faults ≤ c.faults → c.step_limit ≡ b.step_limit → (f : Failure) → IsWriteFailure insert_text (Text (codes "store-dir") ∷ Text dir ∷ []) c d f → FailsToMakeThese (meta ∷ []) (IsTooLong dir) (IsSome a.step_limit) a d f
     second_fails dir c d p more still f h =
-        let rows_c : rows_named c.now meta.name ≡ first_row ∷ [] = p.rows.is ∙ ap (λ rows. put_row (row_of rows (codes "schema") (codes "1")) rows) rows_b in
+        let rows_c : rows_named c.now meta.name ≡ first_row ∷ [] = p.rows.is ∙ ap (λ rows. put_row (row_of rows (codes "schema") (codes "3")) rows) rows_b in
         in_meta c d (first_row ∷ []) (codes "store-dir") dir (IsTooLong dir) made.was_open (p.schema ∙ made.schema) p.is_open p.sound rows_c (second_new dir) (omega arith) (λ big. omega (arith, big)) (omega (arith, rise, more)) (still ∙ limit) f h

@@ -14,7 +14,7 @@ use Rattle.sqlite_catalog.specs.Change.{created, next_tree, past_views}
 use Rattle.sqlite_rules.specs.Edit.{next_rowid, is_taken}
 use Rattle.sqlite.specs.Effect.{Database, IsDatabase}
 use Rattle.sqlite.specs.State.{State, Shows, ExecutesInside}
-use Rattle.table_forms.specs.Forms.{meta, object, refs, outs, permanent, user_root, profile, generation, runtime}
+use Rattle.table_forms.specs.Forms.{meta, object, refs, outs, permanent, user_root, profile, generation, runtime, piece, temp_root}
 use Rattle.table_forms.specs.Standing.{IsNamed, tree_named}
 use Rattle.table_statements.specs.Contents.{Bytes, texts_cmp, is_pair, pair_of, map_of, rows_named}
 use Rattle.table_statements.specs.Texts.{AreReadableRows}
@@ -122,11 +122,11 @@ pub keyed_none : IsKeyed []
 unfolding IsDistinct
 keyed_none = record { ints = λ a h. absurd h; apart = tt }
 
-words_utf8 : IsUtf8 (codes "schema") × IsUtf8 (codes "1") × IsUtf8 (codes "store-dir")
+words_utf8 : IsUtf8 (codes "schema") × IsUtf8 (codes "3") × IsUtf8 (codes "store-dir")
 unfolding lib.Utf8.encode
-words_utf8 = ((codes "schema", (refl, refl)), (codes "1", (refl, refl)), (codes "store-dir", (refl, refl)))
+words_utf8 = ((codes "schema", (refl, refl)), (codes "3", (refl, refl)), (codes "store-dir", (refl, refl)))
 
-pub meta_made : (dir : Bytes) (a b c d : State) → IsUnused a.now.schema (codes "meta") → Makes (meta ∷ []) a b → Puts (codes "schema") (codes "1") b c → Puts (codes "store-dir") dir c d → MakesMeta dir a d
+pub meta_made : (dir : Bytes) (a b c d : State) → IsUnused a.now.schema (codes "meta") → Makes (meta ∷ []) a b → Puts (codes "schema") (codes "3") b c → Puts (codes "store-dir") dir c d → MakesMeta dir a d
 meta_made dir a b c d free h p q =
     let s = a.now.schema in
     let tree = next_tree s in
@@ -136,8 +136,8 @@ meta_made dir a b c d free h p q =
     let rows_b : rows_named b.now (codes "meta") ≡ [] = ap b.now.trees tree_b ∙ h.empty.0 in
     let map_b : settings_in (rows_named b.now (codes "meta")) ≡ finite.from_entries [] = ap settings_in rows_b ∙ none_in_none in
     let free_b : finite.get (settings_in (rows_named b.now (codes "meta"))) (codes "schema") ≡ None = ap (λ m. finite.get m (codes "schema")) map_b ∙ finite.get-from_entries texts_total [] (codes "schema") in
-    let map_c : settings_in (rows_named c.now (codes "meta")) ≡ finite.insert (finite.from_entries []) (codes "schema") (codes "1") = p.rows.put free_b ∙ ap (λ m. finite.insert m (codes "schema") (codes "1")) map_b in
-    let after : finite.get (finite.insert (finite.from_entries []) (codes "schema") (codes "1")) (codes "store-dir") ≡ None = finite.get-insert texts_total (finite.from_entries []) (codes "schema") (codes "1") (codes "store-dir") ∙ finite.get-from_entries texts_total [] (codes "store-dir") in
+    let map_c : settings_in (rows_named c.now (codes "meta")) ≡ finite.insert (finite.from_entries []) (codes "schema") (codes "3") = p.rows.put free_b ∙ ap (λ m. finite.insert m (codes "schema") (codes "3")) map_b in
+    let after : finite.get (finite.insert (finite.from_entries []) (codes "schema") (codes "3")) (codes "store-dir") ≡ None = finite.get-insert texts_total (finite.from_entries []) (codes "schema") (codes "3") (codes "store-dir") ∙ finite.get-from_entries texts_total [] (codes "store-dir") in
     let free_c : finite.get (settings_in (rows_named c.now (codes "meta"))) (codes "store-dir") ≡ None = ap (λ m. finite.get m (codes "store-dir")) map_c ∙ after in
     let map_d : settings_in (rows_named d.now (codes "meta")) ≡ first_settings dir = q.rows.put free_c ∙ ap (λ m. finite.insert m (codes "store-dir") dir) map_c in
     let keyed : IsKeyed (rows_named d.now (codes "meta")) = q.rows.keyed (p.rows.keyed (subst IsKeyed (sym rows_b) keyed_none)) in
@@ -160,26 +160,27 @@ meta_made dir a b c d free h p q =
       mode = q.mode;
     }
 
--- ---- all nine
+-- ---- all eleven
 
-pub all_made : (dir : Bytes) (a b c d : State) → MakesMeta dir a b → Makes (object ∷ refs ∷ outs ∷ permanent ∷ []) b c → Makes (user_root ∷ profile ∷ generation ∷ runtime ∷ []) c d → MakesAll dir a d
+pub all_made : (dir : Bytes) (a b c d e : State) → MakesMeta dir a b → Makes (object ∷ refs ∷ outs ∷ permanent ∷ []) b c → Makes (user_root ∷ profile ∷ generation ∷ runtime ∷ []) c d → Makes (piece ∷ temp_root ∷ []) d e → MakesAll dir a e
 unfolding ours_created others_placed
-all_made dir a b c d h p q =
+all_made dir a b c d e h p q r =
     let s = a.now.schema in
-    let rest = makes_then (object ∷ refs ∷ outs ∷ permanent ∷ []) (user_root ∷ profile ∷ generation ∷ runtime ∷ []) b c d p q in
-    let later : AllByRecursion (λ t. d.now.trees t.tree ≡ b.now.trees t.tree) (s.tables ++ record meta { tree = next_tree s } ∷ []) = subst (λ (x : Schema). AllByRecursion (λ t. d.now.trees t.tree ≡ b.now.trees t.tree) x.tables) h.schema rest.kept in
-    let both = one_list (λ (t : Table). d.now.trees t.tree ≡ b.now.trees t.tree) s.tables (record meta { tree = next_tree s } ∷ []) later in
+    let eight = makes_then (object ∷ refs ∷ outs ∷ permanent ∷ []) (user_root ∷ profile ∷ generation ∷ runtime ∷ []) b c d p q in
+    let rest = makes_then (object ∷ refs ∷ outs ∷ permanent ∷ user_root ∷ profile ∷ generation ∷ runtime ∷ []) (piece ∷ temp_root ∷ []) b d e eight r in
+    let later : AllByRecursion (λ t. e.now.trees t.tree ≡ b.now.trees t.tree) (s.tables ++ record meta { tree = next_tree s } ∷ []) = subst (λ (x : Schema). AllByRecursion (λ t. e.now.trees t.tree ≡ b.now.trees t.tree) x.tables) h.schema rest.kept in
+    let both = one_list (λ (t : Table). e.now.trees t.tree ≡ b.now.trees t.tree) s.tables (record meta { tree = next_tree s } ∷ []) later in
     record {
       was_open = h.was_open;
       is_open = rest.is_open;
       sound = rest.sound;
       schema = rest.schema ∙ ap (λ (x : Schema). all_created x other_tables) h.schema;
       made = record {
-        sound = subst (λ (x : Schema). IsDatabase (record { schema = x; trees = d.now.trees })) (rest.schema ∙ ap (λ (x : Schema). all_created x other_tables) h.schema) rest.sound;
-        kept = kept_then a.now.trees b.now.trees d.now.trees s.tables h.kept both.0;
+        sound = subst (λ (x : Schema). IsDatabase (record { schema = x; trees = e.now.trees })) (rest.schema ∙ ap (λ (x : Schema). all_created x other_tables) h.schema) rest.sound;
+        kept = kept_then a.now.trees b.now.trees e.now.trees s.tables h.kept both.0;
         settings = subst (AreSettings dir) (sym both.1.0) h.settings;
-        empty = subst (λ (x : Schema). AllByRecursion (λ t. d.now.trees t.tree ≡ []) (placed x other_tables)) h.schema rest.empty;
-        frozen = λ sound. frozen_then a.now b.now d.now.trees (meta ∷ []) h.schema (h.frozen sound) (rest.frozen h.sound);
+        empty = subst (λ (x : Schema). AllByRecursion (λ t. e.now.trees t.tree ≡ []) (placed x other_tables)) h.schema rest.empty;
+        frozen = λ sound. frozen_then a.now b.now e.now.trees (meta ∷ []) h.schema (h.frozen sound) (rest.frozen h.sound);
       };
       committed = rest.committed ∙ h.committed;
       mode = rest.mode;

@@ -17,7 +17,7 @@ use Rattle.sqlite_schema.specs.declared.schema.Schema.{Schema}
 use Rattle.sqlite_schema.specs.declared.schema.Table.{Table}
 use Rattle.sqlite_schema.specs.declared.schema.Index.{Index}
 use Rattle.sqlite_schema.specs.declared.schema.Reference.{Reference}
-use Rattle.sqlite_schema.specs.Names.{same_name, table_named}
+use Rattle.sqlite_schema.specs.Names.{same_name}
 use Rattle.sqlite_rules.proofs.ListLemmas.{all_has, test_push}
 use Rattle.sqlite_catalog.specs.Change.{created, next_tree, past_views}
 use Rattle.sqlite_catalog.specs.Listing.{IsDefined, IsIndexRow, IsTableRow}
@@ -246,26 +246,6 @@ all_stand s (f ∷ fs) clear free low =
       all_still (created s (table_of f)) fs (record (table_of f) { tree = next_tree s }) (new_stands s f.0 f.1.0 f.1.1 free.0 low),
       all_stand (created s (table_of f)) fs b.1 (all_free s f fs b.0 free.1) (low_after s f.0 f.1.0 f.1.1 low),
     )
-
--- ---- what has no table after them
-
-none_found : {X : Type 0} (p : X → Bool) (xs : List X) (y : X) → find p xs ≡ None → p y ≡ false → find p (xs ++ y ∷ []) ≡ None
-none_found p [] y h is = rw is refl
-none_found {X} p (z ∷ xs) y h is = go (p z) h (λ k. none_found p xs y k is)
-  where
-    go : (b : Bool) → ◌≡◌ {A = Option X} (cond b (Some z) (find p xs)) None → (find p xs ≡ None → find p (xs ++ y ∷ []) ≡ None) → ◌≡◌ {A = Option X} (cond b (Some z) (find p (xs ++ y ∷ []))) None
-    go true k f = absurd (let e = k in cc)
-    go false k f = f k
-
-none_created : (name : Bytes) (s : Schema) (fs : List Parts) → find (λ (t : Table). same_name t.name name) s.tables ≡ None → list_all (λ (f : Parts). not (same_name f.0 name)) fs ≡ true → find (λ (t : Table). same_name t.name name) (all_created s (map table_of fs)).tables ≡ None
-none_created name s [] none clear = none
-none_created name s (f ∷ fs) none clear =
-    let b = and_so _ _ clear in
-    none_created name (created s (table_of f)) fs (none_found (λ (t : Table). same_name t.name name) s.tables (record (table_of f) { tree = next_tree s }) none (not_so _ b.0)) b.1
-
--- where no table had a name that none of them has, none has it
-pub unnamed_after : (s : Schema) (name : Bytes) → table_named s name ≡ None → (fs : List Parts) → list_all (λ (f : Parts). not (same_name f.0 name)) fs ≡ true → find (λ (t : Table). same_name t.name name) (all_created s (map table_of fs)).tables ≡ None
-unnamed_after s name none fs clear = none_created name s fs (sym (found_by_place (λ (t : Table). same_name t.name name) s.tables) ∙ ap (option_and_then (slice_get s.tables)) none) clear
 
 -- ---- in a database that lists its schema
 

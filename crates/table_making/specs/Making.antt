@@ -14,13 +14,13 @@ use Rattle.sqlite_catalog.specs.Change.{created, next_tree, is_used}
 use Rattle.sqlite.specs.Does.{lacks_sequence}
 use Rattle.sqlite.specs.Effect.{Database, IsDatabase}
 use Rattle.sqlite.specs.State.{State}
-use Rattle.table_forms.specs.Forms.{meta, object, refs, outs, permanent, user_root, profile, generation, runtime, our_tables}
+use Rattle.table_forms.specs.Forms.{meta, object, refs, outs, permanent, user_root, profile, generation, runtime, piece, temp_root, all_tables}
 use Rattle.table_forms.specs.Standing.{IsNamed, tree_named}
 use Rattle.table_forms.specs.Finding.{is_unawaited}
 use Rattle.table_statements.specs.Contents.{Bytes, Contents, contents_of, texts_cmp, is_pair, pair_of, map_of, rows_named}
 use Rattle.table_statements.specs.Frozen.{KeepsFrozen}
 use Rattle.table_statements.specs.Texts.{AreReadable, AreReadableRows}
-use Rattle.table_statements.specs.Calls.{IsKeyed, IsOurs, IsReady, KeepsTheirs, Leaves}
+use Rattle.table_statements.specs.Calls.{IsKeyed, IsWhole, IsReady, KeepsTheirs, Leaves}
 use Rattle.table_statements.specs.Failures.{HasDiskCause}
 use Rattle.table_statements.specs.declared.failure.Failure.{Failure}
 use Rattle.table_statements.specs.declared.failure.Failure.TheVariants.{Memory, Size, Disk}
@@ -37,18 +37,18 @@ placed s (t ∷ ts) = record t { tree = next_tree s } ∷ placed (created s t) t
 
 -- all but `meta`
 abbrev pub other_tables : List Table
-other_tables = object ∷ refs ∷ outs ∷ permanent ∷ user_root ∷ profile ∷ generation ∷ runtime ∷ []
+other_tables = object ∷ refs ∷ outs ∷ permanent ∷ user_root ∷ profile ∷ generation ∷ runtime ∷ piece ∷ temp_root ∷ []
 
--- all nine made, and where all but `meta` stand then
+-- all eleven made, and where all but `meta` stand then
 unfoldable pub ours_created : Schema → Schema
-ours_created s = all_created s our_tables
+ours_created s = all_created s all_tables
 
 unfoldable pub others_placed : Schema → List Table
 others_placed s = placed (created s meta) other_tables
 
 -- the two settings of a store directory
 abbrev pub first_settings : Bytes → finite.FinMap texts_cmp Bytes
-first_settings dir = finite.insert (finite.insert (finite.from_entries []) (codes "schema") (codes "1")) (codes "store-dir") dir
+first_settings dir = finite.insert (finite.insert (finite.from_entries []) (codes "schema") (codes "3")) (codes "store-dir") dir
 
 -- what our tables hold once they are made: the two settings, and nothing else
 abbrev pub first_contents : Bytes → Contents
@@ -80,7 +80,7 @@ pub record IsMadeOf (dir : Bytes) (db : Database) (trees : Trees) : Type 0 where
   pub empty : AllByRecursion (λ t. trees t.tree ≡ []) (others_placed db.schema)
   pub frozen : IsDatabase db → KeepsFrozen db trees
 
--- All nine were made at once, and the connection is ready: ours hold the settings alone, and theirs the rows that they had, also where the schema doesn't show them.
+-- All eleven were made at once, and the connection is ready: ours hold the settings alone, and theirs the rows that they had, also where the schema doesn't show them.
 pub record IsMade (dir : Bytes) (old new : State) : Type 0 where
   pub was_open : IsTrue old.is_open
   pub is_open : IsTrue new.is_open
@@ -88,16 +88,17 @@ pub record IsMade (dir : Bytes) (old new : State) : Type 0 where
   pub contents : contents_of new.now ≡ first_contents dir
   pub theirs : KeepsTheirs old.now new.now
   pub frozen : KeepsFrozen old.now new.now.trees
+  pub whole : IsWhole new.now
   pub readable : AreReadable (contents_of new.now)
   pub ready : IsReady new
 
--- What a crash may leave of the making, if it leaves any of it: all nine tables stand, hold the settings alone, and can be read, and theirs have the rows that they had.
+-- What a crash may leave of the making, if it leaves any of it: all eleven tables stand, hold the settings alone, and can be read, and theirs have the rows that they had.
 pub record LeavesMade (dir : Bytes) (db : Database) (trees : Trees) : Type 0 where
-  pub ours : IsOurs (record { schema = ours_created db.schema; trees = trees })
+  pub whole : IsWhole (record { schema = ours_created db.schema; trees = trees })
   pub readable : AreReadable (contents_of (record { schema = ours_created db.schema; trees = trees }))
   pub left : Leaves (record db { schema = ours_created db.schema }) trees (first_contents dir)
 
--- all nine were made at once, as their trees have them
+-- all eleven were made at once, as their trees have them
 pub record IsMadeIn (dir : Bytes) (old new : State) : Type 0 where
   pub was_open : IsTrue old.is_open
   pub is_open : IsTrue new.is_open
@@ -166,7 +167,7 @@ pub record Puts (word value : Bytes) (old new : State) : Type 0 where
   pub committed : new.committed ≡ old.committed
   pub mode : new.in_transaction ≡ true
 
--- Inside a transaction, which goes on: all nine were made.
+-- Inside a transaction, which goes on: all eleven were made.
 pub record MakesAll (dir : Bytes) (old new : State) : Type 0 where
   pub was_open : IsTrue old.is_open
   pub is_open : IsTrue new.is_open
@@ -200,6 +201,6 @@ FailsToMakeThese tables large refused old new Memory = ⊤
 FailsToMakeThese tables large refused old new Size = large × IsTrue old.is_open
 FailsToMakeThese tables large refused old new Disk = HasDiskCause old new ⊎ (refused ⊎ (LacksNumbers old.now.schema tables ⊎ LacksNames old.now.schema tables))
 
--- Why all nine aren't made: the store directory may be too long, and a limit on steps may stop the statement that stores a setting.
+-- Why all eleven aren't made: the store directory may be too long, and a limit on steps may stop the statement that stores a setting.
 abbrev pub FailsToMake : Bytes → State → State → Failure → Type 0
-FailsToMake dir old new = FailsToMakeThese our_tables (IsTooLong dir) (IsSome old.step_limit) old new
+FailsToMake dir old new = FailsToMakeThese all_tables (IsTooLong dir) (IsSome old.step_limit) old new

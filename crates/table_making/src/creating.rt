@@ -3,7 +3,7 @@
 ghost use Rattle.std.specs.Prelude.{◌≡◌, true, [], ◌∷◌, ℕ, Ok, OnOk, IfErr};
 ghost use Rattle.sqlite.specs.State.{HasCleanDisk, KeepsCommit, Survives, ExecutesInside};
 ghost use Rattle.sqlite.specs.Held.{state};
-ghost use Rattle.table_forms.specs.Forms.{meta, object, refs, outs, permanent, user_root, profile, generation, runtime};
+ghost use Rattle.table_forms.specs.Forms.{meta, object, refs, outs, permanent, user_root, profile, generation, runtime, piece, temp_root};
 ghost use Rattle.table_statements.specs.declared.failure.Failure.{Failure};
 ghost use Rattle.table_statements.specs.Failures.{IsWriteFailure, without_size};
 ghost use Rattle.table_making.specs.Making.{IsMaking, Makes, FailsToMakeThese};
@@ -27,10 +27,10 @@ pub(crate) fn create<S: Alter>(tx: &mut Transaction<'_, S>, text: &str) -> Resul
 }
 
 pub(crate) fn meta<S: Alter>(tx: &mut Transaction<'_, S>) -> Result<(), Failure>
-    requires { HasCleanDisk (state S.Store tx.old.conn.now) → IsMaking (meta ∷ object ∷ refs ∷ outs ∷ permanent ∷ user_root ∷ profile ∷ generation ∷ runtime ∷ []) (state S.Store tx.old.conn.now) }
+    requires { HasCleanDisk (state S.Store tx.old.conn.now) → IsMaking (meta ∷ object ∷ refs ∷ outs ∷ permanent ∷ user_root ∷ profile ∷ generation ∷ runtime ∷ piece ∷ temp_root ∷ []) (state S.Store tx.old.conn.now) }
     ensures same_reference { tx.new.conn.ghost_name ≡ tx.old.conn.ghost_name }
     ensures makes { HasCleanDisk (state S.Store tx.new.conn.now) → OnOk result (Makes (meta ∷ []) (state S.Store tx.old.conn.now) (state S.Store tx.new.conn.now)) }
-    ensures making { HasCleanDisk (state S.Store tx.new.conn.now) → OnOk result (IsMaking (object ∷ refs ∷ outs ∷ permanent ∷ user_root ∷ profile ∷ generation ∷ runtime ∷ []) (state S.Store tx.new.conn.now)) }
+    ensures making { HasCleanDisk (state S.Store tx.new.conn.now) → OnOk result (IsMaking (object ∷ refs ∷ outs ∷ permanent ∷ user_root ∷ profile ∷ generation ∷ runtime ∷ piece ∷ temp_root ∷ []) (state S.Store tx.new.conn.now)) }
     ensures cause { HasCleanDisk (state S.Store tx.new.conn.now) → IfErr result (FailsToMakeThese (meta ∷ []) ⊥ ⊥ (state S.Store tx.old.conn.now) (state S.Store tx.new.conn.now)) }
     ensures kept { HasCleanDisk (state S.Store tx.new.conn.now) → KeepsCommit (state S.Store tx.old.conn.now) (state S.Store tx.new.conn.now) }
     ensures survives { Survives (state S.Store tx.old.conn.now) (state S.Store tx.new.conn.now) (λ _. ⊥) }
@@ -42,10 +42,10 @@ pub(crate) fn meta<S: Alter>(tx: &mut Transaction<'_, S>) -> Result<(), Failure>
 }
 
 fn object<S: Alter>(tx: &mut Transaction<'_, S>) -> Result<(), Failure>
-    requires { HasCleanDisk (state S.Store tx.old.conn.now) → IsMaking (object ∷ refs ∷ outs ∷ permanent ∷ user_root ∷ profile ∷ generation ∷ runtime ∷ []) (state S.Store tx.old.conn.now) }
+    requires { HasCleanDisk (state S.Store tx.old.conn.now) → IsMaking (object ∷ refs ∷ outs ∷ permanent ∷ user_root ∷ profile ∷ generation ∷ runtime ∷ piece ∷ temp_root ∷ []) (state S.Store tx.old.conn.now) }
     ensures same_reference { tx.new.conn.ghost_name ≡ tx.old.conn.ghost_name }
     ensures makes { HasCleanDisk (state S.Store tx.new.conn.now) → OnOk result (Makes (object ∷ []) (state S.Store tx.old.conn.now) (state S.Store tx.new.conn.now)) }
-    ensures making { HasCleanDisk (state S.Store tx.new.conn.now) → OnOk result (IsMaking (refs ∷ outs ∷ permanent ∷ user_root ∷ profile ∷ generation ∷ runtime ∷ []) (state S.Store tx.new.conn.now)) }
+    ensures making { HasCleanDisk (state S.Store tx.new.conn.now) → OnOk result (IsMaking (refs ∷ outs ∷ permanent ∷ user_root ∷ profile ∷ generation ∷ runtime ∷ piece ∷ temp_root ∷ []) (state S.Store tx.new.conn.now)) }
     ensures cause { HasCleanDisk (state S.Store tx.new.conn.now) → IfErr result (FailsToMakeThese (object ∷ []) ⊥ ⊥ (state S.Store tx.old.conn.now) (state S.Store tx.new.conn.now)) }
     ensures kept { HasCleanDisk (state S.Store tx.new.conn.now) → KeepsCommit (state S.Store tx.old.conn.now) (state S.Store tx.new.conn.now) }
     ensures survives { Survives (state S.Store tx.old.conn.now) (state S.Store tx.new.conn.now) (λ _. ⊥) }
@@ -57,10 +57,10 @@ fn object<S: Alter>(tx: &mut Transaction<'_, S>) -> Result<(), Failure>
 }
 
 fn refs<S: Alter>(tx: &mut Transaction<'_, S>) -> Result<(), Failure>
-    requires { HasCleanDisk (state S.Store tx.old.conn.now) → IsMaking (refs ∷ outs ∷ permanent ∷ user_root ∷ profile ∷ generation ∷ runtime ∷ []) (state S.Store tx.old.conn.now) }
+    requires { HasCleanDisk (state S.Store tx.old.conn.now) → IsMaking (refs ∷ outs ∷ permanent ∷ user_root ∷ profile ∷ generation ∷ runtime ∷ piece ∷ temp_root ∷ []) (state S.Store tx.old.conn.now) }
     ensures same_reference { tx.new.conn.ghost_name ≡ tx.old.conn.ghost_name }
     ensures makes { HasCleanDisk (state S.Store tx.new.conn.now) → OnOk result (Makes (refs ∷ []) (state S.Store tx.old.conn.now) (state S.Store tx.new.conn.now)) }
-    ensures making { HasCleanDisk (state S.Store tx.new.conn.now) → OnOk result (IsMaking (outs ∷ permanent ∷ user_root ∷ profile ∷ generation ∷ runtime ∷ []) (state S.Store tx.new.conn.now)) }
+    ensures making { HasCleanDisk (state S.Store tx.new.conn.now) → OnOk result (IsMaking (outs ∷ permanent ∷ user_root ∷ profile ∷ generation ∷ runtime ∷ piece ∷ temp_root ∷ []) (state S.Store tx.new.conn.now)) }
     ensures cause { HasCleanDisk (state S.Store tx.new.conn.now) → IfErr result (FailsToMakeThese (refs ∷ []) ⊥ ⊥ (state S.Store tx.old.conn.now) (state S.Store tx.new.conn.now)) }
     ensures kept { HasCleanDisk (state S.Store tx.new.conn.now) → KeepsCommit (state S.Store tx.old.conn.now) (state S.Store tx.new.conn.now) }
     ensures survives { Survives (state S.Store tx.old.conn.now) (state S.Store tx.new.conn.now) (λ _. ⊥) }
@@ -72,10 +72,10 @@ fn refs<S: Alter>(tx: &mut Transaction<'_, S>) -> Result<(), Failure>
 }
 
 fn outs<S: Alter>(tx: &mut Transaction<'_, S>) -> Result<(), Failure>
-    requires { HasCleanDisk (state S.Store tx.old.conn.now) → IsMaking (outs ∷ permanent ∷ user_root ∷ profile ∷ generation ∷ runtime ∷ []) (state S.Store tx.old.conn.now) }
+    requires { HasCleanDisk (state S.Store tx.old.conn.now) → IsMaking (outs ∷ permanent ∷ user_root ∷ profile ∷ generation ∷ runtime ∷ piece ∷ temp_root ∷ []) (state S.Store tx.old.conn.now) }
     ensures same_reference { tx.new.conn.ghost_name ≡ tx.old.conn.ghost_name }
     ensures makes { HasCleanDisk (state S.Store tx.new.conn.now) → OnOk result (Makes (outs ∷ []) (state S.Store tx.old.conn.now) (state S.Store tx.new.conn.now)) }
-    ensures making { HasCleanDisk (state S.Store tx.new.conn.now) → OnOk result (IsMaking (permanent ∷ user_root ∷ profile ∷ generation ∷ runtime ∷ []) (state S.Store tx.new.conn.now)) }
+    ensures making { HasCleanDisk (state S.Store tx.new.conn.now) → OnOk result (IsMaking (permanent ∷ user_root ∷ profile ∷ generation ∷ runtime ∷ piece ∷ temp_root ∷ []) (state S.Store tx.new.conn.now)) }
     ensures cause { HasCleanDisk (state S.Store tx.new.conn.now) → IfErr result (FailsToMakeThese (outs ∷ []) ⊥ ⊥ (state S.Store tx.old.conn.now) (state S.Store tx.new.conn.now)) }
     ensures kept { HasCleanDisk (state S.Store tx.new.conn.now) → KeepsCommit (state S.Store tx.old.conn.now) (state S.Store tx.new.conn.now) }
     ensures survives { Survives (state S.Store tx.old.conn.now) (state S.Store tx.new.conn.now) (λ _. ⊥) }
@@ -87,10 +87,10 @@ fn outs<S: Alter>(tx: &mut Transaction<'_, S>) -> Result<(), Failure>
 }
 
 fn permanent<S: Alter>(tx: &mut Transaction<'_, S>) -> Result<(), Failure>
-    requires { HasCleanDisk (state S.Store tx.old.conn.now) → IsMaking (permanent ∷ user_root ∷ profile ∷ generation ∷ runtime ∷ []) (state S.Store tx.old.conn.now) }
+    requires { HasCleanDisk (state S.Store tx.old.conn.now) → IsMaking (permanent ∷ user_root ∷ profile ∷ generation ∷ runtime ∷ piece ∷ temp_root ∷ []) (state S.Store tx.old.conn.now) }
     ensures same_reference { tx.new.conn.ghost_name ≡ tx.old.conn.ghost_name }
     ensures makes { HasCleanDisk (state S.Store tx.new.conn.now) → OnOk result (Makes (permanent ∷ []) (state S.Store tx.old.conn.now) (state S.Store tx.new.conn.now)) }
-    ensures making { HasCleanDisk (state S.Store tx.new.conn.now) → OnOk result (IsMaking (user_root ∷ profile ∷ generation ∷ runtime ∷ []) (state S.Store tx.new.conn.now)) }
+    ensures making { HasCleanDisk (state S.Store tx.new.conn.now) → OnOk result (IsMaking (user_root ∷ profile ∷ generation ∷ runtime ∷ piece ∷ temp_root ∷ []) (state S.Store tx.new.conn.now)) }
     ensures cause { HasCleanDisk (state S.Store tx.new.conn.now) → IfErr result (FailsToMakeThese (permanent ∷ []) ⊥ ⊥ (state S.Store tx.old.conn.now) (state S.Store tx.new.conn.now)) }
     ensures kept { HasCleanDisk (state S.Store tx.new.conn.now) → KeepsCommit (state S.Store tx.old.conn.now) (state S.Store tx.new.conn.now) }
     ensures survives { Survives (state S.Store tx.old.conn.now) (state S.Store tx.new.conn.now) (λ _. ⊥) }
@@ -102,10 +102,10 @@ fn permanent<S: Alter>(tx: &mut Transaction<'_, S>) -> Result<(), Failure>
 }
 
 fn user_root<S: Alter>(tx: &mut Transaction<'_, S>) -> Result<(), Failure>
-    requires { HasCleanDisk (state S.Store tx.old.conn.now) → IsMaking (user_root ∷ profile ∷ generation ∷ runtime ∷ []) (state S.Store tx.old.conn.now) }
+    requires { HasCleanDisk (state S.Store tx.old.conn.now) → IsMaking (user_root ∷ profile ∷ generation ∷ runtime ∷ piece ∷ temp_root ∷ []) (state S.Store tx.old.conn.now) }
     ensures same_reference { tx.new.conn.ghost_name ≡ tx.old.conn.ghost_name }
     ensures makes { HasCleanDisk (state S.Store tx.new.conn.now) → OnOk result (Makes (user_root ∷ []) (state S.Store tx.old.conn.now) (state S.Store tx.new.conn.now)) }
-    ensures making { HasCleanDisk (state S.Store tx.new.conn.now) → OnOk result (IsMaking (profile ∷ generation ∷ runtime ∷ []) (state S.Store tx.new.conn.now)) }
+    ensures making { HasCleanDisk (state S.Store tx.new.conn.now) → OnOk result (IsMaking (profile ∷ generation ∷ runtime ∷ piece ∷ temp_root ∷ []) (state S.Store tx.new.conn.now)) }
     ensures cause { HasCleanDisk (state S.Store tx.new.conn.now) → IfErr result (FailsToMakeThese (user_root ∷ []) ⊥ ⊥ (state S.Store tx.old.conn.now) (state S.Store tx.new.conn.now)) }
     ensures kept { HasCleanDisk (state S.Store tx.new.conn.now) → KeepsCommit (state S.Store tx.old.conn.now) (state S.Store tx.new.conn.now) }
     ensures survives { Survives (state S.Store tx.old.conn.now) (state S.Store tx.new.conn.now) (λ _. ⊥) }
@@ -117,10 +117,10 @@ fn user_root<S: Alter>(tx: &mut Transaction<'_, S>) -> Result<(), Failure>
 }
 
 fn profile<S: Alter>(tx: &mut Transaction<'_, S>) -> Result<(), Failure>
-    requires { HasCleanDisk (state S.Store tx.old.conn.now) → IsMaking (profile ∷ generation ∷ runtime ∷ []) (state S.Store tx.old.conn.now) }
+    requires { HasCleanDisk (state S.Store tx.old.conn.now) → IsMaking (profile ∷ generation ∷ runtime ∷ piece ∷ temp_root ∷ []) (state S.Store tx.old.conn.now) }
     ensures same_reference { tx.new.conn.ghost_name ≡ tx.old.conn.ghost_name }
     ensures makes { HasCleanDisk (state S.Store tx.new.conn.now) → OnOk result (Makes (profile ∷ []) (state S.Store tx.old.conn.now) (state S.Store tx.new.conn.now)) }
-    ensures making { HasCleanDisk (state S.Store tx.new.conn.now) → OnOk result (IsMaking (generation ∷ runtime ∷ []) (state S.Store tx.new.conn.now)) }
+    ensures making { HasCleanDisk (state S.Store tx.new.conn.now) → OnOk result (IsMaking (generation ∷ runtime ∷ piece ∷ temp_root ∷ []) (state S.Store tx.new.conn.now)) }
     ensures cause { HasCleanDisk (state S.Store tx.new.conn.now) → IfErr result (FailsToMakeThese (profile ∷ []) ⊥ ⊥ (state S.Store tx.old.conn.now) (state S.Store tx.new.conn.now)) }
     ensures kept { HasCleanDisk (state S.Store tx.new.conn.now) → KeepsCommit (state S.Store tx.old.conn.now) (state S.Store tx.new.conn.now) }
     ensures survives { Survives (state S.Store tx.old.conn.now) (state S.Store tx.new.conn.now) (λ _. ⊥) }
@@ -132,10 +132,10 @@ fn profile<S: Alter>(tx: &mut Transaction<'_, S>) -> Result<(), Failure>
 }
 
 fn generation<S: Alter>(tx: &mut Transaction<'_, S>) -> Result<(), Failure>
-    requires { HasCleanDisk (state S.Store tx.old.conn.now) → IsMaking (generation ∷ runtime ∷ []) (state S.Store tx.old.conn.now) }
+    requires { HasCleanDisk (state S.Store tx.old.conn.now) → IsMaking (generation ∷ runtime ∷ piece ∷ temp_root ∷ []) (state S.Store tx.old.conn.now) }
     ensures same_reference { tx.new.conn.ghost_name ≡ tx.old.conn.ghost_name }
     ensures makes { HasCleanDisk (state S.Store tx.new.conn.now) → OnOk result (Makes (generation ∷ []) (state S.Store tx.old.conn.now) (state S.Store tx.new.conn.now)) }
-    ensures making { HasCleanDisk (state S.Store tx.new.conn.now) → OnOk result (IsMaking (runtime ∷ []) (state S.Store tx.new.conn.now)) }
+    ensures making { HasCleanDisk (state S.Store tx.new.conn.now) → OnOk result (IsMaking (runtime ∷ piece ∷ temp_root ∷ []) (state S.Store tx.new.conn.now)) }
     ensures cause { HasCleanDisk (state S.Store tx.new.conn.now) → IfErr result (FailsToMakeThese (generation ∷ []) ⊥ ⊥ (state S.Store tx.old.conn.now) (state S.Store tx.new.conn.now)) }
     ensures kept { HasCleanDisk (state S.Store tx.new.conn.now) → KeepsCommit (state S.Store tx.old.conn.now) (state S.Store tx.new.conn.now) }
     ensures survives { Survives (state S.Store tx.old.conn.now) (state S.Store tx.new.conn.now) (λ _. ⊥) }
@@ -147,10 +147,10 @@ fn generation<S: Alter>(tx: &mut Transaction<'_, S>) -> Result<(), Failure>
 }
 
 fn runtime<S: Alter>(tx: &mut Transaction<'_, S>) -> Result<(), Failure>
-    requires { HasCleanDisk (state S.Store tx.old.conn.now) → IsMaking (runtime ∷ []) (state S.Store tx.old.conn.now) }
+    requires { HasCleanDisk (state S.Store tx.old.conn.now) → IsMaking (runtime ∷ piece ∷ temp_root ∷ []) (state S.Store tx.old.conn.now) }
     ensures same_reference { tx.new.conn.ghost_name ≡ tx.old.conn.ghost_name }
     ensures makes { HasCleanDisk (state S.Store tx.new.conn.now) → OnOk result (Makes (runtime ∷ []) (state S.Store tx.old.conn.now) (state S.Store tx.new.conn.now)) }
-    ensures making { HasCleanDisk (state S.Store tx.new.conn.now) → OnOk result (IsMaking [] (state S.Store tx.new.conn.now)) }
+    ensures making { HasCleanDisk (state S.Store tx.new.conn.now) → OnOk result (IsMaking (piece ∷ temp_root ∷ []) (state S.Store tx.new.conn.now)) }
     ensures cause { HasCleanDisk (state S.Store tx.new.conn.now) → IfErr result (FailsToMakeThese (runtime ∷ []) ⊥ ⊥ (state S.Store tx.old.conn.now) (state S.Store tx.new.conn.now)) }
     ensures kept { HasCleanDisk (state S.Store tx.new.conn.now) → KeepsCommit (state S.Store tx.old.conn.now) (state S.Store tx.new.conn.now) }
     ensures survives { Survives (state S.Store tx.old.conn.now) (state S.Store tx.new.conn.now) (λ _. ⊥) }
@@ -163,10 +163,10 @@ fn runtime<S: Alter>(tx: &mut Transaction<'_, S>) -> Result<(), Failure>
 
 /// The four tables after `meta`.
 pub(crate) fn next<S: Alter>(tx: &mut Transaction<'_, S>) -> Result<(), Failure>
-    requires { HasCleanDisk (state S.Store tx.old.conn.now) → IsMaking (object ∷ refs ∷ outs ∷ permanent ∷ user_root ∷ profile ∷ generation ∷ runtime ∷ []) (state S.Store tx.old.conn.now) }
+    requires { HasCleanDisk (state S.Store tx.old.conn.now) → IsMaking (object ∷ refs ∷ outs ∷ permanent ∷ user_root ∷ profile ∷ generation ∷ runtime ∷ piece ∷ temp_root ∷ []) (state S.Store tx.old.conn.now) }
     ensures same_reference { tx.new.conn.ghost_name ≡ tx.old.conn.ghost_name }
     ensures makes { HasCleanDisk (state S.Store tx.new.conn.now) → OnOk result (Makes (object ∷ refs ∷ outs ∷ permanent ∷ []) (state S.Store tx.old.conn.now) (state S.Store tx.new.conn.now)) }
-    ensures making { HasCleanDisk (state S.Store tx.new.conn.now) → OnOk result (IsMaking (user_root ∷ profile ∷ generation ∷ runtime ∷ []) (state S.Store tx.new.conn.now)) }
+    ensures making { HasCleanDisk (state S.Store tx.new.conn.now) → OnOk result (IsMaking (user_root ∷ profile ∷ generation ∷ runtime ∷ piece ∷ temp_root ∷ []) (state S.Store tx.new.conn.now)) }
     ensures cause { HasCleanDisk (state S.Store tx.new.conn.now) → IfErr result (FailsToMakeThese (object ∷ refs ∷ outs ∷ permanent ∷ []) ⊥ ⊥ (state S.Store tx.old.conn.now) (state S.Store tx.new.conn.now)) }
     ensures kept { HasCleanDisk (state S.Store tx.new.conn.now) → KeepsCommit (state S.Store tx.old.conn.now) (state S.Store tx.new.conn.now) }
     ensures survives { Survives (state S.Store tx.old.conn.now) (state S.Store tx.new.conn.now) (λ _. ⊥) }
@@ -177,12 +177,12 @@ pub(crate) fn next<S: Alter>(tx: &mut Transaction<'_, S>) -> Result<(), Failure>
     permanent(tx)
 }
 
-/// The last four.
+/// The four after those.
 pub(crate) fn last<S: Alter>(tx: &mut Transaction<'_, S>) -> Result<(), Failure>
-    requires { HasCleanDisk (state S.Store tx.old.conn.now) → IsMaking (user_root ∷ profile ∷ generation ∷ runtime ∷ []) (state S.Store tx.old.conn.now) }
+    requires { HasCleanDisk (state S.Store tx.old.conn.now) → IsMaking (user_root ∷ profile ∷ generation ∷ runtime ∷ piece ∷ temp_root ∷ []) (state S.Store tx.old.conn.now) }
     ensures same_reference { tx.new.conn.ghost_name ≡ tx.old.conn.ghost_name }
     ensures makes { HasCleanDisk (state S.Store tx.new.conn.now) → OnOk result (Makes (user_root ∷ profile ∷ generation ∷ runtime ∷ []) (state S.Store tx.old.conn.now) (state S.Store tx.new.conn.now)) }
-    ensures making { HasCleanDisk (state S.Store tx.new.conn.now) → OnOk result (IsMaking [] (state S.Store tx.new.conn.now)) }
+    ensures making { HasCleanDisk (state S.Store tx.new.conn.now) → OnOk result (IsMaking (piece ∷ temp_root ∷ []) (state S.Store tx.new.conn.now)) }
     ensures cause { HasCleanDisk (state S.Store tx.new.conn.now) → IfErr result (FailsToMakeThese (user_root ∷ profile ∷ generation ∷ runtime ∷ []) ⊥ ⊥ (state S.Store tx.old.conn.now) (state S.Store tx.new.conn.now)) }
     ensures kept { HasCleanDisk (state S.Store tx.new.conn.now) → KeepsCommit (state S.Store tx.old.conn.now) (state S.Store tx.new.conn.now) }
     ensures survives { Survives (state S.Store tx.old.conn.now) (state S.Store tx.new.conn.now) (λ _. ⊥) }

@@ -1,7 +1,6 @@
-//! Making the further tables beside the nine, inside a transaction that goes on.
+//! Making the further tables, inside a transaction that goes on: in a new database after the nine, or beside those that stand.
 
-ghost use Rattle.std.specs.Prelude.{◌≡◌, false, [], ◌∷◌, OnOk, IfErr, IsTrue};
-ghost use Rattle.sqlite.specs.Does.{lacks_sequence};
+ghost use Rattle.std.specs.Prelude.{◌≡◌, [], ◌∷◌, OnOk, IfErr, IsTrue};
 ghost use Rattle.sqlite.specs.State.{HasCleanDisk, KeepsCommit, Survives};
 ghost use Rattle.sqlite.specs.Held.{state};
 ghost use Rattle.table_forms.specs.Forms.{piece, temp_root};
@@ -43,14 +42,11 @@ fn temp_root<S: Alter>(tx: &mut Transaction<'_, S>) -> Result<(), Failure>
     )
 }
 
-/// Makes the table of pieces and that of temporary roots beside the nine of the first schema, with no row. What the tables hold is as
-/// it was, and the transaction goes on.
-pub fn make_both<S: Alter>(tx: &mut Transaction<'_, S>) -> Result<(), Failure>
-    requires under { HasCleanDisk (state S.Store tx.old.conn.now) → IsUnderWay (state S.Store tx.old.conn.now) }
-    requires first { HasCleanDisk (state S.Store tx.old.conn.now) → IsTrue (state S.Store tx.old.conn.now).is_open → HasFirst (state S.Store tx.old.conn.now).now.schema }
-    requires counted { HasCleanDisk (state S.Store tx.old.conn.now) → IsTrue (state S.Store tx.old.conn.now).is_open → lacks_sequence (state S.Store tx.old.conn.now).now.schema ≡ false }
+/// Both of them.
+pub(crate) fn both<S: Alter>(tx: &mut Transaction<'_, S>) -> Result<(), Failure>
+    requires { HasCleanDisk (state S.Store tx.old.conn.now) → IsMaking (piece ∷ temp_root ∷ []) (state S.Store tx.old.conn.now) }
     ensures same_reference { tx.new.conn.ghost_name ≡ tx.old.conn.ghost_name }
-    ensures done { HasCleanDisk (state S.Store tx.new.conn.now) → OnOk result (MakesFurther (piece ∷ temp_root ∷ []) (state S.Store tx.old.conn.now) (state S.Store tx.new.conn.now)) }
+    ensures makes { HasCleanDisk (state S.Store tx.new.conn.now) → OnOk result (Makes (piece ∷ temp_root ∷ []) (state S.Store tx.old.conn.now) (state S.Store tx.new.conn.now)) }
     ensures cause { HasCleanDisk (state S.Store tx.new.conn.now) → IfErr result (FailsToMakeThese (piece ∷ temp_root ∷ []) ⊥ ⊥ (state S.Store tx.old.conn.now) (state S.Store tx.new.conn.now)) }
     ensures kept { HasCleanDisk (state S.Store tx.new.conn.now) → KeepsCommit (state S.Store tx.old.conn.now) (state S.Store tx.new.conn.now) }
     ensures survives { Survives (state S.Store tx.old.conn.now) (state S.Store tx.new.conn.now) (λ _. ⊥) }
@@ -59,12 +55,25 @@ pub fn make_both<S: Alter>(tx: &mut Transaction<'_, S>) -> Result<(), Failure>
     temp_root(tx)
 }
 
+/// Makes the table of pieces and that of temporary roots beside the nine of the first schema, with no row. What the tables hold is as
+/// it was, and the transaction goes on.
+pub fn make_both<S: Alter>(tx: &mut Transaction<'_, S>) -> Result<(), Failure>
+    requires under { HasCleanDisk (state S.Store tx.old.conn.now) → IsUnderWay (state S.Store tx.old.conn.now) }
+    requires first { HasCleanDisk (state S.Store tx.old.conn.now) → IsTrue (state S.Store tx.old.conn.now).is_open → HasFirst (state S.Store tx.old.conn.now).now.schema }
+    ensures same_reference { tx.new.conn.ghost_name ≡ tx.old.conn.ghost_name }
+    ensures done { HasCleanDisk (state S.Store tx.new.conn.now) → OnOk result (MakesFurther (piece ∷ temp_root ∷ []) (state S.Store tx.old.conn.now) (state S.Store tx.new.conn.now)) }
+    ensures cause { HasCleanDisk (state S.Store tx.new.conn.now) → IfErr result (FailsToMakeThese (piece ∷ temp_root ∷ []) ⊥ ⊥ (state S.Store tx.old.conn.now) (state S.Store tx.new.conn.now)) }
+    ensures kept { HasCleanDisk (state S.Store tx.new.conn.now) → KeepsCommit (state S.Store tx.old.conn.now) (state S.Store tx.new.conn.now) }
+    ensures survives { Survives (state S.Store tx.old.conn.now) (state S.Store tx.new.conn.now) (λ _. ⊥) }
+{
+    both(tx)
+}
+
 /// Makes the table of temporary roots beside the ten of the second schema, with no row. What the tables hold is as it was, and the
 /// transaction goes on.
 pub fn make_temp_root<S: Alter>(tx: &mut Transaction<'_, S>) -> Result<(), Failure>
     requires under { HasCleanDisk (state S.Store tx.old.conn.now) → IsUnderWay (state S.Store tx.old.conn.now) }
     requires second { HasCleanDisk (state S.Store tx.old.conn.now) → IsTrue (state S.Store tx.old.conn.now).is_open → HasSecond (state S.Store tx.old.conn.now).now.schema }
-    requires counted { HasCleanDisk (state S.Store tx.old.conn.now) → IsTrue (state S.Store tx.old.conn.now).is_open → lacks_sequence (state S.Store tx.old.conn.now).now.schema ≡ false }
     ensures same_reference { tx.new.conn.ghost_name ≡ tx.old.conn.ghost_name }
     ensures done { HasCleanDisk (state S.Store tx.new.conn.now) → OnOk result (MakesFurther (temp_root ∷ []) (state S.Store tx.old.conn.now) (state S.Store tx.new.conn.now)) }
     ensures cause { HasCleanDisk (state S.Store tx.new.conn.now) → IfErr result (FailsToMakeThese (temp_root ∷ []) ⊥ ⊥ (state S.Store tx.old.conn.now) (state S.Store tx.new.conn.now)) }

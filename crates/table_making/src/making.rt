@@ -11,7 +11,7 @@ ghost use Rattle.table_statements.specs.Failures.{IsWriteFailure};
 ghost use Rattle.table_making.specs.Making.{IsMaking, HasMeta, Puts, MakesMeta, MakesAll, IsMade, IsMadeIn, IsMadeOf, LeavesMade, IsTooLong, FailsToMakeThese, FailsToMake, other_tables};
 ghost use Rattle.table_statements.specs.Calls.{IsDurable};
 
-use crate::creating;
+use crate::{creating, further};
 use sqlite::{Alter, Connection, Transaction, params};
 use table_statements::failure::Failure;
 
@@ -41,7 +41,7 @@ fn settle<S: Alter>(tx: &mut Transaction<'_, S>, store_dir: &str) -> Result<(), 
     ensures survives { Survives (state S.Store tx.old.conn.now) (state S.Store tx.new.conn.now) (λ _. ⊥) }
 {
     creating::meta(tx)?;
-    put(tx, "schema", "1")?;
+    put(tx, "schema", "3")?;
     put(tx, "store-dir", store_dir)
 }
 
@@ -55,7 +55,8 @@ fn make_all<S: Alter>(tx: &mut Transaction<'_, S>, store_dir: &str) -> Result<()
 {
     settle(tx, store_dir)?;
     creating::next(tx)?;
-    creating::last(tx)
+    creating::last(tx)?;
+    further::both(tx)
 }
 
 #[tactic(auto, using(crate::proofs::Settles::committed_made))]
@@ -76,7 +77,7 @@ fn make_and_commit<S: Alter>(conn: &mut Connection<S>, store_dir: &str) -> Resul
     Ok(())
 }
 
-/// Makes our nine tables beside whatever tables there are, `meta` with the settings `schema` = `1` and `store-dir`,
+/// Makes our eleven tables beside whatever tables there are, `meta` with the settings `schema` = `3` and `store-dir`,
 /// the others with no row: all at once, or nothing. Then the connection is ready for transactions.
 pub fn make<S: Alter>(conn: &mut Connection<S>, store_dir: &str) -> Result<(), Failure>
     requires alone { conn.old.in_transaction ≡ false }

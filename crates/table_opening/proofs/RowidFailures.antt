@@ -86,15 +86,20 @@ FailsToCheck text old new f = IsQueryFailure text [] old new f ⊎ ((rows : List
 abbrev QueryFails : List ℕ → State → State → Type 0
 QueryFails text old new = (e : Error) → FailsToQuery text [] old new e → FailsWith old new ⊥ (IsSome old.step_limit) (failure_of e)
 
-check_fails : (name : List ℕ) (columns : List Column) (key : List ℕ) (text : List ℕ) (order : List (Term × Key)) (old new : State) → HasSettledTables old → (HasTables old.now.schema → Stands old.now.schema (strict name columns key))
+-- where the table stands
+pub standing_check_fails : (name : List ℕ) (columns : List Column) (key : List ℕ) (text : List ℕ) (order : List (Term × Key)) (old new : State) → (IsTrue old.is_open → Stands old.now.schema (strict name columns key))
     → Compiles name columns key text 0 (λ at tree. Select (whole order tree) names) → QueryFails text old new → (f : Failure) → FailsToCheck text old new f → FailsToTest old new (¬ IsKeyed (rows_named old.now name)) f
-check_fails name columns key text order old new rests at is fails f (inl h) = test_fails old new text _ fails f h
-check_fails name columns key text order old new rests at is fails f (inr (rows, given, inl memory)) = subst (FailsToTest old new (¬ IsKeyed (rows_named old.now name))) (sym memory) tt
-check_fails name columns key text order old new rests at is fails f (inr (rows, given, inr h)) =
-    let stands = at (rests.has given.1.0.was_open) in
+standing_check_fails name columns key text order old new at is fails f (inl h) = test_fails old new text _ fails f h
+standing_check_fails name columns key text order old new at is fails f (inr (rows, given, inl memory)) = subst (FailsToTest old new (¬ IsKeyed (rows_named old.now name))) (sym memory) tt
+standing_check_fails name columns key text order old new at is fails f (inr (rows, given, inr h)) =
+    let stands = at given.1.0.was_open in
     let tree = tree_named old.now.schema name in
     let all = all_rows text [] old new names (query order tree) (is old.now.schema stands.at tree stands.known) rows given in
     subst (FailsToTest old new (¬ IsKeyed (rows_named old.now name))) (sym h.0) (inr (inr (λ keyed. h.1 (front rows all.0 (ids_if name columns key text order old new stands is (rows ++ all.0) all.1 keyed)))))
+
+check_fails : (name : List ℕ) (columns : List Column) (key : List ℕ) (text : List ℕ) (order : List (Term × Key)) (old new : State) → HasSettledTables old → (HasTables old.now.schema → Stands old.now.schema (strict name columns key))
+    → Compiles name columns key text 0 (λ at tree. Select (whole order tree) names) → QueryFails text old new → (f : Failure) → FailsToCheck text old new f → FailsToTest old new (¬ IsKeyed (rows_named old.now name)) f
+check_fails name columns key text order old new rests at = standing_check_fails name columns key text order old new (λ up. at (rests.has up))
 
 pub meta_fails : (old new : State) → HasSettledTables old → (f : Failure) → FailsToCheck meta_text old new f → FailsToTest old new (¬ IsKeyed (rows_named old.now meta.name)) f
 unfolding everything

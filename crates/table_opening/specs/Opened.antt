@@ -1,5 +1,5 @@
 -- What taking up a connection says of it, and why a file isn't taken up.
-use Rattle.std.specs.Prelude.{◌≡◌, ◌↔◌, ◌⊎◌, true, false, ℤ, List, map, Option, Some, None, IsTrue}
+use Rattle.std.specs.Prelude.{◌≡◌, ◌↔◌, ◌⊎◌, ⊤, true, false, ℤ, List, map, Option, Some, None, IsTrue}
 use Rattle.std.specs.List.{AllByRecursion, IsDistinct}
 use Rattle.std.specs.Ordering.{eq_by_cmp, int_cmp}
 use Rattle.sqlite_value.specs.declared.value.Value.TheVariants.{Int}
@@ -11,8 +11,10 @@ use Rattle.sqlite_disk.specs.declared.start.Start.{Ghosts}
 use Rattle.sqlite_std_file.specs.File.{IsFresh}
 use Rattle.sqlite_std_file.specs.declared.host.Host.{Host}
 use Rattle.sqlite_wal.specs.Recovery.{Image}
+use Rattle.sqlite_schema.specs.declared.schema.Schema.{Schema}
 use Rattle.sqlite_store.specs.FileStore.{view}
 use Rattle.sqlite_store.specs.declared.store.FileStore.{FileStore}
+use Rattle.sqlite.specs.Effect.{Database}
 use Rattle.sqlite.specs.State.{State, HasCleanDisk, Survives}
 use Rattle.sqlite.specs.Held.{Held, IsNew}
 use Rattle.sqlite.specs.Start.{FindsIn}
@@ -25,30 +27,56 @@ use Rattle.sqlite.specs.declared.error.ErrorCode.TheVariants.{CannotOpen, OutOfM
 use Rattle.table_statements.specs.declared.failure.Failure.{Failure}
 use Rattle.table_opening.specs.declared.file.Unopened.{Unopened}
 use Rattle.table_opening.specs.declared.file.Unopened.TheVariants.{Refused, Untold}
-use Rattle.table_forms.specs.declared.finding.Finding.{Finding}
-use Rattle.table_forms.specs.declared.finding.Finding.TheVariants.{Ours, Nothing}
-use Rattle.table_forms.specs.Standing.{HasTables}
-use Rattle.table_forms.specs.Finding.{HasNone}
-use Rattle.table_forms.specs.Forms.{our_tables}
+use Rattle.table_forms.specs.declared.recognising.Recognised.{Recognised}
+use Rattle.table_forms.specs.declared.recognising.Recognised.TheVariants.{First, Second, Third, Nothing, Other}
+use Rattle.table_forms.specs.Standing.{Stands}
+use Rattle.table_forms.specs.Finding.{HasNone, HasFirst, HasSecond, HasThird}
+use Rattle.table_forms.specs.Forms.{piece, all_tables}
 use Rattle.table_statements.specs.Contents.{contents_of, rows_named}
 use Rattle.table_statements.specs.Texts.{AreReadable}
-use Rattle.table_statements.specs.Calls.{IsKeyed, IsReady, KeepsShown}
+use Rattle.table_statements.specs.Calls.{IsKeyed, IsWhole, HasFurther, IsReady, KeepsShown}
 use Rattle.table_statements.specs.Failures.{opening_failure, FailsToTest}
 
--- this is what the database holds of ours; and if it holds all, it is ready
-pub record IsFound (f : Finding) (s : State) : Type 0 where
-  pub ours : f ≡ Ours ↔ HasTables s.now.schema × AreReadable (contents_of s.now)
-  pub nothing : f ≡ Nothing ↔ HasNone s.now.schema
-  pub ready : f ≡ Ours → IsReady s
+-- by which schema our tables stand, if they do
+pub record IsRecognised (r : Recognised) (s : Schema) : Type 0 where
+  pub nothing : r ≡ Nothing ↔ HasNone s
+  pub first : r ≡ First ↔ HasFirst s
+  pub second : r ≡ Second ↔ HasSecond s
+  pub third : r ≡ Third ↔ HasThird s
+
+-- by which schema the database has our tables, with texts that can be read; or it has none of them, or is something else
+pub record IsBySchema (r : Recognised) (db : Database) : Type 0 where
+  pub nothing : r ≡ Nothing ↔ HasNone db.schema
+  pub first : r ≡ First ↔ HasFirst db.schema × AreReadable (contents_of db)
+  pub second : r ≡ Second ↔ HasSecond db.schema × AreReadable (contents_of db)
+  pub third : r ≡ Third ↔ HasThird db.schema × AreReadable (contents_of db)
+
+-- where our tables stand by a schema the connection is ready, and the further tables of that schema can be read and written too
+abbrev pub IsReadyBy : Recognised → State → Type 0
+IsReadyBy Nothing s = ⊤
+IsReadyBy First s = IsReady s
+IsReadyBy Second s = IsReady s × HasFurther s.now piece
+IsReadyBy Third s = IsReady s × IsWhole s.now
+IsReadyBy Other s = ⊤
+
+-- this is what the database holds of ours; and if it holds the tables of a schema, it is ready
+pub record IsFound (r : Recognised) (s : State) : Type 0 where
+  pub by_schema : IsBySchema r s.now
+  pub ready : IsReadyBy r s
   pub settled : s.now ≡ s.committed
 
 -- what the rows show first are integers that differ
 abbrev pub ShowIds : List Row → Type 0
 ShowIds rows = (ids : List ℤ) × (map (λ row. column row 0) rows ≡ map Int ids) × IsDistinct (eq_by_cmp int_cmp) ids
 
--- Why opening failed. What its test may have found is that all nine tables stand, and that in one of them two rows share a rowid or a rowid is no integer.
+-- our tables stand by one of the schemas, and in one of those that stand two rows share a rowid or a rowid is no integer
+abbrev pub HasUnkeyed : Database → Type 0
+HasUnkeyed db =
+    (HasFirst db.schema ⊎ (HasSecond db.schema ⊎ HasThird db.schema)) × ¬ AllByRecursion (λ t. Stands db.schema t → IsKeyed (rows_named db t.name)) all_tables
+
+-- Why opening failed. That is what its test may have found.
 abbrev pub FailsToOpen : State → State → Failure → Type 0
-FailsToOpen old new = FailsToTest old new (HasTables old.now.schema × ¬ AllByRecursion (λ t. IsKeyed (rows_named old.now t.name)) our_tables)
+FailsToOpen old new = FailsToTest old new (HasUnkeyed old.now)
 
 module _ {D : Type 0} {g : disk.Ghosts D} where
   -- all that `sqlite` says of a connection that it opened over files which held this

@@ -15,15 +15,15 @@ use sqlite::{Alter, Connection, Error, ErrorCode, FileFrom, FileStore, Leftover,
 use sqlite_disk::Disk;
 use std::alloc::Global;
 use std::rt::HostRuntime;
-use table_forms::finding::Finding;
+use table_forms::recognising::Recognised;
 use table_statements::failure::Failure;
 
-/// A database that was opened, and what it holds of ours. If that is `Ours`, it is ready for transactions.
+/// A database that was opened, and by which schema it holds our tables. If it does, it is ready for transactions.
 pub struct Opened<S: Alter> {
     /// The connection, outside a transaction.
     pub conn: Connection<S>,
     /// What the database holds of ours.
-    pub found: Finding,
+    pub found: Recognised,
 }
 
 /// A database that was opened, but what it holds of ours can't be told.
@@ -72,14 +72,10 @@ pub fn take_up<S: Alter>(alloc: Global, mut conn: Connection<S>) -> Result<Opene
     ensures same { MatchResult result (λ it. HasCleanDisk (state S.Store it.conn) → KeepsShown (state S.Store conn) (state S.Store it.conn)) (λ e. HasCleanDisk (state S.Store e.conn) → KeepsShown (state S.Store conn) (state S.Store e.conn)) }
     ensures survives { MatchResult result (λ it. Survives (state S.Store conn) (state S.Store it.conn) (λ _. ⊥)) (λ e. Survives (state S.Store conn) (state S.Store e.conn) (λ _. ⊥)) }
 {
-    let found = match opening::open(alloc, &mut conn) {
-        Ok(found) => found,
-        Err(failure) => return Err(Untold { conn, failure }),
-    };
-    // Outside a transaction, what is shown is what the last commit left.
-    let settled = conn.is_autocommit();
-    prove!(settled);
-    Ok(Opened { conn, found })
+    match opening::open(alloc, &mut conn) {
+        Ok(found) => Ok(Opened { conn, found }),
+        Err(failure) => Err(Untold { conn, failure }),
+    }
 }
 
 /// Opens the file at a path, or makes an empty database there, and takes it up. `start` stands for what the file held, which no

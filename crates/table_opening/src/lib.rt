@@ -2,6 +2,7 @@
 #![tactic(auto)]
 
 pub mod file;
+mod further;
 mod keyed;
 pub mod opening;
 mod readable;

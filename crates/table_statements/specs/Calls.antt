@@ -9,7 +9,7 @@ use Rattle.sqlite_trees.specs.Tree.{Trees, rowid}
 use Rattle.sqlite.specs.Effect.{Database, IsDatabase}
 use Rattle.sqlite.specs.State.{State}
 use Rattle.sqlite_schema.specs.declared.schema.Table.{Table}
-use Rattle.table_forms.specs.Forms.{our_tables, further_tables, is_our_name}
+use Rattle.table_forms.specs.Forms.{piece, temp_root, our_tables, further_tables, is_our_name}
 use Rattle.table_forms.specs.Standing.{HasTables, Stands}
 use Rattle.table_statements.specs.Contents.{Contents, contents_of, rows_named}
 use Rattle.table_statements.specs.Frozen.{KeepsUnshown, KeepsFrozen}
@@ -32,6 +32,12 @@ pub record HasFurther (db : Database) (t : Table) : Type 0 where
   pub stands : Stands db.schema t
   pub keyed : IsKeyed (rows_named db t.name)
   pub readable : AreReadableRows t (rows_named db t.name)
+
+-- all eleven tables stand, with the same of the rows of each
+pub record IsWhole (db : Database) : Type 0 where
+  pub ours : IsOurs db
+  pub pieces : HasFurther db piece
+  pub temp_roots : HasFurther db temp_root
 
 -- each further table that stood so does still
 unfoldable pub KeepsFurther : Database → Database → Type 0

@@ -22,6 +22,8 @@ pub record AreReadable (c : Contents) : Type 0 where
   pub profiles : (owner name : Bytes) (n : ℤ) → finite.get c.profiles (owner, name) ≡ Some n → IsUtf8 owner × IsUtf8 name
   pub generations : (owner name : Bytes) (n : ℤ) (target : Bytes) → finite.get c.generations (owner, name, n) ≡ Some target → IsUtf8 owner × IsUtf8 name × IsUtf8 target
   pub runtime : (label target : Bytes) → finite.get c.runtime (label, target) ≡ Some tt → IsUtf8 label × IsUtf8 target
+  pub pieces : (base : Bytes) (n : ℤ) (piece : Bytes) → finite.get c.pieces (base, n) ≡ Some piece → IsUtf8 base
+  pub temp_roots : (owner : Bytes) (n : ℤ) (target : Bytes) → finite.get c.temp_roots (owner, n, target) ≡ Some tt → IsUtf8 owner × IsUtf8 target
 
 -- ---- the same by the rows, as it is tested
 

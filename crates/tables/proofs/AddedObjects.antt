@@ -15,6 +15,7 @@ use Rattle.rows.specs.Entries.{stored}
 use Rattle.rows.specs.Calls.{Leaves}
 use Rattle.world.specs.World.{Path, Object, World}
 use Rattle.world.specs.Sound.{IsSound}
+use Rattle.world.specs.Pieces.{row_part, further_pieces}
 use Rattle.world.specs.Rows.{address_in, object_in}
 use Rattle.world.specs.Told.{rows_of, world_in}
 use Rattle.index.specs.Outline.{Outline, Outlined, outlined, outline_of, with_archive}
@@ -74,15 +75,15 @@ module _ {S : Type 0} (g : Ghosts S) (k now : Kept S) (view : k ≡ now) (conn :
     (sound : (w : World) → Tells g now w → IsSound now.dir (record w { objects = finite.insert w.objects path (with_archive nar given) }))
   where
     abbrev row : Stored
-    row = stored nar found.hash deriver ca
+    row = stored (row_part nar) found.hash deriver ca
 
     abbrev change : Contents → Contents
-    change = put_object path row (finite.keys found.references) (finite.entries found.outputs)
+    change = put_object path row (finite.keys found.references) (finite.entries found.outputs) (further_pieces nar)
 
     abbrev object : Object
     object = with_archive nar given
 
-    object_is : object_of row (finite.keys found.references) (finite.entries found.outputs) ≡ object
+    object_is : object_of nar row (finite.keys found.references) (finite.entries found.outputs) ≡ object
     object_is = λ i. record {
       nar = nar;
       references = (set_again found.references ∙ ap (λ (o : Outlined). o.references) found_is) i;
@@ -97,22 +98,23 @@ module _ {S : Type 0} (g : Ghosts S) (k now : Kept S) (view : k ≡ now) (conn :
     none : finite.get k.outline.objects path ≡ None
     none = ap (λ (n : Kept S). finite.get n.outline.objects path) view ∙ new
 
-    are_new : HasCleanDisk (state g k.connection) → IsTrue (state g k.connection).is_open → AreNew path row (finite.entries found.outputs) (contents_of (state g k.connection).now)
+    are_new : HasCleanDisk (state g k.connection) → IsTrue (state g k.connection).is_open → AreNew path nar row (finite.entries found.outputs) (contents_of (state g k.connection).now)
     are_new clean is_open = record {
       object = unstored (contents_of (state g k.connection).now) k.outline path (agrees.rows clean is_open).same none;
+      row = refl;
       hash = ap (λ (o : Outlined). o.hash) found_is ∙ hash;
       address = address;
       sorted = finite.entries_sorted found.outputs;
     }
 
     pub object_fits : HasCleanDisk (state g k.connection) → IsTrue (state g k.connection).is_open → (finite.get (contents_of (state g k.connection).now).objects path ≡ None) × ((name : List ℕ) → finite.get (contents_of (state g k.connection).now).outs (path, name) ≡ None)
-    object_fits clean is_open = ((are_new clean is_open).object, no_output k.dir path row (finite.keys found.references) (finite.entries found.outputs) (contents_of (state g k.connection).now) (agrees.rows clean is_open).sound (are_new clean is_open))
+    object_fits clean is_open = ((are_new clean is_open).object, no_output k.dir path nar row (finite.keys found.references) (finite.entries found.outputs) (contents_of (state g k.connection).now) (agrees.rows clean is_open).sound (are_new clean is_open))
 
     follows : HasCleanDisk (state g k.connection) → IsTrue (state g k.connection).is_open → Follows k.dir change (λ (w : World). record w { objects = finite.insert w.objects path object }) (contents_of (state g k.connection).now)
     follows clean is_open =
         let c = contents_of (state g k.connection).now in
         subst (λ (x : Object). Follows k.dir change (λ (w : World). record w { objects = finite.insert w.objects path x }) c) object_is
-        (object_follows k.dir path row (finite.keys found.references) (finite.entries found.outputs) c (agrees.rows clean is_open).sound (are_new clean is_open))
+        (object_follows k.dir path nar row (finite.keys found.references) (finite.entries found.outputs) c (agrees.rows clean is_open).sound (are_new clean is_open))
 
     abbrev outline_with : Outline → Outline
     outline_with o = record o { objects = finite.insert o.objects path (outlined object) }

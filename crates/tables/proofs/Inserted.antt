@@ -1,10 +1,11 @@
 -- What the rows of an object that is added make of the world.
-use Rattle.std.proofs.Common.{◌≡◌, ℕ, List, [], ◌∷◌, map, Bool, true, false, ◌&&◌, ◌||◌, cond, Some, None, Option, option_map, is_some, refl, sym, ap, ap₂, subst, ◌∙◌, T, IsTrue}
-use Rattle.std.specs.Prelude.{IsSome}
-use Rattle.std.specs.Cmp.{eq_by_cmp_equiv}
+use Rattle.std.proofs.Common.{◌≡◌, ℕ, List, [], ◌∷◌, ◌++◌, map, drop, Bool, true, false, ◌&&◌, ◌||◌, cond, Some, None, Option, option_map, is_some, refl, sym, ap, ap₂, subst, subst₂, ◌∙◌, T, IsTrue}
+use Rattle.std.specs.Prelude.{ℤ, IsSome}
+use Rattle.std.specs.Ordering.{int_cmp}
+use Rattle.std.specs.Cmp.{eq_by_cmp_equiv, int_cmp_total}
 use Rattle.std.specs.List.{list_any}
 use Rattle.std.specs.FinMap as finite
-use Rattle.std.specs.FinMap.Entries.{find as find_entry, is_sorted}
+use Rattle.std.specs.FinMap.Entries.{find as find_entry, is_sorted, same_entries}
 use Rattle.std.proofs.lemmas.Bool.{false≢true}
 use Rattle.std.proofs.lemmas.Option.{same_Some}
 use Rattle.sha2.specs.Sha256.{sha256}
@@ -13,32 +14,39 @@ use Rattle.paths.specs.ContentAddress.{address_of}
 use Rattle.rows.specs.Contents.{Contents, Stored}
 use Rattle.world.specs.World.{Path, Object, World}
 use Rattle.world.specs.Sound.{IsSound}
-use Rattle.world.specs.Rows.{piece_cmp, references_in, outputs_in, archive_in, object_in, address_in}
-use Rattle.world.proofs.Empty.{no_key}
+use Rattle.world.specs.Pieces.{piece_size, joined, IsCut, row_part, further_pieces}
+use Rattle.world.specs.Rows.{references_in, outputs_in, pieces_in, archive_in, object_in, address_in}
 use Rattle.world.specs.Told.{IsSoundContents, rows_of, world_in}
 use Rattle.index.specs.Outline.{outlined, outline_of}
 use Rattle.tables.specs.Rewritten.{put_object}
 use Rattle.index.proofs.Orders.{bytes_total, bytes_antisymmetric}
 use Rattle.index.proofs.Puts.{tied_is}
-use Rattle.world.proofs.Told.{whole, get-reference, get-output}
-use Rattle.tables.proofs.Parts.{same, either, get-put_references, get-put_outputs}
+use Rattle.world.proofs.Cuts.{cut_right, cut_whole}
+use Rattle.world.proofs.Migrating.{rising}
+use Rattle.world.proofs.Told.{get-reference, get-output, get-piece}
+use Rattle.tables.proofs.Parts.{same, either, get-put_references, get-put_outputs, get-put_pieces}
 use Rattle.index.proofs.Told.{get-told, told_insert}
 use Rattle.tables.proofs.Kept.{Follows}
 
--- the object that rows with these references and outputs tell
-abbrev pub object_of : Stored → List Path → List (List ℕ × Path) → Object
-object_of o references outputs = record { nar = o.nar; references = set_of bytes_cmp references; deriver = o.deriver; ca = address_in o.ca; outputs = finite.from_entries outputs }
+-- the object that rows with this archive, these references and these outputs tell
+abbrev pub object_of : List ℕ → Stored → List Path → List (List ℕ × Path) → Object
+object_of nar o references outputs = record { nar = nar; references = set_of bytes_cmp references; deriver = o.deriver; ca = address_in o.ca; outputs = finite.from_entries outputs }
 
--- rows that fit an object that is new
-pub record AreNew (p : Path) (o : Stored) (outputs : List (List ℕ × Path)) (c : Contents) : Type 0 where
+-- rows that fit an object that is new, with this archive
+pub record AreNew (p : Path) (nar : List ℕ) (o : Stored) (outputs : List (List ℕ × Path)) (c : Contents) : Type 0 where
   pub object : finite.get c.objects p ≡ None
-  pub hash : o.hash ≡ sha256 o.nar
+  pub row : o.nar ≡ row_part nar
+  pub hash : o.hash ≡ sha256 nar
   pub address : (text : List ℕ) → o.ca ≡ Some text → IsSome (address_of text)
   pub sorted : T (is_sorted bytes_cmp outputs)
 
 none_of : {X : Type 0} (o : Option X) → (IsTrue (is_some o) → ⊥) → o ≡ None
 none_of None h = refl
 none_of (Some x) h = absurd (h refl)
+
+or_none : {X : Type 0} (g : Option X) → either g None ≡ g
+or_none None = refl
+or_none (Some x) = refl
 
 first_units : (rs : List Path) → map (λ (e : Path × Unit {0}). e.0) (map (λ (r : Path). let e : Path × Unit {0} = (r, tt) in e) rs) ≡ rs
 first_units [] = refl
@@ -56,9 +64,9 @@ units_found r (x ∷ rs) = by (same r x) (units_found r rs)
 pub get-set_of : (rs : List Path) (r : Path) → finite.get (set_of bytes_cmp rs) r ≡ cond (list_any (same r) rs) (Some tt) None
 get-set_of rs r = finite.get-from_entries bytes_total (map (λ (x : Path). let e : Path × Unit {0} = (x, tt) in e) rs) r ∙ units_found r rs
 
-module _ (dir : List ℕ) (p : Path) (o : Stored) (rs : List Path) (es : List (List ℕ × Path)) (c : Contents) (rows : IsSoundContents dir c) (new : AreNew p o es c) where
-  after : Contents
-  after = put_object p o rs es c
+module _ (dir : List ℕ) (p : Path) (nar : List ℕ) (o : Stored) (rs : List Path) (es : List (List ℕ × Path)) (c : Contents) (rows : IsSoundContents dir c) (new : AreNew p nar o es c) where
+  abbrev after : Contents
+  after = put_object p o rs es (further_pieces nar) c
 
   no_reference : (r : Path) → finite.get c.refs (p, r) ≡ None
   no_reference r = none_of (finite.get c.refs (p, r)) (λ there. false≢true (ap is_some (sym new.object) ∙ rows.references p r there))
@@ -66,74 +74,98 @@ module _ (dir : List ℕ) (p : Path) (o : Stored) (rs : List Path) (es : List (L
   pub no_output : (n : Path) → finite.get c.outs (p, n) ≡ None
   no_output n = none_of (finite.get c.outs (p, n)) (λ there. false≢true (ap is_some (sym new.object) ∙ rows.outputs p n there))
 
+  no_piece : (n : ℤ) → finite.get c.pieces (p, n) ≡ None
+  no_piece n = none_of (finite.get c.pieces (p, n)) (λ there. false≢true (ap is_some (sym new.object) ∙ rows.pieces p n there))
+
+  -- a piece of a path, after it
+  piece_after : (q : Path) (n : ℤ) → finite.get after.pieces (q, n) ≡ cond (same q p) (either (find_entry int_cmp n (further_pieces nar)) (finite.get c.pieces (q, n))) (finite.get c.pieces (q, n))
+  piece_after = get-put_pieces p (further_pieces nar) c.pieces (rising nar 1 (drop piece_size nar))
+
   -- ---- of the path itself
 
-  own_references : references_in (rows_of (put_object p o rs es c)) p ≡ set_of bytes_cmp rs
+  own_references : references_in (rows_of after) p ≡ set_of bytes_cmp rs
   own_references = finite.same_map bytes_total bytes_antisymmetric _ _ (λ r.
-      get-reference (put_object p o rs es c) p r ∙ get-put_references p rs c.refs p r
+      get-reference after p r ∙ get-put_references p rs c.refs p r
       ∙ ap₂ (λ b g. cond (b && list_any (same r) rs) (Some tt) g) ((eq_by_cmp_equiv bytes_total).refl p) (no_reference r)
       ∙ sym (get-set_of rs r))
 
-  own_outputs : outputs_in (rows_of (put_object p o rs es c)) p ≡ finite.from_entries es
+  own_outputs : outputs_in (rows_of after) p ≡ finite.from_entries es
   own_outputs = finite.same_map bytes_total bytes_antisymmetric _ _ (λ n.
-      get-output (put_object p o rs es c) p n ∙ get-put_outputs p es c.outs new.sorted p n
+      get-output after p n ∙ get-put_outputs p es c.outs new.sorted p n
       ∙ ap₂ (λ b g. cond b (either (find_entry bytes_cmp n es) g) g) ((eq_by_cmp_equiv bytes_total).refl p) (no_output n)
       ∙ or_none (find_entry bytes_cmp n es)
       ∙ sym (finite.get-from_entries bytes_total es n))
-    where
-      or_none : (g : Option Path) → either g None ≡ g
-      or_none None = refl
-      or_none (Some x) = refl
 
-  own : object_in (rows_of (put_object p o rs es c)) p o ≡ object_of o rs es
-  own = ap₂ (λ references outputs. record { nar = archive_in (rows_of c) p o; references = references; deriver = o.deriver; ca = address_in o.ca; outputs = outputs }) own_references own_outputs ∙ ap (λ (n : List ℕ). record (object_of o rs es) { nar = n }) (whole c p o)
+  own_pieces : finite.entries (pieces_in (rows_of after) p) ≡ further_pieces nar
+  own_pieces = same_entries int_cmp int_cmp_total finite.int_cmp-IsAntisymmetric (finite.entries (pieces_in (rows_of after) p)) (further_pieces nar) (finite.entries_sorted (pieces_in (rows_of after) p)) (rising nar 1 (drop piece_size nar)) (λ n.
+      sym (finite.get-entries (pieces_in (rows_of after) p) n) ∙ get-piece after p n ∙ piece_after p n
+      ∙ ap₂ (λ b g. cond b (either (find_entry int_cmp n (further_pieces nar)) g) g) ((eq_by_cmp_equiv bytes_total).refl p) (no_piece n)
+      ∙ or_none (find_entry int_cmp n (further_pieces nar)))
+
+  own_archive : archive_in (rows_of after) p o ≡ nar
+  own_archive = ap₂ (λ row pieces. row ++ joined pieces) new.row own_pieces ∙ cut_whole nar
+
+  own_cut : IsCut o.nar (finite.entries (pieces_in (rows_of after) p))
+  own_cut = subst₂ IsCut (sym new.row) (sym own_pieces) (cut_right nar)
+
+  own : object_in (rows_of after) p o ≡ object_of nar o rs es
+  own = λ i. record { nar = own_archive i; references = own_references i; deriver = o.deriver; ca = address_in o.ca; outputs = own_outputs i }
 
   -- ---- of another path
 
-  other_references : (q : Path) → same q p ≡ false → references_in (rows_of (put_object p o rs es c)) q ≡ references_in (rows_of c) q
+  other_references : (q : Path) → same q p ≡ false → references_in (rows_of after) q ≡ references_in (rows_of c) q
   other_references q apart = finite.same_map bytes_total bytes_antisymmetric _ _ (λ r.
-      get-reference (put_object p o rs es c) q r ∙ get-put_references p rs c.refs q r
+      get-reference after q r ∙ get-put_references p rs c.refs q r
       ∙ ap (λ b. cond (b && list_any (same r) rs) (Some tt) (finite.get c.refs (q, r))) apart ∙ sym (get-reference c q r))
 
-  other_outputs : (q : Path) → same q p ≡ false → outputs_in (rows_of (put_object p o rs es c)) q ≡ outputs_in (rows_of c) q
+  other_outputs : (q : Path) → same q p ≡ false → outputs_in (rows_of after) q ≡ outputs_in (rows_of c) q
   other_outputs q apart = finite.same_map bytes_total bytes_antisymmetric _ _ (λ n.
-      get-output (put_object p o rs es c) q n ∙ get-put_outputs p es c.outs new.sorted q n
+      get-output after q n ∙ get-put_outputs p es c.outs new.sorted q n
       ∙ ap (λ b. cond b (either (find_entry bytes_cmp n es) (finite.get c.outs (q, n))) (finite.get c.outs (q, n))) apart ∙ sym (get-output c q n))
 
-  other : (q : Path) → same q p ≡ false → (x : Stored) → object_in (rows_of (put_object p o rs es c)) q x ≡ object_in (rows_of c) q x
-  other q apart x = ap₂ (λ references outputs. record { nar = archive_in (rows_of c) q x; references = references; deriver = x.deriver; ca = address_in x.ca; outputs = outputs }) (other_references q apart) (other_outputs q apart)
+  other_piece : (q : Path) → same q p ≡ false → (n : ℤ) → finite.get after.pieces (q, n) ≡ finite.get c.pieces (q, n)
+  other_piece q apart n = piece_after q n ∙ ap (λ b. cond b (either (find_entry int_cmp n (further_pieces nar)) (finite.get c.pieces (q, n))) (finite.get c.pieces (q, n))) apart
+
+  other_pieces : (q : Path) → same q p ≡ false → pieces_in (rows_of after) q ≡ pieces_in (rows_of c) q
+  other_pieces q apart = finite.same_map int_cmp_total finite.int_cmp-IsAntisymmetric _ _ (λ n. get-piece after q n ∙ other_piece q apart n ∙ sym (get-piece c q n))
+
+  other_archive : (q : Path) → same q p ≡ false → (x : Stored) → archive_in (rows_of after) q x ≡ archive_in (rows_of c) q x
+  other_archive q apart x = ap (λ m. x.nar ++ joined (finite.entries m)) (other_pieces q apart)
+
+  other : (q : Path) → same q p ≡ false → (x : Stored) → object_in (rows_of after) q x ≡ object_in (rows_of c) q x
+  other q apart x = λ i. record { nar = other_archive q apart x i; references = other_references q apart i; deriver = x.deriver; ca = address_in x.ca; outputs = other_outputs q apart i }
 
   -- ---- the world
 
   pub with_object : World → World
-  with_object w = record w { objects = finite.insert w.objects p (object_of o rs es) }
+  with_object w = record w { objects = finite.insert w.objects p (object_of nar o rs es) }
 
-  objects_after : (world_in (put_object p o rs es c)).objects ≡ finite.insert (world_in c).objects p (object_of o rs es)
+  objects_after : (world_in after).objects ≡ finite.insert (world_in c).objects p (object_of nar o rs es)
   objects_after = finite.same_map bytes_total bytes_antisymmetric _ _ (λ q.
-      get-told bytes_total bytes_antisymmetric (object_in (rows_of (put_object p o rs es c))) (finite.insert c.objects p o) q
-      ∙ ap (option_map (object_in (rows_of (put_object p o rs es c)) q)) (finite.get-insert bytes_total c.objects p o q)
+      get-told bytes_total bytes_antisymmetric (object_in (rows_of after)) (finite.insert c.objects p o) q
+      ∙ ap (option_map (object_in (rows_of after) q)) (finite.get-insert bytes_total c.objects p o q)
       ∙ by q (same q p) refl (finite.get c.objects q)
-      ∙ sym (finite.get-insert bytes_total (world_in c).objects p (object_of o rs es) q ∙ ap (cond (same q p) (Some (object_of o rs es))) (get-told bytes_total bytes_antisymmetric (object_in (rows_of c)) c.objects q)))
+      ∙ sym (finite.get-insert bytes_total (world_in c).objects p (object_of nar o rs es) q ∙ ap (cond (same q p) (Some (object_of nar o rs es))) (get-told bytes_total bytes_antisymmetric (object_in (rows_of c)) c.objects q)))
     where
-      each : (q : Path) → same q p ≡ false → (g : Option Stored) → option_map (object_in (rows_of (put_object p o rs es c)) q) g ≡ option_map (object_in (rows_of c) q) g
+      each : (q : Path) → same q p ≡ false → (g : Option Stored) → option_map (object_in (rows_of after) q) g ≡ option_map (object_in (rows_of c) q) g
       each q apart None = refl
       each q apart (Some x) = ap Some (other q apart x)
 
-      by : (q : Path) (b : Bool) → same q p ≡ b → (g : Option Stored) → option_map (object_in (rows_of (put_object p o rs es c)) q) (cond b (Some o) g) ≡ cond b (Some (object_of o rs es)) (option_map (object_in (rows_of c) q) g)
-      by q true t g = ap (λ j. Some (object_in (rows_of (put_object p o rs es c)) j o)) (tied_is bytes_antisymmetric q p t) ∙ ap Some own
+      by : (q : Path) (b : Bool) → same q p ≡ b → (g : Option Stored) → option_map (object_in (rows_of after) q) (cond b (Some o) g) ≡ cond b (Some (object_of nar o rs es)) (option_map (object_in (rows_of c) q) g)
+      by q true t g = ap (λ j. Some (object_in (rows_of after) j o)) (tied_is bytes_antisymmetric q p t) ∙ ap Some own
       by q false t g = each q t g
 
-  world_after : world_in (put_object p o rs es c) ≡ record (world_in c) { objects = finite.insert (world_in c).objects p (object_of o rs es) }
+  world_after : world_in after ≡ record (world_in c) { objects = finite.insert (world_in c).objects p (object_of nar o rs es) }
   world_after = ap (λ m. record (world_in c) { objects = m }) objects_after
 
   -- ---- the rows
 
-  stored_after : (q : Path) (x : Stored) → finite.get (finite.insert c.objects p o) q ≡ Some x → (P : Stored → Type 0) → P o → (finite.get c.objects q ≡ Some x → P x) → P x
-  stored_after q x e P mine theirs = by (same q p) (sym (finite.get-insert bytes_total c.objects p o q) ∙ e)
+  stored_after : (q : Path) (x : Stored) → finite.get (finite.insert c.objects p o) q ≡ Some x → (P : Path → Stored → Type 0) → P p o → (same q p ≡ false → finite.get c.objects q ≡ Some x → P q x) → P q x
+  stored_after q x e P mine theirs = by (same q p) refl (sym (finite.get-insert bytes_total c.objects p o q) ∙ e)
     where
-      by : (b : Bool) → cond b (Some o) (finite.get c.objects q) ≡ Some x → P x
-      by true h = subst P (same_Some o x h) mine
-      by false h = theirs h
+      by : (b : Bool) → same q p ≡ b → cond b (Some o) (finite.get c.objects q) ≡ Some x → P q x
+      by true t h = subst₂ P (sym (tied_is bytes_antisymmetric q p t)) (same_Some o x h) mine
+      by false t h = theirs t h
 
   still_there : (q : Path) → (same q p ≡ false → IsTrue (finite.contains_key c.objects q)) → IsTrue (finite.contains_key (finite.insert c.objects p o) q)
   still_there q h = ap is_some (finite.get-insert bytes_total c.objects p o q) ∙ by (same q p) refl
@@ -142,18 +174,19 @@ module _ (dir : List ℕ) (p : Path) (o : Stored) (rs : List Path) (es : List (L
       by true t = refl
       by false t = h t
 
-  pub object_follows : Follows dir (put_object p o rs es) (λ (w : World). record w { objects = finite.insert w.objects p (object_of o rs es) }) c
+  pub object_follows : Follows dir (put_object p o rs es (further_pieces nar)) (λ (w : World). record w { objects = finite.insert w.objects p (object_of nar o rs es) }) c
   object_follows = record {
     world = world_after;
     sound = λ world. record {
       directory = rows.directory;
       settings_are = rows.settings_are;
-      no_pieces = λ h. refl;
-      no_temporary = λ h. refl;
-      cut = λ h. absurd (false≢true h);
-      address = λ q x text e ca. stored_after q x e (λ y. y.ca ≡ Some text → IsSome (address_of text)) (new.address text) (λ h. rows.address q x text h) ca;
-      hash = λ q x e. stored_after q x e (λ y. y.hash ≡ sha256 (archive_in (rows_of c) q y)) (new.hash ∙ ap sha256 (sym (whole c q o))) (rows.hash q x);
-      pieces = λ q n h. absurd (no_key (List ℕ) piece_cmp (q, n) h);
+      no_pieces = λ h. absurd (false≢true (sym h));
+      no_temporary = rows.no_temporary;
+      cut = λ h q x e. stored_after q x e (λ k y. IsCut y.nar (finite.entries (pieces_in (rows_of after) k))) own_cut (λ apart was.
+          subst (λ m. IsCut x.nar (finite.entries m)) (sym (other_pieces q apart)) (rows.cut h q x was));
+      address = λ q x text e ca. stored_after q x e (λ k y. y.ca ≡ Some text → IsSome (address_of text)) (new.address text) (λ apart was. rows.address q x text was) ca;
+      hash = λ q x e. stored_after q x e (λ k y. y.hash ≡ sha256 (archive_in (rows_of after) k y)) (new.hash ∙ ap sha256 (sym own_archive)) (λ apart was. rows.hash q x was ∙ ap sha256 (sym (other_archive q apart x)));
+      pieces = λ q n there. still_there q (λ apart. rows.pieces q n (ap is_some (sym (other_piece q apart n)) ∙ there));
       references = λ q r there. still_there q (λ apart. rows.references q r
           (ap is_some (sym (get-put_references p rs c.refs q r ∙ ap (λ b. cond (b && list_any (same r) rs) (Some tt) (finite.get c.refs (q, r))) apart)) ∙ there));
       outputs = λ q n there. still_there q (λ apart. rows.outputs q n

@@ -6,7 +6,7 @@ use Rattle.sqlite.specs.Effect.{Database}
 use Rattle.sqlite.specs.State.{State, HasCleanDisk, Survives}
 use Rattle.sqlite.specs.Held.{Held, state}
 use Rattle.rows.specs.Contents.{Contents, contents_of}
-use Rattle.rows.specs.Calls.{KeepsShown, Leaves}
+use Rattle.rows.specs.Calls.{IsWhole, KeepsShown, Leaves}
 use Rattle.table_statements.proofs.Steps.{ready_after}
 use Rattle.world.specs.World.{World}
 use Rattle.world.specs.Sound.{IsSound}
@@ -52,6 +52,7 @@ module _ {S : Type 0} (g : Ghosts S) where
             let rows : IsSoundContents k.dir (f c) = by.sound (sound_then (world_in c) (rows_told k agrees was it.was_open)) in
             record {
               ready = it.ready;
+              whole = it.whole;
               sound = subst (IsSoundContents k.dir) (sym it.contents) rows;
               same = ap (λ (x : Contents). outline_of (world_in x)) it.contents ∙ ap outline_of by.world ∙ law (world_in c) ∙ ap G old.same ∙ sym is;
             }
@@ -116,6 +117,7 @@ module _ {S : Type 0} (g : Ghosts S) where
             let same : contents_of (state g k.connection).now ≡ contents_of (state g conn).now = ap contents_of (sym (it.now is_open)) in
             record {
               ready = ready_after (state g k.connection) (state g conn) (λ _. old.ready) it is_open;
+              whole = subst IsWhole (sym (it.now is_open)) old.whole;
               sound = subst (IsSoundContents k.dir) same old.sound;
               same = ap (λ (x : Contents). outline_of (world_in x)) (sym same) ∙ old.same ∙ sym is;
             };

@@ -18,3 +18,7 @@ pub mod SetProfiles
 pub mod Removed
 pub mod RemovedObjects
 pub mod Chosen
+pub mod Cuts
+pub mod SessionRows
+pub mod SessionChanges
+pub mod Failing

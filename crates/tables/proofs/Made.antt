@@ -10,7 +10,7 @@ use Rattle.table_forms.specs.Finding.{HasNone, IsFree}
 use Rattle.table_making.specs.Making.{IsMade, first_contents}
 use Rattle.paths.specs.Names.{is_store_dir}
 use Rattle.world.specs.World.{no_world}
-use Rattle.world.specs.Rows.{one}
+use Rattle.world.specs.Rows.{three}
 use Rattle.world.proofs.NewRows.{tells_nothing, new_rows_sound}
 use Rattle.world.proofs.NewWorld.{new_world_sound}
 use Rattle.world.specs.Told.{IsSoundContents, world_in}
@@ -32,10 +32,10 @@ empty_has_none s is = subst HasNone (sym is) (record {
 })
 
 sound_first : (dir : List ℕ) → IsTrue (is_store_dir dir) → IsSoundContents dir (first_contents dir)
-sound_first dir h = new_rows_sound one dir h
+sound_first dir h = new_rows_sound three dir h
 
 tells_first : (dir : List ℕ) → world_in (first_contents dir) ≡ no_world
-tells_first dir = tells_nothing one dir
+tells_first dir = tells_nothing three dir
 
 module _ {S : Type 0} (g : Ghosts S) (conn : Held S) (old : State) (dir : List ℕ) (outline : Outline) (valid : IsTrue (is_store_dir dir)) (is : outline ≡ outline_of no_world)
     (made : HasCleanDisk (state g conn) → IsMade dir old (state g conn))
@@ -47,6 +47,7 @@ module _ {S : Type 0} (g : Ghosts S) (conn : Held S) (old : State) (dir : List �
           let it = made clean in
           record {
             ready = it.ready;
+            whole = it.whole;
             sound = subst (IsSoundContents dir) (sym it.contents) (sound_first dir valid);
             same = ap (λ (c : Contents). outline_of (world_in c)) it.contents ∙ ap outline_of (tells_first dir) ∙ sym is;
           };

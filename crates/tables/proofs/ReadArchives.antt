@@ -1,40 +1,120 @@
--- The archive of a path, as its row has it.
-use Rattle.std.proofs.Common.{◌≡◌, ℕ, List, Some, None, Option, refl, sym, ap, subst, ◌∙◌, IsTrue}
-use Rattle.std.specs.Prelude.{option_map}
+-- The archive of a path, as its row and its pieces have it.
+use Rattle.std.proofs.Common.{◌≡◌, ℕ, List, [], ◌∷◌, ◌++◌, map, Bool, true, false, cond, Some, None, Option, refl, sym, ap, subst, ◌∙◌, IsTrue, T}
+use Rattle.std.specs.Prelude.{ℤ, option_map}
+use Rattle.std.specs.List.{filter, flat_map}
+use Rattle.std.specs.declared.cmp.Ordering.TheVariants.{Equal}
+use Rattle.std.specs.Ordering.{eq_by_cmp, is_lt, int_cmp, ordering_then}
+use Rattle.std.specs.Cmp.{tied_itself, eq_by_cmp_equiv, int_cmp_total}
 use Rattle.std.specs.FinMap as finite
+use Rattle.std.specs.FinMap.Entries.{is_sorted, below_all, where_key, same_entries, is_sorted-where_key, find-where_key}
 use Rattle.sqlite_trees.specs.declared.store.Store.{Ghosts}
 use Rattle.sqlite.specs.State.{HasCleanDisk}
 use Rattle.sqlite.specs.Held.{state}
-use Rattle.rows.specs.Contents.{Contents, Stored, contents_of}
-use Rattle.rows.specs.Entries.{IsStored, stored_of}
+use Rattle.paths.specs.Root.{bytes_cmp}
+use Rattle.rows.specs.Contents.{Contents, Stored, Numbered, numbered_cmp, contents_of}
+use Rattle.rows.specs.Entries.{stored_of, piece_in}
+use Rattle.table_statements.proofs.Orders.{numbered_total, numbered_antisymmetric}
 use Rattle.table_entries.specs.declared.objects.Object.{Object as Row}
+use Rattle.table_entries.specs.declared.pieces.Piece.{Piece}
 use Rattle.world.specs.World.{Path, Object, World}
-use Rattle.world.specs.Rows.{object_in}
+use Rattle.world.specs.Pieces.{joined}
+use Rattle.world.specs.Rows.{pieces_in, archive_in, object_in}
 use Rattle.world.specs.Told.{rows_of, world_in}
 use Rattle.index.proofs.Orders.{bytes_total, bytes_antisymmetric}
+use Rattle.index.proofs.Ordered.{both_T, from_both, listed_as}
+use Rattle.index.proofs.Puts.{tied_is}
 use Rattle.index.proofs.Told.{get-told}
-use Rattle.world.proofs.Told.{whole}
 use Rattle.tables.specs.Kept.{Kept, Tells}
+
+-- ---- the pieces of a path, as a read lists them
+
+lesser : (a b : Path) (x y : ℤ) → a ≡ b → T (is_lt (numbered_cmp (a, x) (b, y))) → T (is_lt (int_cmp x y))
+lesser a b x y same h = subst (λ r. T (is_lt (ordering_then r (int_cmp x y)))) (ap (bytes_cmp a) (sym same) ∙ tied_itself bytes_total a) h
+
+module _ (p : Path) where
+  abbrev own : Numbered × List ℕ → Bool
+  own e = eq_by_cmp bytes_cmp p e.0.0
+
+  abbrev cut : Numbered × List ℕ → ℤ × List ℕ
+  cut e = (e.0.1, e.1)
+
+  -- those of the path, by their numbers
+  abbrev part : List (Numbered × List ℕ) → List (ℤ × List ℕ)
+  part es = map cut (filter own es)
+
+  below_part : (e : Numbered × List ℕ) (es : List (Numbered × List ℕ)) → own e ≡ true → T (below_all numbered_cmp e.0 es) → T (below_all int_cmp e.0.1 (part es))
+  below_part e [] is h = tt
+  below_part e (d ∷ es) is h =
+      let parts = both_T (is_lt (numbered_cmp e.0 d.0)) (below_all numbered_cmp e.0 es) h in
+      by (own d) refl parts.0 (below_part e es is parts.1)
+    where
+      by : (b : Bool) → own d ≡ b → T (is_lt (numbered_cmp e.0 d.0)) → T (below_all int_cmp e.0.1 (part es)) → T (below_all int_cmp e.0.1 (map cut (cond b (d ∷ filter own es) (filter own es))))
+      by true t less later = from_both (is_lt (int_cmp e.0.1 d.0.1)) (below_all int_cmp e.0.1 (part es))
+          (lesser e.0.0 d.0.0 e.0.1 d.0.1 (sym (tied_is bytes_antisymmetric p e.0.0 is) ∙ tied_is bytes_antisymmetric p d.0.0 t) less) later
+      by false t less later = later
+
+  part_sorted : (es : List (Numbered × List ℕ)) → T (is_sorted numbered_cmp es) → T (is_sorted int_cmp (part es))
+  part_sorted [] h = tt
+  part_sorted (e ∷ es) h =
+      let parts = both_T (below_all numbered_cmp e.0 es) (is_sorted numbered_cmp es) h in
+      by (own e) refl parts.0 (part_sorted es parts.1)
+    where
+      by : (b : Bool) → own e ≡ b → T (below_all numbered_cmp e.0 es) → T (is_sorted int_cmp (part es)) → T (is_sorted int_cmp (map cut (cond b (e ∷ filter own es) (filter own es))))
+      by true t below later = from_both (below_all int_cmp e.0.1 (part es)) (is_sorted int_cmp (part es)) (below_part e es t below) later
+      by false t below later = later
+
+  module _ (m : finite.FinMap numbered_cmp (List ℕ)) where
+    abbrev of_path : Numbered → Bool
+    of_path k = eq_by_cmp bytes_cmp k.0 p
+
+    kept : finite.entries (finite.retain_keys m of_path) ≡ where_key numbered_cmp of_path (finite.entries m)
+    kept = same_entries numbered_cmp numbered_total numbered_antisymmetric _ _ (finite.entries_sorted (finite.retain_keys m of_path)) (is_sorted-where_key numbered_cmp of_path (finite.entries m) (finite.entries_sorted m)) (λ q.
+        sym (finite.get-entries (finite.retain_keys m of_path) q) ∙ finite.get-retain_keys m of_path q (alike q)
+        ∙ ap (λ g. cond (of_path q) g None) (finite.get-entries m q) ∙ sym (find-where_key numbered_cmp of_path q (alike q) (finite.entries m)))
+      where
+        alike : (q x : Numbered) → numbered_cmp q x ≡ Equal → of_path x ≡ of_path q
+        alike q x e = ap of_path (sym (numbered_antisymmetric q x e))
+
+    turned : where_key numbered_cmp of_path (finite.entries m) ≡ filter own (finite.entries m)
+    turned = λ i. filter (λ (e : Numbered × List ℕ). (eq_by_cmp_equiv bytes_total).symm e.0.0 p i) (finite.entries m)
+
+    read_part : (rows : List (Numbered × List ℕ)) → rows ≡ finite.entries (finite.retain_keys m of_path) → map cut rows ≡ finite.entries (finite.from_entries {R = int_cmp} (part (finite.entries m)))
+    read_part rows is = ap (map cut) (is ∙ kept ∙ turned) ∙ sym (listed_as int_cmp_total finite.int_cmp-IsAntisymmetric (part (finite.entries m)) (part_sorted (finite.entries m) (finite.entries_sorted m)))
+
+  -- their bytes, one after another
+  bytes_cut : (rows : List Piece) → flat_map (λ (x : Piece). x.bytes.items) rows ≡ joined (map cut (map piece_in rows))
+  bytes_cut [] = refl
+  bytes_cut (r ∷ rows) = ap (λ l. r.bytes.items ++ l) (bytes_cut rows)
+
+  pub pieces_read : (c : Contents) (rows : List Piece) → map piece_in rows ≡ finite.entries (finite.retain_keys c.pieces (λ k. eq_by_cmp bytes_cmp k.0 p)) → flat_map (λ (x : Piece). x.bytes.items) rows ≡ joined (finite.entries (pieces_in (rows_of c) p))
+  pieces_read c rows is = bytes_cut rows ∙ ap joined (read_part c.pieces (map piece_in rows) is)
+
+-- ---- the archive
+
+-- none is read where there is none
+pub none_read : (c : Contents) (base : Path) → finite.get c.objects base ≡ None → None ≡ option_map (archive_in (rows_of c) base) (finite.get c.objects base)
+none_read c base h = sym (ap (option_map (archive_in (rows_of c) base)) h)
+
+-- what is read is the archive that the rows have
+pub all_read : (c : Contents) (base : Path) (e : Row) (rows : List Piece) (nar : List ℕ) → (finite.get c.objects base ≡ Some (stored_of e).1) → map piece_in rows ≡ finite.entries (finite.retain_keys c.pieces (λ k. eq_by_cmp bytes_cmp k.0 base))
+    → nar ≡ e.nar.items ++ flat_map (λ (x : Piece). x.bytes.items) rows → Some nar ≡ option_map (archive_in (rows_of c) base) (finite.get c.objects base)
+all_read c base e rows nar there listed is = ap Some (is ∙ ap (λ l. e.nar.items ++ l) (pieces_read base c rows listed)) ∙ sym (ap (option_map (archive_in (rows_of c) base)) there)
 
 abbrev nar_of : Object → List ℕ
 nar_of o = o.nar
 
-found_in : (c : Contents) (path : Path) (stored : Option Stored) → finite.get c.objects path ≡ stored → option_map nar_of (finite.get (world_in c).objects path) ≡ option_map (λ (s : Stored). s.nar) stored
-found_in c path stored is =
-    ap (option_map nar_of) (get-told bytes_total bytes_antisymmetric (object_in (rows_of c)) c.objects path) ∙ ap (λ s. option_map nar_of (option_map (object_in (rows_of c) path) s)) is ∙ by stored
+-- and the one of the world that they tell
+in_world : (c : Contents) (path : Path) → option_map nar_of (finite.get (world_in c).objects path) ≡ option_map (archive_in (rows_of c) path) (finite.get c.objects path)
+in_world c path = ap (option_map nar_of) (get-told bytes_total bytes_antisymmetric (object_in (rows_of c)) c.objects path) ∙ by (finite.get c.objects path)
   where
-    by : (s : Option Stored) → option_map nar_of (option_map (object_in (rows_of c) path) s) ≡ option_map (λ (x : Stored). x.nar) s
+    by : (s : Option Stored) → option_map nar_of (option_map (object_in (rows_of c) path) s) ≡ option_map (archive_in (rows_of c) path) s
     by None = refl
-    by (Some x) = ap Some (whole c path x)
+    by (Some x) = refl
 
--- what is read is what the world of the rows has
-read_in : (c : Contents) (base path : Path) (o : Option Row) → base ≡ path → IsStored c.objects base o → option_map (λ (e : Row). e.nar.items) o ≡ option_map nar_of (finite.get (world_in c).objects path)
-read_in c base path None same h = sym (found_in c path None (ap (finite.get c.objects) (sym same) ∙ h))
-read_in c base path (Some e) same h = sym (found_in c path (Some (stored_of e).1) (ap (finite.get c.objects) (sym same) ∙ h.1))
-
-pub archive_told : {S : Type 0} (g : Ghosts S) (k now : Kept S) → k ≡ now → (base path : Path) (o : Option Row) (nar : Option (List ℕ)) → base ≡ path → nar ≡ option_map (λ (e : Row). e.nar.items) o
-    → HasCleanDisk (state g k.connection) → IsTrue (state g k.connection).is_open → IsStored (contents_of (state g k.connection).now).objects base o
+pub archive_told : {S : Type 0} (g : Ghosts S) (k now : Kept S) → k ≡ now → (base path : Path) (nar : Option (List ℕ)) → base ≡ path
+    → HasCleanDisk (state g k.connection) → IsTrue (state g k.connection).is_open → nar ≡ option_map (archive_in (rows_of (contents_of (state g k.connection).now)) base) (finite.get (contents_of (state g k.connection).now).objects base)
     → (w : World) → Tells g now w → nar ≡ option_map nar_of (finite.get w.objects path)
-archive_told g k now view base path o nar same is clean is_open h w t =
+archive_told g k now view base path nar same clean is_open is w t =
     let told = subst (λ (n : Kept _). Tells g n w) (sym view) t in
-    is ∙ read_in (contents_of (state g k.connection).now) base path o same h ∙ ap (λ (v : World). option_map nar_of (finite.get v.objects path)) (told.rows clean is_open)
+    let c = contents_of (state g k.connection).now in
+    is ∙ ap (λ p. option_map (archive_in (rows_of c) p) (finite.get c.objects p)) same ∙ sym (in_world c path) ∙ ap (λ (v : World). option_map nar_of (finite.get v.objects path)) (told.rows clean is_open)

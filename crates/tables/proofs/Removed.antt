@@ -1,17 +1,20 @@
 -- What rows that go with some objects make of the world.
-use Rattle.std.proofs.Common.{◌≡◌, ℕ, List, [], ◌∷◌, Bool, true, false, ◌||◌, not, cond, Some, None, Option, option_map, is_some, refl, sym, ap, ap₂, subst, ◌∙◌, IsTrue}
+use Rattle.std.proofs.Common.{◌≡◌, ℕ, List, [], ◌∷◌, ◌++◌, Bool, true, false, ◌||◌, not, cond, Some, None, Option, option_map, is_some, refl, sym, ap, subst, ◌∙◌, IsTrue}
 use Rattle.std.specs.declared.cmp.Ordering.{Ordering}
-use Rattle.std.specs.Cmp.{IsTotalOrder}
+use Rattle.std.specs.Prelude.{ℤ}
+use Rattle.std.specs.Cmp.{IsTotalOrder, int_cmp_total}
 use Rattle.std.specs.FinMap as finite
 use Rattle.std.proofs.lemmas.Bool.{false≢true}
+use Rattle.sha2.specs.Sha256.{sha256}
 use Rattle.live.specs.Graph.{same, holds}
+use Rattle.table_statements.proofs.Orders.{numbered_total, numbered_antisymmetric}
 use Rattle.rows.specs.Contents.{Contents, Stored}
 use Rattle.world.specs.World.{Path, Object, World}
 use Rattle.world.specs.Sound.{IsSound}
-use Rattle.world.specs.Rows.{piece_cmp, references_in, outputs_in, archive_in, object_in, address_in}
+use Rattle.world.specs.Pieces.{joined, IsCut}
+use Rattle.world.specs.Rows.{references_in, outputs_in, pieces_in, archive_in, object_in, address_in}
 use Rattle.world.specs.Told.{IsSoundContents, rows_of, world_in}
-use Rattle.world.proofs.Empty.{no_key}
-use Rattle.world.proofs.Told.{get-reference, get-output}
+use Rattle.world.proofs.Told.{get-reference, get-output, get-piece}
 use Rattle.index.specs.Outline.{Outline, outlined, outline_of}
 use Rattle.index.proofs.Orders.{bytes_total, bytes_antisymmetric, pair_total, pair_antisymmetric}
 use Rattle.index.proofs.Puts.{get-kept, retained}
@@ -43,6 +46,7 @@ without_none c = λ i. record c {
   objects = none_gone bytes_total bytes_antisymmetric (λ (k : Path). k) c.objects i;
   refs = none_gone pair_total pair_antisymmetric (λ (k : Path × Path). k.0) c.refs i;
   outs = none_gone pair_total pair_antisymmetric (λ (k : Path × Path). k.0) c.outs i;
+  pieces = none_gone numbered_total numbered_antisymmetric (λ (k : Path × ℤ). k.0) c.pieces i;
 }
 
 pub without_next : (p : Path) (ps : List Path) (c : Contents) → without_objects ps (without_object p c) ≡ without_objects (p ∷ ps) c
@@ -50,6 +54,7 @@ without_next p ps c = λ i. record c {
   objects = one_more bytes_total bytes_antisymmetric (λ (k : Path). k) c.objects p ps i;
   refs = one_more pair_total pair_antisymmetric (λ (k : Path × Path). k.0) c.refs p ps i;
   outs = one_more pair_total pair_antisymmetric (λ (k : Path × Path). k.0) c.outs p ps i;
+  pieces = one_more numbered_total numbered_antisymmetric (λ (k : Path × ℤ). k.0) c.pieces p ps i;
 }
 
 -- ---- of an outline
@@ -93,8 +98,16 @@ module _ (dir : List ℕ) (ps : List Path) (c : Contents) (rows : IsSoundContent
       get-output (without_objects ps c) q n ∙ get-kept pair_total pair_antisymmetric c.outs (λ k. not (holds ps k.0)) (q, n)
       ∙ ap (λ b. cond (not b) (finite.get c.outs (q, n)) None) stays ∙ sym (get-output c q n))
 
+  pieces_kept : (q : Path) → holds ps q ≡ false → pieces_in (rows_of (without_objects ps c)) q ≡ pieces_in (rows_of c) q
+  pieces_kept q stays = finite.same_map int_cmp_total finite.int_cmp-IsAntisymmetric _ _ (λ n.
+      get-piece (without_objects ps c) q n ∙ get-kept numbered_total numbered_antisymmetric c.pieces (λ k. not (holds ps k.0)) (q, n)
+      ∙ ap (λ b. cond (not b) (finite.get c.pieces (q, n)) None) stays ∙ sym (get-piece c q n))
+
+  archive_kept : (q : Path) → holds ps q ≡ false → (x : Stored) → archive_in (rows_of (without_objects ps c)) q x ≡ archive_in (rows_of c) q x
+  archive_kept q stays x = ap (λ m. x.nar ++ joined (finite.entries m)) (pieces_kept q stays)
+
   object_kept : (q : Path) → holds ps q ≡ false → (x : Stored) → object_in (rows_of (without_objects ps c)) q x ≡ object_in (rows_of c) q x
-  object_kept q stays x = ap₂ (λ references outputs. record { nar = archive_in (rows_of c) q x; references = references; deriver = x.deriver; ca = address_in x.ca; outputs = outputs }) (references_kept q stays) (outputs_kept q stays)
+  object_kept q stays x = λ i. record { nar = archive_kept q stays x i; references = references_kept q stays i; deriver = x.deriver; ca = address_in x.ca; outputs = outputs_kept q stays i }
 
   objects_after : (world_in (without_objects ps c)).objects ≡ finite.retain_keys (world_in c).objects (λ p. not (holds ps p))
   objects_after = finite.same_map bytes_total bytes_antisymmetric _ _ (λ q.
@@ -113,12 +126,12 @@ module _ (dir : List ℕ) (ps : List Path) (c : Contents) (rows : IsSoundContent
 
   -- ---- the rows
 
-  stored_was : (q : Path) (x : Stored) → finite.get (finite.retain_keys c.objects (λ k. not (holds ps k))) q ≡ Some x → finite.get c.objects q ≡ Some x
-  stored_was q x e = by (holds ps q) (sym (get-kept bytes_total bytes_antisymmetric c.objects (λ k. not (holds ps k)) q) ∙ e)
+  stored_was : (q : Path) (x : Stored) → finite.get (finite.retain_keys c.objects (λ k. not (holds ps k))) q ≡ Some x → (holds ps q ≡ false) × (finite.get c.objects q ≡ Some x)
+  stored_was q x e = by (holds ps q) refl (sym (get-kept bytes_total bytes_antisymmetric c.objects (λ k. not (holds ps k)) q) ∙ e)
     where
-      by : (b : Bool) → cond (not b) (finite.get c.objects q) None ≡ Some x → finite.get c.objects q ≡ Some x
-      by true h = absurd (false≢true (ap is_some h))
-      by false h = h
+      by : (b : Bool) → holds ps q ≡ b → cond (not b) (finite.get c.objects q) None ≡ Some x → (holds ps q ≡ false) × (finite.get c.objects q ≡ Some x)
+      by true t h = absurd (false≢true (ap is_some h))
+      by false t h = (t, h)
 
   -- a row of a path is there only where the path stays
   still_there : {X : Type 0} (q : Path) (g : Option X) → is_some (cond (not (holds ps q)) g None) ≡ true → (is_some g ≡ true → IsTrue (finite.contains_key c.objects q)) → IsTrue (finite.contains_key (finite.retain_keys c.objects (λ k. not (holds ps k))) q)
@@ -134,12 +147,12 @@ module _ (dir : List ℕ) (ps : List Path) (c : Contents) (rows : IsSoundContent
     sound = λ world. record {
       directory = rows.directory;
       settings_are = rows.settings_are;
-      no_pieces = λ h. refl;
-      no_temporary = λ h. refl;
-      cut = λ h. absurd (false≢true h);
-      address = λ q x text e. rows.address q x text (stored_was q x e);
-      hash = λ q x e. rows.hash q x (stored_was q x e);
-      pieces = λ q n h. absurd (no_key (List ℕ) piece_cmp (q, n) h);
+      no_pieces = λ h. absurd (false≢true (sym h));
+      no_temporary = rows.no_temporary;
+      cut = λ h q x e. let was = stored_was q x e in subst (λ m. IsCut x.nar (finite.entries m)) (sym (pieces_kept q was.0)) (rows.cut h q x was.1);
+      address = λ q x text e. rows.address q x text (stored_was q x e).1;
+      hash = λ q x e. let was = stored_was q x e in rows.hash q x was.1 ∙ ap sha256 (sym (archive_kept q was.0 x));
+      pieces = λ q n there. still_there q (finite.get c.pieces (q, n)) (ap is_some (sym (get-kept numbered_total numbered_antisymmetric c.pieces (λ k. not (holds ps k.0)) (q, n))) ∙ there) (rows.pieces q n);
       references = λ q r there. still_there q (finite.get c.refs (q, r)) (ap is_some (sym (get-kept pair_total pair_antisymmetric c.refs (λ k. not (holds ps k.0)) (q, r))) ∙ there) (rows.references q r);
       outputs = λ q n there. still_there q (finite.get c.outs (q, n)) (ap is_some (sym (get-kept pair_total pair_antisymmetric c.outs (λ k. not (holds ps k.0)) (q, n))) ∙ there) (rows.outputs q n);
       generations = rows.generations;

@@ -1,11 +1,18 @@
 -- Writes inside a transaction, one after another and in other words.
-use Rattle.std.proofs.Common.{◌≡◌, Result, Ok, Err, subst, IsTrue}
+use Rattle.std.proofs.Common.{◌≡◌, Result, Ok, Err, subst, sym, ap, ◌∙◌, true, arith, IsTrue}
 use Rattle.std.specs.Prelude.{OnOk}
+use Rattle.sqlite_trees.specs.declared.store.Store.{Ghosts}
+use Rattle.sqlite_trees.specs.Tree.{Trees}
+use Rattle.sqlite.specs.Effect.{Database}
 use Rattle.sqlite.specs.State.{State, HasCleanDisk, Survives}
+use Rattle.sqlite.specs.Held.{Held, state}
 use Rattle.sqlite.proofs.StateLemmas.{survives_then}
 use Rattle.rows.specs.Contents.{Contents, contents_of}
-use Rattle.rows.specs.Calls.{Changes, Leaves}
+use Rattle.rows.specs.Forms.{piece, temp_root}
+use Rattle.rows.specs.Frozen.{KeepsUnshown}
+use Rattle.rows.specs.Calls.{HasFurther, IsWhole, IsCommitted, KeepsTheirs, Changes, Leaves}
 use Rattle.table_statements.proofs.Steps.{changes_by}
+use Rattle.table_statements.proofs.Under.{piece_after, temp_root_after}
 use Rattle.tables.specs.Kept.{IsWritten}
 
 pub survives_both : (a b c : State) → Survives a b (λ _. ⊥) → Survives b c (λ _. ⊥) → Survives a c (λ _. ⊥)
@@ -22,3 +29,37 @@ survives_as {a} {b} f h same = subst (λ (k : Contents → Contents). Survives a
 
 pub written_as : {a b : State} (f h : Contents → Contents) → f ≡ h → (HasCleanDisk b → IsWritten a b f) → HasCleanDisk b → IsWritten a b h
 written_as {a} {b} f h same = subst (λ (k : Contents → Contents). HasCleanDisk b → IsWritten a b k) same
+
+-- the tables of pieces and of temporary roots still stand after a write
+pub pieces_stand : (a b : State) (f : Contents → Contents) → (HasCleanDisk b → Changes a b f) → Survives a b (λ _. ⊥) → (HasCleanDisk a → IsTrue a.is_open → HasFurther a.now piece) → HasCleanDisk b → HasFurther b.now piece
+pieces_stand a b f done survives there clean =
+    let it = done clean in
+    piece_after a b f it (there (omega (arith, survives.clean, clean)) it.was_open)
+
+pub temp_roots_stand : (a b : State) (f : Contents → Contents) → (HasCleanDisk b → Changes a b f) → Survives a b (λ _. ⊥) → (HasCleanDisk a → IsTrue a.is_open → HasFurther a.now temp_root) → HasCleanDisk b → HasFurther b.now temp_root
+temp_roots_stand a b f done survives there clean =
+    let it = done clean in
+    temp_root_after a b f it (there (omega (arith, survives.clean, clean)) it.was_open)
+
+-- and so do all that the writing of a change began with, once it is committed
+pub whole_after : (a b c : State) (f : Contents → Contents) → Changes a b f → IsCommitted b c → IsWhole a.now → IsWhole c.now
+whole_after a b c f h k there = subst IsWhole (sym k.now) (record { ours = h.ours; pieces = piece_after a b f h there.pieces; temp_roots = temp_root_after a b f h there.temp_roots })
+
+-- a change that was written and committed, seen from before the transaction was begun
+pub written : {S : Type 0} (g : Ghosts S) (conn start : Held S) (b c : State) (f : Contents → Contents) (P : Trees → Type 0) → start ≡ record conn { in_transaction = true }
+    → (HasCleanDisk b → Changes (state g start) b f) → Survives (state g start) b (λ _. ⊥) → Survives b c P
+    → (HasCleanDisk (state g conn) → IsTrue (state g conn).is_open → IsWhole (state g conn).now) → HasCleanDisk c → IsCommitted b c → IsWritten (state g conn) c f
+written {S} g conn start b c f P is done before after there clean k =
+    let late : HasCleanDisk b = omega (arith, after.clean, clean) in
+    let h : Changes (state g (record conn { in_transaction = true })) b f = subst (λ (s : Held S). Changes (state g s) b f) is (done late) in
+    let kept : Survives (state g (record conn { in_transaction = true })) b (λ _. ⊥) = subst (λ (s : Held S). Survives (state g s) b (λ _. ⊥)) is before in
+    let early : HasCleanDisk (state g conn) = omega (arith, kept.clean, late) in
+    record {
+      was_open = h.was_open;
+      is_open = k.is_open;
+      contents = ap contents_of k.now ∙ h.contents;
+      theirs = subst (λ (d : Database). KeepsTheirs (state g conn).now d) (sym k.now) h.theirs;
+      unshown = subst (λ (d : Database). KeepsUnshown (state g conn).now d.trees) (sym k.now) h.unshown;
+      whole = whole_after (state g (record conn { in_transaction = true })) b c f h k (there early h.was_open);
+      ready = k.ready;
+    }

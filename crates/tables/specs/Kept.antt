@@ -8,7 +8,7 @@ use Rattle.sqlite.specs.Held.{Held, held_code, state}
 use Rattle.sqlite_trees.specs.Tree.{Trees}
 use Rattle.rows.specs.Contents.{Contents, contents_of}
 use Rattle.rows.specs.Frozen.{KeepsUnshown}
-use Rattle.rows.specs.Calls.{IsReady, KeepsTheirs}
+use Rattle.rows.specs.Calls.{IsWhole, IsReady, KeepsTheirs}
 use Rattle.world.specs.World.{World}
 use Rattle.world.specs.Sound.{IsSound}
 use Rattle.world.specs.Told.{IsSoundContents, world_in}
@@ -24,9 +24,10 @@ kept_code {S} store =
     code_by (Held S × (List ℕ × Outline)) (coded× (held_code store) (coded× bytes_code outline_code))
     (λ k. (k.connection, (k.dir, k.outline))) (λ p. record { connection = p.0; dir = p.1.0; outline = p.1.1 }) (λ _. refl)
 
--- sound rows, of which this is the outline
+-- sound rows of all eleven tables, of which this is the outline
 pub record AreOutlined (s : State) (dir : List ℕ) (outline : Outline) : Type 0 where
   pub ready : IsReady s
+  pub whole : IsWhole s.now
   pub sound : IsSoundContents dir (contents_of s.now)
   pub same : outline_of (world_in (contents_of s.now)) ≡ outline
 
@@ -44,13 +45,14 @@ module _ {S : Type 0} (g : Ghosts S) where
 
 -- ---- what a write does to the connection
 
--- The change was committed: our tables hold what it makes, the others the rows that they had, and the connection is ready again.
+-- The change was committed: all of our tables stand and hold what it makes, the others hold the rows that they had, and the connection is ready again.
 pub record IsWritten (old new : State) (change : Contents → Contents) : Type 0 where
   pub was_open : IsTrue old.is_open
   pub is_open : IsTrue new.is_open
   pub contents : contents_of new.now ≡ change (contents_of old.now)
   pub theirs : KeepsTheirs old.now new.now
   pub unshown : KeepsUnshown old.now new.now.trees
+  pub whole : IsWhole new.now
   pub ready : IsReady new
 
 -- What a crash may leave of a write: sound rows that tell this world, and the rows of the others.

@@ -1,8 +1,9 @@
 -- Rows that are added, one after another, and rows that go.
-use Rattle.std.specs.Prelude.{List, [], ◌∷◌, ℕ, not, pos}
+use Rattle.std.specs.Prelude.{List, [], ◌∷◌, ℕ, ℤ, not, pos}
+use Rattle.std.specs.declared.cmp.Ordering.{Ordering}
 use Rattle.std.specs.FinMap as finite
 use Rattle.live.specs.Graph.{same, holds}
-use Rattle.rows.specs.Contents.{Pair, PairSet, Contents, Stored, pair_cmp}
+use Rattle.rows.specs.Contents.{Pair, PairSet, Contents, Stored, pair_cmp, numbered_cmp}
 use Rattle.world.specs.World.{Path}
 use Rattle.world.specs.World as world
 
@@ -11,14 +12,27 @@ abbrev pub put_references : Path → List Path → PairSet → PairSet
 put_references p [] m = m
 put_references p (r ∷ rs) m = put_references p rs (finite.insert m (p, r) tt)
 
+-- entries whose keys begin with a path, and some of this path
+abbrev pub put_part : {L X : Type 0} {R : Path × L → Path × L → Ordering} → Path → List (L × X) → finite.FinMap R X → finite.FinMap R X
+put_part p [] m = m
+put_part p (e ∷ es) m = put_part p es (finite.insert m (p, e.0) e.1)
+
 -- outputs, and some of this path
 abbrev pub put_outputs : Path → List (List ℕ × Path) → finite.FinMap pair_cmp Path → finite.FinMap pair_cmp Path
-put_outputs p [] m = m
-put_outputs p (e ∷ es) m = put_outputs p es (finite.insert m (p, e.0) e.1)
+put_outputs = put_part
 
--- the rows of an object
-abbrev pub put_object : Path → Stored → List Path → List (List ℕ × Path) → Contents → Contents
-put_object p o references outputs c = record c { objects = finite.insert c.objects p o; refs = put_references p references c.refs; outs = put_outputs p outputs c.outs }
+-- pieces, and some of this path's archive
+abbrev pub put_pieces : Path → List (ℤ × List ℕ) → finite.FinMap numbered_cmp (List ℕ) → finite.FinMap numbered_cmp (List ℕ)
+put_pieces = put_part
+
+-- the rows of an object: its own, and those of its references, its outputs and the further pieces of its archive
+abbrev pub put_object : Path → Stored → List Path → List (List ℕ × Path) → List (ℤ × List ℕ) → Contents → Contents
+put_object p o references outputs pieces c = record c {
+  objects = finite.insert c.objects p o;
+  refs = put_references p references c.refs;
+  outs = put_outputs p outputs c.outs;
+  pieces = put_pieces p pieces c.pieces;
+}
 
 -- a set of pairs, and some more
 abbrev pub put_pairs : List Pair → PairSet → PairSet
@@ -35,6 +49,7 @@ without_object p c = record c {
   objects = finite.retain_keys c.objects (λ k. not (same k p));
   refs = finite.retain_keys c.refs (λ k. not (same k.0 p));
   outs = finite.retain_keys c.outs (λ k. not (same k.0 p));
+  pieces = finite.retain_keys c.pieces (λ k. not (same k.0 p));
 }
 
 -- without those of the objects of some paths
@@ -43,4 +58,5 @@ without_objects ps c = record c {
   objects = finite.retain_keys c.objects (λ k. not (holds ps k));
   refs = finite.retain_keys c.refs (λ k. not (holds ps k.0));
   outs = finite.retain_keys c.outs (λ k. not (holds ps k.0));
+  pieces = finite.retain_keys c.pieces (λ k. not (holds ps k.0));
 }

@@ -4,7 +4,7 @@ ghost use Rattle.std.specs.Prelude.{◌≡◌, false, IsTrue, OnOk, OnErr};
 ghost use Rattle.sqlite.specs.State.{HasCleanDisk, KeepsCommit, Survives};
 ghost use Rattle.sqlite.specs.Held.{state};
 ghost use Rattle.rows.specs.Contents.{Contents, contents_of};
-ghost use Rattle.rows.specs.Calls.{IsUnderWay, IsReady, Changes, KeepsShown, IsDurable, Leaves};
+ghost use Rattle.rows.specs.Calls.{IsUnderWay, IsWhole, IsReady, Changes, KeepsShown, IsDurable, Leaves};
 ghost use Rattle.tables.specs.Kept.{IsWritten};
 
 use sqlite::{Alter, Connection, Transaction};
@@ -21,6 +21,7 @@ pub(crate) trait Change {
 
     fn write<S: Alter>(&self, tx: &mut Transaction<'_, S>) -> Result<(), Failure>
         requires under_way { HasCleanDisk (state S.Store tx.old.conn.now) → IsUnderWay (state S.Store tx.old.conn.now) }
+        requires whole { HasCleanDisk (state S.Store tx.old.conn.now) → IsTrue (state S.Store tx.old.conn.now).is_open → IsWhole (state S.Store tx.old.conn.now).now }
         requires fits { HasCleanDisk (state S.Store tx.old.conn.now) → IsTrue (state S.Store tx.old.conn.now).is_open → fits self.now (contents_of (state S.Store tx.old.conn.now).now) }
         ensures same_reference { tx.new.conn.ghost_name ≡ tx.old.conn.ghost_name }
         ensures done { HasCleanDisk (state S.Store tx.new.conn.now) → OnOk result (Changes (state S.Store tx.old.conn.now) (state S.Store tx.new.conn.now) (change self.now)) }
@@ -35,6 +36,7 @@ pub(crate) fn commit<S: Alter, C: Change>(
 ) -> Result<(), Failure>
     requires alone { conn.old.in_transaction ≡ false }
     requires ready { HasCleanDisk (state S.Store conn.old) → IsTrue (state S.Store conn.old).is_open → IsReady (state S.Store conn.old) }
+    requires whole { HasCleanDisk (state S.Store conn.old) → IsTrue (state S.Store conn.old).is_open → IsWhole (state S.Store conn.old).now }
     requires fits { HasCleanDisk (state S.Store conn.old) → IsTrue (state S.Store conn.old).is_open → C.fits change.now (contents_of (state S.Store conn.old).now) }
     ensures alone { conn.new.in_transaction ≡ false }
     ensures done { HasCleanDisk (state S.Store conn.new) → OnOk result (IsWritten (state S.Store conn.old) (state S.Store conn.new) (C.change change.now)) }

@@ -2,6 +2,7 @@
 #![tactic(auto)]
 
 mod change;
+mod cutting;
 mod generations;
 mod keeping;
 mod objects;
@@ -13,6 +14,8 @@ mod removal;
 mod removing;
 mod roots;
 mod runtime;
+mod sessions;
+mod temporary;
 mod texts;
 mod user_roots;
 

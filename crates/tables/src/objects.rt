@@ -12,6 +12,7 @@ ghost use Rattle.rows.specs.Contents.{contents_of};
 ghost use Rattle.tables.specs.Rewritten.{put_references, put_outputs};
 
 use crate::change::Change;
+use crate::cutting::{cut, put_pieces};
 use crate::texts::Texts;
 use index::Summary;
 use paths::StorePath;
@@ -63,7 +64,7 @@ pub(crate) fn put_outputs<S: Alter>(
     Ok(())
 }
 
-/// An object is added, with its references and outputs.
+/// An object is added, with its references, its outputs and the pieces of its archive.
 #[derive(Drop)]
 pub(crate) struct InsertObject<'a> {
     pub(crate) base: &'a str,
@@ -74,22 +75,25 @@ pub(crate) struct InsertObject<'a> {
 
 impl<'a> Change for InsertObject<'a> {
     ghost use Rattle.rows.specs.Entries.{stored};
+    ghost use Rattle.world.specs.Pieces.{row_part, further_pieces};
     ghost use Rattle.tables.specs.Rewritten.{put_object};
 
-    ghost change = { λ o c. put_object o.base.now (stored o.nar.now o.object.now.hash o.texts.now.deriver o.texts.now.ca) (finite.keys o.object.now.references) (finite.entries o.object.now.outputs) c };
+    ghost change = { λ o c. put_object o.base.now (stored (row_part o.nar.now) o.object.now.hash o.texts.now.deriver o.texts.now.ca) (finite.keys o.object.now.references) (finite.entries o.object.now.outputs) (further_pieces o.nar.now) c };
 
     ghost fits = { λ o c. (finite.get c.objects o.base.now ≡ None) × ((name : List ℕ) → finite.get c.outs (o.base.now, name) ≡ None) };
 
     fn write<S: Alter>(&self, tx: &mut Transaction<'_, S>) -> Result<(), Failure> {
+        let (row, rest) = cut(self.nar);
         objects::insert(
             tx,
             self.base,
-            self.nar,
+            row,
             self.object.hash(),
             &self.texts.deriver,
             &self.texts.ca,
         )?;
         put_references(tx, self.base, self.object.references())?;
-        put_outputs(tx, self.base, self.object.names(), self.object.outputs())
+        put_outputs(tx, self.base, self.object.names(), self.object.outputs())?;
+        put_pieces(tx, self.base, rest)
     }
 }

@@ -1,26 +1,59 @@
 //! Archives, read when they are asked for.
 
-ghost use Rattle.std.specs.Prelude.{◌≡◌, IfOk, option_map};
+ghost use Rattle.std.specs.Prelude.{◌≡◌, ◌++◌, false, IfOk, IsTrue, option_map};
+ghost use Rattle.std.specs.List.{flat_map};
 ghost use Rattle.std.specs.FinMap as finite;
-ghost use Rattle.sqlite.specs.State.{HasCleanDisk, Survives};
+ghost use Rattle.sqlite.specs.State.{HasCleanDisk, Survives, IsUnchanged};
 ghost use Rattle.sqlite.specs.Held.{state};
-ghost use Rattle.table_statements.specs.Calls.{KeepsShown};
+ghost use Rattle.rows.specs.Forms.{piece};
+ghost use Rattle.rows.specs.Contents.{contents_of};
+ghost use Rattle.table_statements.specs.Calls.{IsReady, HasFurther, KeepsShown};
 ghost use Rattle.world.specs.World.{World};
+ghost use Rattle.world.specs.Rows.{archive_in};
+ghost use Rattle.world.specs.Told.{rows_of};
 ghost use Rattle.tables.specs.Kept.{Tells};
 
 use crate::keeping::Tables;
 use paths::StorePath;
-use rows::objects::{self, Object};
-use sqlite::Alter;
+use rows::objects;
+use rows::pieces::{self, Piece};
+use sqlite::{Alter, Connection};
+use std::alloc::{AllocError, Global};
 use table_statements::failure::Failure;
 
-fn archive_of(found: Option<Object>) -> Option<Vec<u8>>
-    ensures { option_map (λ n. n.items) result ≡ option_map (λ o. o.nar.items) found }
+/// What a row holds of an archive, and its pieces in their order, as one.
+fn joined(row: Vec<u8>, pieces: &[Piece]) -> Result<Vec<u8>, AllocError>
+    ensures { IfOk result (λ nar. nar.items ≡ row.items ++ flat_map (λ p. p.bytes.items) pieces.now) }
 {
-    match found {
-        Some(object) => Some(object.nar),
-        None => None,
+    let mut nar = row;
+    for piece in pieces {
+        nar.extend_from_slice(piece.bytes.as_slice())?;
     }
+    Ok(nar)
+}
+
+/// The archive of a path, if it has an object: what the object's row holds, and the pieces.
+pub(crate) fn read_archive<S: Alter>(
+    alloc: Global,
+    conn: &mut Connection<S>,
+    base: &str,
+) -> Result<Option<Vec<u8>>, Failure>
+    requires alone { conn.old.in_transaction ≡ false }
+    requires ready { HasCleanDisk (state S.Store conn.old) → IsTrue (state S.Store conn.old).is_open → IsReady (state S.Store conn.old) }
+    requires stands { HasCleanDisk (state S.Store conn.old) → IsTrue (state S.Store conn.old).is_open → HasFurther (state S.Store conn.old).now piece }
+    ensures alone { conn.new.in_transaction ≡ false }
+    ensures reads { HasCleanDisk (state S.Store conn.new) → IfOk result (λ nar. IsUnchanged (state S.Store conn.old) (state S.Store conn.new)
+        × (option_map (λ n. n.items) nar ≡ option_map (archive_in (rows_of (contents_of (state S.Store conn.old).now)) base.now) (finite.get (contents_of (state S.Store conn.old).now).objects base.now))) }
+    ensures same { HasCleanDisk (state S.Store conn.new) → KeepsShown (state S.Store conn.old) (state S.Store conn.new) }
+    ensures survives { Survives (state S.Store conn.old) (state S.Store conn.new) (λ _. ⊥) }
+{
+    let found = objects::get(alloc, conn, base)?;
+    let Some(object) = found else {
+        return Ok(None);
+    };
+    let further = pieces::of(alloc, conn, base)?;
+    let nar = joined(object.nar, further.as_slice())?;
+    Ok(Some(nar))
 }
 
 impl<S: Alter> Tables<S> {
@@ -32,7 +65,7 @@ impl<S: Alter> Tables<S> {
         ensures shown { HasCleanDisk (state S.Store self.new.connection) → KeepsShown (state S.Store self.old.connection) (state S.Store self.new.connection) }
         ensures survives { Survives (state S.Store self.old.connection) (state S.Store self.new.connection) (λ _. ⊥) }
     {
-        let found = objects::get(self.alloc, &mut self.connection, path.as_str())?;
-        Ok(archive_of(found))
+        let found = read_archive(self.alloc, &mut self.connection, path.as_str())?;
+        Ok(found)
     }
 }

@@ -5,22 +5,24 @@ ghost use Rattle.std.specs.FinMap as finite;
 ghost use Rattle.sqlite.specs.State.{HasCleanDisk, KeepsCommit, Survives};
 ghost use Rattle.sqlite.specs.Held.{state};
 ghost use Rattle.live.specs.Graph.{holds};
-ghost use Rattle.rows.specs.Calls.{IsUnderWay, Changes};
+ghost use Rattle.rows.specs.Forms.{piece};
+ghost use Rattle.rows.specs.Calls.{IsUnderWay, HasFurther, Changes};
 ghost use Rattle.tables.specs.Rewritten.{without_object, without_objects};
 
 use crate::change::Change;
 use index::Index;
 use paths::StorePath;
-use rows::{objects, outputs, references};
+use rows::{objects, outputs, pieces, references};
 use sqlite::{Alter, Transaction};
 use table_statements::failure::Failure;
 
-/// Removes the rows of one object, if it is there: its references, its outputs and its own.
+/// Removes the rows of one object, if it is there: its references, its outputs, the pieces of its archive and its own.
 pub(crate) fn delete_object<S: Alter>(
     tx: &mut Transaction<'_, S>,
     base: &str,
 ) -> Result<(), Failure>
     requires under_way { HasCleanDisk (state S.Store tx.old.conn.now) → IsUnderWay (state S.Store tx.old.conn.now) }
+    requires stands { HasCleanDisk (state S.Store tx.old.conn.now) → IsTrue (state S.Store tx.old.conn.now).is_open → HasFurther (state S.Store tx.old.conn.now).now piece }
     ensures same_reference { tx.new.conn.ghost_name ≡ tx.old.conn.ghost_name }
     ensures done { HasCleanDisk (state S.Store tx.new.conn.now) → OnOk result (Changes (state S.Store tx.old.conn.now) (state S.Store tx.new.conn.now)
         (λ c. without_object base.now c)) }
@@ -29,6 +31,7 @@ pub(crate) fn delete_object<S: Alter>(
 {
     references::delete_of(tx, base)?;
     outputs::delete_of(tx, base)?;
+    pieces::delete_of(tx, base)?;
     objects::delete(tx, base)
 }
 
@@ -39,6 +42,7 @@ pub(crate) fn delete_objects<S: Alter>(
 ) -> Result<(), Failure>
     requires under_way { HasCleanDisk (state S.Store tx.old.conn.now) → IsUnderWay (state S.Store tx.old.conn.now) }
     requires is_open { HasCleanDisk (state S.Store tx.old.conn.now) → IsTrue (state S.Store tx.old.conn.now).is_open }
+    requires stands { HasCleanDisk (state S.Store tx.old.conn.now) → HasFurther (state S.Store tx.old.conn.now).now piece }
     ensures same_reference { tx.new.conn.ghost_name ≡ tx.old.conn.ghost_name }
     ensures done { HasCleanDisk (state S.Store tx.new.conn.now) → OnOk result (Changes (state S.Store tx.old.conn.now) (state S.Store tx.new.conn.now)
         (λ c. without_objects paths.now c)) }

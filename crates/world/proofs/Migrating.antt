@@ -48,7 +48,8 @@ above_all [] m n bytes h = tt
 above_all (turn ∷ turns) m n [] h = tt
 above_all (turn ∷ turns) m n (b ∷ bs) h = and_T (is_lt (int_cmp (pos m) (pos n))) _ (below_int m n h) (above_all turns m (n + 1) (drop piece_size (b ∷ bs)) (omega arith))
 
-rising : (turns : List ℕ) (n : ℕ) (bytes : List ℕ) → T (is_sorted int_cmp (pieces_by turns n bytes))
+-- the pieces of some bytes rise by their numbers
+pub rising : (turns : List ℕ) (n : ℕ) (bytes : List ℕ) → T (is_sorted int_cmp (pieces_by turns n bytes))
 rising [] n bytes = tt
 rising (turn ∷ turns) n [] = tt
 rising (turn ∷ turns) n (b ∷ bs) = and_T (below_all int_cmp (pos n) (pieces_by turns (n + 1) (drop piece_size (b ∷ bs)))) _ (above_all turns n (n + 1) (drop piece_size (b ∷ bs)) (omega arith)) (rising turns (n + 1) (drop piece_size (b ∷ bs)))
@@ -88,21 +89,20 @@ none_below k (e ∷ es) h =
     let parts = both_T (is_lt (bytes_cmp k e.0)) (below_all bytes_cmp k es) h in
     ap (λ b. cond b (Some e.1) (find_entry bytes_cmp k es)) (less_is_apart (bytes_cmp k e.0) parts.0) ∙ none_below k es parts.1
 
-or_none : {X : Type 0} (o : Option X) → option_or o None ≡ o
+pub or_none : {X : Type 0} (o : Option X) → option_or o None ≡ o
 or_none None = refl
 or_none (Some x) = refl
 
-piece_total : IsTotalOrder piece_cmp
+pub piece_total : IsTotalOrder piece_cmp
 piece_total = then_total (on_texts (λ (p : Piece). p.0)) (on_total (λ (p : Piece). p.1) int_cmp_total)
 
 module _ (c : Rows) where
   -- the piece of an archive that has a number
-  piece_of : Path → ℤ → Option Stored → Option (List ℕ)
+  abbrev pub piece_of : Path → ℤ → Option Stored → Option (List ℕ)
   piece_of p n None = None
   piece_of p n (Some o) = find_entry int_cmp n (further_pieces (archive_in c p o))
 
   find_piece : (es : List (Path × Stored)) (p : Path) (n : ℤ) → T (is_sorted bytes_cmp es) → find_entry piece_cmp (p, n) (flat_map (λ (e : Path × Stored). cut_pieces c e.0 e.1) es) ≡ piece_of p n (find_entry bytes_cmp p es)
-  unfolding piece_of
   find_piece [] p n h = refl
   find_piece (e ∷ es) p n h =
       let parts = both_T (below_all bytes_cmp e.0 es) (is_sorted bytes_cmp es) h in
@@ -136,7 +136,6 @@ module _ (dir : List ℕ) (c : Rows) where
   get_row p = get_changed nat_list_cmp_total bytes_antisymmetric (cut_row c) c.objects p
 
   pieces_are : (p : Path) (o : Stored) → finite.get c.objects p ≡ Some o → finite.entries (pieces_in new p) ≡ further_pieces (archive_in c p o)
-  unfolding piece_of
   pieces_are p o e =
       same_entries int_cmp int_cmp_total finite.int_cmp-IsAntisymmetric (finite.entries (pieces_in new p)) (further_pieces (archive_in c p o)) (finite.entries_sorted (pieces_in new p))
       (rising (archive_in c p o) 1 (drop piece_size (archive_in c p o)))
@@ -160,7 +159,6 @@ module _ (dir : List ℕ) (c : Rows) where
       by (Some o) g = refl
 
   owner_there : (p : Path) (n : ℤ) → IsTrue (finite.contains_key new.pieces (p, n)) → IsTrue (finite.contains_key new.objects p)
-  unfolding piece_of
   owner_there p n h = row_there p (by (finite.get c.objects p) refl (sym (ap is_some (get_piece p n)) ∙ h))
     where
       by : (x : Option Stored) → finite.get c.objects p ≡ x → is_some (piece_of c p n x) ≡ true → is_some x ≡ true
@@ -209,6 +207,16 @@ module _ (dir : List ℕ) (c : Rows) where
     sessions = sound.sessions;
     world = subst (IsSound dir) (sym same_world) sound.world;
   }
+
+-- ---- what a migration makes of each entry
+
+pub get-migrated_piece : (dir : List ℕ) (c : Rows) (p : Path) (n : ℤ) → finite.get (migrated one dir c).pieces (p, n) ≡ piece_of c p n (finite.get c.objects p)
+unfolding new
+get-migrated_piece dir c p n = get_piece dir c p n
+
+pub get-migrated_row : (dir : List ℕ) (c : Rows) (p : Path) → finite.get (migrated one dir c).objects p ≡ option_map (cut_row c p) (finite.get c.objects p)
+unfolding new
+get-migrated_row dir c p = get_row dir c p
 
 pub migrates_soundly : MigratesSoundly
 unfolding new

@@ -1,4 +1,4 @@
--- What today's nine tables tell of one path.
+-- What our tables tell of one path.
 use Rattle.std.proofs.Common.{◌≡◌, ℕ, List, [], ◌++◌, map, ◌&&◌, refl, ap, ◌∙◌}
 use Rattle.std.specs.Prelude.{ℤ}
 use Rattle.std.specs.List.{filter}
@@ -14,7 +14,7 @@ use Rattle.world.specs.World.{Path}
 use Rattle.world.specs.Pieces.{joined}
 use Rattle.world.specs.Rows.{Piece, piece_cmp, references_in, outputs_in, pieces_in, archive_in}
 use Rattle.world.specs.Told.{rows_of}
-use Rattle.world.proofs.Columns.{get_part}
+use Rattle.world.proofs.Columns.{get_part, piece_at}
 use Rattle.world.proofs.Empty.{no_entries}
 
 both_tied : (r s : Ordering) → is_eq (ordering_then r s) ≡ (is_eq r && is_eq s)
@@ -33,11 +33,19 @@ get-reference c p r = get_part bytes_cmp pair_cmp nat_list_cmp_total pair_tied c
 pub get-output : (c : Contents) (p name : Path) → finite.get (outputs_in (rows_of c) p) name ≡ finite.get c.outs (p, name)
 get-output c p name = get_part bytes_cmp pair_cmp nat_list_cmp_total pair_tied c.outs p name
 
--- there is no further piece
-pub whole : (c : Contents) (p : Path) (x : Stored) → archive_in (rows_of c) p x ≡ x.nar
-whole c p x = ap (λ (es : List (ℤ × List ℕ)). x.nar ++ joined es) nothing ∙ append-nil x.nar
+-- and so is a piece
+pub get-piece : (c : Contents) (p : Path) (n : ℤ) → finite.get (pieces_in (rows_of c) p) n ≡ finite.get c.pieces (p, n)
+get-piece c p n = piece_at (rows_of c) p n
+
+-- where there is no further piece, the row has the whole archive
+pub whole : (c : Contents) (p : Path) (x : Stored) → c.pieces ≡ finite.empty → archive_in (rows_of c) p x ≡ x.nar
+whole c p x none = ap (λ (es : List (ℤ × List ℕ)). x.nar ++ joined es) nothing ∙ append-nil x.nar
   where
+    taken : finite.FinMap piece_cmp (List ℕ) → List (ℤ × List ℕ)
+    taken m = finite.entries (finite.from_entries {R = int_cmp} (map (λ (e : Piece × List ℕ). let d : ℤ × List ℕ = (e.0.1, e.1) in d) (filter (λ (e : Piece × List ℕ). eq_by_cmp bytes_cmp p e.0.0) (finite.entries m))))
+
     nothing : finite.entries (pieces_in (rows_of c) p) ≡ []
     nothing =
-        ap (λ (es : List (Piece × List ℕ)). finite.entries (finite.from_entries {R = int_cmp} (map (λ (e : Piece × List ℕ). let d : ℤ × List ℕ = (e.0.1, e.1) in d) (filter (λ (e : Piece × List ℕ). eq_by_cmp bytes_cmp p e.0.0) es)))) (no_entries (List ℕ) piece_cmp)
+        ap taken none
+        ∙ ap (λ (es : List (Piece × List ℕ)). finite.entries (finite.from_entries {R = int_cmp} (map (λ (e : Piece × List ℕ). let d : ℤ × List ℕ = (e.0.1, e.1) in d) (filter (λ (e : Piece × List ℕ). eq_by_cmp bytes_cmp p e.0.0) es)))) (no_entries (List ℕ) piece_cmp)
         ∙ no_entries (List ℕ) int_cmp

@@ -8,3 +8,4 @@ pub mod Laws
 pub mod Parts
 pub mod Told
 pub mod Schemas
+pub mod View

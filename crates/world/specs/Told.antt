@@ -1,11 +1,10 @@
--- The world that the contents of today's nine tables tell, and when they are sound.
+-- The world that the contents of our tables tell, and when they are sound.
 use Rattle.std.specs.Prelude.{List, ℕ}
-use Rattle.std.specs.FinMap as finite
 use Rattle.table_statements.specs.Contents.{Contents}
 use Rattle.world.specs.World.{World}
-use Rattle.world.specs.Rows.{one, Rows, IsSoundRows, world_of}
+use Rattle.world.specs.Rows.{Schema, three, Rows, IsSoundRows, world_of}
 
--- The tables that there are so far are those of the first schema.
+-- The two orders of each column are the same.
 abbrev pub rows_of : Contents → Rows
 rows_of c = record {
   meta = c.meta;
@@ -17,14 +16,18 @@ rows_of c = record {
   profiles = c.profiles;
   generations = c.generations;
   runtime = c.runtime;
-  pieces = finite.empty;
-  temp_roots = finite.empty;
+  pieces = c.pieces;
+  temp_roots = c.temp_roots;
 }
 
 -- the world that they tell
 abbrev pub world_in : Contents → World
 world_in c = world_of (rows_of c)
 
--- they are those of a database of a store directory
+-- they are those of a database of a store directory, in the form of a schema: what an opening asks of a file before it is migrated
+abbrev pub IsSoundBy : Schema → List ℕ → Contents → Type 0
+IsSoundBy schema dir c = IsSoundRows schema dir (rows_of c)
+
+-- they are those of a database of a store directory, in the form that a new database has: the third
 abbrev pub IsSoundContents : List ℕ → Contents → Type 0
-IsSoundContents dir c = IsSoundRows one dir (rows_of c)
+IsSoundContents dir c = IsSoundBy three dir c

@@ -7,22 +7,39 @@ use Rattle.sqlite.specs.Effect.{Database}
 use Rattle.sqlite.specs.State.{IsUnchanged}
 use Rattle.sqlite.specs.Held.{state}
 use Rattle.sqlite.proofs.Callers.{unchanged_then}
+use Rattle.table_forms.specs.Forms.{piece}
+use Rattle.table_statements.specs.Calls.{HasFurther}
 use Rattle.table_statements.specs.Contents.{Contents, contents_of}
 use Rattle.table_statements.proofs.TestFailures.{both_keep, survives_both}
 use Rattle.world.specs.Told.{rows_of, world_in}
-use Rattle.world.specs.Parts.{AreSoundObjects}
+use Rattle.world.specs.View.{schema_view}
 use Rattle.index.specs.Outline.{Outline, outline_of}
-use Rattle.opening_objects.specs.Taken.{Objects, with_objects, is_reference, is_output}
-use Rattle.opening_objects.proofs.ReadRows.{clean_before}
+use Rattle.opening_objects.specs.Taken.{Objects, with_objects, is_reference, is_output, is_owned, AreSoundInPieces}
+use Rattle.opening_objects.proofs.ReadRows.{clean_before, further_still}
 use Rattle.opening_objects.proofs.Each.{if_ok, any_ok, on_ok}
-use Rattle.opening_objects.proofs.AllObjects.{put_all_objects, rows_of_all, all_of_rows, to_objects, of_objects}
+use Rattle.opening_objects.proofs.AllObjects.{put_all_objects}
+use Rattle.opening_objects.proofs.AllTests.{rows_of_all, cut_of_all, all_of_rows, to_objects, of_objects}
 use Rattle.opening_objects.proofs.taken.take_objects.Goals as goal
+
+pub are_joined-requires-clause-stands : goal.are_joined-requires-clause-stands
+are_joined-requires-clause-stands g c clean has is_open =
+    let s0 = state g.S.Store c.args.conn.now in
+    let s1 = state g.S.Store c.take_all.new.conn in
+    let same = (c.in_ok-take_all.ensures.unchanged clean).0 in
+    further_still s0 s1 (λ d. HasFurther d piece) same.now_is (c.requires.stands (clean_before s0 s1 (λ _. ⊥) c.take_all.ensures.survives clean) has same.was_open)
+
+pub are_joined-requires-clause-no_table : goal.are_joined-requires-clause-no_table
+are_joined-requires-clause-no_table g c clean has is_open =
+    let s0 = state g.S.Store c.args.conn.now in
+    let s1 = state g.S.Store c.take_all.new.conn in
+    let same = (c.in_ok-take_all.ensures.unchanged clean).0 in
+    further_still s0 s1 (λ d. (contents_of d).pieces ≡ finite.empty) same.now_is (c.requires.no_table (clean_before s0 s1 (λ _. ⊥) c.take_all.ensures.survives clean) has same.was_open)
 
 pub returns-then-not-branch-clause-told : goal.returns-then-not-branch-clause-told
 returns-then-not-branch-clause-told g c clean =
     let x = contents_of (state g.S.Store c.args.conn.now).now in (
       λ h. absurd (false≢true h),
-      λ sound. absurd (false≢true (sym c.if-not-branch.true ∙ (c.in_ok-take_all.ensures.told clean).1 (all_of_rows x c.args.dir.now sound.objects))),
+      λ sound. absurd (false≢true (sym c.if-not-branch.true ∙ (c.in_ok-take_all.ensures.told clean).1 (all_of_rows x (schema_view c.args.schema) c.args.dir.now sound.objects.objects sound.cut))),
     )
 
 pub returns-clause-told : goal.returns-clause-told
@@ -34,13 +51,16 @@ returns-clause-told g c clean =
     let x = contents_of s0.now in
     let dir = c.args.dir.now in
     let m : Objects = c.take_all.new.index.objects in
-    let rows = rows_of_all x dir ((c.in_ok-take_all.ensures.told was).0 c.if-not-branch.false) in
+    let schema = schema_view c.args.schema in
+    let every = (c.in_ok-take_all.ensures.told was).0 c.if-not-branch.false in
+    let rows = rows_of_all x schema dir every in
+    let cut = cut_of_all x schema dir every in
     let is : m ≡ (outline_of (world_in x)).objects =
     ap (λ (o : Outline). o.objects) (c.in_ok-take_all.ensures.taken was c.if-not-branch.false) ∙ ap (with_objects x (finite.keys x.objects)) c.requires.empty ∙ put_all_objects x in
-    let joined : Contents → Bool = λ y. list_all (is_reference m) (finite.entries y.refs) && list_all (is_output m) (finite.entries y.outs) in
+    let joined : Contents → Bool = λ y. (list_all (is_reference m) (finite.entries y.refs) && list_all (is_output m) (finite.entries y.outs)) && list_all (is_owned m) (finite.keys y.pieces) in
     let same : joined (contents_of s1.now) ≡ joined x = ap (λ (d : Database). joined (contents_of d)) (c.in_ok-take_all.ensures.unchanged was).0.now_is in
-    if_ok c.are_joined.result (λ ok. ok ≡ joined (contents_of s1.now)) (λ ok. IsTrue ok ↔ AreSoundObjects dir (rows_of x))
-    (λ ok h. (λ t. to_objects x dir rows m is (sym same ∙ sym h ∙ t), λ a. h ∙ same ∙ of_objects x dir rows m is a)) (c.are_joined.ensures.told clean)
+    if_ok c.are_joined.result (λ ok. ok ≡ joined (contents_of s1.now)) (λ ok. IsTrue ok ↔ AreSoundInPieces schema dir (rows_of x))
+    (λ ok h. (λ t. to_objects x schema dir rows cut m is (sym same ∙ sym h ∙ t), λ a. h ∙ same ∙ of_objects x schema dir rows cut m is a)) (c.are_joined.ensures.told clean)
 
 pub returns-clause-taken : goal.returns-clause-taken
 returns-clause-taken g c clean =

@@ -5,21 +5,33 @@ use Rattle.std.specs.FinMap as finite
 use Rattle.sqlite.specs.State.{IsUnchanged}
 use Rattle.sqlite.specs.Held.{state}
 use Rattle.sqlite.proofs.Callers.{unchanged_then}
+use Rattle.table_forms.specs.Forms.{piece}
+use Rattle.table_statements.specs.Calls.{HasFurther}
 use Rattle.table_statements.specs.Contents.{Contents, contents_of}
 use Rattle.table_statements.proofs.TestFailures.{both_keep, survives_both}
 use Rattle.world.specs.World.{Path}
 use Rattle.index.specs.Outline.{Outline}
 use Rattle.opening_objects.specs.Taken.{IsSoundOne, with_objects}
-use Rattle.opening_objects.proofs.ReadRows.{clean_before}
+use Rattle.opening_objects.proofs.ReadRows.{clean_before, further_still}
+use Rattle.world.specs.View.{schema_view}
 use Rattle.opening_objects.proofs.Each.{if_ok, on_ok}
 use Rattle.opening_objects.proofs.taking.take_all.Goals as goal
 
 pub take_each-requires : goal.take_each-requires
-take_each-requires g c = record {
-  alone = c.keys.ensures.alone;
-  ready = c.keys.ensures.ready;
-  opened = λ clean. (c.in_ok-bases.ensures.reads clean).0.0.is_open;
-}
+take_each-requires g c =
+    let s0 = state g.S.Store c.args.conn.now in
+    let s1 = state g.S.Store c.keys.new.conn in
+    record {
+      alone = c.keys.ensures.alone;
+      ready = c.keys.ensures.ready;
+      opened = λ clean. (c.in_ok-bases.ensures.reads clean).0.0.is_open;
+      stands = λ clean has is_open.
+          let read = (c.in_ok-bases.ensures.reads clean).0.0 in
+          further_still s0 s1 (λ d. HasFurther d piece) read.now_is (c.requires.stands (clean_before s0 s1 (λ _. ⊥) c.keys.ensures.survives clean) has read.was_open);
+      no_table = λ clean has is_open.
+          let read = (c.in_ok-bases.ensures.reads clean).0.0 in
+          further_still s0 s1 (λ d. (contents_of d).pieces ≡ finite.empty) read.now_is (c.requires.no_table (clean_before s0 s1 (λ _. ⊥) c.keys.ensures.survives clean) has read.was_open);
+    }
 
 pub returns-clause-told : goal.returns-clause-told
 returns-clause-told g c clean =
@@ -27,7 +39,7 @@ returns-clause-told g c clean =
     let s1 = state g.S.Store c.keys.new.conn in
     let s2 = state g.S.Store c.take_each.new.conn in
     let read = c.in_ok-bases.ensures.reads (clean_before s1 s2 (λ _. ⊥) c.take_each.ensures.survives clean) in
-    let Told : Contents → List Path → Bool → Type 0 = λ x ps ok. IsTrue ok ↔ AllByRecursion (IsSoundOne c.args.dir.now x) ps in
+    let Told : Contents → List Path → Bool → Type 0 = λ x ps ok. IsTrue ok ↔ AllByRecursion (IsSoundOne (schema_view c.args.schema) c.args.dir.now x) ps in
     if_ok c.take_each.result (Told (contents_of s1.now) (map string_bytes c.deref.result.now)) (Told (contents_of s0.now) (finite.keys (contents_of s0.now).objects))
     (λ ok h. subst (λ ps. Told (contents_of s0.now) ps ok) (ap (map string_bytes) c.deref.ensures.value ∙ read.1) (subst (λ x. Told x (map string_bytes c.deref.result.now) ok) (ap contents_of read.0.0.now_is) h)) (c.take_each.ensures.told clean)
 

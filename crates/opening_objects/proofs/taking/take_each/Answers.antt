@@ -3,13 +3,17 @@ use Rattle.std.proofs.lemmas.Bool.{false≢true}
 use Rattle.std.proofs.Math.ListN.{drop_of_length-le}
 use Rattle.sqlite.specs.Held.{state}
 use Rattle.sqlite.proofs.Callers.{unchanged_then}
+use Rattle.std.specs.FinMap as finite
+use Rattle.table_forms.specs.Forms.{piece}
+use Rattle.table_statements.specs.Calls.{HasFurther}
 use Rattle.table_statements.specs.Contents.{Contents, contents_of}
 use Rattle.table_statements.proofs.Steps.{shown_then}
 use Rattle.table_statements.proofs.Transactions.{survives_none}
 use Rattle.table_statements.proofs.TestFailures.{survives_both}
 use Rattle.index.specs.Outline.{Outline}
 use Rattle.opening_objects.specs.Taken.{IsSoundOne, with_object}
-use Rattle.opening_objects.proofs.ReadRows.{clean_before}
+use Rattle.opening_objects.proofs.ReadRows.{clean_before, further_still}
+use Rattle.world.specs.View.{schema_view}
 use Rattle.opening_objects.proofs.Each.{left_at, shown_of, no_change, decides_next, decides_one, decides_all, makes_next, makes_all}
 use Rattle.opening_objects.proofs.taking.take_each.Goals as goal
 
@@ -25,6 +29,20 @@ bases-init g c =
       decides = λ clean. (λ h. h, λ h. h);
       makes = λ clean. refl;
     }
+
+pub take_object-requires-clause-stands : goal.take_object-requires-clause-stands
+take_object-requires-clause-stands g c clean has is_open =
+    let first = state g.S.Store c.args.conn.now in
+    let now = state g.S.Store c.bases.conn in
+    let same = (c.bases.invariant.unchanged clean).0 in
+    further_still first now (λ d. HasFurther d piece) same.now_is (c.requires.stands (clean_before first now (λ _. ⊥) c.bases.invariant.survives clean) has same.was_open)
+
+pub take_object-requires-clause-no_table : goal.take_object-requires-clause-no_table
+take_object-requires-clause-no_table g c clean has is_open =
+    let first = state g.S.Store c.args.conn.now in
+    let now = state g.S.Store c.bases.conn in
+    let same = (c.bases.invariant.unchanged clean).0 in
+    further_still first now (λ d. (contents_of d).pieces ≡ finite.empty) same.now_is (c.requires.no_table (clean_before first now (λ _. ⊥) c.bases.invariant.survives clean) has same.was_open)
 
 pub bases-preserved : goal.bases-preserved
 bases-preserved g c =
@@ -45,10 +63,10 @@ bases-preserved g c =
       decides = λ clean.
           let was = clean_before now next (λ _. ⊥) c.take_object.ensures.survives clean in
           let same : contents_of now.now ≡ contents_of first.now = ap contents_of (inv.unchanged was).0.now_is in
-          let one : IsSoundOne c.args.dir.now (contents_of first.now) (string_bytes item) =
-          subst (λ (x : Contents). IsSoundOne c.args.dir.now x (string_bytes item)) same
-          (subst (IsSoundOne c.args.dir.now (contents_of now.now)) c.as_str.ensures.value ((c.in_ok-take_object.ensures.told clean).0 c.if-not-branch.false)) in
-          decides_next c.args.dir.now (contents_of first.now) (map string_bytes c.args.bases.now) left rest item split one (inv.decides was);
+          let one : IsSoundOne (schema_view c.args.schema) c.args.dir.now (contents_of first.now) (string_bytes item) =
+          subst (λ (x : Contents). IsSoundOne (schema_view c.args.schema) c.args.dir.now x (string_bytes item)) same
+          (subst (IsSoundOne (schema_view c.args.schema) c.args.dir.now (contents_of now.now)) c.as_str.ensures.value ((c.in_ok-take_object.ensures.told clean).0 c.if-not-branch.false)) in
+          decides_next (schema_view c.args.schema) c.args.dir.now (contents_of first.now) (map string_bytes c.args.bases.now) left rest item split one (inv.decides was);
       makes = λ clean.
           let was = clean_before now next (λ _. ⊥) c.take_object.ensures.survives clean in
           let same : contents_of now.now ≡ contents_of first.now = ap contents_of (inv.unchanged was).0.now_is in
@@ -71,15 +89,15 @@ returns-then-not-branch-clause-told g c clean =
     let split = left_at c.args.bases.now c.bases.base-index item c.bases-test.true c.base-item.is in (
       λ h. absurd (false≢true h),
       λ every.
-          let one = decides_one c.args.dir.now (contents_of first.now) (map string_bytes c.args.bases.now) (drop c.bases.base-index c.args.bases.now) (drop (c.bases.base-index + 1) c.args.bases.now) item split (inv.decides was) every in
+          let one = decides_one (schema_view c.args.schema) c.args.dir.now (contents_of first.now) (map string_bytes c.args.bases.now) (drop c.bases.base-index c.args.bases.now) (drop (c.bases.base-index + 1) c.args.bases.now) item split (inv.decides was) every in
           absurd (false≢true (sym c.if-not-branch.true ∙ (c.in_ok-take_object.ensures.told clean).1
-          (subst (IsSoundOne c.args.dir.now (contents_of now.now)) (sym c.as_str.ensures.value) (subst (λ (x : Contents). IsSoundOne c.args.dir.now x (string_bytes item)) (sym same) one)))),
+          (subst (IsSoundOne (schema_view c.args.schema) c.args.dir.now (contents_of now.now)) (sym c.as_str.ensures.value) (subst (λ (x : Contents). IsSoundOne (schema_view c.args.schema) c.args.dir.now x (string_bytes item)) (sym same) one)))),
     )
 
 pub returns-clause-told : goal.returns-clause-told
 returns-clause-told g c clean =
     let first = state g.S.Store c.args.conn.now in
-    (λ _. decides_all c.args.dir.now (contents_of first.now) (map string_bytes c.args.bases.now) (drop c.bases.base-index c.args.bases.now) (drop_of_length-le c.args.bases.now c.bases-test.false) (c.bases.invariant.decides clean), λ _. refl)
+    (λ _. decides_all (schema_view c.args.schema) c.args.dir.now (contents_of first.now) (map string_bytes c.args.bases.now) (drop c.bases.base-index c.args.bases.now) (drop_of_length-le c.args.bases.now c.bases-test.false) (c.bases.invariant.decides clean), λ _. refl)
 
 pub returns-clause-taken : goal.returns-clause-taken
 returns-clause-taken g c clean ok =

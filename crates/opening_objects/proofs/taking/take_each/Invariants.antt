@@ -3,6 +3,7 @@ use Rattle.sqlite.specs.State.{HasCleanDisk, IsUnchanged, Survives}
 use Rattle.sqlite.specs.Held.{state}
 use Rattle.table_statements.specs.Contents.{contents_of}
 use Rattle.table_statements.specs.Calls.{IsReady, KeepsShown}
+use Rattle.world.specs.View.{schema_view}
 use Rattle.opening_objects.proofs.Each.{Decides, Makes}
 use Rattle.opening_objects.proofs.taking.take_each.Given as goal
 
@@ -14,6 +15,6 @@ invariant-bases g l = record {
   same : HasCleanDisk (state g.S.Store l.conn) → KeepsShown (state g.S.Store l.fn.conn) (state g.S.Store l.conn);
   unchanged : HasCleanDisk (state g.S.Store l.conn) → IsUnchanged (state g.S.Store l.fn.conn) (state g.S.Store l.conn);
   survives : Survives (state g.S.Store l.fn.conn) (state g.S.Store l.conn) (λ _. ⊥);
-  decides : HasCleanDisk (state g.S.Store l.conn) → Decides l.dir (contents_of (state g.S.Store l.fn.conn).now) (map string_bytes l.bases) (drop l.base-index l.bases);
+  decides : HasCleanDisk (state g.S.Store l.conn) → Decides (schema_view l.schema) l.dir (contents_of (state g.S.Store l.fn.conn).now) (map string_bytes l.bases) (drop l.base-index l.bases);
   makes : HasCleanDisk (state g.S.Store l.conn) → Makes (contents_of (state g.S.Store l.fn.conn).now) l.fn.index (map string_bytes l.bases) (drop l.base-index l.bases) l.index;
 }

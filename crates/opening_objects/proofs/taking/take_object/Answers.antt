@@ -4,6 +4,7 @@ use Rattle.table_statements.specs.Contents.{contents_of}
 use Rattle.index.specs.Outline.{Outline}
 use Rattle.opening_objects.specs.Rows.{AreRowsOf, AreRowsAt}
 use Rattle.opening_objects.specs.Taken.{Objects}
+use Rattle.world.specs.View.{schema_view}
 use Rattle.opening_objects.proofs.Takes.{told_one, put_is}
 use Rattle.opening_objects.proofs.taking.take_object.Goals as goal
 
@@ -12,7 +13,7 @@ returns-clause-told g c clean =
     let x = contents_of (state g.S.Store c.args.conn.now).now in
     let p = c.args.base.now in
     let rows : AreRowsOf x p c.in-Some.rows = subst (AreRowsAt x p) c.in-Some.is (c.in_ok-rows.ensures.reads clean).1 in
-    told_one c.args.dir.now x p c.in-Some.rows rows c.in_ok-take_rows.field-0 c.in_ok-take_rows.ensures.told
+    told_one (schema_view c.args.schema) c.args.dir.now x p c.in-Some.rows rows c.in_ok-take_rows.field-0 c.in_ok-take_rows.ensures.told
 
 pub returns-clause-taken : goal.returns-clause-taken
 returns-clause-taken g c clean ok =
@@ -20,4 +21,4 @@ returns-clause-taken g c clean ok =
     let p = c.args.base.now in
     let rows : AreRowsOf x p c.in-Some.rows = subst (AreRowsAt x p) c.in-Some.is (c.in_ok-rows.ensures.reads clean).1 in
     let old : Outline = c.args.index.now in
-    c.in_ok-take_rows.ensures.taken ok ∙ ap (λ (m : Objects). record old { objects = m }) (put_is c.args.dir.now x p c.in-Some.rows rows old.objects (c.in_ok-take_rows.ensures.told.0 ok))
+    c.in_ok-take_rows.ensures.taken ok ∙ ap (λ (m : Objects). record old { objects = m }) (put_is (schema_view c.args.schema) c.args.dir.now x p c.in-Some.rows rows old.objects (c.in_ok-take_rows.ensures.told.0 ok))

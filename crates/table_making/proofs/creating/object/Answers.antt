@@ -3,7 +3,7 @@ use Rattle.std.specs.Fmt.{digits}
 use Rattle.sqlite.specs.State.{HasCleanDisk}
 use Rattle.sqlite.specs.Held.{state}
 use Rattle.sqlite_tied.specs.Compute.{everything}
-use Rattle.table_forms.specs.Forms.{object, refs, outs, permanent, user_root, profile, generation, runtime}
+use Rattle.table_forms.specs.Forms.{object, refs, outs, permanent, user_root, profile, generation, runtime, piece, temp_root}
 use Rattle.table_statements.proofs.Scans.{on_ok, err_with}
 use Rattle.table_making.proofs.Creates.{makes_in, making_after}
 use Rattle.table_making.proofs.MakingFailures.{create_fails}
@@ -24,7 +24,7 @@ returns-clause-making g c clean =
     let old = state g.S.Store c.args.tx.now.conn.now in
     let new = state g.S.Store c.create.new.tx.conn.now in
     let early : HasCleanDisk old = omega (arith, c.create.ensures.survives.clean) in
-    on_ok c.create.result _ _ (λ made. making_after object.name object.columns object.primary (refs ∷ outs ∷ permanent ∷ user_root ∷ profile ∷ generation ∷ runtime ∷ []) old new refl (c.requires early) made) (returns-clause-makes g c clean)
+    on_ok c.create.result _ _ (λ made. making_after object.name object.columns object.primary (refs ∷ outs ∷ permanent ∷ user_root ∷ profile ∷ generation ∷ runtime ∷ piece ∷ temp_root ∷ []) old new refl (c.requires early) made) (returns-clause-makes g c clean)
 
 pub returns-clause-cause : goal.returns-clause-cause
 returns-clause-cause g c clean =

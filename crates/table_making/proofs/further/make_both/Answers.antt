@@ -1,33 +1,16 @@
-use Rattle.std.proofs.Common.{[], ◌∷◌, refl, arith}
-use Rattle.std.specs.Fmt.{digits}
+use Rattle.std.proofs.Common.{arith}
 use Rattle.sqlite.specs.State.{HasCleanDisk}
 use Rattle.sqlite.specs.Held.{state}
-use Rattle.sqlite_tied.specs.Compute.{everything}
-use Rattle.table_forms.specs.Forms.{piece, temp_root}
-use Rattle.table_statements.proofs.Scans.{on_ok, err_with}
-use Rattle.table_making.proofs.Creates.{makes_then}
+use Rattle.table_statements.proofs.Scans.{on_ok}
 use Rattle.table_making.proofs.FurtherMade.{making_both, makes_both}
-use Rattle.table_making.proofs.MakingTogether.{part, fails_among}
 use Rattle.table_making.proofs.further.make_both.Goals as goal
 
-pub piece-requires : goal.piece-requires
-piece-requires g c clean = making_both (state g.S.Store c.args.tx.now.conn.now) (c.requires.under clean) (c.requires.first clean) (c.requires.counted clean)
+pub both-requires : goal.both-requires
+both-requires g c clean = making_both (state g.S.Store c.args.tx.now.conn.now) (c.requires.under clean) (c.requires.first clean)
 
 pub returns-clause-done : goal.returns-clause-done
 returns-clause-done g c clean =
-    let s0 = state g.S.Store c.args.tx.now.conn.now in
-    let s1 = state g.S.Store c.piece.new.tx.conn.now in
-    let s2 = state g.S.Store c.temp_root.new.tx.conn.now in
-    let clean1 : HasCleanDisk s1 = omega (arith, c.temp_root.ensures.survives.clean) in
-    let clean0 : HasCleanDisk s0 = omega (arith, c.piece.ensures.survives.clean, clean1) in
-    let first = c.in_ok-piece.ensures.makes clean1 in
-    on_ok c.temp_root.result _ _ (λ second. makes_both s0 s2 (c.requires.under clean0) (c.requires.first clean0 first.was_open) (makes_then (piece ∷ []) (temp_root ∷ []) s0 s1 s2 first second)) (c.temp_root.ensures.makes clean)
-
-pub returns-clause-cause : goal.returns-clause-cause
-unfolding digits everything
-returns-clause-cause g c clean =
-    let s0 = state g.S.Store c.args.tx.now.conn.now in
-    let s1 = state g.S.Store c.piece.new.tx.conn.now in
-    let s2 = state g.S.Store c.temp_root.new.tx.conn.now in
-    let clean1 : HasCleanDisk s1 = omega (arith, c.temp_root.ensures.survives.clean) in
-    err_with c.temp_root.result _ _ (λ f h. fails_among ⊥ ⊥ s0 s1 s2 (part piece ∷ []) (temp_root ∷ []) [] refl (c.in_ok-piece.ensures.makes clean1) c.piece.ensures.survives.counts f h) (c.temp_root.ensures.cause clean)
+    let old = state g.S.Store c.args.tx.now.conn.now in
+    let new = state g.S.Store c.both.new.tx.conn.now in
+    let early : HasCleanDisk old = omega (arith, c.both.ensures.survives.clean) in
+    on_ok c.both.result _ _ (λ made. makes_both old new (c.requires.under early) (c.requires.first early made.was_open) made) (c.both.ensures.makes clean)

@@ -6,7 +6,7 @@ use Rattle.table_making.proofs.FurtherMade.{making_last, makes_last}
 use Rattle.table_making.proofs.further.make_temp_root.Goals as goal
 
 pub temp_root-requires : goal.temp_root-requires
-temp_root-requires g c clean = making_last (state g.S.Store c.args.tx.now.conn.now) (c.requires.under clean) (c.requires.second clean) (c.requires.counted clean)
+temp_root-requires g c clean = making_last (state g.S.Store c.args.tx.now.conn.now) (c.requires.under clean) (c.requires.second clean)
 
 pub returns-clause-done : goal.returns-clause-done
 returns-clause-done g c clean =

@@ -5,51 +5,67 @@ use Rattle.sqlite_schema.specs.declared.schema.Schema.{Schema}
 use Rattle.sqlite.specs.State.{HasCleanDisk}
 use Rattle.sqlite.specs.Held.{state}
 use Rattle.sqlite_tied.specs.Compute.{everything}
-use Rattle.table_forms.specs.Forms.{meta, object, refs, outs, permanent, user_root, profile, generation, runtime}
+use Rattle.table_forms.specs.Forms.{meta, object, refs, outs, permanent, user_root, profile, generation, runtime, piece, temp_root}
 use Rattle.table_making.specs.Making.{IsTooLong, all_created}
 use Rattle.table_statements.proofs.TestFailures.{passed_on}
 use Rattle.table_statements.proofs.Scans.{on_ok, err_with}
-use Rattle.table_making.proofs.MakingTogether.{part, fails_then, fails_wider}
+use Rattle.table_making.proofs.MakingTogether.{part, fails_after}
 use Rattle.table_making.proofs.Settles.{all_made}
 use Rattle.table_making.proofs.making.make_all.Goals as goal
 
 pub returns-clause-makes : goal.returns-clause-makes
 returns-clause-makes g c clean =
-    let a = state g.S.Store c.args.tx.now.conn.now in
-    let b = state g.S.Store c.settle.new.tx.conn.now in
-    let d = state g.S.Store c.next.new.tx.conn.now in
-    let e = state g.S.Store c.last.new.tx.conn.now in
-    let clean3 : HasCleanDisk d = omega (arith, c.last.ensures.survives.clean) in
-    let clean2 : HasCleanDisk b = omega (arith, c.next.ensures.survives.clean) in
-    on_ok c.last.result _ _ (λ last. all_made c.args.store_dir.now a b d e (c.in_ok-settle.ensures.makes clean2) (c.in_ok-next.ensures.makes clean3) last) (c.last.ensures.makes clean)
+    let s0 = state g.S.Store c.args.tx.now.conn.now in
+    let s1 = state g.S.Store c.settle.new.tx.conn.now in
+    let s2 = state g.S.Store c.next.new.tx.conn.now in
+    let s3 = state g.S.Store c.last.new.tx.conn.now in
+    let s4 = state g.S.Store c.both.new.tx.conn.now in
+    let clean3 : HasCleanDisk s3 = omega (arith, c.both.ensures.survives.clean) in
+    let clean2 : HasCleanDisk s2 = omega (arith, c.last.ensures.survives.clean) in
+    let clean1 : HasCleanDisk s1 = omega (arith, c.next.ensures.survives.clean) in
+    on_ok c.both.result _ _ (λ further. all_made c.args.store_dir.now s0 s1 s2 s3 s4 (c.in_ok-settle.ensures.makes clean1) (c.in_ok-next.ensures.makes clean2) (c.in_ok-last.ensures.makes clean3) further) (c.both.ensures.makes clean)
 
 pub returns-in_err-next-clause-cause : goal.returns-in_err-next-clause-cause
 unfolding digits everything
 returns-in_err-next-clause-cause g c clean =
-    let a = state g.S.Store c.args.tx.now.conn.now in
-    let b = state g.S.Store c.settle.new.tx.conn.now in
-    let d = state g.S.Store c.next.new.tx.conn.now in
-    let clean2 : HasCleanDisk b = omega (arith, c.next.ensures.survives.clean) in
-    let made = c.in_ok-settle.ensures.makes clean2 in
-    let large = IsTooLong c.args.store_dir.now in
-    let these = fails_wider ⊥ ⊥ b d d large (IsSome a.step_limit) (λ no. absurd no) (λ no. absurd no) (object ∷ refs ∷ outs ∷ permanent ∷ []) (user_root ∷ profile ∷ generation ∷ runtime ∷ []) (omega arith) _ (c.in_err-next.ensures.cause clean) in
+    let s0 = state g.S.Store c.args.tx.now.conn.now in
+    let s1 = state g.S.Store c.settle.new.tx.conn.now in
+    let s2 = state g.S.Store c.next.new.tx.conn.now in
+    let clean1 : HasCleanDisk s1 = omega (arith, c.next.ensures.survives.clean) in
+    let made = c.in_ok-settle.ensures.makes clean1 in
     passed_on _ _ _ c.from_residual-in_err-next.ensures.1
-    (fails_then large (IsSome a.step_limit) a b d (part meta ∷ []) (object ∷ refs ∷ outs ∷ permanent ∷ user_root ∷ profile ∷ generation ∷ runtime ∷ []) refl made.was_open made.schema made.is_open c.settle.ensures.survives.counts _ these)
+    (fails_after (IsTooLong c.args.store_dir.now) (IsSome s0.step_limit) s0 s1 s2 (part meta ∷ []) (object ∷ refs ∷ outs ∷ permanent ∷ []) (user_root ∷ profile ∷ generation ∷ runtime ∷ piece ∷ temp_root ∷ []) refl made.was_open made.schema made.is_open c.settle.ensures.survives.counts _ (c.in_err-next.ensures.cause clean))
+
+pub returns-in_err-last-clause-cause : goal.returns-in_err-last-clause-cause
+unfolding digits everything
+returns-in_err-last-clause-cause g c clean =
+    let s0 = state g.S.Store c.args.tx.now.conn.now in
+    let s1 = state g.S.Store c.settle.new.tx.conn.now in
+    let s2 = state g.S.Store c.next.new.tx.conn.now in
+    let s3 = state g.S.Store c.last.new.tx.conn.now in
+    let clean2 : HasCleanDisk s2 = omega (arith, c.last.ensures.survives.clean) in
+    let clean1 : HasCleanDisk s1 = omega (arith, c.next.ensures.survives.clean) in
+    let first = c.in_ok-settle.ensures.makes clean1 in
+    let more = c.in_ok-next.ensures.makes clean2 in
+    let made = more.schema ∙ ap (λ (s : Schema). all_created s (object ∷ refs ∷ outs ∷ permanent ∷ [])) first.schema in
+    let rise : s0.faults ≤ s2.faults = omega (arith, c.settle.ensures.survives.counts, c.next.ensures.survives.counts) in
+    passed_on _ _ _ c.from_residual-in_err-last.ensures.1
+    (fails_after (IsTooLong c.args.store_dir.now) (IsSome s0.step_limit) s0 s2 s3 (part meta ∷ part object ∷ part refs ∷ part outs ∷ part permanent ∷ []) (user_root ∷ profile ∷ generation ∷ runtime ∷ []) (piece ∷ temp_root ∷ []) refl first.was_open made more.is_open rise _ (c.in_err-last.ensures.cause clean))
 
 pub returns-clause-cause : goal.returns-clause-cause
 unfolding digits everything
 returns-clause-cause g c clean =
-    let a = state g.S.Store c.args.tx.now.conn.now in
-    let b = state g.S.Store c.settle.new.tx.conn.now in
-    let d = state g.S.Store c.next.new.tx.conn.now in
-    let e = state g.S.Store c.last.new.tx.conn.now in
-    let clean3 : HasCleanDisk d = omega (arith, c.last.ensures.survives.clean) in
-    let clean2 : HasCleanDisk b = omega (arith, c.next.ensures.survives.clean) in
-    let first = c.in_ok-settle.ensures.makes clean2 in
-    let more = c.in_ok-next.ensures.makes clean3 in
-    let made = more.schema ∙ ap (λ (s : Schema). all_created s (object ∷ refs ∷ outs ∷ permanent ∷ [])) first.schema in
-    let rise : a.faults ≤ d.faults = omega (arith, c.settle.ensures.survives.counts, c.next.ensures.survives.counts) in
-    let large = IsTooLong c.args.store_dir.now in
-    let lasts = user_root ∷ profile ∷ generation ∷ runtime ∷ [] in
-    err_with c.last.result _ _ (λ f h. fails_then large (IsSome a.step_limit) a d e (part meta ∷ part object ∷ part refs ∷ part outs ∷ part permanent ∷ []) lasts refl first.was_open made more.is_open rise f
-    (fails_wider ⊥ ⊥ d e e large (IsSome a.step_limit) (λ no. absurd no) (λ no. absurd no) lasts [] (omega arith) f h)) (c.last.ensures.cause clean)
+    let s0 = state g.S.Store c.args.tx.now.conn.now in
+    let s1 = state g.S.Store c.settle.new.tx.conn.now in
+    let s2 = state g.S.Store c.next.new.tx.conn.now in
+    let s3 = state g.S.Store c.last.new.tx.conn.now in
+    let s4 = state g.S.Store c.both.new.tx.conn.now in
+    let clean3 : HasCleanDisk s3 = omega (arith, c.both.ensures.survives.clean) in
+    let clean2 : HasCleanDisk s2 = omega (arith, c.last.ensures.survives.clean) in
+    let clean1 : HasCleanDisk s1 = omega (arith, c.next.ensures.survives.clean) in
+    let first = c.in_ok-settle.ensures.makes clean1 in
+    let four = c.in_ok-next.ensures.makes clean2 in
+    let eight = c.in_ok-last.ensures.makes clean3 in
+    let made = eight.schema ∙ ap (λ (s : Schema). all_created s (user_root ∷ profile ∷ generation ∷ runtime ∷ [])) (four.schema ∙ ap (λ (s : Schema). all_created s (object ∷ refs ∷ outs ∷ permanent ∷ [])) first.schema) in
+    let rise : s0.faults ≤ s3.faults = omega (arith, c.settle.ensures.survives.counts, c.next.ensures.survives.counts, c.last.ensures.survives.counts) in
+    err_with c.both.result _ _ (λ f h. fails_after (IsTooLong c.args.store_dir.now) (IsSome s0.step_limit) s0 s3 s4 (part meta ∷ part object ∷ part refs ∷ part outs ∷ part permanent ∷ part user_root ∷ part profile ∷ part generation ∷ part runtime ∷ []) (piece ∷ temp_root ∷ []) [] refl first.was_open made eight.is_open rise f h) (c.both.ensures.cause clean)

@@ -23,7 +23,7 @@ put-requires-2 g c clean =
     let clean2 : HasCleanDisk b = omega (arith, c.put.ensures.survives.clean) in
     let clean1 : HasCleanDisk a = omega (arith, c.meta.ensures.survives.clean) in
     let made = c.in_ok-meta.ensures.makes clean2 in
-    has_still b d (codes "schema") (codes "1") (has_meta a b ((c.requires clean1).free made.was_open).0 made) (c.in_ok-put.ensures.puts clean)
+    has_still b d (codes "schema") (codes "3") (has_meta a b ((c.requires clean1).free made.was_open).0 made) (c.in_ok-put.ensures.puts clean)
 
 pub returns-clause-makes : goal.returns-clause-makes
 returns-clause-makes g c clean =

@@ -1,20 +1,22 @@
-use Rattle.std.proofs.Common.{rules}
+use Rattle.std.proofs.Common.{sym, ◌∙◌}
 use Rattle.sqlite.specs.Held.{state}
-use Rattle.table_statements.proofs.TestFailures.{passed_on, fails_for}
+use Rattle.table_opening.proofs.Opened.{found_none}
+use Rattle.table_opening.proofs.ReadableRows.{if_ok}
 use Rattle.table_opening.proofs.opening.open.Goals as goal
 
-pub test-requires-clause-settled : goal.test-requires-clause-settled
-test-requires-clause-settled g c clean = record {
-  has = λ is_open. c.find-found.ensures.ours.0 c.in-Ours.is;
-  settled = search rules;
-}
+pub returns-in-First-clause-nothing : goal.returns-in-First-clause-nothing
+returns-in-First-clause-nothing g c = if_ok c.first.result _ _ (λ r some. (λ is. absurd (some is), λ none. absurd (let no = sym c.in-First.is ∙ c.recognise.ensures.nothing.1 none in cc))) c.first.ensures.some
 
-pub returns-in_err-test-clause-cause : goal.returns-in_err-test-clause-cause
-returns-in_err-test-clause-cause g c clean =
-    passed_on c.from_residual.result _ _ c.from_residual.ensures.1 (fails_for (state g.S.Store c.args.conn.now) (state g.S.Store c.test.new.conn) _ _ (λ none. (c.find-found.ensures.ours.0 c.in-Ours.is, none)) c.in_err-test.field-0.0 (c.in_err-test.ensures.cause clean))
+pub returns-in-Second-clause-nothing : goal.returns-in-Second-clause-nothing
+returns-in-Second-clause-nothing g c = if_ok c.second.result _ _ (λ r some. (λ is. absurd (some is), λ none. absurd (let no = sym c.in-Second.is ∙ c.recognise.ensures.nothing.1 none in cc))) c.second.ensures.some
 
-pub returns-else-not-branch-clause-ours : goal.returns-else-not-branch-clause-ours
-returns-else-not-branch-clause-ours g c clean = (λ is. (c.find-found.ensures.ours.0 is, (c.in_ok-test.ensures.told clean).0 c.if-not-branch.false), λ both. c.in-Ours.is)
+pub returns-in-Third-clause-nothing : goal.returns-in-Third-clause-nothing
+returns-in-Third-clause-nothing g c = if_ok c.third.result _ _ (λ r some. (λ is. absurd (some is), λ none. absurd (let no = sym c.in-Third.is ∙ c.recognise.ensures.nothing.1 none in cc))) c.third.ensures.some
 
-pub returns-else-not-branch-clause-ready : goal.returns-else-not-branch-clause-ready
-returns-else-not-branch-clause-ready g c clean is = c.in_ok-test.ensures.ready clean c.if-not-branch.false
+pub returns-in_ok-probe-in_default-clause-found : goal.returns-in_ok-probe-in_default-clause-found
+returns-in_ok-probe-in_default-clause-found g c clean =
+    let old = state g.S.Store c.args.conn.now in
+    let new = state g.S.Store c.probe.new.conn in
+    let same = c.in_ok-probe-in_default.ensures.unchanged clean in
+    let found = c.recognise.ensures in
+    found_none c.recognise.result old new (record { nothing = found.nothing; first = found.first; second = found.second; third = found.third }) same (c.is_autocommit-settled.ensures.settled c.if-prove.false same.0.was_open) c.in_default.not-First c.in_default.not-Second c.in_default.not-Third

@@ -1,10 +1,23 @@
 use Rattle.std.proofs.Common.{◌≡◌, subst, rules, IsTrue}
-use Rattle.sqlite.specs.State.{Survives}
+use Rattle.std.specs.Prelude.{OnOk}
+use Rattle.sqlite.specs.State.{HasCleanDisk, Survives}
 use Rattle.sqlite.specs.Held.{state}
 use Rattle.rows.specs.Contents.{contents_of}
 use Rattle.rows.specs.Calls.{Leaves}
+use Rattle.table_statements.proofs.Scans.{on_ok}
 use Rattle.table_statements.proofs.Transactions.{survives_all}
+use Rattle.tables.specs.Kept.{IsWritten}
+use Rattle.tables.proofs.Transactions.{written}
 use Rattle.tables.proofs.change.commit.Goals as goal
+
+pub returns-clause-done : goal.returns-clause-done
+returns-clause-done g c =
+    let f = g.C.Change.change c.args.change.now in
+    let old = state g.S.Store c.args.conn.now in
+    let wrote = state g.S.Store c.write.new.tx.conn.now in
+    let same : c.commit.new.tx.0 ≡ c.conn-2-1.given.0 = search rules in
+    subst (λ h. HasCleanDisk (state g.S.Store h) → OnOk c.commit.result (IsWritten old (state g.S.Store h) f)) same
+    (λ clean. on_ok c.commit.result _ _ (λ k. written g.S.Store c.args.conn.now c.begin-tx.result.conn.now wrote (state g.S.Store c.commit.new.tx.0) f _ c.begin-tx.ensures.begun c.in_ok-write.ensures.done c.write.ensures.survives c.commit.ensures.survives c.requires.whole clean k) (c.commit.ensures.done clean))
 
 pub returns-clause-survives : goal.returns-clause-survives
 returns-clause-survives g c =

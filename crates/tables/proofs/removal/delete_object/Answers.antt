@@ -2,15 +2,49 @@ use Rattle.std.proofs.Common.{refl}
 use Rattle.sqlite.specs.Held.{state}
 use Rattle.rows.specs.Contents.{Contents}
 use Rattle.table_statements.proofs.Transactions.{done_both, failed_next, steps_both}
-use Rattle.tables.proofs.Transactions.{survives_both}
+use Rattle.table_statements.proofs.Steps.{under_after}
+use Rattle.tables.proofs.Failing.{err_kept}
+use Rattle.tables.proofs.Transactions.{survives_both, pieces_stand}
 use Rattle.tables.proofs.removal.delete_object.Goals as goal
+
+pub delete_of-requires-3-clause-stands : goal.delete_of-requires-3-clause-stands
+delete_of-requires-3-clause-stands g c clean is_open =
+    let a = state g.S.Store c.args.tx.now.conn.now in
+    let b = state g.S.Store c.delete_of.new.tx.conn.now in
+    let d = state g.S.Store c.delete_of-2.new.tx.conn.now in
+    pieces_stand a d _ (steps_both a b d _ _ c.in_ok-delete_of.ensures.done c.delete_of-2.ensures.survives c.in_ok-delete_of-2.ensures.done) (survives_both a b d c.delete_of.ensures.survives c.delete_of-2.ensures.survives) c.requires.stands clean
+
+pub returns-in_err-delete_of-3-clause-failed : goal.returns-in_err-delete_of-3-clause-failed
+returns-in_err-delete_of-3-clause-failed g c clean =
+    let a = state g.S.Store c.args.tx.now.conn.now in
+    let b = state g.S.Store c.delete_of.new.tx.conn.now in
+    let d = state g.S.Store c.delete_of-2.new.tx.conn.now in
+    let e = state g.S.Store c.delete_of-3.new.tx.conn.now in
+    err_kept a d e _ c.from_residual-in_err-delete_of-3.result (steps_both a b d _ _ c.in_ok-delete_of.ensures.done c.delete_of-2.ensures.survives c.in_ok-delete_of-2.ensures.done) c.delete_of-3.ensures.survives (c.in_err-delete_of-3.ensures.failed clean) clean
+
+pub returns-in_err-delete_of-3-clause-survives : goal.returns-in_err-delete_of-3-clause-survives
+returns-in_err-delete_of-3-clause-survives g c =
+    let a = state g.S.Store c.args.tx.now.conn.now in
+    let b = state g.S.Store c.delete_of.new.tx.conn.now in
+    let d = state g.S.Store c.delete_of-2.new.tx.conn.now in
+    survives_both a d (state g.S.Store c.delete_of-3.new.tx.conn.now) (survives_both a b d c.delete_of.ensures.survives c.delete_of-2.ensures.survives) c.delete_of-3.ensures.survives
+
+pub delete-requires : goal.delete-requires
+delete-requires g c clean =
+    let a = state g.S.Store c.args.tx.now.conn.now in
+    let b = state g.S.Store c.delete_of.new.tx.conn.now in
+    let d = state g.S.Store c.delete_of-2.new.tx.conn.now in
+    let e = state g.S.Store c.delete_of-3.new.tx.conn.now in
+    under_after a e _ (steps_both a d e _ _ (steps_both a b d _ _ c.in_ok-delete_of.ensures.done c.delete_of-2.ensures.survives c.in_ok-delete_of-2.ensures.done) c.delete_of-3.ensures.survives c.in_ok-delete_of-3.ensures.done clean)
 
 pub returns-clause-done : goal.returns-clause-done
 returns-clause-done g c =
     let a = state g.S.Store c.args.tx.now.conn.now in
     let b = state g.S.Store c.delete_of.new.tx.conn.now in
     let d = state g.S.Store c.delete_of-2.new.tx.conn.now in
-    done_both a d (state g.S.Store c.delete.new.tx.conn.now) _ _ (steps_both a b d _ _ c.in_ok-delete_of.ensures.done c.delete_of-2.ensures.survives c.in_ok-delete_of-2.ensures.done) c.delete.ensures.survives
+    let e = state g.S.Store c.delete_of-3.new.tx.conn.now in
+    done_both a e (state g.S.Store c.delete.new.tx.conn.now) _ _
+    (steps_both a d e _ _ (steps_both a b d _ _ c.in_ok-delete_of.ensures.done c.delete_of-2.ensures.survives c.in_ok-delete_of-2.ensures.done) c.delete_of-3.ensures.survives c.in_ok-delete_of-3.ensures.done) c.delete.ensures.survives
     c.delete.result _ (λ (x : Contents). refl) c.delete.ensures.done
 
 pub returns-clause-failed : goal.returns-clause-failed
@@ -18,7 +52,9 @@ returns-clause-failed g c =
     let a = state g.S.Store c.args.tx.now.conn.now in
     let b = state g.S.Store c.delete_of.new.tx.conn.now in
     let d = state g.S.Store c.delete_of-2.new.tx.conn.now in
-    failed_next a d (state g.S.Store c.delete.new.tx.conn.now) _ (λ x. x) (steps_both a b d _ _ c.in_ok-delete_of.ensures.done c.delete_of-2.ensures.survives c.in_ok-delete_of-2.ensures.done) c.delete.ensures.survives
+    let e = state g.S.Store c.delete_of-3.new.tx.conn.now in
+    failed_next a e (state g.S.Store c.delete.new.tx.conn.now) _ (λ x. x)
+    (steps_both a d e _ _ (steps_both a b d _ _ c.in_ok-delete_of.ensures.done c.delete_of-2.ensures.survives c.in_ok-delete_of-2.ensures.done) c.delete_of-3.ensures.survives c.in_ok-delete_of-3.ensures.done) c.delete.ensures.survives
     c.delete.result c.delete.ensures.failed
 
 pub returns-clause-survives : goal.returns-clause-survives
@@ -26,4 +62,6 @@ returns-clause-survives g c =
     let a = state g.S.Store c.args.tx.now.conn.now in
     let b = state g.S.Store c.delete_of.new.tx.conn.now in
     let d = state g.S.Store c.delete_of-2.new.tx.conn.now in
-    survives_both a d (state g.S.Store c.delete.new.tx.conn.now) (survives_both a b d c.delete_of.ensures.survives c.delete_of-2.ensures.survives) c.delete.ensures.survives
+    let e = state g.S.Store c.delete_of-3.new.tx.conn.now in
+    survives_both a e (state g.S.Store c.delete.new.tx.conn.now)
+    (survives_both a d e (survives_both a b d c.delete_of.ensures.survives c.delete_of-2.ensures.survives) c.delete_of-3.ensures.survives) c.delete.ensures.survives

@@ -8,7 +8,7 @@ use Rattle.table_statements.proofs.Transactions.{survives_none}
 use Rattle.tables.proofs.Kept.{clean_before}
 use Rattle.tables.proofs.Lists.{left_at, none_left}
 use Rattle.tables.proofs.Removed.{without_none, without_next}
-use Rattle.tables.proofs.Transactions.{survives_both}
+use Rattle.tables.proofs.Transactions.{survives_both, pieces_stand}
 use Rattle.tables.proofs.removal.delete_objects.Goals as goal
 
 pub paths-init : goal.paths-init
@@ -39,6 +39,12 @@ paths-preserved g c =
       goes = λ clean. goes_next without_objects all first now next left rest _ (c.paths.invariant.goes (clean_before now next _ c.delete_object.ensures.survives clean)) (c.in_ok-delete_object.ensures.done clean) same;
       survives = survives_both first now next c.paths.invariant.survives c.delete_object.ensures.survives;
     }
+
+pub delete_object-requires-clause-stands : goal.delete_object-requires-clause-stands
+delete_object-requires-clause-stands g c clean is_open =
+    let first = state g.S.Store c.args.tx.now.conn.now in
+    let now = state g.S.Store c.paths.tx.conn.now in
+    pieces_stand first now _ (λ clean. (c.paths.invariant.goes clean).changes) c.paths.invariant.survives (λ clean is_open. c.requires.stands clean) clean
 
 pub returns-clause-done : goal.returns-clause-done
 returns-clause-done g c = λ clean.

@@ -5,6 +5,7 @@ use Rattle.std.proofs.lemmas.Option.{same_Some}
 use Rattle.sqlite.specs.Held.{state}
 use Rattle.rows.specs.Contents.{contents_of}
 use Rattle.rows.specs.Entries.{stored}
+use Rattle.world.specs.Pieces.{row_part, further_pieces}
 use Rattle.tables.specs.Kept.{Kept}
 use Rattle.tables.specs.Rewritten.{put_object}
 use Rattle.tables.proofs.Transactions.{survives_as, written_as}
@@ -32,7 +33,7 @@ invariant_of-self-in-Ok g c =
     c.self.invariant c.requires.new c.requires.size c.requires.hash c.in_ok-texts.ensures.deriver c.in_ok-texts.ensures.ca c.in_ok-texts.ensures.valid
     (same_Some c.in-Some.object.now c.args.object
     (found_put c.self.inside.index c.insert_object.new.self c.args.path.now c.in_ok-key.key c.args.object (Some c.in-Some.object.now) c.in_ok-key.ensures.cases c.in_ok-insert_object.ensures.done c.in-Some.ensures))
-    c.requires.sound (survives_as _ _ (ap (λ (p : List ℕ). put_object p (stored c.args.nar.now c.in-Some.object.now.hash c.in_ok-texts.texts.deriver c.in_ok-texts.texts.ca) (finite.keys c.in-Some.object.now.references) (finite.entries c.in-Some.object.now.outputs)) c.as_str.ensures.value) c.commit.ensures.survives) (written_as _ _ (ap (λ (p : List ℕ). put_object p (stored c.args.nar.now c.in-Some.object.now.hash c.in_ok-texts.texts.deriver c.in_ok-texts.texts.ca) (finite.keys c.in-Some.object.now.references) (finite.entries c.in-Some.object.now.outputs)) c.as_str.ensures.value) (λ clean. c.in-Ok.ensures.done clean)) c.in_ok-key.ensures.cases c.in_ok-insert_object.ensures.done c.commit.ensures.alone
+    c.requires.sound (survives_as _ _ (ap (λ (p : List ℕ). put_object p (stored (row_part c.args.nar.now) c.in-Some.object.now.hash c.in_ok-texts.texts.deriver c.in_ok-texts.texts.ca) (finite.keys c.in-Some.object.now.references) (finite.entries c.in-Some.object.now.outputs) (further_pieces c.args.nar.now)) c.as_str.ensures.value) c.commit.ensures.survives) (written_as _ _ (ap (λ (p : List ℕ). put_object p (stored (row_part c.args.nar.now) c.in-Some.object.now.hash c.in_ok-texts.texts.deriver c.in_ok-texts.texts.ca) (finite.keys c.in-Some.object.now.references) (finite.entries c.in-Some.object.now.outputs) (further_pieces c.args.nar.now)) c.as_str.ensures.value) (λ clean. c.in-Ok.ensures.done clean)) c.in_ok-key.ensures.cases c.in_ok-insert_object.ensures.done c.commit.ensures.alone
 
 pub invariant_of-self-in-Err : goal.invariant_of-self-in-Err
 invariant_of-self-in-Err g c =
@@ -47,7 +48,7 @@ returns-in-Ok-clause-done g c =
     c.self.invariant c.requires.new c.requires.size c.requires.hash c.in_ok-texts.ensures.deriver c.in_ok-texts.ensures.ca c.in_ok-texts.ensures.valid
     (same_Some c.in-Some.object.now c.args.object
     (found_put c.self.inside.index c.insert_object.new.self c.args.path.now c.in_ok-key.key c.args.object (Some c.in-Some.object.now) c.in_ok-key.ensures.cases c.in_ok-insert_object.ensures.done c.in-Some.ensures))
-    c.requires.sound (survives_as _ _ (ap (λ (p : List ℕ). put_object p (stored c.args.nar.now c.in-Some.object.now.hash c.in_ok-texts.texts.deriver c.in_ok-texts.texts.ca) (finite.keys c.in-Some.object.now.references) (finite.entries c.in-Some.object.now.outputs)) c.as_str.ensures.value) c.commit.ensures.survives) (written_as _ _ (ap (λ (p : List ℕ). put_object p (stored c.args.nar.now c.in-Some.object.now.hash c.in_ok-texts.texts.deriver c.in_ok-texts.texts.ca) (finite.keys c.in-Some.object.now.references) (finite.entries c.in-Some.object.now.outputs)) c.as_str.ensures.value) (λ clean. c.in-Ok.ensures.done clean)) c.in_ok-key.ensures.cases c.in_ok-insert_object.ensures.done
+    c.requires.sound (survives_as _ _ (ap (λ (p : List ℕ). put_object p (stored (row_part c.args.nar.now) c.in-Some.object.now.hash c.in_ok-texts.texts.deriver c.in_ok-texts.texts.ca) (finite.keys c.in-Some.object.now.references) (finite.entries c.in-Some.object.now.outputs) (further_pieces c.args.nar.now)) c.as_str.ensures.value) c.commit.ensures.survives) (written_as _ _ (ap (λ (p : List ℕ). put_object p (stored (row_part c.args.nar.now) c.in-Some.object.now.hash c.in_ok-texts.texts.deriver c.in_ok-texts.texts.ca) (finite.keys c.in-Some.object.now.references) (finite.entries c.in-Some.object.now.outputs) (further_pieces c.args.nar.now)) c.as_str.ensures.value) (λ clean. c.in-Ok.ensures.done clean)) c.in_ok-key.ensures.cases c.in_ok-insert_object.ensures.done
 
 pub returns-in-Ok-clause-survives : goal.returns-in-Ok-clause-survives
 returns-in-Ok-clause-survives g c =
@@ -55,7 +56,7 @@ returns-in-Ok-clause-survives g c =
     c.self.invariant c.requires.new c.requires.size c.requires.hash c.in_ok-texts.ensures.deriver c.in_ok-texts.ensures.ca c.in_ok-texts.ensures.valid
     (same_Some c.in-Some.object.now c.args.object
     (found_put c.self.inside.index c.insert_object.new.self c.args.path.now c.in_ok-key.key c.args.object (Some c.in-Some.object.now) c.in_ok-key.ensures.cases c.in_ok-insert_object.ensures.done c.in-Some.ensures))
-    c.requires.sound (survives_as _ _ (ap (λ (p : List ℕ). put_object p (stored c.args.nar.now c.in-Some.object.now.hash c.in_ok-texts.texts.deriver c.in_ok-texts.texts.ca) (finite.keys c.in-Some.object.now.references) (finite.entries c.in-Some.object.now.outputs)) c.as_str.ensures.value) c.commit.ensures.survives)
+    c.requires.sound (survives_as _ _ (ap (λ (p : List ℕ). put_object p (stored (row_part c.args.nar.now) c.in-Some.object.now.hash c.in_ok-texts.texts.deriver c.in_ok-texts.texts.ca) (finite.keys c.in-Some.object.now.references) (finite.entries c.in-Some.object.now.outputs) (further_pieces c.args.nar.now)) c.as_str.ensures.value) c.commit.ensures.survives)
 
 pub returns-clause-failed : goal.returns-clause-failed
 returns-clause-failed g c =
@@ -69,4 +70,4 @@ returns-clause-survives g c =
     c.self.invariant c.requires.new c.requires.size c.requires.hash c.in_ok-texts.ensures.deriver c.in_ok-texts.ensures.ca c.in_ok-texts.ensures.valid
     (same_Some c.in-Some.object.now c.args.object
     (found_put c.self.inside.index c.insert_object.new.self c.args.path.now c.in_ok-key.key c.args.object (Some c.in-Some.object.now) c.in_ok-key.ensures.cases c.in_ok-insert_object.ensures.done c.in-Some.ensures))
-    c.requires.sound (survives_as _ _ (ap (λ (p : List ℕ). put_object p (stored c.args.nar.now c.in-Some.object.now.hash c.in_ok-texts.texts.deriver c.in_ok-texts.texts.ca) (finite.keys c.in-Some.object.now.references) (finite.entries c.in-Some.object.now.outputs)) c.as_str.ensures.value) c.commit.ensures.survives)
+    c.requires.sound (survives_as _ _ (ap (λ (p : List ℕ). put_object p (stored (row_part c.args.nar.now) c.in-Some.object.now.hash c.in_ok-texts.texts.deriver c.in_ok-texts.texts.ca) (finite.keys c.in-Some.object.now.references) (finite.entries c.in-Some.object.now.outputs) (further_pieces c.args.nar.now)) c.as_str.ensures.value) c.commit.ensures.survives)

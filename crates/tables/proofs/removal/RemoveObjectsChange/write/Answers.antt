@@ -4,8 +4,12 @@ use Rattle.rows.specs.Contents.{Contents}
 use Rattle.table_statements.proofs.Transactions.{done_both, failed_next}
 use Rattle.tables.specs.Rewritten.{without_object, without_objects}
 use Rattle.tables.proofs.Removed.{without_next}
-use Rattle.tables.proofs.Transactions.{survives_both}
+use Rattle.tables.proofs.Transactions.{survives_both, pieces_stand}
 use Rattle.tables.proofs.removal.RemoveObjectsChange.write.Goals as goal
+
+pub delete_objects-requires-clause-stands : goal.delete_objects-requires-clause-stands
+delete_objects-requires-clause-stands g c clean =
+    pieces_stand (state g.S.Store c.args.tx.now.conn.now) (state g.S.Store c.delete_object.new.tx.conn.now) _ c.in_ok-delete_object.ensures.done c.delete_object.ensures.survives (λ early is_open. (c.requires.whole early is_open).pieces) clean
 
 pub returns-clause-done : goal.returns-clause-done
 returns-clause-done g c =

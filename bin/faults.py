@@ -1,0 +1,256 @@
+"""What makes a sound store unsound, row by row; and schemas, which are a store's or not."""
+import random
+
+from stores import AFTER, ALL, BEFORE, BETWEEN, FORMS, PART, Model, archive, base32, derivation, hidden, making, sha256
+
+
+def blob(data):
+    return f"x'{data.hex()}'"
+
+
+def update(table, what, where):
+    return f"UPDATE {table} SET {what} WHERE {where};"
+
+
+class Faulty:
+    """A store with a row of each kind, and by name what spoils it."""
+
+    def __init__(self):
+        made, self.gone, self.malformed = Model(), hidden("gone"), "not-a-path"
+        self.low = made.add_text("low", b"low")
+        self.top = made.add_text("top", b"top", [self.low])
+        out = hidden("out")
+        self.drv = made.add_text("made.drv", derivation({"out": out}), [self.low], {"out": out})
+        self.own, self.out = hidden("own"), out
+        made.add(self.own, archive(b"own"), [self.own, self.low], self.drv)
+        made.permanent["root"], made.user["ann", "root"] = self.top, self.low
+        made.profiles["ann", "profile"] = ({1: self.low, 2: self.top}, 2)
+        made.runtime.add(("/proc/1/exe", self.low))
+        made.temporary |= {("ann", 1, self.low), ("b" * 64, 4_194_304, self.low)}
+        # Archives of these bytes, which no address binds, so that nothing but the cutting can be at fault.
+        self.lengths = {"brim": PART, "over": PART + 8, "even": 2 * PART, "long": 2 * PART + 800}
+        some = random.Random(2)
+        for name, length in self.lengths.items():
+            made.add(hidden(name), archive(some.randbytes(length - 112)))
+        self.model = made
+
+    def of_settings(self):
+        return {
+            **{f"schema `{it}`": update("meta", f"val = '{it}'", "word = 'schema'") for it in ("", "0", "4", "01", "03", " 3", "3 ", "three")},
+            "no schema": "DELETE FROM meta WHERE word = 'schema';",
+            "no store directory": "DELETE FROM meta WHERE word = 'store-dir';",
+            "a store directory that is none": update("meta", "val = '/'", "word = 'store-dir'"),
+            "a further setting": "INSERT INTO meta VALUES ('more', '1');",
+        }
+
+    def of_objects(self):
+        low, top, own, drv, out, gone = self.low, self.top, self.own, self.drv, self.out, self.gone
+        other = archive(b"other")
+        return {
+            "a path of an object that is none": f"INSERT INTO object VALUES ('{self.malformed}', {blob(other)}, {blob(sha256(other))}, NULL, NULL);",
+            "an archive that is none": update("object", f"nar = x'00', hash = {blob(sha256(bytes(1)))}", f"base = '{own}'"),
+            "an archive without bytes": update("object", f"nar = x'', hash = {blob(sha256(b''))}", f"base = '{own}'"),
+            "another digest": update("object", f"hash = {blob(sha256(b'x'))}", f"base = '{own}'"),
+            "a digest that is too short": update("object", "hash = x'00'", f"base = '{own}'"),
+            "another archive": update("object", f"nar = {blob(other)}", f"base = '{own}'"),
+            "another archive with its digest under an address": update("object", f"nar = {blob(other)}, hash = {blob(sha256(other))}", f"base = '{low}'"),
+            "an address that is none": update("object", "ca = 'x'", f"base = '{low}'"),
+            "an address of another's": update("object", f"ca = (SELECT ca FROM object WHERE base = '{top}')", f"base = '{low}'"),
+            "an address of an object that refers to itself": update("object", f"ca = 'fixed:r:sha256:{base32(sha256(archive(b'own')))}'", f"base = '{own}'"),
+            "a deriver that is no path": update("object", f"deriver = '{self.malformed}'", f"base = '{own}'"),
+            "a reference that isn't an object": f"INSERT INTO refs VALUES ('{own}', '{gone}');",
+            "a reference that is no path": f"INSERT INTO refs VALUES ('{own}', '{self.malformed}');",
+            "a reference of nobody": f"INSERT INTO refs VALUES ('{gone}', '{low}');",
+            "a reference to itself under an address": f"INSERT INTO refs VALUES ('{low}', '{low}');",
+            "a reference more under an address": f"INSERT INTO refs VALUES ('{low}', '{top}');",
+            "a reference less under an address": f"DELETE FROM refs WHERE base = '{top}';",
+            "an output of nobody": f"INSERT INTO outs VALUES ('{gone}', 'out', '{out}');",
+            "an output of no derivation": f"INSERT INTO outs VALUES ('{low}', 'out', '{out}');",
+            "a derivation without its output": f"DELETE FROM outs WHERE base = '{drv}';",
+            "a derivation with another output": update("outs", f"target = '{low}'", f"base = '{drv}'"),
+            "a derivation with an output more": f"INSERT INTO outs VALUES ('{drv}', 'dev', '{low}');",
+        }
+
+    def of_roots(self):
+        low, gone = self.low, self.gone
+        return {
+            "a permanent root without its object": update("permanent", f"target = '{gone}'", "name = 'root'"),
+            "a permanent root with a bad name": update("permanent", "name = 'a/b'", "name = 'root'"),
+            "a user root without its object": update("user_root", f"target = '{gone}'", "name = 'root'"),
+            "a user root with a bad name": update("user_root", "name = ''", "name = 'root'"),
+            "a user root with a bad owner": update("user_root", "owner = '-ann'", "name = 'root'"),
+            "a profile with a bad name": "UPDATE profile SET name = 'a b'; UPDATE generation SET name = 'a b';",
+            "a profile with a bad owner": "UPDATE profile SET owner = 'a b'; UPDATE generation SET owner = 'a b';",
+            "a current number without its generation": update("profile", "cur = 3", "name = 'profile'"),
+            "a profile without generations": "DELETE FROM generation;",
+            "a generation of no profile": f"INSERT INTO generation VALUES ('bob', 'profile', 1, '{low}');",
+            "a generation without its object": update("generation", f"target = '{gone}'", "num = 1"),
+            "generation 0": f"INSERT INTO generation VALUES ('ann', 'profile', 0, '{low}');",
+            "generation 10,000": f"INSERT INTO generation VALUES ('ann', 'profile', 10000, '{low}');",
+            "a generation below 0": f"INSERT INTO generation VALUES ('ann', 'profile', -1, '{low}');",
+            "a runtime root without its object": update("runtime", f"target = '{gone}'", "1"),
+            "a runtime root with an empty label": update("runtime", "label = ''", "1"),
+            "a runtime root with a blank in its label": update("runtime", "label = 'a b'", "1"),
+            "a runtime root with a long label": update("runtime", f"label = '{'a' * 257}'", "1"),
+        }
+
+    def cut(self, name, *parts, numbers=None):
+        """The archive's row has the first of these bytes, and pieces the others, numbered from 1 or so."""
+        path = hidden(name)
+        numbered = zip(numbers or range(1, len(parts)), parts[1:])
+        put_again = "".join(f"INSERT INTO piece VALUES ('{path}', {number}, {blob(it)});" for number, it in numbered)
+        return f"BEGIN; UPDATE object SET nar = {blob(parts[0])} WHERE base = '{path}'; DELETE FROM piece WHERE base = '{path}'; {put_again} COMMIT;"
+
+    def of_pieces(self):
+        brim, over, even, long = (self.model.objects[hidden(name)]["nar"] for name in self.lengths)
+        first, second, rest = long[:PART], long[PART:2 * PART], long[2 * PART:]
+        short = self.model.objects[self.own]["nar"]
+        huge = archive(bytes(16_777_224 - 112))
+        huge_parts = [huge[at:at + PART] for at in range(0, len(huge), PART)]
+        return {
+            "a piece of nobody": f"INSERT INTO piece VALUES ('{self.gone}', 1, x'00');",
+            "a piece whose path is none": f"INSERT INTO piece VALUES ('{self.malformed}', 1, x'00');",
+            "an empty piece of nobody": f"INSERT INTO piece VALUES ('{self.gone}', 1, x'');",
+            "a byte behind an archive": f"INSERT INTO piece VALUES ('{self.own}', 1, x'00');",
+            "an empty piece behind a short archive": f"INSERT INTO piece VALUES ('{self.own}', 1, x'');",
+            "a short archive in two": f"UPDATE object SET nar = {blob(short[:50])} WHERE base = '{self.own}'; INSERT INTO piece VALUES ('{self.own}', 1, {blob(short[50:])});",
+            "a short archive in its piece alone": f"UPDATE object SET nar = x'' WHERE base = '{self.own}'; INSERT INTO piece VALUES ('{self.own}', 1, {blob(short)});",
+            "an empty piece behind a full row": self.cut("brim", brim, b""),
+            "a full row that is cut": self.cut("brim", brim[:-8], brim[-8:]),
+            "a row that is too long": self.cut("over", over),
+            "a row that is too long, and an empty piece": self.cut("over", over, b""),
+            "a row that is too short": self.cut("over", over[:PART - 1], over[PART - 1:]),
+            "a row without its piece": self.cut("over", over[:PART]),
+            "a piece numbered 2": self.cut("over", over[:PART], over[PART:], numbers=[2]),
+            "a piece numbered 0": self.cut("over", over[:PART], over[PART:], numbers=[0]),
+            "a piece below 0": self.cut("over", over[:PART], over[PART:], numbers=[-1]),
+            "another byte in a piece": self.cut("over", over[:PART], over[PART:-1] + b"\1"),
+            "a byte too few in the last piece": self.cut("over", over[:PART], over[PART:-1]),
+            "an empty piece behind a full one": self.cut("even", even[:PART], even[PART:], b""),
+            "a full piece that is cut": self.cut("even", even[:PART], even[PART:-1], even[-1:]),
+            "a last piece that is too long": self.cut("long", first, second + rest),
+            "pieces of other lengths": self.cut("long", first, second[:-1], second[-1:] + rest),
+            "an empty piece in the middle": self.cut("long", first, b"", second, rest),
+            "pieces in another order": self.cut("long", first, second, rest, numbers=[2, 1]),
+            "a number between pieces that is missing": self.cut("long", first, second, rest, numbers=[1, 3]),
+            "pieces numbered from 0": self.cut("long", first, second, rest, numbers=[0, 1]),
+            "no first piece": self.cut("long", first, rest, numbers=[2]),
+            "no last piece": self.cut("long", first, second),
+            "a whole archive as the row of another cutting": self.cut("long", long),
+            "an archive above 16 MiB": update("object", f"hash = {blob(sha256(huge))}", f"base = '{hidden('long')}'") + self.cut("long", *huge_parts),
+        }
+
+    def of_sessions(self):
+        put = lambda owner, session, target: f"INSERT INTO temp_root VALUES ('{owner}', {session}, '{target}');"
+        return {
+            "session 0": put("ann", 0, self.low),
+            "a session below 0": put("ann", -1, self.low),
+            "session 4,194,305": put("ann", 4_194_305, self.low),
+            "a session far above": put("ann", 2 ** 63 - 1, self.low),
+            "a temporary root without its object": put("ann", 1, self.gone),
+            "a temporary root of no path": put("ann", 1, self.malformed),
+            **{f"a temporary root of {what}": put(owner, 1, self.low) for what, owner in
+               {"nobody": "", "a bad owner": "-ann", "an owner with a blank": "a b", "an owner with a slash": "a/b", "a long owner": "a" * 65}.items()},
+        }
+
+    def of_tables(self):
+        return {
+            "no rows at all": "".join(f"DELETE FROM {it};" for it in FORMS),
+            **{f"schema `{it}` with all tables": update("meta", f"val = '{it}'", "word = 'schema'") for it in ("1", "2")},
+            **{f"a {table} without its table": f"DROP TABLE {table};" for table in FORMS},
+        }
+
+    def whatever_the_schema(self):
+        return {**self.of_settings(), **self.of_objects(), **self.of_roots()}
+
+
+# ---- schemas
+
+
+TRIGGER = "CREATE TRIGGER on_{0} AFTER INSERT ON {0} BEGIN DELETE FROM note; END;"
+
+
+def changed(table, old, new):
+    """All tables, one of them by another text."""
+    assert old in making(table)
+    return "".join(making(it).replace(old, new) if it == table else making(it) for it in FORMS)
+
+
+def schemas():
+    """Texts for an empty file, and whether it is a store then: taken up, made, or refused."""
+    taken, made, refused = "taken up", "made", "refused"
+    return [
+        ("", made),
+        (BEFORE + BETWEEN, made),
+        (ALL, taken),
+        (BEFORE + ALL + BETWEEN + AFTER, taken),
+        (ALL + "CREATE UNIQUE INDEX again ON refs (base, target);", taken),
+        (ALL + "CREATE VIEW seen AS SELECT base FROM refs;", taken),
+        (ALL + BEFORE + "CREATE TRIGGER theirs AFTER INSERT ON note BEGIN DELETE FROM refs; END;", taken),
+        (ALL + "ANALYZE;", taken),
+        (ALL.replace("CREATE TABLE refs (", "create  table \"refs\"\n("), taken),
+        (ALL + "ALTER TABLE refs RENAME TO references_; ALTER TABLE references_ RENAME TO refs;", taken),
+        # What a schema shows alike: a key's column is NOT NULL in a STRICT table, INT is INTEGER in one, and
+        # ON CONFLICT isn't carried out here.
+        (changed("refs", "target TEXT NOT NULL", "target TEXT"), taken),
+        (changed("profile", "cur INTEGER", "cur INT"), taken),
+        (changed("permanent", "PRIMARY KEY (name)", "PRIMARY KEY (name) ON CONFLICT REPLACE"), taken),
+        (changed("meta", "PRIMARY KEY (word)", "PRIMARY KEY (word), UNIQUE (word)"), taken),
+        (changed("refs", "PRIMARY KEY", "CONSTRAINT whole PRIMARY KEY"), taken),
+        (changed("refs", "(base, target)) ", "(base ASC, target)) "), taken),
+        (changed("object", "deriver TEXT", "deriver TEXT DEFAULT NULL"), taken),
+        (changed("piece", "num INTEGER", "num INT"), taken),
+        (ALL + "CREATE INDEX numbers ON piece (num); CREATE INDEX kept ON temp_root (target);", taken),
+        (changed("outs", "name TEXT NOT NULL", "name TEXT NOT NULL COLLATE BINARY"), taken),
+        # A table with an index that isn't understood can't be read here.
+        (ALL + "CREATE INDEX some ON refs (target) WHERE base > 'a';", refused),
+        (ALL + "CREATE INDEX lowered ON refs (lower(target));", refused),
+        (making("refs"), refused),
+        (making("piece"), refused),
+        (making("temp_root"), refused),
+        (making("piece") + making("temp_root"), refused),
+        ("CREATE VIEW temp_root AS SELECT 1 AS owner, 2 AS session, 3 AS target;", refused),
+        ("CREATE TABLE t (a TEXT); CREATE INDEX piece ON t (a);", refused),
+        (ALL + "DROP TABLE piece; CREATE VIEW piece AS SELECT 1 AS base, 2 AS num, 3 AS bytes;", refused),
+        (ALL + "CREATE UNIQUE INDEX one ON piece (base);", refused),
+        (ALL + "CREATE UNIQUE INDEX one ON temp_root (session);", refused),
+        (ALL + "CREATE TABLE child (p TEXT REFERENCES piece (base));", refused),
+        (ALL + "ALTER TABLE piece ADD COLUMN more BLOB;", refused),
+        (changed("piece", " STRICT", ""), refused),
+        (changed("piece", "(base, num)) ", "(num, base)) "), refused),
+        (changed("piece", "PRIMARY KEY (base, num)", "PRIMARY KEY (base)"), refused),
+        (changed("piece", "bytes BLOB NOT NULL", "bytes BLOB"), refused),
+        (changed("piece", "bytes BLOB", "bytes TEXT"), refused),
+        (changed("piece", "num INTEGER", "num TEXT"), refused),
+        (changed("piece", "base TEXT NOT NULL", "base TEXT NOT NULL REFERENCES object (base)"), refused),
+        (changed("temp_root", " STRICT", ""), refused),
+        (changed("temp_root", ") STRICT", ") STRICT, WITHOUT ROWID"), refused),
+        (changed("temp_root", "session INTEGER", "session TEXT"), refused),
+        (changed("temp_root", "(owner, session, target)) ", "(owner, target, session)) "), refused),
+        (changed("temp_root", "PRIMARY KEY (owner, session, target)", "PRIMARY KEY (owner, session)"), refused),
+        (changed("temp_root", "session INTEGER NOT NULL", "session INTEGER NOT NULL CHECK (session > 0)"), refused),
+        (ALL + "ALTER TABLE refs RENAME TO Refs_; ALTER TABLE Refs_ RENAME TO REFS;", refused),
+        (ALL + "ALTER TABLE meta ADD COLUMN more TEXT;", refused),
+        (ALL + "ALTER TABLE object DROP COLUMN ca;", refused),
+        (ALL + "DROP TABLE refs; CREATE VIEW refs AS SELECT 1 AS base, 2 AS target;", refused),
+        ("CREATE VIEW refs AS SELECT 1 AS base, 2 AS target;", refused),
+        ("CREATE TABLE t (a TEXT); CREATE INDEX outs ON t (a);", refused),
+        ("CREATE TABLE child (p TEXT REFERENCES refs (base));", refused),
+        (ALL + "CREATE TABLE child (p TEXT REFERENCES permanent (name));", refused),
+        (ALL + "CREATE UNIQUE INDEX one ON refs (target);", refused),
+        (ALL + "CREATE UNIQUE INDEX one ON refs (lower(target));", refused),
+        (ALL + "CREATE UNIQUE INDEX one ON runtime (label COLLATE NOCASE, target);", refused),
+        (changed("refs", " STRICT", ""), refused),
+        (changed("refs", ") STRICT", ") STRICT, WITHOUT ROWID"), refused),
+        (changed("refs", "(base, target)) ", "(target, base)) "), refused),
+        (changed("refs", "(base, target)) ", "(base DESC, target)) "), refused),
+        (changed("meta", "val TEXT NOT NULL", "val TEXT"), refused),
+        (changed("refs", "base TEXT", "base BLOB"), refused),
+        (changed("profile", "cur INTEGER", "cur ANY"), refused),
+        (changed("object", "deriver TEXT", "deriver TEXT NOT NULL"), refused),
+        (changed("meta", "val TEXT NOT NULL", "val TEXT NOT NULL CHECK (val <> '')"), refused),
+        (changed("meta", "val TEXT NOT NULL", "val TEXT NOT NULL DEFAULT 'x'"), refused),
+        (changed("meta", "word TEXT NOT NULL", "word TEXT NOT NULL COLLATE NOCASE"), refused),
+        (changed("permanent", "target TEXT NOT NULL", "target TEXT NOT NULL REFERENCES object (base)"), refused),
+        *[(ALL + BEFORE + TRIGGER.format(it), refused) for it in FORMS],
+    ]

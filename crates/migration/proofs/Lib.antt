@@ -1,0 +1,6 @@
+pub mod Cuts
+pub mod Pieces
+pub mod Rewritten
+pub mod Steps
+pub mod Grown
+pub mod Failed

@@ -1,0 +1,56 @@
+use Rattle.std.proofs.Common.{◌≡◌, take, drop, string_bytes, sym, ap, ◌∙◌}
+use Rattle.sqlite.specs.Held.{state}
+use Rattle.sqlite.specs.State.{HasCleanDisk}
+use Rattle.table_statements.specs.Contents.{Contents}
+use Rattle.table_statements.proofs.Steps.{clean_before}
+use Rattle.table_statements.proofs.TestFailures.{survives_both}
+use Rattle.table_statements.proofs.Transactions.{done_both, failed_next, steps_both}
+use Rattle.table_statements.proofs.Under.{piece_after}
+use Rattle.table_entries.specs.Entries.{stored_of}
+use Rattle.world.specs.Pieces.{piece_size, row_part}
+use Rattle.migration.specs.Cutting.{cut_row}
+use Rattle.migration.proofs.Cuts.{size}
+use Rattle.migration.proofs.Steps.{written}
+use Rattle.migration.proofs.cutting.put_cut.Goals as goal
+
+pub put_pieces-requires-clause-stands : goal.put_pieces-requires-clause-stands
+put_pieces-requires-clause-stands g c clean =
+    let a = state g.S.Store c.args.tx.now.conn.now in
+    let b = state g.S.Store c.delete.new.tx.conn.now in
+    let d = state g.S.Store c.insert.new.tx.conn.now in
+    let early : HasCleanDisk b = clean_before b d _ c.insert.ensures.survives clean in
+    piece_after b d _ (c.in_ok-insert.ensures.done clean) (piece_after a b _ (c.in_ok-delete.ensures.done early) (c.requires.stands (clean_before a b _ c.delete.ensures.survives early)))
+
+pub returns-clause-done : goal.returns-clause-done
+returns-clause-done g c =
+    let a = state g.S.Store c.args.tx.now.conn.now in
+    let b = state g.S.Store c.delete.new.tx.conn.now in
+    let d = state g.S.Store c.insert.new.tx.conn.now in
+    let object = c.args.object.now in
+    let nar = object.nar.items in
+    let hash = object.hash.items in
+    let base = c.as_str-base.result.now in
+    let front = c.split_at.result.0.now in
+    let after = c.split_at.result.1.now in
+    let digest = c.deref-2.result.now in
+    let first : front ≡ row_part nar = c.split_at.ensures.front ∙ ap (take 65536) c.deref.ensures.value ∙ ap (λ k. take k nar) (sym size) in
+    let rest : after ≡ drop piece_size nar = c.split_at.ensures.back ∙ ap (drop 65536) c.deref.ensures.value ∙ ap (λ k. drop k nar) (sym size) in
+    done_both a d (state g.S.Store c.put_pieces.new.tx.conn.now) _ _ (steps_both a b d _ _ c.in_ok-delete.ensures.done c.insert.ensures.survives c.in_ok-insert.ensures.done) c.put_pieces.ensures.survives
+    c.put_pieces.result (cut_row (stored_of object).0 (stored_of object).1)
+    (λ (x : Contents). written x base (string_bytes object.base) front digest hash after nar object.deriver object.ca c.as_str-base.ensures.value first c.deref-2.ensures.value rest)
+    c.put_pieces.ensures.done
+
+pub returns-clause-failed : goal.returns-clause-failed
+returns-clause-failed g c =
+    let a = state g.S.Store c.args.tx.now.conn.now in
+    let b = state g.S.Store c.delete.new.tx.conn.now in
+    let d = state g.S.Store c.insert.new.tx.conn.now in
+    failed_next a d (state g.S.Store c.put_pieces.new.tx.conn.now) _ (λ x. x) (steps_both a b d _ _ c.in_ok-delete.ensures.done c.insert.ensures.survives c.in_ok-insert.ensures.done) c.put_pieces.ensures.survives
+    c.put_pieces.result c.put_pieces.ensures.failed
+
+pub returns-clause-survives : goal.returns-clause-survives
+returns-clause-survives g c =
+    let a = state g.S.Store c.args.tx.now.conn.now in
+    let b = state g.S.Store c.delete.new.tx.conn.now in
+    let d = state g.S.Store c.insert.new.tx.conn.now in
+    survives_both a d (state g.S.Store c.put_pieces.new.tx.conn.now) (survives_both a b d c.delete.ensures.survives c.insert.ensures.survives) c.put_pieces.ensures.survives

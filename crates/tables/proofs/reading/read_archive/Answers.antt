@@ -1,0 +1,70 @@
+use Rattle.std.proofs.Common.{◌++◌, List, sym, ap, subst, arith, ◌∙◌}
+use Rattle.std.specs.List.{flat_map}
+use Rattle.std.specs.Ordering.{eq_by_cmp}
+use Rattle.std.specs.FinMap as finite
+use Rattle.sqlite.specs.Effect.{Database}
+use Rattle.sqlite.specs.State.{HasCleanDisk}
+use Rattle.sqlite.specs.Held.{state}
+use Rattle.sqlite.proofs.Callers.{unchanged_then}
+use Rattle.paths.specs.Root.{bytes_cmp}
+use Rattle.rows.specs.Forms.{piece}
+use Rattle.rows.specs.Calls.{HasFurther}
+use Rattle.rows.specs.Contents.{contents_of}
+use Rattle.rows.specs.Entries.{IsStored}
+use Rattle.table_statements.proofs.Steps.{shown_then}
+use Rattle.table_entries.specs.declared.pieces.Piece.{Piece}
+use Rattle.tables.proofs.ReadArchives.{none_read, all_read}
+use Rattle.tables.proofs.Transactions.{survives_both}
+use Rattle.tables.proofs.reading.read_archive.Goals as goal
+
+pub of-requires-clause-stands : goal.of-requires-clause-stands
+of-requires-clause-stands g c clean is_open =
+    let shown = c.get.ensures.same clean in
+    let early : HasCleanDisk (state g.S.Store c.args.conn.now) = omega (arith, c.get.ensures.survives.clean, clean) in
+    subst (λ (d : Database). HasFurther d piece) (sym (shown.now is_open)) (c.requires.stands early (shown.was_open is_open))
+
+pub returns-in_default-clause-reads : goal.returns-in_default-clause-reads
+returns-in_default-clause-reads g c clean =
+    let there = contents_of (state g.S.Store c.args.conn.now).now in
+    let read = c.in_ok-found.ensures.reads clean in
+    (read.0, none_read there c.args.base.now (subst (IsStored there.objects c.args.base.now) c.in_default.is read.1))
+
+pub returns-clause-reads : goal.returns-clause-reads
+returns-clause-reads g c clean =
+    let base = c.args.base.now in
+    let s0 = state g.S.Store c.args.conn.now in
+    let s1 = state g.S.Store c.get.new.conn in
+    let s2 = state g.S.Store c.of.new.conn in
+    let early : HasCleanDisk s1 = omega (arith, c.of.ensures.survives.clean, clean) in
+    let first = c.in_ok-found.ensures.reads early in
+    let next = c.in_ok-further.ensures.reads clean in
+    let stored = subst (IsStored (contents_of s0.now).objects base) c.in-Some.is first.1 in
+    let listed = next.1 ∙ ap (λ (d : Database). finite.entries (finite.retain_keys (contents_of d).pieces (λ k. eq_by_cmp bytes_cmp k.0 base))) first.0.0.now_is in (
+      unchanged_then s0 s1 s2 first.0 next.0,
+      all_read (contents_of s0.now) base c.in-Some.object c.in_ok-further.further.items c.in_ok-nar.nar.items stored.1 listed
+          (c.in_ok-nar.ensures ∙ ap (λ (rows : List Piece). c.in-Some.object.nar.items ++ flat_map (λ (x : Piece). x.bytes.items) rows) c.as_slice.ensures.value),
+    )
+
+pub returns-in_err-further-clause-same : goal.returns-in_err-further-clause-same
+returns-in_err-further-clause-same g c clean =
+    let early : HasCleanDisk (state g.S.Store c.get.new.conn) = omega (arith, c.of.ensures.survives.clean, clean) in
+    shown_then (state g.S.Store c.args.conn.now) (state g.S.Store c.get.new.conn) (state g.S.Store c.of.new.conn) (c.get.ensures.same early) (c.of.ensures.same clean)
+
+pub returns-in_err-nar-clause-same : goal.returns-in_err-nar-clause-same
+returns-in_err-nar-clause-same g c clean =
+    let early : HasCleanDisk (state g.S.Store c.get.new.conn) = omega (arith, c.of.ensures.survives.clean, clean) in
+    shown_then (state g.S.Store c.args.conn.now) (state g.S.Store c.get.new.conn) (state g.S.Store c.of.new.conn) (c.get.ensures.same early) (c.of.ensures.same clean)
+
+pub returns-clause-same : goal.returns-clause-same
+returns-clause-same g c clean =
+    let early : HasCleanDisk (state g.S.Store c.get.new.conn) = omega (arith, c.of.ensures.survives.clean, clean) in
+    shown_then (state g.S.Store c.args.conn.now) (state g.S.Store c.get.new.conn) (state g.S.Store c.of.new.conn) (c.get.ensures.same early) (c.of.ensures.same clean)
+
+pub returns-in_err-further-clause-survives : goal.returns-in_err-further-clause-survives
+returns-in_err-further-clause-survives g c = survives_both (state g.S.Store c.args.conn.now) (state g.S.Store c.get.new.conn) (state g.S.Store c.of.new.conn) c.get.ensures.survives c.of.ensures.survives
+
+pub returns-in_err-nar-clause-survives : goal.returns-in_err-nar-clause-survives
+returns-in_err-nar-clause-survives g c = survives_both (state g.S.Store c.args.conn.now) (state g.S.Store c.get.new.conn) (state g.S.Store c.of.new.conn) c.get.ensures.survives c.of.ensures.survives
+
+pub returns-clause-survives : goal.returns-clause-survives
+returns-clause-survives g c = survives_both (state g.S.Store c.args.conn.now) (state g.S.Store c.get.new.conn) (state g.S.Store c.of.new.conn) c.get.ensures.survives c.of.ensures.survives

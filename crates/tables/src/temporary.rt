@@ -1,0 +1,70 @@
+//! Temporary roots, as the rows have them.
+
+ghost use Rattle.std.specs.Prelude.{◌≡◌, IfOk};
+ghost use Rattle.index.specs.Maps.{temporary_bytes};
+ghost use Rattle.tables.specs.Sessions.{keeps};
+
+use crate::change::Change;
+use paths::StorePath;
+use rows::temp_roots;
+use sqlite::{Alter, Transaction};
+use std::alloc::{AllocError, Global};
+use table_statements::failure::Failure;
+
+/// A path that a session of an owner keeps, as the index has it.
+pub(crate) fn kept(
+    alloc: Global,
+    owner: &str,
+    session: u32,
+    target: &StorePath,
+) -> Result<(String, u32, StorePath), AllocError>
+    ensures { IfOk result (λ kept. temporary_bytes kept ≡ keeps owner.now session target.now) }
+{
+    let owner = String::from_str(alloc, owner)?;
+    let target = target.clone()?;
+    Ok((owner, session, target))
+}
+
+/// A session keeps a path, whether it kept it or not.
+#[derive(Drop)]
+pub(crate) struct PutTemporary<'a> {
+    pub(crate) owner: &'a str,
+    pub(crate) session: u32,
+    pub(crate) target: &'a str,
+}
+
+impl<'a> Change for PutTemporary<'a> {
+    ghost use Rattle.std.specs.Prelude.{⊤, pos};
+    ghost use Rattle.std.specs.FinMap as finite;
+
+    ghost change = { λ p c. record c { temp_roots = finite.insert c.temp_roots (p.owner.now, pos p.session, p.target.now) tt } };
+
+    ghost fits = { λ p c. ⊤ };
+
+    fn write<S: Alter>(&self, tx: &mut Transaction<'_, S>) -> Result<(), Failure> {
+        temp_roots::delete(tx, self.owner, self.session, self.target)?;
+        temp_roots::insert(tx, self.owner, self.session, self.target)
+    }
+}
+
+/// A session ends: what it kept goes.
+#[derive(Drop)]
+pub(crate) struct EndSession<'a> {
+    pub(crate) owner: &'a str,
+    pub(crate) session: u32,
+}
+
+impl<'a> Change for EndSession<'a> {
+    ghost use Rattle.std.specs.Prelude.{⊤, pos, not, ◌&&◌};
+    ghost use Rattle.std.specs.Ordering.{eq_by_cmp, int_cmp};
+    ghost use Rattle.std.specs.FinMap as finite;
+    ghost use Rattle.table_statements.specs.Contents.{texts_cmp};
+
+    ghost change = { λ p c. record c { temp_roots = finite.retain_keys c.temp_roots (λ k. not (eq_by_cmp texts_cmp k.0 p.owner.now && eq_by_cmp int_cmp k.1 (pos p.session))) } };
+
+    ghost fits = { λ p c. ⊤ };
+
+    fn write<S: Alter>(&self, tx: &mut Transaction<'_, S>) -> Result<(), Failure> {
+        temp_roots::delete_of(tx, self.owner, self.session)
+    }
+}
