@@ -19,6 +19,8 @@ pub mod Conditions
 pub mod Turned
 pub mod Rooms
 pub mod Backs
+pub mod Alike
+pub mod Backed
 pub mod Asked
 pub mod Heads
 pub mod Headed

@@ -20,14 +20,11 @@ pub(crate) fn backward(
     ensures { IfOk result (λ v. IsBackward (keep_view keep) graph.now named.now v.items) }
 {
     let into = turned(alloc, graph, keep)?;
-    let mut walk = Walk {
-        first: vec![in alloc; 1; graph.len()]?,
-        work: Vec::new(alloc),
-    };
+    let mut walk = Walk::new(alloc, 1, graph.len())?;
     walk.reach_all(1, 0, named)?;
     'work: while let Some(place) = walk.next() {
         walk.reach_all(1, 0, into.sources_of(place))?;
     }
-    let Walk { first, work: _ } = walk;
+    let Walk { first, .. } = walk;
     Ok(first)
 }

@@ -14,6 +14,7 @@ mod referring;
 mod room;
 mod taking;
 mod turning;
+mod waiting;
 mod walk;
 
 pub use asking::{referrers, roots_of};

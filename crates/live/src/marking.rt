@@ -51,10 +51,7 @@ pub fn mark(alloc: Global, graph: &Graph, roots: &Roots, keep: Keep) -> Result<M
     ensures paths { IfOk result (λ m. (rows : List Row) (given : List Root) → Rise (paths_of rows) → RootsRise given → graph.now ≡ numbered rows → IsAimed rows given roots.now → IsExact (keep_view keep) rows given m) }
 {
     let none = roots.len();
-    let mut walk = Walk {
-        first: vec![in alloc; none; graph.len()]?,
-        work: Vec::new(alloc),
-    };
+    let mut walk = Walk::new(alloc, none, graph.len())?;
     let mut walker = Walker::new();
     'roots: for root in 0..none {
         let target = walker.root(roots, root);
@@ -63,7 +60,7 @@ pub fn mark(alloc: Global, graph: &Graph, roots: &Roots, keep: Keep) -> Result<M
             walk.take(&mut walker, graph, keep, none, root, place)?;
         }
     }
-    let Walk { first, work: _ } = walk;
+    let Walk { first, .. } = walk;
     Ok(Marks {
         first,
         none,

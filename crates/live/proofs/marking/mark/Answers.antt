@@ -8,8 +8,8 @@ use Rattle.live.proofs.marking.mark.Goals as goal
 pub roots-init : goal.roots-init
 roots-init c = (
   start_at (keep_view c.args.keep) c.args.graph.now c.args.roots.now c.len.ensures.inside c.requires
-      _ _ _ _ (c.in_ok-vec.ensures.items_if_clones_equal (search rules)) c.len.ensures.value c.len-none.ensures c.new.ensures.items c.new-walker.ensures,
-  c.new.ensures.items,
+      _ _ _ _ c.in_ok-walk.ensures.first c.len.ensures.value c.len-none.ensures c.in_ok-walk.ensures.work c.new-walker.ensures,
+  c.in_ok-walk.ensures.work,
 )
 
 pub work-init : goal.work-init
@@ -33,7 +33,7 @@ work-preserved c = taken_at (keep_view c.args.keep) c.args.graph.now c.args.root
 
 pub roots-preserved : goal.roots-preserved
 roots-preserved c = ended (keep_view c.args.keep) c.args.graph.now c.args.roots.now c.len.ensures.inside c.requires
-    (c.roots.root + 1) c.work.walk c.next.new.self c.work.walker c.work.invariant c.in_default.ensures.first c.in_default.ensures.work c.in_default.ensures.none
+    (c.roots.root + 1) c.work.walk c.next.new.self c.work.walker c.work.invariant c.in_default.ensures.first c.in_default.ensures.none.0 c.in_default.ensures.none.1
 
 marking_of : goal.returns-clause-places
 marking_of c = finish_at (keep_view c.args.keep) c.args.graph.now c.args.roots.now c.len.ensures.inside c.requires
