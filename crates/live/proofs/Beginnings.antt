@@ -1,7 +1,7 @@
 -- A collection up to a limit before anything goes.
-use Rattle.std.proofs.Common.{◌≡◌, ℕ, suc, ◌+◌, ◌<◌, ◌≤◌, Bool, true, false, List, [], ◌∷◌, ◌++◌, length, replicate, Option, Some, None, refl, sym, ap, ◌∙◌, subst, inl, inr, arith, IsTrue, ◌⊎◌}
+use Rattle.std.proofs.Common.{◌≡◌, ℕ, ◌+◌, ◌<◌, Bool, true, false, List, [], ◌∷◌, ◌++◌, length, replicate, Option, Some, None, refl, sym, ap, ◌∙◌, subst, inl, inr, arith, IsTrue, ◌⊎◌}
 use Rattle.std.specs.Prelude.{Contains, is_none, is_some, not, if◌then◌else◌}
-use Rattle.std.specs.List.{range_with_len, slice_index, slice_index_or, sum_by}
+use Rattle.std.specs.List.{range_with_len, slice_index, sum_by}
 use Rattle.std.specs.List.Sorted.{IsPermutation}
 use Rattle.std.specs.BinaryHeap.{IsHeap}
 use Rattle.std.specs.declared.cmp.Reverse.{Reverse}
@@ -10,7 +10,7 @@ use Rattle.std.proofs.lemmas.List.{length_push, get_or_append_left, get_or_push,
 use Rattle.std.proofs.lemmas.List.Sorted.{Contains-permutation, IsPermutation-sym}
 use Rattle.live.specs.Places.{Entries}
 use Rattle.live.specs.Marking.{Marking, first_of}
-use Rattle.live.specs.Leaving.{Remaining, IsRemaining, at, is_in, least_first, nothing_owed, times, times_left, referred}
+use Rattle.live.specs.Leaving.{IsRemaining, at, is_in, least_first, nothing_owed, times, times_left}
 use Rattle.live.proofs.Members.{cases, at_head, behind, no_member}
 use Rattle.live.proofs.Ranges.{all_same}
 

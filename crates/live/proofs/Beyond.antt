@@ -1,13 +1,12 @@
 -- A limit beyond all dead paths removes them all.
-use Rattle.std.proofs.Common.{◌≡◌, ℕ, suc, ◌+◌, ◌-◌, ◌<◌, ◌≤◌, ◌&&◌, ◌||◌, Bool, true, false, cond, List, [], ◌∷◌, length, Option, Some, None, refl, sym, ap, ◌∙◌, subst, inl, inr, arith, IsTrue, ◌⊎◌}
-use Rattle.std.specs.Prelude.{Contains, filter, find, not, nat_lt, sum_by, if◌then◌else◌}
-use Rattle.std.specs.List.{list_any}
+use Rattle.std.proofs.Common.{◌≡◌, ℕ, ◌+◌, ◌-◌, ◌<◌, ◌≤◌, ◌&&◌, ◌||◌, Bool, true, false, cond, List, [], ◌∷◌, length, Option, Some, None, refl, sym, ap, ◌∙◌, subst, inl, inr, arith, IsTrue, ◌⊎◌}
+use Rattle.std.specs.Prelude.{Contains, filter, find, not, sum_by, if◌then◌else◌}
 use Rattle.std.specs.Option.{option_map, option_map_or, option_or}
 use Rattle.std.specs.FinMap as finite
-use Rattle.std.proofs.lemmas.Bool.{and_parts, or_left, or_right, false≢true, cases_Bool, false_from_ne_true, lt-ltb}
+use Rattle.std.proofs.lemmas.Bool.{or_left, or_right, false≢true, cases_Bool, false_from_ne_true, lt-ltb}
 use Rattle.std.proofs.lemmas.List.Sums.{sum_by-cons}
 use Rattle.paths.specs.Root.{Root}
-use Rattle.live.specs.Graph.{Path, Graph, Keep, holds, is_valid, references_alone}
+use Rattle.live.specs.Graph.{Path, Graph, Keep, holds, references_alone}
 use Rattle.live.specs.Reach.{Reaches, reaches}
 use Rattle.live.specs.Live.{IsLive, is_live}
 use Rattle.live.specs.Limited.{is_referred_to, is_taken, next_group, without, groups_by, limited_groups, limited_paths}

@@ -1,7 +1,7 @@
 -- What went and what is left at the end, by places and by paths.
-use Rattle.std.proofs.Common.{◌≡◌, ℕ, suc, ◌+◌, ◌<◌, ◌≤◌, ◌&&◌, Bool, true, false, List, [], ◌∷◌, length, get_or, map, drop, Option, Some, None, refl, sym, ap, ◌∙◌, subst, inl, inr, arith, IsTrue, drop-cons}
-use Rattle.std.specs.Prelude.{All, filter, not, is_none, IfNone, IfSome}
-use Rattle.std.specs.List.{range_with_len, list_any, slice_index}
+use Rattle.std.proofs.Common.{◌≡◌, ℕ, suc, ◌<◌, Bool, true, false, List, [], ◌∷◌, length, get_or, map, Option, Some, None, refl, sym, ap, ◌∙◌, subst, inl, inr, arith, IsTrue}
+use Rattle.std.specs.Prelude.{filter, not, is_none, IfNone, IfSome}
+use Rattle.std.specs.List.{range_with_len}
 use Rattle.std.specs.Option.{option_map}
 use Rattle.std.specs.Cmp.Lexicographic.{nat_list_cmp_total}
 use Rattle.std.specs.Ordering.{is_lt}
@@ -10,16 +10,14 @@ use Rattle.std.specs.FinMap as finite
 use Rattle.std.specs.FinMap.Entries.{is_sorted, below_all}
 use lib.Dec.{T}
 use Rattle.std.proofs.lemmas.Bool.{cases_Bool, false≢true, false_from_ne_true}
-use Rattle.std.proofs.lemmas.List.{length-map}
 use Rattle.paths.specs.Root.{Root, bytes_cmp}
 use Rattle.live.specs.Graph.{Path, Keep, Graph, same, holds}
 use Rattle.live.specs.Live.{IsLive, IsFirstRoot, is_live, first_root}
 use Rattle.live.specs.Limited.{is_taken, limited_groups, limited_paths, groups_by}
-use Rattle.live.specs.Places.{Entries}
-use Rattle.live.specs.Numbering.{Row, Rise, graph_of, numbered, path_at, paths_of, root_at}
+use Rattle.live.specs.Numbering.{Row, Rise, graph_of, path_at, paths_of, root_at}
 use Rattle.live.specs.Marking.{Marking, first_of}
 use Rattle.live.specs.Exact.{IsExact}
-use Rattle.live.specs.Leaving.{StandsFor, is_in, left_after, places_left}
+use Rattle.live.specs.Leaving.{is_in, left_after, places_left}
 use Rattle.live.proofs.Asked.{same_passing, paths_passing}
 use Rattle.live.proofs.Live.{live_decided, first_roots}
 use Rattle.live.proofs.Order.{from_both}

@@ -1,20 +1,20 @@
 -- What is left, as paths go and as the heap is looked through.
-use Rattle.std.proofs.Common.{◌≡◌, ℕ, zero, suc, ◌+◌, ◌-◌, ◌<◌, ◌≤◌, ◌&&◌, ◌==◌, Bool, true, false, cond, List, [], ◌∷◌, ◌++◌, length, get_or, set, drop, Option, Some, None, refl, sym, ap, ◌∙◌, subst, inl, inr, arith, IsTrue, ◌⊎◌}
+use Rattle.std.proofs.Common.{◌≡◌, ℕ, ◌+◌, ◌-◌, ◌<◌, ◌≤◌, ◌&&◌, ◌==◌, Bool, true, false, cond, List, [], ◌∷◌, length, get_or, drop, Option, Some, None, refl, sym, ap, ◌∙◌, subst, inl, inr, arith, IsTrue, ◌⊎◌}
 use Rattle.std.specs.Prelude.{IsSome, IfSome, Contains, count_by, not, if◌then◌else◌}
-use Rattle.std.specs.List.{slice_index, slice_index_or, slice_set, range_with_len, sum_by, AllByRecursion}
+use Rattle.std.specs.List.{slice_index, slice_set, range_with_len, sum_by}
 use Rattle.std.specs.List.Sorted.{IsPermutation}
 use Rattle.std.specs.Ordering.{is_lt, nat_cmp}
 use Rattle.std.specs.BinaryHeap.{IsHeap, IsUpperBound, PopsGreatest}
 use Rattle.std.specs.declared.cmp.Reverse.{Reverse}
-use Rattle.std.proofs.lemmas.Bool.{cases_eq, cases_lt, cases_Bool, false≢true, eq-eqb, ne_eqb, eqb-true}
+use Rattle.std.proofs.lemmas.Bool.{cases_eq, false≢true, eq-eqb, ne_eqb, eqb-true}
 use Rattle.std.proofs.lemmas.List.{length-set, get_or-set_same, get_or-set_other, drop_all, get_or_default}
 use Rattle.std.proofs.lemmas.List.Sums.{sum_by-cons}
 use Rattle.std.proofs.lemmas.List.Sorted.{Contains-permutation, IsPermutation-sym}
 use Rattle.std.proofs.lemmas.Map.Keys.{ge_from_not_lt}
-use Rattle.live.specs.Places.{Entries, entries_at}
+use Rattle.live.specs.Places.{Entries}
 use Rattle.live.specs.Leaving.{Remaining, IsRemaining, IsNextAlone, NoneAlone, at, is_in, least_first, nothing_owed, times_in, times, times_left, referred}
 use Rattle.live.proofs.Members.{cases, at_head, behind, no_member}
-use Rattle.live.proofs.Ranges.{all_same, one_changed}
+use Rattle.live.proofs.Ranges.{one_changed}
 use Rattle.live.proofs.References.{times_other, times_self}
 
 -- ---- references that still count

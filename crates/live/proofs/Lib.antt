@@ -6,6 +6,7 @@ pub mod Live
 pub mod Flats
 pub mod Looks
 pub mod Fronts
+pub mod Listings
 pub mod Walks
 pub mod Taken
 pub mod Walked
@@ -19,7 +20,6 @@ pub mod Conditions
 pub mod Turned
 pub mod Rooms
 pub mod Backs
-pub mod Alike
 pub mod Backed
 pub mod Asked
 pub mod Heads

@@ -1,13 +1,13 @@
 -- The next group, by places and by paths.
-use Rattle.std.proofs.Common.{◌≡◌, ℕ, suc, ◌||◌, ◌+◌, ◌<◌, ◌≤◌, ◌&&◌, ◌==◌, Bool, true, false, cond, List, [], ◌∷◌, length, map, Option, Some, None, refl, sym, ap, ◌∙◌, subst, inl, inr, arith, IsTrue}
-use Rattle.std.specs.Prelude.{All, Contains, filter, find, not, nat_lt, sum_by}
+use Rattle.std.proofs.Common.{◌≡◌, ℕ, suc, ◌||◌, ◌<◌, ◌≤◌, ◌&&◌, ◌==◌, Bool, true, false, List, [], ◌∷◌, length, map, Some, None, refl, sym, ap, ◌∙◌, arith, IsTrue}
+use Rattle.std.specs.Prelude.{All, filter, find, not, nat_lt, sum_by}
 use Rattle.std.specs.List.{range_with_len, list_any, slice_index}
 use Rattle.std.specs.Option.{option_map, option_or}
-use Rattle.std.proofs.lemmas.Bool.{cases_Bool, false≢true, and_parts, and_from, false_from_ne_true, le-ltb, ltb-false, lt-ltb, eq-eqb, eqb-true}
+use Rattle.std.proofs.lemmas.Bool.{false≢true, and_parts, and_from, false_from_ne_true, le-ltb, ltb-false, eq-eqb, eqb-true}
 use Rattle.std.proofs.lemmas.List.{length-map}
-use Rattle.live.specs.Graph.{Path, Graph, references_alone, same, holds}
+use Rattle.live.specs.Graph.{Path, references_alone, same, holds}
 use Rattle.live.specs.Reach.{reaches}
-use Rattle.live.specs.Limited.{is_referred_to, next_alone, next_with_referrers, next_group, without}
+use Rattle.live.specs.Limited.{is_referred_to, next_with_referrers, next_group, without}
 use Rattle.live.specs.Places.{Entries}
 use Rattle.live.specs.Numbering.{Row, Rise, graph_of, numbered, numbered_links, path_at, paths_of}
 use Rattle.live.specs.Leaving.{Remaining, IsRemaining, IsNextAlone, IsLeastDead, NoneAlone, NoneDead, StandsFor, is_in, nothing_owed, places_left, referred}

@@ -1,5 +1,5 @@
 -- The paths left that reach a path by references.
-use Rattle.std.proofs.Common.{◌≡◌, ℕ, zero, suc, ◌+◌, ◌<◌, ◌≤◌, ◌&&◌, Bool, true, false, cond, List, [], ◌∷◌, length, map, refl, sym, ap, ◌∙◌, subst, arith, IsTrue, Option, Some, None, Vec, Global}
+use Rattle.std.proofs.Common.{◌≡◌, ℕ, zero, suc, ◌+◌, ◌<◌, ◌≤◌, ◌&&◌, Bool, true, false, cond, List, [], ◌∷◌, length, map, refl, sym, ap, ◌∙◌, subst, arith, Some, None, Vec, Global}
 use Rattle.std.specs.Prelude.{All, filter, nat_lt}
 use Rattle.std.specs.List.{range_with_len, slice_index}
 use Rattle.std.proofs.lemmas.List.{length-map}

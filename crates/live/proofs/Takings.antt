@@ -7,7 +7,7 @@ use Rattle.std.proofs.lemmas.Bool.{false≢true, lt-ltb, le-ltb, ltb-true, ltb-f
 use Rattle.live.specs.Graph.{Path, Graph, holds, is_valid, references_alone}
 use Rattle.live.specs.Reach.{reaches}
 use Rattle.live.specs.Limited.{is_referred_to, next_group, without, Takes, groups_by, limited_groups}
-use Rattle.live.proofs.Groups.{IsGroup, alone, round, is_group, in_filter, filter_in, held_is, is_held}
+use Rattle.live.proofs.Groups.{IsGroup, alone, round, is_group, in_filter, filter_in, is_held}
 use Rattle.live.proofs.Members.{at_head, cases, no_member, found}
 use Rattle.live.proofs.Reach.{closed, decided}
 

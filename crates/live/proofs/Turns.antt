@@ -1,5 +1,5 @@
 -- A collection up to a limit, turn after turn.
-use Rattle.std.proofs.Common.{◌≡◌, ℕ, suc, drop-cons, ◌+◌, ◌<◌, ◌≤◌, ◌-◌, ◌&&◌, ◌==◌, Some, Bool, List, [], ◌∷◌, length, get_or, map, drop, refl, sym, ap, ◌∙◌, arith, IsTrue}
+use Rattle.std.proofs.Common.{◌≡◌, ℕ, suc, drop-cons, ◌+◌, ◌<◌, ◌≤◌, ◌-◌, ◌&&◌, ◌==◌, Some, Bool, List, [], ◌∷◌, length, get_or, map, drop, sym, ap, ◌∙◌, arith, IsTrue}
 use Rattle.std.specs.Prelude.{All, filter, is_none, not, sum_by}
 use Rattle.std.specs.List.{list_any, range_with_len, slice_index}
 use Rattle.std.proofs.lemmas.List.{length-map, drop_all}

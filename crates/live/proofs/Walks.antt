@@ -1,30 +1,31 @@
 -- The marking walk: what is true of the marks and of the waiting as it goes, and how it begins.
 use Rattle.std.proofs.Common.{◌≡◌, ℕ, zero, suc, Bool, true, false, ◌+◌, ◌<◌, ◌≤◌, List, [], ◌∷◌, ◌++◌, length, replicate, map, refl, sym, ap, ◌∙◌, subst, inl, inr, ◌⊎◌, arith}
-use Rattle.std.specs.Prelude.{Contains, sum_by, nat_lt, All, if◌then◌else◌}
+use Rattle.std.specs.Prelude.{Contains, nat_lt, All, if◌then◌else◌}
 use Rattle.std.specs.List.{slice_index}
 use Rattle.std.proofs.lemmas.Bool.{cases_lt, le-ltb}
 use Rattle.std.proofs.lemmas.List.{length-map, length-replicate, get_or-replicate}
 use Rattle.std.proofs.lemmas.List.Elements.{Contains-append_left, Contains-append_right, Contains-append_cases}
 use Rattle.live.specs.Graph.{Keep}
 use Rattle.live.specs.Places.{Entries, AllInside, Goes, Reaches, counting, edges_at, entries_at, held}
-use Rattle.live.specs.Marking.{Front, cost, marked_cost, told}
-use Rattle.live.proofs.Fronts.{mark_at, Grows, grows}
+use Rattle.live.specs.Marking.{Front, NoneWaits, Waits, cost, marked_cost, told}
+use Rattle.live.proofs.Fronts.{AreMarked, Grows, mark_at, none_waits, nothing_costs, waiting_cost}
 use Rattle.live.proofs.Members.{no_member, at_head, cases}
 
 -- the first roots have been begun, and steps have been taken
 pub record IsWalk (keep : Keep) (rows : List Entries) (targets : List ℕ) (begun : ℕ) (f : Front) (steps : ℕ) : Type 0 where
   pub places : length f.first ≡ length rows
+  pub count : length f.waiting ≡ length rows
   -- a mark is a root that was begun, and that reaches the place
   pub marks : (i : ℕ) → i < length rows → mark_at f i < length targets → mark_at f i < begun
   pub reaches : (i : ℕ) → i < length rows → mark_at f i < length targets → Reaches keep rows (slice_index targets (mark_at f i)) i
   -- the target of a root that was begun is marked by it or by an earlier one
   pub aimed : (j : ℕ) → j < begun → mark_at f (slice_index targets j) ≤ j
   -- so is the end of each edge, unless the object still waits
-  pub closed : (i j : ℕ) → i < length rows → Contains (edges_at keep rows i) j → (mark_at f j ≤ mark_at f i) ⊎ Contains f.work i
+  pub closed : (i j : ℕ) → i < length rows → Contains (edges_at keep rows i) j → (mark_at f j ≤ mark_at f i) ⊎ Waits f.waiting i
   -- what waits was marked by the latest root
-  pub work : (i : ℕ) → Contains f.work i → (i < length rows) × (mark_at f i + 1 ≡ begun)
+  pub waits : (i : ℕ) → Waits f.waiting i → (i < length rows) × (mark_at f i + 1 ≡ begun)
   -- a step for each root, and the costs of the objects that are marked and don't wait
-  pub paid : (n : ℕ) × (told steps ≡ told n) × (n + sum_by (slice_index (map (cost keep) rows)) f.work ≡ begun + marked_cost (length targets) (map (cost keep) rows) f.first)
+  pub paid : (n : ℕ) × (told steps ≡ told n) × (n + waiting_cost (map (cost keep) rows) f.waiting ≡ begun + marked_cost (length targets) (map (cost keep) rows) f.first)
 
 -- what counts is held
 pub held_if_counting : (keep : Keep) (e : Entries) (j : ℕ) → Contains (counting keep e) j → Contains (held e) j
@@ -59,9 +60,10 @@ marked_none none (w ∷ ws) (suc n) =
     let rest = marked_none none ws n in omega (arith, is, rest)
 
 module _ (keep : Keep) (rows : List Entries) (targets : List ℕ) (inside : AllInside rows) (aims : All (λ t. t < length rows) targets) where
-  pub start : IsWalk keep rows targets 0 (record { first = replicate (length rows) (length targets); work = [] }) 0
+  pub start : IsWalk keep rows targets 0 (record { first = replicate (length rows) (length targets); waiting = replicate (length rows) false }) 0
   start = record {
     places = length-replicate (length rows) (length targets);
+    count = length-replicate (length rows) false;
     marks = λ i h m. (let e = get_or-replicate (length rows) i (length targets) 0 h in absurd (omega arith));
     reaches = λ i h m. (let e = get_or-replicate (length rows) i (length targets) 0 h in absurd (omega arith));
     aimed = λ j h. absurd (omega arith);
@@ -69,18 +71,23 @@ module _ (keep : Keep) (rows : List Entries) (targets : List ℕ) (inside : AllI
         let e = get_or-replicate (length rows) i (length targets) 0 h in
         let d = get_or-replicate (length rows) j (length targets) 0 (edge_inside keep rows inside i j c) in
         omega arith);
-    work = λ i c. absurd (no_member i c);
-    paid = (0, refl, (let e = marked_none (length targets) (map (cost keep) rows) (length rows) in omega arith));
+    waits = λ i c. absurd (none_waits (length rows) i c);
+    paid = (0, refl, (let e = marked_none (length targets) (map (cost keep) rows) (length rows) in let n = nothing_costs (map (cost keep) rows) (replicate (length rows) false) (none_waits (length rows)) in omega (arith, e, n)));
   }
 
   pub less : (root : ℕ) → root < length targets → (f g : Front) (js : List ℕ) → Grows (length targets) root f g js → (i : ℕ) → mark_at g i ≤ mark_at f i
   less root below f g js grows i = elim (grows.either i) as (λ _. mark_at g i ≤ mark_at f i) [ inl same ↦ omega arith | inr new ↦ (let w = new.was in let e = new.is in omega arith) ]
 
+  -- what waits is marked
+  pub are_marked : (begun : ℕ) (f : Front) (s : ℕ) → begun ≤ length targets → IsWalk keep rows targets begun f s → AreMarked (length targets) f
+  are_marked begun f s below w = record { count = w.count ∙ sym w.places; marked = λ i c. (let e = (w.waits i c).1 in omega arith) }
+
   -- a root is begun
-  pub begin : (root : ℕ) (f g : Front) (s t : ℕ) → root < length targets → f.work ≡ [] → IsWalk keep rows targets root f s
+  pub begin : (root : ℕ) (f g : Front) (s t : ℕ) → root < length targets → NoneWaits f.waiting → IsWalk keep rows targets root f s
       → Grows (length targets) root f g (slice_index targets root ∷ []) → told t ≡ told (s + 1) → IsWalk keep rows targets (root + 1) g t
   begin root f g s t below empty w grows stepped = record {
     places = grows.places ∙ w.places;
+    count = grows.fits.count ∙ grows.places ∙ w.places;
     marks = λ i h m. elim (grows.either i) as (λ _. mark_at g i < root + 1) [
       | inl same ↦ (let k = w.marks i h (omega arith) in omega arith)
       | inr new ↦ (let e = new.is in omega arith)
@@ -93,15 +100,15 @@ module _ (keep : Keep) (rows : List Entries) (targets : List ℕ) (inside : AllI
       | inl before ↦ (let k = w.aimed j before in let l = less root below f g _ grows (slice_index targets j) in omega arith)
       | inr not ↦ (let same : root ≡ j = omega arith in subst (λ k. mark_at g (slice_index targets k) ≤ k) same here)
     ];
-    closed = λ i j h c. elim (w.closed i j h c) as (λ _. (mark_at g j ≤ mark_at g i) ⊎ Contains g.work i) [
-      | inl old ↦ elim (grows.either i) as (λ _. (mark_at g j ≤ mark_at g i) ⊎ Contains g.work i) [
+    closed = λ i j h c. elim (w.closed i j h c) as (λ _. (mark_at g j ≤ mark_at g i) ⊎ Waits g.waiting i) [
+      | inl old ↦ elim (grows.either i) as (λ _. (mark_at g j ≤ mark_at g i) ⊎ Waits g.waiting i) [
         | inl same ↦ inl (let l = less root below f g _ grows j in omega arith)
         | inr new ↦ inr new.waits
       ]
       | inr waits ↦ inr (grows.old i waits)
     ];
-    work = λ i c. elim (grows.new i c) as (λ _. (i < length rows) × (mark_at g i + 1 ≡ root + 1)) [
-      | inl was ↦ absurd (no_member i (subst (λ (ws : List ℕ). Contains ws i) empty was))
+    waits = λ i c. elim (grows.new i c) as (λ _. (i < length rows) × (mark_at g i + 1 ≡ root + 1)) [
+      | inl was ↦ absurd (empty i was)
       | inr new ↦ (subst (λ k. k < length rows) (alone i new.among) (aims root 0 below), ap (λ k. k + 1) new.is)
     ];
     paid = (w.paid.0 + 1, (let k = w.paid.1 in omega arith), (let k = w.paid.2 in let l = grows.spent (map (cost keep) rows) (length-map rows (cost keep) ∙ sym w.places) in omega arith));

@@ -6,6 +6,7 @@ pub mod Places
 pub mod Keeping
 pub mod Flat
 pub mod Marking
+pub mod Listed
 pub mod Numbering
 pub mod Exact
 pub mod Added

@@ -3,6 +3,7 @@
 
 mod asking;
 mod backward;
+mod collecting;
 mod keeping;
 mod laws;
 mod leaving;

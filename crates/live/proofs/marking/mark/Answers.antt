@@ -1,4 +1,4 @@
-use Rattle.std.proofs.Common.{◌+◌, ap, arith, rules}
+use Rattle.std.proofs.Common.{◌+◌, ap, arith}
 use Rattle.live.specs.Keeping.{keep_view}
 use Rattle.live.proofs.Walked.{start_at, begin_at, taken_at, smaller, placed, ended, finish_at}
 use Rattle.live.specs.Marking.{Front}
@@ -6,11 +6,8 @@ use Rattle.live.proofs.Firsts.{exact_at}
 use Rattle.live.proofs.marking.mark.Goals as goal
 
 pub roots-init : goal.roots-init
-roots-init c = (
-  start_at (keep_view c.args.keep) c.args.graph.now c.args.roots.now c.len.ensures.inside c.requires
-      _ _ _ _ c.in_ok-walk.ensures.first c.len.ensures.value c.len-none.ensures c.in_ok-walk.ensures.work c.new-walker.ensures,
-  c.in_ok-walk.ensures.work,
-)
+roots-init c = start_at (keep_view c.args.keep) c.args.graph.now c.args.roots.now c.len.ensures.inside c.requires
+    _ _ _ _ c.in_ok-walk.ensures.first c.len.ensures.value c.len-none.ensures c.in_ok-walk.ensures.waiting c.new-walker.ensures
 
 pub work-init : goal.work-init
 work-init c = begin_at (keep_view c.args.keep) c.args.graph.now c.args.roots.now c.len.ensures.inside c.requires
@@ -19,17 +16,17 @@ work-init c = begin_at (keep_view c.args.keep) c.args.graph.now c.args.roots.now
 
 pub take-requires-clause-place : goal.take-requires-clause-place
 take-requires-clause-place c = placed (keep_view c.args.keep) c.args.graph.now c.args.roots.now c.len.ensures.inside c.requires
-    c.roots.root c.in-Some.place c.work.walk c.next.new.self c.work.walker c.work.invariant c.in-Some.ensures.work
+    c.roots.root c.in-Some.place c.work.walk c.next.new.self c.work.walker c.work.invariant c.in-Some.ensures.some
 
 pub work-smaller : goal.work-smaller
 work-smaller c = smaller (keep_view c.args.keep) c.args.graph.now c.args.roots.now c.len.ensures.inside c.requires
     c.roots.root c.len-none.result c.in-Some.place c.work.walk c.next.new.self c.take.new.self c.work.walker c.roots-test.true c.len-none.ensures c.work.invariant
-    c.in-Some.ensures.first c.in-Some.ensures.work c.in_ok-take.ensures.reached
+    c.in-Some.ensures.first c.in-Some.ensures.some c.in_ok-take.ensures.reached
 
 pub work-preserved : goal.work-preserved
 work-preserved c = taken_at (keep_view c.args.keep) c.args.graph.now c.args.roots.now c.len.ensures.inside c.requires
     c.roots.root c.len-none.result c.in-Some.place c.work.walk c.next.new.self c.take.new.self c.work.walker c.roots-test.true c.len-none.ensures c.work.invariant
-    c.in-Some.ensures.first c.in-Some.ensures.work c.in_ok-take.ensures.reached c.take.new.walker c.in_ok-take.ensures.counted
+    c.in-Some.ensures.first c.in-Some.ensures.some c.in_ok-take.ensures.reached c.take.new.walker c.in_ok-take.ensures.counted
 
 pub roots-preserved : goal.roots-preserved
 roots-preserved c = ended (keep_view c.args.keep) c.args.graph.now c.args.roots.now c.len.ensures.inside c.requires

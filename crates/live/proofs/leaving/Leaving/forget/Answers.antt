@@ -1,6 +1,6 @@
-use Rattle.std.proofs.Common.{◌≡◌, ◌∙◌, ◌+◌, ◌<◌, ◌∷◌, ap, arith, drop, drop-cons, get_or, length, suc, subst, sym, List, ℕ}
+use Rattle.std.proofs.Common.{◌≡◌, ◌∙◌, ◌+◌, ◌<◌, ◌∷◌, ap, arith, drop, drop-cons, length, suc, subst, sym, List, ℕ}
 use Rattle.live.specs.Places.{entries_at}
-use Rattle.live.specs.Leaving.{IsRemaining, Remaining, times_in, nothing_owed}
+use Rattle.live.specs.Leaving.{IsRemaining, Remaining, times_in}
 use Rattle.live.proofs.Counts.{first_held}
 use Rattle.live.proofs.Leavings.{lessened, positive, skipped, settled}
 use Rattle.live.proofs.leaving.Leaving.forget.Goals as goal

@@ -1,4 +1,4 @@
-use Rattle.std.proofs.Common.{◌<◌, ◌∙◌, ℕ, Bool, Vec, Global, ap, arith, false, true, length, List, refl}
+use Rattle.std.proofs.Common.{◌<◌, ◌∙◌, ℕ, Vec, Global, ap, arith, false, true, length}
 use Rattle.std.specs.Prelude.{not}
 use Rattle.live.specs.Leaving.{Remaining, is_in}
 use Rattle.live.proofs.Asked.{one_misses, one_passes}

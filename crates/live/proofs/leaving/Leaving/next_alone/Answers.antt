@@ -1,4 +1,4 @@
-use Rattle.std.proofs.Common.{◌<◌, ◌∙◌, ap, arith, false, true, length, sym, refl}
+use Rattle.std.proofs.Common.{◌<◌, ◌∙◌, arith, false, length, sym, refl}
 use Rattle.std.specs.BinaryHeap.{heap_items}
 use Rattle.std.proofs.lemmas.Bool.{false≢true}
 use Rattle.live.proofs.Leavings.{passed, popped}

@@ -1,4 +1,4 @@
-use Rattle.std.proofs.Common.{◌≡◌, length}
+use Rattle.std.proofs.Common.{◌≡◌}
 use Rattle.std.specs.BinaryHeap.{heap_items, heap_len}
 use Rattle.live.specs.Leaving.{IsRemaining, nothing_owed}
 use Rattle.live.proofs.leaving.Leaving.next_alone.Given as goal

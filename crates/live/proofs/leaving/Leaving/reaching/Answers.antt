@@ -1,4 +1,4 @@
-use Rattle.std.proofs.Common.{◌<◌, ◌≤◌, ◌≡◌, ◌∙◌, ◌&&◌, ℕ, Bool, Vec, Global, ap, arith, false, true, length, List, refl}
+use Rattle.std.proofs.Common.{◌<◌, ◌∙◌, ◌&&◌, ℕ, Vec, Global, ap, arith, false, true, length, refl}
 use Rattle.std.specs.Prelude.{nat_lt}
 use Rattle.std.specs.List.{slice_index}
 use Rattle.live.specs.Leaving.{Remaining, is_in}

@@ -1,6 +1,6 @@
-use Rattle.std.proofs.Common.{◌<◌, ap, arith, length, sym, subst, true}
+use Rattle.std.proofs.Common.{arith, sym, subst, true}
 use Rattle.live.specs.Leaving.{IsRemaining, Remaining, nothing_owed}
-use Rattle.live.proofs.Leavings.{goes, left_none, left_one}
+use Rattle.live.proofs.Leavings.{goes}
 use Rattle.live.proofs.Ranges.{read_is}
 use Rattle.live.proofs.leaving.Leaving.remove.Goals as goal
 

@@ -1,4 +1,4 @@
-use Rattle.std.proofs.Common.{◌≡◌, ◌∙◌, ◌∷◌, ◌<◌, ap, arith, map, refl, sym, subst, List, Bool, Option, Some, Vec, Global, ℕ, length}
+use Rattle.std.proofs.Common.{◌∙◌, ◌∷◌, ◌<◌, ap, arith, map, refl, sym, subst, List, Bool, Option, Some, Vec, Global, ℕ, length}
 use Rattle.std.specs.Prelude.{All, IfSome, not, ◌&&◌, ◌==◌}
 use Rattle.std.specs.List.{list_any}
 use Rattle.std.specs.Option.{option_map}

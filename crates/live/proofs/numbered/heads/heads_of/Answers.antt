@@ -1,4 +1,4 @@
-use Rattle.std.proofs.Common.{◌≡◌, ◌∙◌, ◌+◌, ap, sym, subst, arith, length, List, ℕ}
+use Rattle.std.proofs.Common.{◌∙◌, ◌+◌, ap, sym, subst, arith, List, ℕ}
 use Rattle.live.specs.Handed.{rows_view}
 use Rattle.live.specs.Numbering.{paths_of}
 use Rattle.live.specs.Heads.{IsBytes, head_of}

@@ -1,5 +1,5 @@
 use Rattle.std.proofs.Common.{◌+◌, ◌-◌, ◌/◌, ◌<◌, arith, length}
-use Rattle.live.proofs.Searching.{above_head, below_head, heads_count, searched_down, searched_none, searched_up}
+use Rattle.live.proofs.Searching.{above_head, below_head, searched_down, searched_up}
 use Rattle.live.proofs.numbered.places.place_by_head.Goals as goal
 
 pub search-preserved-then-other-head-2 : goal.search-preserved-then-other-head-2
