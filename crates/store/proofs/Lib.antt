@@ -46,3 +46,9 @@ pub mod RootsTold
 pub mod Sources
 pub mod OneByOne
 pub mod AddOrder
+pub mod LabelsDiffer
+pub mod RootsBeside
+pub mod Relisted
+pub mod RelistedProfiles
+pub mod RelistedSessions
+pub mod NotTold

@@ -28,3 +28,4 @@ pub mod Leave
 pub mod RootsTold
 pub mod OneByOne
 pub mod AddOrder
+pub mod Relisted

@@ -22,6 +22,6 @@ pub use more_laws::{
     limits_count_bytes, referrers_go_first, roots_are_labelled_in_order, settings_say_what_is_kept,
 };
 pub use root_laws::{
-    all_but_strangers_may_ask, owners_are_respected, roots_change_exactly,
-    roots_that_were_set_are_told,
+    all_but_strangers_may_ask, listings_gain_what_was_set, owners_are_respected,
+    roots_change_exactly, roots_that_were_dropped_are_not_told, roots_that_were_set_are_told,
 };

@@ -3,6 +3,7 @@ ghost use Rattle.store.specs.Others.{OthersOnlyLose, OwnersMay, TrustedMay};
 ghost use Rattle.store.specs.Leave.{AllMayAsk, NobodyIgnoresLiveness};
 ghost use Rattle.store.specs.RootChanges.{AddsForSessions, DropsPermanent, DropsUserRoots, EndsSessions, ReplacesAsTold, SetsPermanent, SetsUserRoots};
 ghost use Rattle.store.specs.RootsTold.{RootsSetAreTold};
+ghost use Rattle.store.specs.Relisted.{DropsAreTold, DroppedLabelsAreNotTold, SetsAreTold};
 
 /// A root that is set is there with its target, one that is dropped isn't, and nothing else changed: permanent and user roots,
 /// runtime roots, and what sessions keep.
@@ -28,6 +29,18 @@ pub fn owners_are_respected()
 /// aren't trusted.
 pub fn roots_that_were_set_are_told()
     ensures { RootsSetAreTold }
+{}
+
+/// A root that was dropped isn't told to whoever asks next, and each other root is as before; nor is its label, but of a runtime root
+/// that has the same.
+pub fn roots_that_were_dropped_are_not_told()
+    ensures roots { DropsAreTold }
+    ensures labels { DroppedLabelsAreNotTold }
+{}
+
+/// After a root is set, listings tell it and all that stood, but for the root that it replaced.
+pub fn listings_gain_what_was_set()
+    ensures { SetsAreTold }
 {}
 
 /// Each caller but a stranger may add what has an address, ask all that only tells, collect, and delete what doesn't live; and nobody
