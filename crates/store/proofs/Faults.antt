@@ -25,7 +25,7 @@ in_bounds n h = let both = and_parts (nat_le 1 n) (nat_le n 4194304) h in record
 is_in_bounds : (n : ℕ) → IsInBounds n → IsTrue (is_session n)
 is_in_bounds n b = and_from (nat_le 1 n) (nat_le n 4194304) (le-leb 1 n b.lowest) (le-leb n 4194304 b.highest)
 
-out_of_bounds : (n : ℕ) → is_session n ≡ false → IsInBounds n → ⊥
+pub out_of_bounds : (n : ℕ) → is_session n ≡ false → IsInBounds n → ⊥
 out_of_bounds n e b = false≢true (sym e ∙ is_in_bounds n b)
 
 some_is : (a b : Refusal) → Some a ≡ Some b → b ≡ a

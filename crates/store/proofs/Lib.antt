@@ -52,3 +52,4 @@ pub mod Relisted
 pub mod RelistedProfiles
 pub mod RelistedSessions
 pub mod NotTold
+pub mod Reasons

@@ -1,11 +1,11 @@
 -- A denial for a live path is for the first of the named that lives.
 use Rattle.std.proofs.Common.{◌≡◌, List, [], ◌∷◌, ◌++◌, Bool, true, false, ◌&&◌, ◌||◌, not, cond, Some, None, Option, option_map, refl, sym, ap, ◌∙◌, IsTrue}
-use Rattle.std.specs.Prelude.{IfSome, IsSome}
+use Rattle.std.specs.Prelude.{IfSome, IsSome, Contains}
 use Rattle.std.specs.List.{list_any, find}
-use Rattle.std.proofs.lemmas.Bool.{false≢true}
+use Rattle.std.proofs.lemmas.Bool.{false≢true, false_from_ne_true}
 use Rattle.paths.specs.Root.{Root}
 use Rattle.live.specs.Live.{first_root, IsFirstRoot}
-use Rattle.live.proofs.Members.{found}
+use Rattle.live.proofs.Members.{found, any_from}
 use Rattle.policy.specs.Settings.{Settings}
 use Rattle.policy.specs.Caller.{Caller}
 use Rattle.policy.specs.Class.{class_of}
@@ -13,11 +13,12 @@ use Rattle.policy.specs.Rules.{rules, allows}
 use Rattle.policy.specs.declared.kinds.Rule.{Rule}
 use Rattle.policy.specs.declared.kinds.Rule.TheVariants.{Live}
 use Rattle.world.specs.World.{Path, World, roots_of}
-use Rattle.store.specs.Request.{Request}
+use Rattle.store.specs.Request.{Request, delete}
 use Rattle.store.specs.Liveness.{graph_of, keep_of, lives}
 use Rattle.store.specs.Seen.{seen_root}
 use Rattle.store.specs.Verdict.{named_in, operation_of, root_of_first, verdict}
 use Rattle.store.specs.Laws.{DenialsNameTheLiving, NamesTheLiving}
+use Rattle.store.specs.Reasons.{DenialsAreForTheFirst}
 use Rattle.store.proofs.WorldLives.{as_said}
 
 -- a list by the first that passes a test
@@ -86,3 +87,22 @@ module _ (s : Settings) (w : World) (c : Caller) (q : Request) (v : verdict s w 
 
 pub denials_name_the_living : DenialsNameTheLiving
 denials_name_the_living s w c q v = named s w c q v
+
+-- a deletion that is denied for a live path
+none_lives : (p : Path → Bool) (xs : List Path) → list_any p xs ≡ false → (x : Path) → Contains xs x → p x ≡ false
+none_lives p xs none x c = false_from_ne_true (p x) (λ h. false≢true (sym none ∙ any_from p xs x c h))
+
+pub denials_are_for_the_first : DenialsAreForTheFirst
+denials_are_for_the_first s w c named ignores root new h =
+    let x = denials_name_the_living s w c (delete named ignores) h.0 in
+    record {
+      before = x.before;
+      path = x.path;
+      after = x.after;
+      split = x.named;
+      none_before = λ p k. none_lives (lives s w) x.before x.none_before p k;
+      alive = x.alive;
+      first = x.root;
+      is_first = x.first;
+      is_shown = h.1 ∙ x.is_shown;
+    }

@@ -1,5 +1,5 @@
 -- The highest generation of a profile, and the one before the current.
-use Rattle.std.proofs.Common.{◌≡◌, ℕ, ◌+◌, ◌<◌, ◌≤◌, List, [], ◌∷◌, Bool, true, false, Some, None, Option, refl, sym, ap, arith, ◌∙◌, subst, inl, inr, ◌⊎◌}
+use Rattle.std.proofs.Common.{◌≡◌, ℕ, ◌+◌, ◌<◌, ◌≤◌, List, [], ◌∷◌, Bool, true, false, Some, None, Option, refl, sym, ap, arith, ◌∙◌, IsTrue, subst, inl, inr, ◌⊎◌}
 use Rattle.std.specs.Prelude.{Contains, is_some, IsFalse, nat_lt, unwrap_or, if◌then◌else◌}
 use Rattle.std.specs.List.{filter, last_or}
 use Rattle.std.specs.List.Sorted.{IsStrictlySortedBy}
@@ -7,7 +7,7 @@ use Rattle.std.specs.Ordering.{nat_cmp}
 use Rattle.std.specs.declared.cmp.Ordering.TheVariants.{Less}
 use Rattle.std.specs.Cmp.{nat_cmp_total, ranked}
 use Rattle.std.specs.FinMap as finite
-use Rattle.std.proofs.lemmas.Bool.{false≢true, ltb-true, lt-ltb}
+use Rattle.std.proofs.lemmas.Bool.{false≢true, ltb-true, ltb-false, lt-ltb}
 use Rattle.std.proofs.lemmas.Option.{same_Some}
 use Rattle.std.proofs.lemmas.List.Kept.{IsStrictlySortedBy-filter}
 use Rattle.live.proofs.Members.{at_head, behind, cases, no_member}
@@ -104,6 +104,19 @@ module _ (p : Profile) where
 
     pub chosen : IsNumberFor p t (number_for p t)
     chosen = by_last (last_or None (numbers p)) refl (is_highest p t) refl
+
+  -- without a previous one none is below the current
+  pub none_below : IsFalse (is_some (previous p)) → (m : ℕ) → IsTrue (has_generation p m) → p.current ≤ m
+  none_below h m there = by (nat_lt m p.current) refl
+    where
+      none_of : (o : Option ℕ) → is_some o ≡ false → o ≡ None
+      none_of None e = refl
+      none_of (Some n) e = absurd (false≢true (sym e))
+
+      by : (b : Bool) → nat_lt m p.current ≡ b → p.current ≤ m
+      by true e = absurd (last_none (filter (λ k. nat_lt k p.current) (numbers p)) (none_of (previous p) h) m
+          (in_filtered (λ k. nat_lt k p.current) (numbers p) m (key_listed nat_antisymmetric p.generations m there) e))
+      by false e = ltb-false m p.current e
 
   pub before : (n : ℕ) → previous p ≡ Some n → IsPrevious p n
   before n e =

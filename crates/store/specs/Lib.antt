@@ -29,3 +29,4 @@ pub mod RootsTold
 pub mod OneByOne
 pub mod AddOrder
 pub mod Relisted
+pub mod Reasons

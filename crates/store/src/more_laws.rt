@@ -5,6 +5,7 @@ ghost use Rattle.store.specs.Faults.{NamedAreThere, NamesComeFirst, PathsComeBef
 ghost use Rattle.store.specs.Kept.{CollectsByBytes, EdgesAsSet, LivingKeep};
 ghost use Rattle.store.specs.LabelsAndOrder.{AreLabelled, KindsInOrder};
 ghost use Rattle.store.specs.OneByOne.{ReferrersGoFirst};
+ghost use Rattle.store.specs.Reasons.{DenialsAreForTheFirst, RefusalsHaveReasons, ToldAreValid};
 
 /// An object keeps its references; its outputs, if outputs are to be kept; and its deriver, if derivations are. What a live path
 /// keeps is live.
@@ -54,4 +55,12 @@ pub fn faults_of_adds_come_in_order()
     ensures text { TextFaultsInOrder }
     ensures source { SourceFaultsInOrder }
     ensures import { ImportFaultsInOrder }
+{}
+
+/// A request is refused for a fault that it has, what is told of a path is told of a valid one, and a deletion is denied for the first of
+/// the named that lives.
+pub fn refusals_and_denials_have_reasons()
+    ensures refusals { RefusalsHaveReasons }
+    ensures told { ToldAreValid }
+    ensures denials { DenialsAreForTheFirst }
 {}
