@@ -53,3 +53,4 @@ pub mod RelistedProfiles
 pub mod RelistedSessions
 pub mod NotTold
 pub mod Reasons
+pub mod Runs

@@ -30,3 +30,4 @@ pub mod OneByOne
 pub mod AddOrder
 pub mod Relisted
 pub mod Reasons
+pub mod Runs

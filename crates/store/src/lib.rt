@@ -20,7 +20,7 @@ pub use laws::{
 pub use more_laws::{
     adds_are_refused_for_their_faults, faults_of_adds_come_in_order, first_faults_are_told,
     limits_count_bytes, referrers_go_first, refusals_and_denials_have_reasons,
-    roots_are_labelled_in_order, settings_say_what_is_kept,
+    roots_are_labelled_in_order, runs_go_step_by_step, settings_say_what_is_kept,
 };
 pub use root_laws::{
     all_but_strangers_may_ask, listings_gain_what_was_set, owners_are_respected,

@@ -6,6 +6,7 @@ ghost use Rattle.store.specs.Kept.{CollectsByBytes, EdgesAsSet, LivingKeep};
 ghost use Rattle.store.specs.LabelsAndOrder.{AreLabelled, KindsInOrder};
 ghost use Rattle.store.specs.OneByOne.{ReferrersGoFirst};
 ghost use Rattle.store.specs.Reasons.{DenialsAreForTheFirst, RefusalsHaveReasons, ToldAreValid};
+ghost use Rattle.store.specs.Runs.{RunsGoStepByStep};
 
 /// An object keeps its references; its outputs, if outputs are to be kept; and its deriver, if derivations are. What a live path
 /// keeps is live.
@@ -63,4 +64,9 @@ pub fn refusals_and_denials_have_reasons()
     ensures refusals { RefusalsHaveReasons }
     ensures told { ToldAreValid }
     ensures denials { DenialsAreForTheFirst }
+{}
+
+/// A run goes one step after another, each from the world that the one before left.
+pub fn runs_go_step_by_step()
+    ensures { RunsGoStepByStep }
 {}
