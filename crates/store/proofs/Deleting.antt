@@ -1,8 +1,9 @@
 -- What a deletion leaves.
-use Rattle.std.proofs.Common.{◌≡◌, List, [], ◌∷◌, ◌++◌, false, not, ◌||◌, Some, option_map, refl, sym, ap, ◌∙◌, IsTrue, inl, inr}
+use Rattle.std.proofs.Common.{◌≡◌, List, [], ◌∷◌, ◌++◌, false, not, ◌||◌, Some, None, Option, option_map, refl, sym, ap, ◌∙◌, IsTrue, inl, inr}
 use Rattle.std.specs.Prelude.{is_some}
 use Rattle.std.specs.FinMap as finite
-use Rattle.std.proofs.lemmas.Bool.{and_from, or_cases, or_left, or_right, false≢true, not-true, not_from_false, false_from_ne_true}
+use Rattle.std.proofs.lemmas.Bool.{and_from, and_parts, or_cases, or_left, or_right, false≢true, not-true, not_from_false, false_from_ne_true}
+use Rattle.std.proofs.lemmas.List.{append-nil}
 use Rattle.live.specs.Graph.{same, holds, references_alone, kept_if_valid, is_valid, is_edge}
 use Rattle.live.specs.Reach.{Reaches}
 use Rattle.live.proofs.Reach.{goes_on}
@@ -25,6 +26,16 @@ reference_edge w p r o e c h =
       | inl e ↦ or_left (same r x) _ e
       | inr e ↦ or_right (same r x) _ (plain_list xs e)
     ]
+
+-- an edge by references is one of the object's references
+pub edge_reference : (w : World) (p r : Path) → IsTrue (is_edge references_alone (graph_of w) p r) → (o : Object) × (finite.get w.objects p ≡ Some o) × IsTrue (finite.contains_key o.references r)
+edge_reference w p r h =
+    by (finite.get w.objects p) refl (sym (ap (λ l. holds (kept_if_valid references_alone l) r) (get-graph w p)) ∙ (and_parts (is_valid (graph_of w) r) (holds (kept_if_valid references_alone (finite.get (graph_of w) p)) r) h).1)
+  where
+    by : (o : Option Object) → finite.get w.objects p ≡ o → IsTrue (holds (kept_if_valid references_alone (option_map links_of o)) r)
+        → (x : Object) × (finite.get w.objects p ≡ Some x) × IsTrue (finite.contains_key x.references r)
+    by None e k = absurd (false≢true k)
+    by (Some o) e k = (o, e, finite.contains_key-keys o.references r ∙ sym (ap (λ xs. holds xs r) (append-nil (finite.keys o.references ++ []) ∙ append-nil (finite.keys o.references))) ∙ k)
 
 -- a valid reference is reached by references
 pub reference_reached : (w : World) (p r : Path) (o : Object) → finite.get w.objects p ≡ Some o → IsTrue (finite.contains_key o.references r) → IsTrue (has w r) → Reaches references_alone (graph_of w) p r

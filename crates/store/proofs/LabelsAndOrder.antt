@@ -23,7 +23,7 @@ are_labelled = record {
 
 -- ---- what comes behind a root in a list that rises
 
-member_all : {X : Type 0} (P : X → Type 0) (xs : List X) → AllByRecursion P xs → (x : X) → Contains xs x → P x
+pub member_all : {X : Type 0} (P : X → Type 0) (xs : List X) → AllByRecursion P xs → (x : X) → Contains xs x → P x
 member_all P [] h x c = absurd (no_member x c)
 member_all P (y ∷ ys) h x c = elim (cases y x ys c) as (λ _. P x) [
   | inl is ↦ subst P is h.0

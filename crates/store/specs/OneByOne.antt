@@ -1,6 +1,8 @@
 -- The law of a collection up to a limit where no references make a cycle: paths go one by one, each after all that refer to it.
 use Rattle.std.specs.Prelude.{◌≡◌, ◌↔◌, ◌⊎◌, ℕ, ◌<◌, ◌≤◌, ◌++◌, Bool, List, ◌∷◌, Some, IsTrue, IsFalse, Contains}
 use Rattle.std.specs.FinMap as finite
+use Rattle.std.specs.declared.cmp.Ordering.TheVariants.{Less}
+use Rattle.paths.specs.Root.{bytes_cmp}
 use Rattle.live.specs.Graph.{references_alone}
 use Rattle.live.specs.Reach.{Reaches}
 use Rattle.world.specs.World.{Path, Object, World, has}
@@ -25,10 +27,11 @@ pub record MayGo (s : Settings) (w : World) (limit : ℕ) (gone : List Path) (p 
   pub referrers : (q : Path) (o : Object) → finite.get w.objects q ≡ Some o → IsTrue (finite.contains_key o.references p) → (q ≡ p → ⊥) → Contains gone q
   pub wanted : (bytes : ℕ) → Weigh w gone bytes → bytes < limit
 
--- What went is what may go, one path after another; and at the end the archives have as many bytes as the limit, or no dead path is left.
+-- What went is what may go, one path after another, each the least of those that may; and at the end the archives have as many bytes as the limit, or no dead path is left.
 pub record GoesOneByOne (s : Settings) (w : World) (limit : ℕ) (new : World) : Type 0 where
   pub order : List Path
   pub each : (front back : List Path) (p : Path) → order ≡ front ++ p ∷ back → MayGo s w limit front p
+  pub least : (front back : List Path) (p : Path) → order ≡ front ++ p ∷ back → (q : Path) → MayGo s w limit front q → bytes_cmp q p ≡ Less → ⊥
   pub went : (p : Path) → IsTrue (has w p) → IsFalse (has new p) ↔ Contains order p
   pub enough : (bytes : ℕ) → Weigh w order bytes → (limit ≤ bytes) ⊎ ((p : Path) → IsTrue (has w p) → IsFalse (lives s w p) → Contains order p)
 
