@@ -1,6 +1,7 @@
 pub mod Loops
 pub mod Pairs
 pub mod Sets
+pub mod Noted
 pub mod RootOrder
 pub mod Shown
 pub mod Rising

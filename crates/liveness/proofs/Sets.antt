@@ -44,7 +44,7 @@ module _ {K L : Type 0} (R : L → L → Ordering) (key : K → L) (o : IsTotalO
     tied_by : (k x : K) (q : L) → C k x ≡ Equal → eq_by_cmp R q (key k) ≡ eq_by_cmp R q (key x)
     tied_by k x q e = (eq_by_cmp_equiv o).symm q (key k) ∙ (eq_by_cmp_equiv o).congr (key k) (key x) q (ap is_eq (sym (agree k x) ∙ e)) ∙ (eq_by_cmp_equiv o).symm (key x) q
 
-    has_inserted : (q : L) (keys : List K) (k : K) → has_tied R q (map key (insert_key C keys k)) ≡ (has_tied R q (map key keys) || (eq_by_cmp R q (key k) || false))
+    pub has_inserted : (q : L) (keys : List K) (k : K) → has_tied R q (map key (insert_key C keys k)) ≡ (has_tied R q (map key keys) || (eq_by_cmp R q (key k) || false))
     has_inserted q [] k = refl
     has_inserted q (x ∷ xs) k = by (C k x) refl (has_inserted q xs k)
       where

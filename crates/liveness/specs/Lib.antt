@@ -1,4 +1,5 @@
 pub mod Gaining
+pub mod Told
 pub mod View
 pub mod Rooted
 pub mod Linked

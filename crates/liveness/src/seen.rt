@@ -1,17 +1,20 @@
 //! Roots as a caller sees them.
 
-ghost use Rattle.std.specs.Prelude.{◌≡◌, not, ◌&&◌, [], ◌∷◌, ◌++◌, List, map, string_bytes, IfOk, OnOk};
+ghost use Rattle.std.specs.Prelude.{◌≡◌, not, ◌&&◌, if◌then◌else◌, [], ◌∷◌, ◌++◌, List, ℕ, String, map, string_bytes, IfOk, OnOk};
+ghost use Rattle.std.specs.declared.alloc.Global.{Global};
 ghost use Rattle.std.specs.List.{list_any};
 ghost use Rattle.paths.specs.Root.{Root as TheRoot};
 ghost use Rattle.policy.specs.Rules as rules;
 ghost use Rattle.live.specs.Handed.{kind_view, root_view, roots_view};
 ghost use Rattle.index.specs.Maps.{labelled_bytes};
 ghost use Rattle.store.specs.Seen as spec;
+ghost use Rattle.liveness.specs.Told.{AreTold};
 
 use live::{Kind, Root};
 use paths::StorePath;
 use policy::Class;
 use std::alloc::{AllocError, Global};
+use std::collections::BTreeSet;
 
 fn is_trusted(class: Class) -> bool
     ensures { result ≡ rules.is_trusted class }
@@ -50,25 +53,39 @@ pub(crate) fn seen_root(
     Ok((label, target))
 }
 
-fn is_shown(class: Class, shown: &[(String, StorePath)], pair: &(String, StorePath)) -> bool
-    ensures { result ≡ (not (rules.is_trusted class) && list_any (λ q. spec.same_pair q (labelled_bytes pair.now)) (map labelled_bytes shown.now)) }
+/// Notes that a pair is told, and tells whether that is the first time. Trusted callers are told each pair as often as it comes.
+fn note(
+    class: Class,
+    told: &mut BTreeSet<(String, StorePath)>,
+    pair: &(String, StorePath),
+) -> Result<bool, AllocError>
+    ensures first { IfOk result (λ b. (shown : List (String Global × List ℕ)) → AreTold class told.old.keys shown → not b ≡ (not (rules.is_trusted class) && list_any (λ q. spec.same_pair q (labelled_bytes pair.now)) (map labelled_bytes shown))) }
+    ensures told { IfOk result (λ b. (shown : List (String Global × List ℕ)) → AreTold class told.old.keys shown → AreTold class told.new.keys (if b then shown ++ pair.now ∷ [] else shown)) }
 {
-    !is_trusted(class) && shown.contains(pair)
+    if is_trusted(class) {
+        return Ok(true);
+    }
+    let label = pair.0.clone()?;
+    let target = pair.1.clone()?;
+    let is_first = told.insert((label, target))?;
+    Ok(is_first)
 }
 
 fn show(
     alloc: Global,
     class: Class,
+    told: &mut BTreeSet<(String, StorePath)>,
     shown: &mut Vec<(String, StorePath)>,
     root: Root,
 ) -> Result<(), AllocError>
-    ensures { OnOk result ((before : List TheRoot) → map labelled_bytes shown.old.items ≡ spec.seen class before → map labelled_bytes shown.new.items ≡ spec.seen class (before ++ root_view root.entry ∷ [])) }
+    ensures told { OnOk result (AreTold class told.old.keys shown.old.items → AreTold class told.new.keys shown.new.items) }
+    ensures shown { OnOk result ((before : List TheRoot) → AreTold class told.old.keys shown.old.items → map labelled_bytes shown.old.items ≡ spec.seen class before → map labelled_bytes shown.new.items ≡ spec.seen class (before ++ root_view root.entry ∷ [])) }
 {
     let pair = seen_root(alloc, class, root)?;
-    if is_shown(class, shown.as_slice(), &pair) {
-        return Ok(());
+    let is_first = note(class, told, &pair)?;
+    if is_first {
+        shown.push(pair)?;
     }
-    shown.push(pair)?;
     Ok(())
 }
 
@@ -80,9 +97,10 @@ pub(crate) fn seen(
 ) -> Result<Vec<(String, StorePath)>, AllocError>
     ensures { IfOk result (λ v. map labelled_bytes v.items ≡ spec.seen class (roots_view roots.now)) }
 {
+    let mut told = BTreeSet::new(alloc);
     let mut shown = Vec::new(alloc);
     for root in roots {
-        show(alloc, class, &mut shown, *root)?;
+        show(alloc, class, &mut told, &mut shown, *root)?;
     }
     Ok(shown)
 }

@@ -1,20 +1,24 @@
-use Rattle.std.proofs.Common.{[], ◌∷◌, map, ◌&&◌, not, sym, ap, ◌∙◌}
-use Rattle.std.specs.List.{list_any}
-use Rattle.policy.specs.Rules.{is_trusted}
+use Rattle.std.proofs.Common.{[], ◌∷◌, ◌++◌, map, not, sym, ap, ◌∙◌, subst}
+use Rattle.std.specs.Prelude.{if◌then◌else◌}
 use Rattle.live.specs.Handed.{root_view}
 use Rattle.index.specs.Maps.{labelled_bytes}
-use Rattle.store.specs.Seen.{same_pair}
+use Rattle.liveness.specs.Told.{AreTold}
 use Rattle.liveness.proofs.Loops.{map-append}
 use Rattle.liveness.proofs.Shown.{seen_again, seen_more}
 use Rattle.liveness.proofs.seen.show.Goals as goal
 
-pub returns-then-is_shown : goal.returns-then-is_shown
-returns-then-is_shown c = λ before shown.
-    seen_again c.args.class before (root_view c.args.root) (map labelled_bytes c.args.shown.now.items) (labelled_bytes c.in_ok-pair.pair) shown c.in_ok-pair.ensures
-    (sym c.if-is_shown.true ∙ c.is_shown.ensures ∙ ap (λ ps. not (is_trusted c.args.class) && list_any (λ q. same_pair q (labelled_bytes c.in_ok-pair.pair)) (map labelled_bytes ps)) c.as_slice.ensures.value)
-
-pub returns : goal.returns
-returns c = λ before shown.
+pub returns-in_ok-push-clause-shown : goal.returns-in_ok-push-clause-shown
+returns-in_ok-push-clause-shown c = λ before are shown.
     ap (map labelled_bytes) c.in_ok-push.ensures.items ∙ map-append labelled_bytes c.args.shown.now.items (c.in_ok-pair.pair ∷ [])
     ∙ seen_more c.args.class before (root_view c.args.root) (map labelled_bytes c.args.shown.now.items) (labelled_bytes c.in_ok-pair.pair) shown c.in_ok-pair.ensures
-    (sym c.if-is_shown.false ∙ c.is_shown.ensures ∙ ap (λ ps. not (is_trusted c.args.class) && list_any (λ q. same_pair q (labelled_bytes c.in_ok-pair.pair)) (map labelled_bytes ps)) c.as_slice.ensures.value)
+    (ap not (sym c.if-is_first.true) ∙ c.in_ok-is_first.ensures.first c.args.shown.now.items are)
+
+pub returns-else-is_first-clause-told : goal.returns-else-is_first-clause-told
+returns-else-is_first-clause-told c = λ are.
+    subst (λ b. AreTold c.args.class c.note.new.told.keys (if b then c.args.shown.now.items ++ c.in_ok-pair.pair ∷ [] else c.args.shown.now.items)) c.if-is_first.false
+    (c.in_ok-is_first.ensures.told c.args.shown.now.items are)
+
+pub returns-else-is_first-clause-shown : goal.returns-else-is_first-clause-shown
+returns-else-is_first-clause-shown c = λ before are shown.
+    seen_again c.args.class before (root_view c.args.root) (map labelled_bytes c.args.shown.now.items) (labelled_bytes c.in_ok-pair.pair) shown c.in_ok-pair.ensures
+    (ap not (sym c.if-is_first.false) ∙ c.in_ok-is_first.ensures.first c.args.shown.now.items are)
