@@ -9,7 +9,7 @@ ghost use Rattle.nar.specs.Checking.{HasBeenFed, HasFailed};
 ghost use Rattle.paths.specs.ContentAddress.{plain_contents};
 ghost use Rattle.paths.specs.Facts.{hash_of, facts_of};
 ghost use Rattle.intake.specs.Contents.{contents_so_far, hash_so_far};
-ghost use Rattle.intake.specs.Arriving.{fault_of};
+ghost use Rattle.intake.specs.Arriving.{HasTaken, fault_of};
 
 use crate::contents::{begins_plain, contents_in};
 use nar::{Checker, NarError, Pieces};
@@ -32,6 +32,7 @@ pub struct Arrived {
 /// The bytes so far; contracts see them. Each is looked at as it comes, and then only kept.
 #[derive(Drop)]
 pub struct Arriving {
+    alloc: Global,
     checker: Checker,
     archive: Sha256,
     contents: Sha256,
@@ -101,12 +102,32 @@ fn first_of(pieces: &Pieces) -> &[u8]
     pieces.piece(0)
 }
 
+/// Takes the next piece: what was known of the pieces so far is known of all. Where memory is refused, the parts no longer agree.
+fn take_in(
+    checker: &mut Checker,
+    archive: &mut Sha256,
+    contents: &mut Sha256,
+    pieces: &mut Pieces,
+    piece: &[u8],
+) -> Result<(), AllocError>
+    ensures pieces { OnOk result (pieces.new ≡ pieces.old ++ piece.now) }
+    ensures taken { OnOk result (HasTaken checker.old archive.old contents.old pieces.old → HasTaken checker.new archive.new contents.new pieces.new) }
+{
+    let before = pieces.len();
+    pieces.push(piece)?;
+    feed(checker, piece)?;
+    archive.update(piece);
+    contents.update(contents_in(first_of(pieces), before, piece));
+    Ok(())
+}
+
 impl Arriving {
     /// No bytes.
     pub fn new(alloc: Global) -> Arriving
         ensures { result ≡ [] }
     {
         Arriving {
+            alloc,
             checker: Checker::new(alloc),
             archive: Sha256::new(),
             contents: Sha256::new(),
@@ -114,27 +135,23 @@ impl Arriving {
         }
     }
 
-    /// Takes the next piece. Where memory is refused nothing is left.
-    pub fn push(self, piece: &[u8]) -> Result<Arriving, AllocError>
-        ensures { IfOk result (λ a. a ≡ self ++ piece.now) }
+    /// Takes the next piece. Where memory is refused no bytes are left.
+    pub fn push(&mut self, piece: &[u8]) -> Result<(), AllocError>
+        ensures { OnOk result (self.new ≡ self.old ++ piece.now) }
     {
-        let Arriving {
-            mut checker,
-            mut archive,
-            mut contents,
-            mut pieces,
-        } = self;
-        let before = pieces.len();
-        pieces.push(piece)?;
-        feed(&mut checker, piece)?;
-        archive.update(piece);
-        contents.update(contents_in(first_of(&pieces), before, piece));
-        Ok(Arriving {
-            checker,
-            archive,
-            contents,
-            pieces,
-        })
+        match take_in(
+            &mut self.checker,
+            &mut self.archive,
+            &mut self.contents,
+            &mut self.pieces,
+            piece,
+        ) {
+            Ok(()) => Ok(()),
+            Err(refused) => {
+                *self = Arriving::new(self.alloc);
+                Err(refused)
+            }
+        }
     }
 
     /// What is told at the end. It looks at no byte of the contents again.
@@ -148,6 +165,7 @@ impl Arriving {
             archive,
             contents,
             pieces,
+            ..
         } = self;
         let fault = fault_at_end(checker);
         let facts = Facts {

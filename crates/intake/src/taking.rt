@@ -44,13 +44,14 @@ impl Intake {
         ensures ok { OnOk result ((self.new ≡ appended self.old piece.now) × IsSome self.old) }
         ensures err { OnErr result (self.new ≡ None) }
     {
-        match self.so_far.take() {
-            None => Err(AllocError),
-            Some(arriving) => {
-                self.so_far = Some(arriving.push(piece)?);
-                Ok(())
-            }
+        let Some(arriving) = &mut self.so_far else {
+            return Err(AllocError);
+        };
+        if let Err(refused) = arriving.push(piece) {
+            self.so_far = None;
+            return Err(refused);
         }
+        Ok(())
     }
 
     /// The end of the archive: its fault or none, what is told of it, and its bytes. It takes no memory.

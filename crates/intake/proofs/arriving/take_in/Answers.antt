@@ -1,12 +1,11 @@
 use Rattle.std.proofs.Common.{◌≡◌, ◌++◌, take, ap, subst, sym, ◌∙◌}
 use Rattle.sha2.specs.Hashers.{Holds256}
 use Rattle.intake.specs.Contents.{contents_so_far}
-use Rattle.intake.proofs.arriving.Arriving.push.Goals as goal
+use Rattle.intake.proofs.arriving.take_in.Goals as goal
 
-pub invariant_of-result : goal.invariant_of-result
-invariant_of-result c =
-    let bytes = c.self.inside.pieces in
-    let has = c.self.invariant in
+pub returns-clause-taken : goal.returns-clause-taken
+returns-clause-taken c = λ has.
+    let bytes = c.args.pieces.now in
     let is : c.push.new.self ≡ bytes ++ c.args.piece.now = c.in_ok-push.ensures.ok in
     let more = c.contents_in.ensures bytes (sym c.len-before.ensures) (c.first_of.ensures ∙ ap (take 65536) is) in
     rw is (record {
