@@ -5,6 +5,7 @@ pub mod SameOutputs
 pub mod OfArchive
 pub mod Paths
 pub mod SoundRows
+pub mod OwnRows
 pub mod Columns
 pub mod ReadRows
 pub mod Takes

@@ -12,11 +12,12 @@ use Rattle.table_statements.proofs.Orders.{numbered_total, numbered_antisymmetri
 use Rattle.world.proofs.Empty.{no_entries}
 use Rattle.index.proofs.Puts.{get-kept}
 use Rattle.table_entries.specs.declared.objects.Object.{Object}
-use Rattle.table_entries.specs.Entries.{reference_of, output_of, piece_in, stored_of, IsStored}
+use Rattle.table_entries.specs.Entries.{piece_in, stored_of, IsStored}
 use Rattle.world.specs.World.{Path}
 use Rattle.opening_objects.specs.declared.reading.ObjectRows.{ObjectRows}
-use Rattle.opening_objects.specs.Rows.{AreRowsOf}
-use Rattle.opening_objects.proofs.Columns.{targets_read, named_read, parts_read}
+use Rattle.opening_objects.specs.declared.joined.Joined.{Joined}
+use Rattle.opening_objects.specs.Rows.{AreRowsOf, AreJoined}
+use Rattle.opening_objects.proofs.Columns.{parts_read}
 
 -- the disk was clean before, if it is after
 pub clean_before : (a b : State) (P : Trees → Type 0) → Survives a b P → HasCleanDisk b → HasCleanDisk a
@@ -25,30 +26,20 @@ clean_before a b P h clean = omega (arith, h.clean, clean)
 pub unchanged_both : (a b c : State) → (HasCleanDisk b → IsUnchanged a b) → (HasCleanDisk c → IsUnchanged b c) → Survives b c (λ _. ⊥) → HasCleanDisk c → IsUnchanged a c
 unchanged_both a b c first next survives clean = unchanged_then a b c (first (clean_before b c (λ _. ⊥) survives clean)) (next clean)
 
-module _ (s0 s1 s2 s3 s4 : State) (p : Path) (r : ObjectRows) (o : Option Object) (is : o ≡ Some r.object)
+module _ (s0 s1 s2 : State) (p : Path) (r : ObjectRows) (o : Option Object) (is : o ≡ Some r.object)
     (first : IsUnchanged s0 s1 × IsStored (contents_of s0.now).objects p o)
-    (second : IsUnchanged s1 s2 × (map reference_of r.references.items ≡ finite.entries (finite.retain_keys (contents_of s1.now).refs (λ k. eq_by_cmp bytes_cmp k.0 p))))
-    (third : IsUnchanged s2 s3 × (map output_of r.outputs.items ≡ finite.entries (finite.retain_keys (contents_of s2.now).outs (λ k. eq_by_cmp bytes_cmp k.0 p))))
-    (fourth : IsUnchanged s3 s4 × (map piece_in r.pieces.items ≡ finite.entries (finite.retain_keys (contents_of s3.now).pieces (λ k. eq_by_cmp bytes_cmp k.0 p)))) where
-  two : IsUnchanged s0 s2
-  two = unchanged_then s0 s1 s2 first.0 second.0
-
-  three : IsUnchanged s0 s3
-  three = unchanged_then s0 s2 s3 two third.0
-
+    (second : IsUnchanged s1 s2 × (map piece_in r.pieces.items ≡ finite.entries (finite.retain_keys (contents_of s1.now).pieces (λ k. eq_by_cmp bytes_cmp k.0 p)))) where
   stored_here : ((stored_of r.object).0 ≡ p) × (finite.get (contents_of s0.now).objects p ≡ Some (stored_of r.object).1)
   stored_here = subst (IsStored (contents_of s0.now).objects p) is first.1
 
-  -- four reads give the rows of a path
-  pub rows_read : IsUnchanged s0 s4 × AreRowsOf (contents_of s0.now) p r
+  -- two reads give the row of a path and its pieces
+  pub rows_read : IsUnchanged s0 s2 × AreRowsOf (contents_of s0.now) p r
   rows_read = (
-    unchanged_then s0 s3 s4 three fourth.0,
+    unchanged_then s0 s1 s2 first.0 second.0,
     record {
       base = stored_here.0;
       object = stored_here.1;
-      pieces = parts_read (contents_of s0.now) p r.pieces.items (fourth.1 ∙ ap (λ (d : Database). finite.entries (finite.retain_keys (contents_of d).pieces (λ k. eq_by_cmp bytes_cmp k.0 p))) three.0.now_is);
-      references = targets_read (contents_of s0.now) p r.references.items (second.1 ∙ ap (λ (d : Database). finite.entries (finite.retain_keys (contents_of d).refs (λ k. eq_by_cmp bytes_cmp k.0 p))) first.0.0.now_is);
-      outputs = named_read (contents_of s0.now) p r.outputs.items (third.1 ∙ ap (λ (d : Database). finite.entries (finite.retain_keys (contents_of d).outs (λ k. eq_by_cmp bytes_cmp k.0 p))) two.0.now_is);
+      pieces = parts_read (contents_of s0.now) p r.pieces.items (second.1 ∙ ap (λ (d : Database). finite.entries (finite.retain_keys (contents_of d).pieces (λ k. eq_by_cmp bytes_cmp k.0 p))) first.0.0.now_is);
     },
   )
 
@@ -70,3 +61,7 @@ no_pieces m none = ap finite.keys none ∙ ap (map (λ (e : Numbered × List ℕ
 -- a state that shows the same has the further table still, or none of its rows
 pub further_still : (a b : State) (d : Database → Type 0) → b.now ≡ a.now → d a.now → d b.now
 further_still a b d same h = subst d (sym same) h
+
+-- a state that shows the same has the same rows in other tables
+pub joined_still : (a b : State) (all : Joined) → b.now ≡ a.now → AreJoined (contents_of a.now) all → AreJoined (contents_of b.now) all
+joined_still a b all same h = subst (λ (d : Database). AreJoined (contents_of d) all) (sym same) h

@@ -24,7 +24,8 @@ use Rattle.opening_objects.specs.Taken.{Objects, IsCutBy, IsSoundOne, with_store
 use Rattle.opening_objects.proofs.Paths.{set_again}
 use Rattle.opening_objects.proofs.SoundRows.{row_of_tested, tested_of_row}
 
-module _ (schema : Schema) (dir : List ℕ) (c : Contents) (p : Path) (r : ObjectRows) (h : AreRowsOf c p r) where
+module _ (schema : Schema) (dir : List ℕ) (c : Contents) (p : Path) (r : ObjectRows) (h : AreRowsOf c p r)
+    (refs : List Reference) (outs : List Output) (refs_are : targets_of refs ≡ finite.keys (references_in (rows_of c) p)) (outs_are : named_of outs ≡ finite.entries (outputs_in (rows_of c) p)) where
   abbrev stored : Stored
   stored = (stored_of r.object).1
 
@@ -33,7 +34,7 @@ module _ (schema : Schema) (dir : List ℕ) (c : Contents) (p : Path) (r : Objec
   whole = whole_of stored (parts_of r.pieces.items)
 
   abbrev Tested : Type 0
-  Tested = IsSoundAt dir (stored_of r.object).0 whole (targets_of r.references.items) (named_of r.outputs.items)
+  Tested = IsSoundAt dir (stored_of r.object).0 whole (targets_of refs) (named_of outs)
 
   abbrev pub IsTested : Type 0
   IsTested = IsCutBy schema stored.nar (parts_of r.pieces.items) × Tested
@@ -47,12 +48,12 @@ module _ (schema : Schema) (dir : List ℕ) (c : Contents) (p : Path) (r : Objec
   to_same : Tested → Same
   to_same t = subst (λ (o : Stored). IsSoundAt dir p o (finite.keys (references_in (rows_of c) p)) (finite.entries (outputs_in (rows_of c) p))) whole_is
       (subst (λ (q : Path). IsSoundAt dir q whole (finite.keys (references_in (rows_of c) p)) (finite.entries (outputs_in (rows_of c) p))) h.base
-      (subst (λ (l : List Path). IsSoundAt dir (stored_of r.object).0 whole l (finite.entries (outputs_in (rows_of c) p))) h.references
-      (subst (λ (l : List (List ℕ × Path)). IsSoundAt dir (stored_of r.object).0 whole (targets_of r.references.items) l) h.outputs t)))
+      (subst (λ (l : List Path). IsSoundAt dir (stored_of r.object).0 whole l (finite.entries (outputs_in (rows_of c) p))) refs_are
+      (subst (λ (l : List (List ℕ × Path)). IsSoundAt dir (stored_of r.object).0 whole (targets_of refs) l) outs_are t)))
 
   of_same : Same → Tested
-  of_same t = subst (λ (l : List (List ℕ × Path)). IsSoundAt dir (stored_of r.object).0 whole (targets_of r.references.items) l) (sym h.outputs)
-      (subst (λ (l : List Path). IsSoundAt dir (stored_of r.object).0 whole l (finite.entries (outputs_in (rows_of c) p))) (sym h.references)
+  of_same t = subst (λ (l : List (List ℕ × Path)). IsSoundAt dir (stored_of r.object).0 whole (targets_of refs) l) (sym outs_are)
+      (subst (λ (l : List Path). IsSoundAt dir (stored_of r.object).0 whole l (finite.entries (outputs_in (rows_of c) p))) (sym refs_are)
       (subst (λ (q : Path). IsSoundAt dir q whole (finite.keys (references_in (rows_of c) p)) (finite.entries (outputs_in (rows_of c) p))) (sym h.base)
       (subst (λ (o : Stored). IsSoundAt dir p o (finite.keys (references_in (rows_of c) p)) (finite.entries (outputs_in (rows_of c) p))) (sym whole_is) t)))
 
@@ -82,18 +83,18 @@ module _ (schema : Schema) (dir : List ℕ) (c : Contents) (p : Path) (r : Objec
 
   -- what is kept is the outline of the object
   abbrev kept : Set bytes_cmp → finite.FinMap bytes_cmp Path → Outlined
-  kept refs outputs = record { size = length (archive_in (rows_of c) p stored); hash = sha256 (archive_in (rows_of c) p stored); references = refs; deriver = stored.deriver; ca = address_in stored.ca; outputs = outputs }
+  kept found outputs = record { size = length (archive_in (rows_of c) p stored); hash = sha256 (archive_in (rows_of c) p stored); references = found; deriver = stored.deriver; ca = address_in stored.ca; outputs = outputs }
 
-  pub kept_is : Tested → kept_of dir (stored_of r.object).0 whole (targets_of r.references.items) ≡ outlined (object_in (rows_of c) p stored)
+  pub kept_is : Tested → kept_of dir (stored_of r.object).0 whole (targets_of refs) ≡ outlined (object_in (rows_of c) p stored)
   kept_is t =
       let s = to_same t in
-      ap (λ (q : Path). kept_of dir q whole (targets_of r.references.items)) h.base ∙ ap (λ (l : List Path). kept_of dir p whole l) h.references
+      ap (λ (q : Path). kept_of dir q whole (targets_of refs)) h.base ∙ ap (λ (l : List Path). kept_of dir p whole l) refs_are
       ∙ ap (λ (o : Stored). kept_of dir p o (finite.keys (references_in (rows_of c) p))) whole_is
       ∙ (λ i. kept (set_again (references_in (rows_of c) p) i) (sym (finite.same_entries_map (outputs_in (rows_of c) p) (outputs_at dir p (archive_in (rows_of c) p stored)) s.archive.outputs_are) i))
 
-  pub put_is : (m : Objects) → IsTested → finite.insert m (stored_of r.object).0 (kept_of dir (stored_of r.object).0 whole (targets_of r.references.items)) ≡ with_object c p m
+  pub put_is : (m : Objects) → IsTested → finite.insert m (stored_of r.object).0 (kept_of dir (stored_of r.object).0 whole (targets_of refs)) ≡ with_object c p m
   put_is m t =
-      ap (λ (q : Path). finite.insert m q (kept_of dir (stored_of r.object).0 whole (targets_of r.references.items))) h.base
+      ap (λ (q : Path). finite.insert m q (kept_of dir (stored_of r.object).0 whole (targets_of refs))) h.base
       ∙ ap (finite.insert m p) (kept_is t.1) ∙ ap (λ (o : Option Stored). with_stored c p o m) (sym h.object)
 
 -- ---- what was tested, of the same rows

@@ -1,4 +1,5 @@
 pub mod Tested
 pub mod Cut
+pub mod Rising
 pub mod Rows
 pub mod Taken

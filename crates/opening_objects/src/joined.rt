@@ -1,6 +1,6 @@
-//! Rows of references, outputs and pieces, read and tested beside the objects of the index.
+//! All rows of references and outputs, and which pieces there are: read once, and tested beside the objects of the index.
 
-ghost use Rattle.std.specs.Prelude.{◌≡◌, ◌&&◌, false, IsTrue, IsFalse, IfOk, OnOk};
+ghost use Rattle.std.specs.Prelude.{◌≡◌, ◌&&◌, false, IsTrue, IsFalse, IfOk, map};
 ghost use Rattle.std.specs.List.{list_all};
 ghost use Rattle.std.specs.FinMap as finite;
 ghost use Rattle.sqlite.specs.State.{HasCleanDisk, IsUnchanged, Survives};
@@ -10,122 +10,89 @@ ghost use Rattle.table_statements.specs.Contents.{contents_of};
 ghost use Rattle.table_statements.specs.Calls.{HasFurther, IsReady, KeepsShown};
 ghost use Rattle.world.specs.Rows.{has_pieces};
 ghost use Rattle.world.specs.View.{schema_view};
+ghost use Rattle.table_entries.specs.Entries.{numbered_in, output_of, reference_of};
+ghost use Rattle.opening_objects.specs.Rows.{AreJoined};
 ghost use Rattle.opening_objects.specs.Taken.{is_output, is_owned, is_reference};
 
 use crate::members::{are_outputs, are_owned, are_references};
 use index::Index;
 use rows::{outputs, pieces, references};
 use sqlite::{Alter, Connection};
-use std::alloc::Global;
+use std::alloc::{AllocError, Global};
+use table_entries::outputs::Output;
+use table_entries::pieces::PieceKey;
+use table_entries::references::Reference;
 use table_statements::failure::Failure;
 use world::Schema;
 
-/// Whether each reference of the rows is one of an object to an object.
-fn read_references<S: Alter>(
-    alloc: Global,
-    conn: &mut Connection<S>,
-    index: &Index,
-) -> Result<bool, Failure>
-    requires alone { conn.old.in_transaction ≡ false }
-    requires ready { HasCleanDisk (state S.Store conn.old) → IsTrue (state S.Store conn.old).is_open → IsReady (state S.Store conn.old) }
-    ensures alone { conn.new.in_transaction ≡ false }
-    ensures told { HasCleanDisk (state S.Store conn.new) → IfOk result (λ ok. ok ≡ list_all (is_reference index.now.objects) (finite.entries (contents_of (state S.Store conn.old).now).refs)) }
-    ensures unchanged { HasCleanDisk (state S.Store conn.new) → OnOk result (IsUnchanged (state S.Store conn.old) (state S.Store conn.new)) }
-    ensures same { HasCleanDisk (state S.Store conn.new) → KeepsShown (state S.Store conn.old) (state S.Store conn.new) }
-    ensures ready { HasCleanDisk (state S.Store conn.new) → IsTrue (state S.Store conn.new).is_open → IsReady (state S.Store conn.new) }
-    ensures survives { Survives (state S.Store conn.old) (state S.Store conn.new) (λ _. ⊥) }
-{
-    let rows = references::all(alloc, conn)?;
-    Ok(are_references(alloc, index, &rows)?)
+/// All references and outputs, and which pieces there are, each in order.
+#[derive(Drop)]
+pub(crate) struct Joined {
+    pub(crate) references: Vec<Reference>,
+    pub(crate) outputs: Vec<Output>,
+    pub(crate) pieces: Vec<PieceKey>,
 }
 
-/// Whether each output of the rows is an object's.
-fn read_outputs<S: Alter>(
-    alloc: Global,
-    conn: &mut Connection<S>,
-    index: &Index,
-) -> Result<bool, Failure>
-    requires alone { conn.old.in_transaction ≡ false }
-    requires ready { HasCleanDisk (state S.Store conn.old) → IsTrue (state S.Store conn.old).is_open → IsReady (state S.Store conn.old) }
-    ensures alone { conn.new.in_transaction ≡ false }
-    ensures told { HasCleanDisk (state S.Store conn.new) → IfOk result (λ ok. ok ≡ list_all (is_output index.now.objects) (finite.entries (contents_of (state S.Store conn.old).now).outs)) }
-    ensures unchanged { HasCleanDisk (state S.Store conn.new) → OnOk result (IsUnchanged (state S.Store conn.old) (state S.Store conn.new)) }
-    ensures same { HasCleanDisk (state S.Store conn.new) → KeepsShown (state S.Store conn.old) (state S.Store conn.new) }
-    ensures ready { HasCleanDisk (state S.Store conn.new) → IsTrue (state S.Store conn.new).is_open → IsReady (state S.Store conn.new) }
-    ensures survives { Survives (state S.Store conn.old) (state S.Store conn.new) (λ _. ⊥) }
-{
-    let rows = outputs::all(alloc, conn)?;
-    Ok(are_outputs(alloc, index, &rows)?)
-}
-
-/// Whether each reference and each output of the rows belongs to an object, and each reference leads to one.
-fn are_linked<S: Alter>(
-    alloc: Global,
-    conn: &mut Connection<S>,
-    index: &Index,
-) -> Result<bool, Failure>
-    requires alone { conn.old.in_transaction ≡ false }
-    requires ready { HasCleanDisk (state S.Store conn.old) → IsTrue (state S.Store conn.old).is_open → IsReady (state S.Store conn.old) }
-    ensures alone { conn.new.in_transaction ≡ false }
-    ensures told { HasCleanDisk (state S.Store conn.new) → IfOk result (λ ok. ok ≡ (list_all (is_reference index.now.objects) (finite.entries (contents_of (state S.Store conn.old).now).refs) && list_all (is_output index.now.objects) (finite.entries (contents_of (state S.Store conn.old).now).outs))) }
-    ensures unchanged { HasCleanDisk (state S.Store conn.new) → OnOk result (IsUnchanged (state S.Store conn.old) (state S.Store conn.new)) }
-    ensures same { HasCleanDisk (state S.Store conn.new) → KeepsShown (state S.Store conn.old) (state S.Store conn.new) }
-    ensures ready { HasCleanDisk (state S.Store conn.new) → IsTrue (state S.Store conn.new).is_open → IsReady (state S.Store conn.new) }
-    ensures survives { Survives (state S.Store conn.old) (state S.Store conn.new) (λ _. ⊥) }
-{
-    if !read_references(alloc, conn, index)? {
-        return Ok(false);
-    }
-    read_outputs(alloc, conn, index)
-}
-
-/// Whether each piece of the rows is one of an object's archive.
-fn read_pieces<S: Alter>(
+/// Which pieces there are; none, where the schema has no table of them.
+fn keys_of<S: Alter>(
     alloc: Global,
     conn: &mut Connection<S>,
     schema: Schema,
-    index: &Index,
-) -> Result<bool, Failure>
+) -> Result<Vec<PieceKey>, Failure>
     requires alone { conn.old.in_transaction ≡ false }
     requires ready { HasCleanDisk (state S.Store conn.old) → IsTrue (state S.Store conn.old).is_open → IsReady (state S.Store conn.old) }
     requires opened { HasCleanDisk (state S.Store conn.old) → IsTrue (state S.Store conn.old).is_open }
     requires stands { HasCleanDisk (state S.Store conn.old) → IsTrue (has_pieces (schema_view schema)) → IsTrue (state S.Store conn.old).is_open → HasFurther (state S.Store conn.old).now piece }
     requires no_table { HasCleanDisk (state S.Store conn.old) → IsFalse (has_pieces (schema_view schema)) → IsTrue (state S.Store conn.old).is_open → (contents_of (state S.Store conn.old).now).pieces ≡ finite.empty }
     ensures alone { conn.new.in_transaction ≡ false }
-    ensures told { HasCleanDisk (state S.Store conn.new) → IfOk result (λ ok. ok ≡ list_all (is_owned index.now.objects) (finite.keys (contents_of (state S.Store conn.old).now).pieces)) }
-    ensures unchanged { HasCleanDisk (state S.Store conn.new) → OnOk result (IsUnchanged (state S.Store conn.old) (state S.Store conn.new)) }
+    ensures reads { HasCleanDisk (state S.Store conn.new) → IfOk result (λ all. IsUnchanged (state S.Store conn.old) (state S.Store conn.new)
+        × (map numbered_in all.items ≡ finite.keys (contents_of (state S.Store conn.old).now).pieces)) }
     ensures same { HasCleanDisk (state S.Store conn.new) → KeepsShown (state S.Store conn.old) (state S.Store conn.new) }
     ensures ready { HasCleanDisk (state S.Store conn.new) → IsTrue (state S.Store conn.new).is_open → IsReady (state S.Store conn.new) }
     ensures survives { Survives (state S.Store conn.old) (state S.Store conn.new) (λ _. ⊥) }
 {
     if !schema.has_pieces() {
-        return Ok(true);
+        return Ok(Vec::new(alloc));
     }
-    let rows = pieces::keys(alloc, conn)?;
-    Ok(are_owned(alloc, index, &rows)?)
+    pieces::keys(alloc, conn)
 }
 
-/// Whether each reference, each output and each piece of the rows belongs to an object, and each reference leads to one.
-pub(crate) fn are_joined<S: Alter>(
+/// All references and outputs, and which pieces there are.
+pub(crate) fn read_joined<S: Alter>(
     alloc: Global,
     conn: &mut Connection<S>,
     schema: Schema,
-    index: &Index,
-) -> Result<bool, Failure>
+) -> Result<Joined, Failure>
     requires alone { conn.old.in_transaction ≡ false }
     requires ready { HasCleanDisk (state S.Store conn.old) → IsTrue (state S.Store conn.old).is_open → IsReady (state S.Store conn.old) }
     requires stands { HasCleanDisk (state S.Store conn.old) → IsTrue (has_pieces (schema_view schema)) → IsTrue (state S.Store conn.old).is_open → HasFurther (state S.Store conn.old).now piece }
     requires no_table { HasCleanDisk (state S.Store conn.old) → IsFalse (has_pieces (schema_view schema)) → IsTrue (state S.Store conn.old).is_open → (contents_of (state S.Store conn.old).now).pieces ≡ finite.empty }
     ensures alone { conn.new.in_transaction ≡ false }
-    ensures told { HasCleanDisk (state S.Store conn.new) → IfOk result (λ ok. ok ≡ ((list_all (is_reference index.now.objects) (finite.entries (contents_of (state S.Store conn.old).now).refs) && list_all (is_output index.now.objects) (finite.entries (contents_of (state S.Store conn.old).now).outs))
-        && list_all (is_owned index.now.objects) (finite.keys (contents_of (state S.Store conn.old).now).pieces))) }
-    ensures unchanged { HasCleanDisk (state S.Store conn.new) → OnOk result (IsUnchanged (state S.Store conn.old) (state S.Store conn.new)) }
+    ensures reads { HasCleanDisk (state S.Store conn.new) → IfOk result (λ all. IsUnchanged (state S.Store conn.old) (state S.Store conn.new) × AreJoined (contents_of (state S.Store conn.old).now) all) }
     ensures same { HasCleanDisk (state S.Store conn.new) → KeepsShown (state S.Store conn.old) (state S.Store conn.new) }
     ensures ready { HasCleanDisk (state S.Store conn.new) → IsTrue (state S.Store conn.new).is_open → IsReady (state S.Store conn.new) }
     ensures survives { Survives (state S.Store conn.old) (state S.Store conn.new) (λ _. ⊥) }
 {
-    if !are_linked(alloc, conn, index)? {
+    let references = references::all(alloc, conn)?;
+    let outputs = outputs::all(alloc, conn)?;
+    let pieces = keys_of(alloc, conn, schema)?;
+    Ok(Joined {
+        references,
+        outputs,
+        pieces,
+    })
+}
+
+/// Whether each reference, each output and each piece belongs to an object, and each reference leads to one.
+pub(crate) fn are_joined(alloc: Global, index: &Index, joined: &Joined) -> Result<bool, AllocError>
+    ensures { IfOk result (λ ok. ok ≡ ((list_all (is_reference index.now.objects) (map reference_of joined.now.references.items) && list_all (is_output index.now.objects) (map output_of joined.now.outputs.items))
+        && list_all (is_owned index.now.objects) (map numbered_in joined.now.pieces.items))) }
+{
+    if !are_references(alloc, index, &joined.references)? {
         return Ok(false);
     }
-    read_pieces(alloc, conn, schema, index)
+    if !are_outputs(alloc, index, &joined.outputs)? {
+        return Ok(false);
+    }
+    are_owned(alloc, index, &joined.pieces)
 }

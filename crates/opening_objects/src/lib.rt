@@ -3,6 +3,7 @@
 
 mod address;
 mod cutting;
+mod groups;
 mod joined;
 mod members;
 mod objects;

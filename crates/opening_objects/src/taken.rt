@@ -13,7 +13,7 @@ ghost use Rattle.world.specs.Told.{rows_of, world_in};
 ghost use Rattle.index.specs.Outline.{outline_of};
 ghost use Rattle.opening_objects.specs.Taken.{AreSoundInPieces};
 
-use crate::joined::are_joined;
+use crate::joined::{are_joined, read_joined};
 use crate::taking::take_all;
 use index::Index;
 use paths::StoreDir;
@@ -50,8 +50,9 @@ pub fn take_objects<S: Alter>(
     ensures ready { HasCleanDisk (state S.Store conn.new) → IsTrue (state S.Store conn.new).is_open → IsReady (state S.Store conn.new) }
     ensures survives { Survives (state S.Store conn.old) (state S.Store conn.new) (λ _. ⊥) }
 {
-    if !take_all(alloc, conn, schema, dir, index)? {
+    let joined = read_joined(alloc, conn, schema)?;
+    if !take_all(alloc, conn, schema, dir, index, &joined)? {
         return Ok(false);
     }
-    are_joined(alloc, conn, schema, index)
+    Ok(are_joined(alloc, index, &joined)?)
 }

@@ -12,10 +12,13 @@ ghost use Rattle.table_entries.specs.Entries.{stored_of};
 ghost use Rattle.world.specs.Rows.{has_pieces};
 ghost use Rattle.world.specs.View.{schema_view};
 ghost use Rattle.opening_objects.specs.Cut.{parts_of, whole_of, with_parts};
+ghost use Rattle.opening_objects.specs.Rows.{AreJoined};
 ghost use Rattle.opening_objects.specs.Tested.{IsSoundAt, kept_of, named_of, targets_of};
 ghost use Rattle.opening_objects.specs.Taken.{IsCutBy, IsSoundOne, with_object, with_objects};
 
 use crate::cutting::{is_cut, whole};
+use crate::groups::group;
+use crate::joined::Joined;
 use crate::objects::sound_object;
 use crate::reading::{ObjectRows, rows_at};
 use index::Index;
@@ -23,7 +26,9 @@ use paths::StoreDir;
 use rows::objects;
 use sqlite::{Alter, Connection};
 use std::alloc::{AllocError, Global};
+use table_entries::outputs::Output;
 use table_entries::pieces::Piece;
+use table_entries::references::Reference;
 use table_statements::failure::Failure;
 use world::Schema;
 
@@ -44,44 +49,43 @@ fn take_rows(
     dir: &StoreDir,
     index: &mut Index,
     rows: ObjectRows,
+    references: &[Reference],
+    outputs: &[Output],
 ) -> Result<bool, AllocError>
     ensures told { IfOk result (λ ok. IsTrue ok ↔ (IsCutBy (schema_view schema) (stored_of rows.object).1.nar (parts_of rows.pieces.items)
-        × IsSoundAt dir.now (stored_of rows.object).0 (whole_of (stored_of rows.object).1 (parts_of rows.pieces.items)) (targets_of rows.references.items) (named_of rows.outputs.items))) }
+        × IsSoundAt dir.now (stored_of rows.object).0 (whole_of (stored_of rows.object).1 (parts_of rows.pieces.items)) (targets_of references.now) (named_of outputs.now))) }
     ensures taken { IfOk result (λ ok. IsTrue ok → index.new ≡ record index.old {
       objects = finite.insert index.old.objects (stored_of rows.object).0
-          (kept_of dir.now (stored_of rows.object).0 (whole_of (stored_of rows.object).1 (parts_of rows.pieces.items)) (targets_of rows.references.items));
+          (kept_of dir.now (stored_of rows.object).0 (whole_of (stored_of rows.object).1 (parts_of rows.pieces.items)) (targets_of references.now));
     }) }
 {
-    let ObjectRows {
-        object,
-        pieces,
-        references,
-        outputs,
-    } = rows;
+    let ObjectRows { object, pieces } = rows;
     if !is_cut_by(schema, &object.nar, &pieces) {
         return Ok(false);
     }
     let object = whole(object, pieces)?;
-    let Some((path, summary)) = sound_object(alloc, dir, &object, &references, &outputs)? else {
+    let Some((path, summary)) = sound_object(alloc, dir, &object, references, outputs)? else {
         return Ok(false);
     };
     index.insert_object(path, summary)?;
     Ok(true)
 }
 
-/// Whether this base is an object's, whose rows are sound. If so, it is put into the index.
+/// Whether this base is an object's, whose rows are sound. If so, it is put into the index. Rows of other tables were read before.
 fn take_object<S: Alter>(
     alloc: Global,
     conn: &mut Connection<S>,
     schema: Schema,
     dir: &StoreDir,
     index: &mut Index,
+    joined: &Joined,
     base: &str,
 ) -> Result<bool, Failure>
     requires alone { conn.old.in_transaction ≡ false }
     requires ready { HasCleanDisk (state S.Store conn.old) → IsTrue (state S.Store conn.old).is_open → IsReady (state S.Store conn.old) }
     requires stands { HasCleanDisk (state S.Store conn.old) → IsTrue (has_pieces (schema_view schema)) → IsTrue (state S.Store conn.old).is_open → HasFurther (state S.Store conn.old).now piece }
     requires no_table { HasCleanDisk (state S.Store conn.old) → IsFalse (has_pieces (schema_view schema)) → IsTrue (state S.Store conn.old).is_open → (contents_of (state S.Store conn.old).now).pieces ≡ finite.empty }
+    requires joined { HasCleanDisk (state S.Store conn.old) → AreJoined (contents_of (state S.Store conn.old).now) joined.now }
     ensures alone { conn.new.in_transaction ≡ false }
     ensures told { HasCleanDisk (state S.Store conn.new) → IfOk result (λ ok. IsTrue ok ↔ IsSoundOne (schema_view schema) dir.now (contents_of (state S.Store conn.old).now) base.now) }
     ensures taken { HasCleanDisk (state S.Store conn.new) → IfOk result (λ ok. IsTrue ok → index.new ≡ record index.old { objects = with_object (contents_of (state S.Store conn.old).now) base.now index.old.objects }) }
@@ -90,10 +94,12 @@ fn take_object<S: Alter>(
     ensures ready { HasCleanDisk (state S.Store conn.new) → IsTrue (state S.Store conn.new).is_open → IsReady (state S.Store conn.new) }
     ensures survives { Survives (state S.Store conn.old) (state S.Store conn.new) (λ _. ⊥) }
 {
-    let Some(rows) = rows_at(alloc, conn, schema, base)? else {
+    let Some(rows) = rows_at(alloc, conn, schema, &joined.pieces, base)? else {
         return Ok(false);
     };
-    Ok(take_rows(alloc, schema, dir, index, rows)?)
+    let references = group(&joined.references, base);
+    let outputs = group(&joined.outputs, base);
+    Ok(take_rows(alloc, schema, dir, index, rows, references, outputs)?)
 }
 
 /// Whether each base is an object's, whose rows are sound. If so, they are put into the index.
@@ -103,6 +109,7 @@ fn take_each<S: Alter>(
     schema: Schema,
     dir: &StoreDir,
     index: &mut Index,
+    joined: &Joined,
     bases: &[String],
 ) -> Result<bool, Failure>
     requires alone { conn.old.in_transaction ≡ false }
@@ -110,6 +117,7 @@ fn take_each<S: Alter>(
     requires opened { HasCleanDisk (state S.Store conn.old) → IsTrue (state S.Store conn.old).is_open }
     requires stands { HasCleanDisk (state S.Store conn.old) → IsTrue (has_pieces (schema_view schema)) → IsTrue (state S.Store conn.old).is_open → HasFurther (state S.Store conn.old).now piece }
     requires no_table { HasCleanDisk (state S.Store conn.old) → IsFalse (has_pieces (schema_view schema)) → IsTrue (state S.Store conn.old).is_open → (contents_of (state S.Store conn.old).now).pieces ≡ finite.empty }
+    requires joined { HasCleanDisk (state S.Store conn.old) → AreJoined (contents_of (state S.Store conn.old).now) joined.now }
     ensures alone { conn.new.in_transaction ≡ false }
     ensures told { HasCleanDisk (state S.Store conn.new) → IfOk result (λ ok. IsTrue ok ↔ AllByRecursion (IsSoundOne (schema_view schema) dir.now (contents_of (state S.Store conn.old).now)) (map string_bytes bases.now)) }
     ensures taken { HasCleanDisk (state S.Store conn.new) → IfOk result (λ ok. IsTrue ok → index.new ≡ record index.old { objects = with_objects (contents_of (state S.Store conn.old).now) (map string_bytes bases.now) index.old.objects }) }
@@ -119,7 +127,7 @@ fn take_each<S: Alter>(
     ensures survives { Survives (state S.Store conn.old) (state S.Store conn.new) (λ _. ⊥) }
 {
     'bases: for base in bases {
-        if !take_object(alloc, conn, schema, dir, index, base.as_str())? {
+        if !take_object(alloc, conn, schema, dir, index, joined, base.as_str())? {
             return Ok(false);
         }
     }
@@ -133,11 +141,13 @@ pub(crate) fn take_all<S: Alter>(
     schema: Schema,
     dir: &StoreDir,
     index: &mut Index,
+    joined: &Joined,
 ) -> Result<bool, Failure>
     requires alone { conn.old.in_transaction ≡ false }
     requires ready { HasCleanDisk (state S.Store conn.old) → IsTrue (state S.Store conn.old).is_open → IsReady (state S.Store conn.old) }
     requires stands { HasCleanDisk (state S.Store conn.old) → IsTrue (has_pieces (schema_view schema)) → IsTrue (state S.Store conn.old).is_open → HasFurther (state S.Store conn.old).now piece }
     requires no_table { HasCleanDisk (state S.Store conn.old) → IsFalse (has_pieces (schema_view schema)) → IsTrue (state S.Store conn.old).is_open → (contents_of (state S.Store conn.old).now).pieces ≡ finite.empty }
+    requires joined { HasCleanDisk (state S.Store conn.old) → AreJoined (contents_of (state S.Store conn.old).now) joined.now }
     ensures alone { conn.new.in_transaction ≡ false }
     ensures told { HasCleanDisk (state S.Store conn.new) → IfOk result (λ ok. IsTrue ok ↔ AllByRecursion (IsSoundOne (schema_view schema) dir.now (contents_of (state S.Store conn.old).now)) (finite.keys (contents_of (state S.Store conn.old).now).objects)) }
     ensures taken { HasCleanDisk (state S.Store conn.new) → IfOk result (λ ok. IsTrue ok → index.new ≡ record index.old { objects = with_objects (contents_of (state S.Store conn.old).now) (finite.keys (contents_of (state S.Store conn.old).now).objects) index.old.objects }) }
@@ -147,5 +157,5 @@ pub(crate) fn take_all<S: Alter>(
     ensures survives { Survives (state S.Store conn.old) (state S.Store conn.new) (λ _. ⊥) }
 {
     let bases = objects::keys(alloc, conn)?;
-    take_each(alloc, conn, schema, dir, index, &bases)
+    take_each(alloc, conn, schema, dir, index, joined, &bases)
 }

@@ -3,7 +3,9 @@ use Rattle.sqlite.specs.Held.{state}
 use Rattle.table_statements.specs.Contents.{contents_of}
 use Rattle.table_statements.proofs.Transactions.{survives_none}
 use Rattle.table_entries.specs.Entries.{piece_in}
+use Rattle.opening_objects.proofs.Columns.{no_parts}
 use Rattle.opening_objects.proofs.Each.{no_change, shown_of}
+use Rattle.opening_objects.proofs.OwnRows.{none_left}
 use Rattle.opening_objects.proofs.ReadRows.{none_listed}
 use Rattle.opening_objects.proofs.reading.pieces_of.Goals as goal
 
@@ -22,3 +24,19 @@ returns-then-not-has_pieces-clause-same g c clean =
 
 pub returns-then-not-has_pieces-clause-survives : goal.returns-then-not-has_pieces-clause-survives
 returns-then-not-has_pieces-clause-survives g c = survives_none (state g.S.Store c.args.conn.now)
+
+pub returns-then-is_empty-clause-reads : goal.returns-then-is_empty-clause-reads
+returns-then-is_empty-clause-reads g c clean =
+    let s = state g.S.Store c.args.conn.now in (
+      no_change s (c.requires.opened clean),
+      ap (map piece_in) c.new-then-is_empty.ensures.items
+          ∙ sym (no_parts (contents_of s.now) c.args.base.now c.args.keys.now c.group.result.now (c.requires.listed clean) c.group.ensures (none_left c.group.result.now (sym c.is_empty.ensures ∙ c.if-is_empty.true))),
+    )
+
+pub returns-then-is_empty-clause-same : goal.returns-then-is_empty-clause-same
+returns-then-is_empty-clause-same g c clean =
+    let s = state g.S.Store c.args.conn.now in
+    shown_of s s (no_change s (c.requires.opened clean))
+
+pub returns-then-is_empty-clause-survives : goal.returns-then-is_empty-clause-survives
+returns-then-is_empty-clause-survives g c = survives_none (state g.S.Store c.args.conn.now)

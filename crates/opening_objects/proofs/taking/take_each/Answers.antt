@@ -12,7 +12,7 @@ use Rattle.table_statements.proofs.Transactions.{survives_none}
 use Rattle.table_statements.proofs.TestFailures.{survives_both}
 use Rattle.index.specs.Outline.{Outline}
 use Rattle.opening_objects.specs.Taken.{IsSoundOne, with_object}
-use Rattle.opening_objects.proofs.ReadRows.{clean_before, further_still}
+use Rattle.opening_objects.proofs.ReadRows.{clean_before, further_still, joined_still}
 use Rattle.world.specs.View.{schema_view}
 use Rattle.opening_objects.proofs.Each.{left_at, shown_of, no_change, decides_next, decides_one, decides_all, makes_next, makes_all}
 use Rattle.opening_objects.proofs.taking.take_each.Goals as goal
@@ -43,6 +43,12 @@ take_object-requires-clause-no_table g c clean has is_open =
     let now = state g.S.Store c.bases.conn in
     let same = (c.bases.invariant.unchanged clean).0 in
     further_still first now (λ d. (contents_of d).pieces ≡ finite.empty) same.now_is (c.requires.no_table (clean_before first now (λ _. ⊥) c.bases.invariant.survives clean) has same.was_open)
+
+pub take_object-requires-clause-joined : goal.take_object-requires-clause-joined
+take_object-requires-clause-joined g c clean =
+    let first = state g.S.Store c.args.conn.now in
+    let now = state g.S.Store c.bases.conn in
+    joined_still first now c.args.joined.now (c.bases.invariant.unchanged clean).0.now_is (c.requires.joined (clean_before first now (λ _. ⊥) c.bases.invariant.survives clean))
 
 pub bases-preserved : goal.bases-preserved
 bases-preserved g c =

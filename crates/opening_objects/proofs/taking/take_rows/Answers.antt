@@ -18,11 +18,11 @@ pub returns-clause-told : goal.returns-clause-told
 returns-clause-told c =
     let rows = c.args.rows in
     let cut = cut_so (schema_view c.args.schema) c.deref.result.now rows.object.nar.items c.deref-2.result.now rows.pieces.items c.deref.ensures.value c.deref-2.ensures.value (c.is_cut_by.ensures.0 c.if-not-is_cut_by.false) in
-    let sound = sound_found c.args.dir.now (stored_of c.in_ok-object.object) (targets_of c.deref-3.result.now) (named_of c.deref-4.result.now) c.in_ok-path.field-0 (c.in-Some.path, c.in-Some.summary) c.in-Some.is c.in_ok-path.ensures in (
+    let sound = sound_found c.args.dir.now (stored_of c.in_ok-object.object) (targets_of c.args.references.now) (named_of c.args.outputs.now) c.in_ok-path.field-0 (c.in-Some.path, c.in-Some.summary) c.in-Some.is c.in_ok-path.ensures in (
       λ _. (
         cut,
         sound_so c.args.dir.now (stored_of c.in_ok-object.object) (with_parts (stored_of rows.object) (parts_of rows.pieces.items)) c.in_ok-object.ensures
-            c.deref-3.result.now rows.references.items c.deref-3.ensures.value c.deref-4.result.now rows.outputs.items c.deref-4.ensures.value sound,
+            c.args.references.now c.args.references.now refl c.args.outputs.now c.args.outputs.now refl sound,
       ),
       λ _. refl,
     )
