@@ -14,6 +14,7 @@ fn main(rt: HostRuntime) -> ExitCode {
     ExitCode::from(match words(&rt) {
         Ok(words) => tool::run(
             &rt,
+            tool::Unknown,
             words.as_slice(),
             &mut rt.stdin(),
             &mut rt.stdout(),

@@ -1,5 +1,5 @@
 -- The answer of a command line whose configuration or words are refused, or for which memory ran out.
-use Rattle.std.proofs.Common.{◌≡◌, ◌≢◌, ◌⊎◌, ℕ, true, false, MatchBool, List, Option, Some, None, Result, Ok, Err, inl, inr, subst, refl, sym, ◌∙◌}
+use Rattle.std.proofs.Common.{◌≡◌, ◌≢◌, ◌⊎◌, ℕ, true, false, MatchBool, List, [], Option, Some, None, Result, Ok, Err, inl, inr, subst, refl, sym, ◌∙◌}
 use Rattle.std.specs.Prelude.{IsSome}
 use Rattle.std.specs.Borrow.{Bor}
 use Rattle.std.proofs.KnownBytes.{Keeps-refl}
@@ -25,7 +25,8 @@ use Rattle.command_line.specs.Line.{Line, IsLine, IsUsageFault, line_view}
 use Rattle.store_commands.specs.Outputs.{Prints}
 use Rattle.pure_commands.specs.Stream.{Answers, Says}
 use Rattle.pure_commands.specs.Who.{StopsFor}
-use Rattle.tool.specs.Answer.{AnswersAlone, AnswersUnder, Explains, Refuses, RunsLine, RunsServed, Stops, is_served}
+use Rattle.tool.specs.Callers.{Answering}
+use Rattle.tool.specs.Answer.{AnswersAlone, AnswersLine, AnswersUnder, Explains, Refuses, RunsLine, RunsServed, Stops, is_served}
 
 -- the stop of a configuration was said: the first writer got nothing
 pub stopped_under : (outcome : Result Settings KeyWord) (answered : Settings → Type 0) (stop : Stop) (out err err' : Option (List ℕ)) (status : ℕ)
@@ -52,18 +53,18 @@ refused_line words line (Usage fault) is among = absurd (subst (IsAmong (kind_of
 refused_line words line (Misuse fault) is found = let both : Ok line ≡ Err fault = sym is.stands ∙ found.1 in cc
 refused_line words line Memory is found = refl
 
-pub line_refused : (words : List (List ℕ)) (e : CommandError) (known out out' err err' : Option (List ℕ)) (status : ℕ) → IsUsageFault words e
-    → Explains e out out' err err' status → (line : Line) → IsLine words line → RunsLine line known out out' err err' status
-line_refused words e known out out' err err' status fault explained line is =
+pub line_refused : (of_file : Answering) (words : List (List ℕ)) (e : CommandError) (known out out' err err' : Option (List ℕ)) (status : ℕ) → IsUsageFault words e
+    → Explains e out out' err err' status → (line : Line) → IsLine words line → RunsLine of_file line known out out' err err' status
+line_refused of_file words e known out out' err err' status fault explained line is =
     inl (subst (λ x. Explains x out out' err err' status) (refused_line words line e is fault) explained)
 
 -- words stand for one command line
-pub line_run : (words : List (List ℕ)) (a b : Line) (known out out' err err' : Option (List ℕ)) (status : ℕ) → IsLine words a → IsLine words b
-    → RunsLine a known out out' err err' status → RunsLine b known out out' err err' status
-line_run words a b known out out' err err' status first second ran =
+pub line_run : (of_file : Answering) (words : List (List ℕ)) (a b : Line) (known out out' err err' : Option (List ℕ)) (status : ℕ) → IsLine words a → IsLine words b
+    → RunsLine of_file a known out out' err err' status → RunsLine of_file b known out out' err err' status
+line_run of_file words a b known out out' err err' status first second ran =
     let both : ◌≡◌ {A = Result Line UsageFault} (Ok a) (Ok b) = sym first.stands ∙ second.stands in
     let same : a ≡ b = cc in
-    subst (λ l. RunsLine l known out out' err err' status) same ran
+    subst (λ l. RunsLine of_file l known out out' err err' status) same ran
 
 -- ---- subcommands that aren't there yet
 
@@ -73,15 +74,15 @@ pub refuses : (out err err' : Option (List ℕ)) (status : ℕ) → ((text : Lis
 refuses out err err' status (inl told) = inl (Keeps-refl out, told)
 refuses out err err' status (inr said) = inr (Keeps-refl out, said)
 
-pub runs_unserved : (line : Line) (known out out' err err' : Option (List ℕ)) (status : ℕ) → is_served line.asked ≡ false → Refuses out out' err err' status
-    → RunsLine line known out out' err err' status
-runs_unserved line known out out' err err' status unserved refused =
-    inr (subst (λ b. MatchBool b (RunsServed line known out out' err err' status) (Refuses out out' err err' status)) (sym unserved) refused)
+pub runs_unserved : (of_file : Answering) (line : Line) (known out out' err err' : Option (List ℕ)) (status : ℕ) → is_served line.asked ≡ false → Refuses out out' err err' status
+    → RunsLine of_file line known out out' err err' status
+runs_unserved of_file line known out out' err err' status unserved refused =
+    inr (subst (λ b. MatchBool b (RunsServed of_file line known out out' err err' status) (Refuses out out' err err' status)) (sym unserved) refused)
 
-pub runs_served : (line : Line) (known out out' err err' : Option (List ℕ)) (status : ℕ) → is_served line.asked ≡ true → RunsServed line known out out' err err' status
-    → RunsLine line known out out' err err' status
-runs_served line known out out' err err' status served ran =
-    inr (subst (λ b. MatchBool b (RunsServed line known out out' err err' status) (Refuses out out' err err' status)) (sym served) ran)
+pub runs_served : (of_file : Answering) (line : Line) (known out out' err err' : Option (List ℕ)) (status : ℕ) → is_served line.asked ≡ true → RunsServed of_file line known out out' err err' status
+    → RunsLine of_file line known out out' err err' status
+runs_served of_file line known out out' err err' status served ran =
+    inr (subst (λ b. MatchBool b (RunsServed of_file line known out out' err err' status) (Refuses out out' err err' status)) (sym served) ran)
 
 -- ---- a configuration that can't be had
 
@@ -101,10 +102,19 @@ config_is : (o : Option (Bor Text)) → IsSome o → IsSome (optional_text o)
 config_is None is = is
 config_is (Some text) is = refl
 
-pub lacks : (line : CommandLine) (stop : Stop) (known out out' err err' : Option (List ℕ)) (status : ℕ) → IsSome line.config
+no_config : (o : Option (Bor Text)) → optional_text o ≡ None → o ≡ None
+no_config None is = refl
+no_config (Some text) is = cc
+
+-- a text of the configuration was there
+pub configured : (of_file : Answering) (line : CommandLine) (text : List ℕ) (known out out' err err' : Option (List ℕ)) (status : ℕ) → (line.config ≡ None → text ≡ [])
+    → AnswersLine of_file text (line_view line) known out out' err err' status → RunsServed of_file (line_view line) known out out' err err' status
+configured of_file line text known out out' err err' status empty answered = inr (text, λ none. empty (no_config line.config none), answered)
+
+pub lacks : (of_file : Answering) (line : CommandLine) (stop : Stop) (known out out' err err' : Option (List ℕ)) (status : ℕ) → IsSome line.config
     → (stop ≡ Failed NoMemory) ⊎ (stop ≡ Failed File) → Stops (asked_view line.task) stop out out' err err' status
-    → RunsServed (line_view line) known out out' err err' status
-lacks line stop known out out' err err' status named (inl memory) said =
+    → RunsServed of_file (line_view line) known out out' err err' status
+lacks of_file line stop known out out' err err' status named (inl memory) said =
     inl (config_is line.config named, inl (subst (λ x. Stops (asked_view line.task) x out out' err err' status) memory said))
-lacks line stop known out out' err err' status named (inr file) said =
+lacks of_file line stop known out out' err err' status named (inr file) said =
     inl (config_is line.config named, inr (subst (λ x. Stops (asked_view line.task) x out out' err err' status) file said))

@@ -24,10 +24,8 @@ use Rattle.pure_commands.specs.declared.stops.Failure.TheVariants.{Memory, File,
 use Rattle.pure_commands.specs.declared.stops.Stop.{Stop}
 use Rattle.pure_commands.specs.declared.stops.Stop.TheVariants.{Refused, Failed}
 use Rattle.tool.specs.Answer.{AnswersUnder}
-use Rattle.tool.specs.Callers.{AnswersCaller, AnswersCalled, AnswersNamed}
+use Rattle.tool.specs.Callers.{Answering, AnswersCalled, AnswersNamed}
 use Rattle.tool.specs.Calls.{AnswersStep, AnswersRequest, AnswersWanted, AnswersIn, Serves}
-use Rattle.tool.specs.Files.{AnswersSome}
-use Rattle.clap.specs.Walk.{Text}
 use Rattle.tool.specs.Requests.{Ask, IsAsked, IsAskedOver, StepsAs, Wants, caller_by}
 use Rattle.pure_commands.specs.Stream.{Says}
 
@@ -47,10 +45,6 @@ module _ {S : Type 0} (g : Ghosts S) (c : Caller) (out out' err err' : Option (L
       let step = x.calls.step w told in
       let is = step_clean (HasCleanDisk (state g x.new.tables.connection)) s w c x.made x.reply step.0 (λ _. clean x.new.tables.connection) step.1 in
       (x.reply, step.0, x.same s w c x.reply step.0 is, x.told)
-
-  -- and a reply of it was told
-  pub told_some : (s : Settings) (t : Kept S) (q : Request) → Serves g s t c out out' err err' status q → AnswersSome s out out' err err' status q
-  told_some s t q x = (x.reply, x.told)
 
 module _ (answered : Request → Type 0) (ask : List ℕ → Result Request Refusal → Type 0) where
   -- the request that was made does what is asked
@@ -98,19 +92,19 @@ module _ (answered also : Request → Type 0) (each : (q : Request) → answered
   of_each ask None (inr told) = inr (told.0, (told.1.0, told.1.1, of_request told.1.0 told.1.2))
   of_each ask (Some bytes) (inr told) = inr (told.0, told.1, of_request told.0 told.2)
 
-module _ (db : Option Text) (s : Settings) (user group : Option (List ℕ)) (ask : Ask) (known : Option (List ℕ)) where
+module _ (answered : Answering) (s : Settings) (user group : Option (List ℕ)) (ask : Ask) (known : Option (List ℕ)) where
   -- the caller of the names was answered
   pub named : (c : Caller) (out out' err err' : Option (List ℕ)) (status : ℕ) → caller_by user group ≡ Some c
-      → AnswersCaller db s c (Wants ask s.store_dir c) known out out' err err' status → AnswersNamed db s user group ask known out out' err err' status
-  named c out out' err err' status is answered = inr (subst (λ o. AnswersCalled db s o (Wants ask s.store_dir) known out out' err err' status) (sym is) answered)
+      → answered s c (Wants ask s.store_dir c) known out out' err err' status → AnswersNamed answered s user group ask known out out' err err' status
+  named c out out' err err' status is given = inr (subst (λ o. AnswersCalled answered s o (Wants ask s.store_dir) known out out' err err' status) (sym is) given)
 
   -- why there is no caller was said
   pub unnamed : (stop : Stop) (out err err' : Option (List ℕ)) (status : ℕ)
       → (stop ≡ Failed Memory) ⊎ ((stop ≡ Refused BadCaller) × (caller_by user group ≡ None)) → Says stop err err' status
-      → AnswersNamed db s user group ask known out out err err' status
+      → AnswersNamed answered s user group ask known out out err err' status
   unnamed stop out err err' status (inl memory) said = inl (Keeps-refl out, subst (λ x. Says x err err' status) memory said)
   unnamed stop out err err' status (inr why) said =
-      inr (subst (λ o. AnswersCalled db s o (Wants ask s.store_dir) known out out err err' status) (sym why.1)
+      inr (subst (λ o. AnswersCalled answered s o (Wants ask s.store_dir) known out out err err' status) (sym why.1)
       (Keeps-refl out, subst (λ x. Says x err err' status) why.0 said))
 
 -- the settings of the configuration are these

@@ -17,7 +17,7 @@ use Rattle.pure_commands.specs.declared.stops.Failure.TheVariants.{Memory as NoM
 use Rattle.pure_commands.specs.declared.stops.Stop.{Stop}
 use Rattle.pure_commands.specs.declared.stops.Stop.TheVariants.{Refused, Failed}
 use Rattle.pure_commands.specs.Archive.{ls_answer}
-use Rattle.tool.specs.Callers.{AnswersNamed}
+use Rattle.tool.specs.Callers.{Answering, AnswersCaller, AnswersNamed}
 use Rattle.pure_commands.specs.Object.{object_fault, text_path_answer, source_path_answer}
 use Rattle.store_commands.specs.Outputs.{Prints}
 use Rattle.tool.specs.Requests.{asks}
@@ -68,14 +68,15 @@ AnswersAlone config db user group (serve a) known out out' err err' status =
     AnswersUnder (config_of config) (λ s. ServesIn db s a known out out' err err' status) out out' err err' status
 AnswersAlone config db user group _ known out out' err err' status = Refuses out out' err err' status
 
--- what any subcommand answers: what it asks of a store is answered to its caller, under the settings of the configuration
-abbrev pub AnswersAsked : List ℕ → Option Text → Option (List ℕ) → Option (List ℕ) → Asked → Option (List ℕ) → Option (List ℕ) → Option (List ℕ) → Option (List ℕ) → Option (List ℕ) → ℕ → Type 0
-AnswersAsked config db user group asked known out out' err err' status = MatchOption (asks asked) (AnswersAlone config db user group asked known out out' err err' status)
-    (λ ask. AnswersUnder (config_of config) (λ s. AnswersNamed db s user group ask known out out' err err' status) out out' err err' status)
+-- What any subcommand answers: what it asks of a store is answered to its caller, under the settings of the configuration. Here and below
+-- the first argument says what is answered by the store of a file, which depends on what that held.
+abbrev pub AnswersAsked : Answering → List ℕ → Option Text → Option (List ℕ) → Option (List ℕ) → Asked → Option (List ℕ) → Option (List ℕ) → Option (List ℕ) → Option (List ℕ) → Option (List ℕ) → ℕ → Type 0
+AnswersAsked of_file config db user group asked known out out' err err' status = MatchOption (asks asked) (AnswersAlone config db user group asked known out out' err err' status)
+    (λ ask. AnswersUnder (config_of config) (λ s. AnswersNamed (AnswersCaller of_file db) s user group ask known out out' err err' status) out out' err err' status)
 
 -- what a command line answers by the text of its configuration
-abbrev pub AnswersLine : List ℕ → Line → Option (List ℕ) → Option (List ℕ) → Option (List ℕ) → Option (List ℕ) → Option (List ℕ) → ℕ → Type 0
-AnswersLine config line known out out' err err' status = AnswersAsked config line.db line.user line.group line.asked known out out' err err' status
+abbrev pub AnswersLine : Answering → List ℕ → Line → Option (List ℕ) → Option (List ℕ) → Option (List ℕ) → Option (List ℕ) → Option (List ℕ) → ℕ → Type 0
+AnswersLine of_file config line known out out' err err' status = AnswersAsked of_file config line.db line.user line.group line.asked known out out' err err' status
 
 -- a stop before there is anything to answer by is said by `who` on the first writer, and else on the second
 abbrev pub Stops : Asked → Stop → Option (List ℕ) → Option (List ℕ) → Option (List ℕ) → Option (List ℕ) → ℕ → Type 0
@@ -92,15 +93,15 @@ LacksFile line out out' err err' status =
 
 -- What running a command line of a subcommand that is there does: the answer by some configuration, which is the empty one
 -- where no file is named; or there is none to answer by.
-abbrev pub RunsServed : Line → Option (List ℕ) → Option (List ℕ) → Option (List ℕ) → Option (List ℕ) → Option (List ℕ) → ℕ → Type 0
-RunsServed line known out out' err err' status = LacksFile line out out' err err' status
-    ⊎ ((config : List ℕ) × (line.config ≡ None → config ≡ []) × AnswersLine config line known out out' err err' status)
+abbrev pub RunsServed : Answering → Line → Option (List ℕ) → Option (List ℕ) → Option (List ℕ) → Option (List ℕ) → Option (List ℕ) → ℕ → Type 0
+RunsServed of_file line known out out' err err' status = LacksFile line out out' err err' status
+    ⊎ ((config : List ℕ) × (line.config ≡ None → config ≡ []) × AnswersLine of_file config line known out out' err err' status)
 
 -- What running a command line does: that; or a usage fault, where the subcommand isn't there yet; or memory gave out while
 -- the words were read.
-abbrev pub RunsLine : Line → Option (List ℕ) → Option (List ℕ) → Option (List ℕ) → Option (List ℕ) → Option (List ℕ) → ℕ → Type 0
-RunsLine line known out out' err err' status = Answers (Err (Failed NoMemory)) out out' err err' status
-    ⊎ MatchBool (is_served line.asked) (RunsServed line known out out' err err' status) (Refuses out out' err err' status)
+abbrev pub RunsLine : Answering → Line → Option (List ℕ) → Option (List ℕ) → Option (List ℕ) → Option (List ℕ) → Option (List ℕ) → ℕ → Type 0
+RunsLine of_file line known out out' err err' status = Answers (Err (Failed NoMemory)) out out' err err' status
+    ⊎ MatchBool (is_served line.asked) (RunsServed of_file line known out out' err err' status) (Refuses out out' err err' status)
 
 -- the fault of the words is that they ask for help or for the version
 abbrev pub AsksHelp : CommandError → Type 0

@@ -12,29 +12,31 @@ use Rattle.store_commands.specs.Telling.{IsTold}
 use Rattle.pure_commands.specs.declared.stops.Failure.TheVariants.{Memory}
 use Rattle.pure_commands.specs.declared.stops.Stop.TheVariants.{Refused, Failed}
 use Rattle.tool.specs.Calls.{AnswersIn, AnswersStep}
-use Rattle.tool.specs.Files.{AnswersFile}
 use Rattle.tool.specs.Requests.{Ask, Wants, caller_by}
 use Rattle.pure_commands.specs.Stream.{Answers}
 
--- in a store in memory there is nothing yet; or there was no store to be had
-abbrev pub AnswersNew : Settings → Caller → (List ℕ → Result Request Refusal → Type 0) → Option (List ℕ)
+-- what a caller is answered, by what he asks for the bytes of the input
+abbrev pub Answering : Type 1
+Answering = Settings → Caller → (List ℕ → Result Request Refusal → Type 0) → Option (List ℕ)
     → Option (List ℕ) → Option (List ℕ) → Option (List ℕ) → Option (List ℕ) → ℕ → Type 0
+
+-- in a store in memory there is nothing yet; or there was no store to be had
+abbrev pub AnswersNew : Answering
 AnswersNew s c ask known out out' err err' status = AnswersIn (AnswersStep s no_world c out out' err err' status) ask known out out' err err' status
     ⊎ ((f : Lack) × IsTold s.store_dir (failed f) out out' err err' status)
 
--- what a caller is answered, by the file of the store
-abbrev pub AnswersCaller : Option Text → Settings → Caller → (List ℕ → Result Request Refusal → Type 0) → Option (List ℕ)
-    → Option (List ℕ) → Option (List ℕ) → Option (List ℕ) → Option (List ℕ) → ℕ → Type 0
-AnswersCaller None s c ask known out out' err err' status = AnswersNew s c ask known out out' err err' status
-AnswersCaller (Some file) s c ask known out out' err err' status = AnswersFile s ask known out out' err err' status
+-- what a caller is answered by the store of the file, if one is named
+unfoldable pub AnswersCaller : Answering → Option Text → Answering
+AnswersCaller of_file None s c ask known out out' err err' status = AnswersNew s c ask known out out' err err' status
+AnswersCaller of_file (Some file) s c ask known out out' err err' status = of_file s c ask known out out' err err' status
 
 -- the same of the caller of these names, who is refused where they aren't plain; or memory gave out before
-abbrev pub AnswersCalled : Option Text → Settings → Option Caller → (Caller → List ℕ → Result Request Refusal → Type 0) → Option (List ℕ)
+abbrev pub AnswersCalled : Answering → Settings → Option Caller → (Caller → List ℕ → Result Request Refusal → Type 0) → Option (List ℕ)
     → Option (List ℕ) → Option (List ℕ) → Option (List ℕ) → Option (List ℕ) → ℕ → Type 0
-AnswersCalled db s None ask known out out' err err' status = Answers (Err (Refused BadCaller)) out out' err err' status
-AnswersCalled db s (Some c) ask known out out' err err' status = AnswersCaller db s c (ask c) known out out' err err' status
+AnswersCalled answered s None ask known out out' err err' status = Answers (Err (Refused BadCaller)) out out' err err' status
+AnswersCalled answered s (Some c) ask known out out' err err' status = answered s c (ask c) known out out' err err' status
 
-abbrev pub AnswersNamed : Option Text → Settings → Option (List ℕ) → Option (List ℕ) → Ask → Option (List ℕ)
+abbrev pub AnswersNamed : Answering → Settings → Option (List ℕ) → Option (List ℕ) → Ask → Option (List ℕ)
     → Option (List ℕ) → Option (List ℕ) → Option (List ℕ) → Option (List ℕ) → ℕ → Type 0
-AnswersNamed db s user group ask known out out' err err' status = Answers (Err (Failed Memory)) out out' err err' status
-    ⊎ AnswersCalled db s (caller_by user group) (Wants ask s.store_dir) known out out' err err' status
+AnswersNamed answered s user group ask known out out' err err' status = Answers (Err (Failed Memory)) out out' err err' status
+    ⊎ AnswersCalled answered s (caller_by user group) (Wants ask s.store_dir) known out out' err err' status

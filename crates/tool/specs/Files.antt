@@ -2,9 +2,18 @@
 use Rattle.std.specs.Prelude.{◌⊎◌, ℕ, List, Option, Result, Err}
 use Rattle.std.specs.Option.{option_map_or}
 use Rattle.sqlite_disk.specs.declared.Disk as disk
+use Rattle.sqlite_disk.specs.declared.calls.Calls as calls
+use Rattle.sqlite_disk.specs.declared.modelled.Modelled.{Modelled}
+use Rattle.sqlite_disk.specs.declared.start.Start.{Ghosts}
+use Rattle.sqlite_std_file.specs.declared.host.Host.{Host}
+use Rattle.sqlite_wal.specs.Files.{image_at}
+use Rattle.sqlite_store.specs.declared.store.FileStore.{FileStore}
+use Rattle.sqlite.specs.Files.{over_files}
+use Rattle.tables.specs.Kept.{Kept}
 use Rattle.policy.specs.Settings.{Settings}
+use Rattle.policy.specs.Caller.{Caller}
 use Rattle.store.specs.Request.{Request}
-use Rattle.store.specs.Reply.{Reply, failed}
+use Rattle.store.specs.Reply.{failed}
 use Rattle.store_requests.specs.View.{failure_view}
 use Rattle.table_opening.specs.declared.file.Unopened.{Unopened as NoFile}
 use Rattle.table_opening.specs.declared.file.Unopened.TheVariants as file
@@ -12,11 +21,12 @@ use Rattle.opening.specs.declared.refusing.Cause.{Cause}
 use Rattle.opening.specs.declared.refusing.Cause.TheVariants.{BadSchema, OtherStoreDir, Failed as Lacks}
 use Rattle.opening.specs.declared.refusing.Unopened.{Unopened}
 use Rattle.opening.specs.declared.refusing.Unopened.TheVariants.{File, Store}
+use Rattle.opening.specs.Opened.{IsUnopened, Opens}
 use Rattle.report.specs.declared.refusal.Refusal.{Refusal}
 use Rattle.report.specs.declared.refusal.Refusal.TheVariants as refusal
 use Rattle.store_commands.specs.Telling.{IsTold}
 use Rattle.pure_commands.specs.declared.stops.Stop.TheVariants.{Refused}
-use Rattle.tool.specs.Calls.{AnswersIn}
+use Rattle.tool.specs.Calls.{AnswersIn, Serves}
 use Rattle.pure_commands.specs.Stream.{Answers}
 
 module _ {S D : Type 0} {g : disk.Ghosts D} where
@@ -36,12 +46,21 @@ TellsCause dir BadSchema out out' err err' status = Answers (Err (Refused refusa
 TellsCause dir OtherStoreDir out out' err err' status = Answers (Err (Refused refusal.OtherStoreDir)) out out' err err' status
 TellsCause dir (Lacks f) out out' err err' status = IsTold dir (failed (failure_view f)) out out' err err' status
 
--- some reply is told
-abbrev pub AnswersSome : Settings → Option (List ℕ) → Option (List ℕ) → Option (List ℕ) → Option (List ℕ) → ℕ → Request → Type 0
-AnswersSome s out out' err err' status q = (reply : Reply) × IsTold s.store_dir reply out out' err err' status
+-- By what the file held that is opened. Which that is no code reads, so what is said here holds whatever it was.
+module _ {S : Type 0} {host : calls.Ghosts Host} (start : Ghosts S) (g : disk.Ghosts (Modelled Host S host start)) where
+  -- it was taken up as the store of the directory, and what is asked is served over its tables
+  abbrev pub AnswersTaken : Settings → Caller → (List ℕ → Result Request Refusal → Type 0) → Option (List ℕ)
+      → Option (List ℕ) → Option (List ℕ) → Option (List ℕ) → Option (List ℕ) → ℕ → Type 0
+  AnswersTaken s c ask known out out' err err' status = (t : Kept (FileStore (Modelled Host S host start) g)) × Opens (image_at start) s.store_dir t
+      × AnswersIn (Serves over_files s t c out out' err err' status) ask known out out' err err' status
 
--- what is asked is answered; or the file isn't taken up, and its cause is told
-abbrev pub AnswersFile : Settings → (List ℕ → Result Request Refusal → Type 0) → Option (List ℕ)
-    → Option (List ℕ) → Option (List ℕ) → Option (List ℕ) → Option (List ℕ) → ℕ → Type 0
-AnswersFile s ask known out out' err err' status = AnswersIn (AnswersSome s out out' err err' status) ask known out out' err err' status
-    ⊎ ((cause : Cause) × TellsCause s.store_dir cause out out' err err' status)
+  -- it isn't taken up, and its cause is told
+  abbrev pub AnswersUntaken : List ℕ → Option (List ℕ) → Option (List ℕ) → Option (List ℕ) → Option (List ℕ) → ℕ → Type 0
+  AnswersUntaken dir out out' err err' status = (e : Unopened (FileStore (Modelled Host S host start) g) (Modelled Host S host start) g)
+      × IsUnopened (image_at start) dir e × TellsCause dir (cause_of e) out out' err err' status
+
+  -- one of both
+  abbrev pub AnswersFile : Settings → Caller → (List ℕ → Result Request Refusal → Type 0) → Option (List ℕ)
+      → Option (List ℕ) → Option (List ℕ) → Option (List ℕ) → Option (List ℕ) → ℕ → Type 0
+  AnswersFile s c ask known out out' err err' status =
+      AnswersTaken s c ask known out out' err err' status ⊎ AnswersUntaken s.store_dir out out' err err' status

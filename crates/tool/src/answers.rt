@@ -1,6 +1,7 @@
 //! What a command line answers, by the text of its configuration.
 ghost use Rattle.std.specs.Prelude.{◌≡◌, None, false};
 ghost use Rattle.tool.specs.Answer.{AnswersAlone, AnswersLine};
+ghost use Rattle.tool.specs.Files.{AnswersFile};
 ghost use Rattle.pure_commands.specs.Archive.{max_front};
 ghost use Rattle.command_line.specs.Asked as asked;
 ghost use Rattle.command_line.specs.Asked.{optional_text};
@@ -15,6 +16,8 @@ use crate::usage::refuse_task;
 use command_line::{CommandLine, Task};
 use policy::store_dir;
 use pure_commands::{ls, say, settings, source_path, text_path, who};
+use sqlite::{FileFrom, Start};
+use sqlite_disk::Disk;
 use std::alloc::Global;
 use std::io::{Read, Write};
 use std::rt::HostRuntime;
@@ -77,19 +80,21 @@ fn answer_alone<R: Read, W: Write, E: Write>(
 /// Results go to `output`; refusals and failures go to `errors`, but for `who`, which puts everything
 /// on `output`. The configuration file that the command line names isn't read. No more than 16,777,224 bytes of the input
 /// are, but for `import` and `runtime`, which read all of it, and `serve`, which reads what its connection sends.
-pub fn answer<R: Read, W: Write, E: Write>(
+/// `start` stands for what a database file held, as for `run`.
+pub fn answer<F: Start, R: Read, W: Write, E: Write>(
     rt: &HostRuntime,
+    start: F,
     config: &[u8],
     line: &CommandLine<'_>,
     input: &mut R,
     output: &mut W,
     errors: &mut E,
 ) -> u8
-    ensures answer { AnswersLine config.now (line_view line.now) (R.remaining input.old) (W.contents output.old) (W.contents output.new) (E.contents errors.old) (E.contents errors.new) result }
+    ensures answer { AnswersLine (AnswersFile F.Start ⟦<FileFrom<F> as Disk>⟧) config.now (line_view line.now) (R.remaining input.old) (W.contents output.old) (W.contents output.new) (E.contents errors.old) (E.contents errors.new) result }
     ensures reads { reads_all (asked.asked_view line.now.task) ≡ false → TakesAtMost max_front (R.remaining input.old) (R.remaining input.new) }
 {
     if is_asked(&line.task) {
-        return call(rt, config, line, input, output, errors);
+        return call(rt, start, config, line, input, output, errors);
     }
     answer_alone(rt, config, line, input, output, errors)
 }

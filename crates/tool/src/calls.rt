@@ -6,6 +6,7 @@ ghost use Rattle.streams.specs.Reads.{TakesAtMost};
 ghost use Rattle.tool.specs.Answer.{AnswersUnder};
 ghost use Rattle.pure_commands.specs.Archive.{max_front};
 ghost use Rattle.tool.specs.Callers.{AnswersCaller, AnswersNamed};
+ghost use Rattle.tool.specs.Files.{AnswersFile};
 ghost use Rattle.tool.specs.Requests.{Ask, Wants, asks, reads_all, caller_by};
 
 use crate::files::call_in_file;
@@ -14,6 +15,8 @@ use command_line::{CommandLine, Task};
 use policy::{Caller, CallerError, Config};
 use pure_commands::{Failure, Stop, say, settings};
 use report::Refusal;
+use sqlite::{FileFrom, Start};
+use sqlite_disk::Disk;
 use std::alloc::Global;
 use std::io::{Read, Write};
 use std::rt::HostRuntime;
@@ -34,8 +37,10 @@ fn caller_of(alloc: Global, user: Option<&str>, group: Option<&str>) -> Result<C
 }
 
 /// Asks the store of a database file, or one in memory where none is named.
-fn call_in<R: Read, W: Write, E: Write>(
+#[tactic(auto, unfolding(crate::specs::Callers::AnswersCaller))]
+fn call_in<F: Start, R: Read, W: Write, E: Write>(
     rt: &HostRuntime,
+    start: F,
     db: Option<&str>,
     config: Config,
     caller: &Caller,
@@ -46,18 +51,19 @@ fn call_in<R: Read, W: Write, E: Write>(
 ) -> u8
     requires { IsSome (asks (asked_view task.now)) }
     ensures answer { (ask : Ask) → asks (asked_view task.now) ≡ Some ask
-        → AnswersCaller (optional_text db.entry) config caller.now (Wants ask config.store_dir caller.now) (R.remaining input.old) (W.contents output.old) (W.contents output.new) (E.contents errors.old) (E.contents errors.new) result }
+        → AnswersCaller (AnswersFile F.Start ⟦<FileFrom<F> as Disk>⟧) (optional_text db.entry) config caller.now (Wants ask config.store_dir caller.now) (R.remaining input.old) (W.contents output.old) (W.contents output.new) (E.contents errors.old) (E.contents errors.new) result }
     ensures reads { reads_all (asked_view task.now) ≡ false → TakesAtMost max_front (R.remaining input.old) (R.remaining input.new) }
 {
     match db {
-        Some(path) => call_in_file(rt, path, config, caller, task, input, output, errors),
+        Some(path) => call_in_file(rt, start, path, config, caller, task, input, output, errors),
         None => call_in_memory(rt.alloc(), config, caller, task, input, output, errors),
     }
 }
 
 /// Asks a store, by the text of the configuration.
-pub(crate) fn call<R: Read, W: Write, E: Write>(
+pub(crate) fn call<F: Start, R: Read, W: Write, E: Write>(
     rt: &HostRuntime,
+    start: F,
     config: &[u8],
     line: &CommandLine<'_>,
     input: &mut R,
@@ -66,7 +72,7 @@ pub(crate) fn call<R: Read, W: Write, E: Write>(
 ) -> u8
     requires { IsSome (asks (asked_view line.now.task)) }
     ensures answer { (ask : Ask) → asks (asked_view line.now.task) ≡ Some ask
-        → AnswersUnder (config_of config.now) (λ s. AnswersNamed (optional_text line.now.db) s (optional_text line.now.user) (optional_text line.now.group) ask (R.remaining input.old) (W.contents output.old) (W.contents output.new) (E.contents errors.old) (E.contents errors.new) result)
+        → AnswersUnder (config_of config.now) (λ s. AnswersNamed (AnswersCaller (AnswersFile F.Start ⟦<FileFrom<F> as Disk>⟧) (optional_text line.now.db)) s (optional_text line.now.user) (optional_text line.now.group) ask (R.remaining input.old) (W.contents output.old) (W.contents output.new) (E.contents errors.old) (E.contents errors.new) result)
         (W.contents output.old) (W.contents output.new) (E.contents errors.old) (E.contents errors.new) result }
     ensures reads { reads_all (asked_view line.now.task) ≡ false → TakesAtMost max_front (R.remaining input.old) (R.remaining input.new) }
 {
@@ -76,7 +82,7 @@ pub(crate) fn call<R: Read, W: Write, E: Write>(
     };
     match caller_of(rt.alloc(), line.user, line.group) {
         Ok(caller) => call_in(
-            rt, line.db, config, &caller, &line.task, input, output, errors,
+            rt, start, line.db, config, &caller, &line.task, input, output, errors,
         ),
         Err(stop) => say(stop, errors),
     }

@@ -14,7 +14,7 @@ use paths::StoreDir;
 use policy::{Caller, Config, store_dir};
 use pure_commands::{Stop, say};
 use report::Refusal;
-use sqlite::{Alter, Unknown};
+use sqlite::{Alter, FileFrom, Start};
 use sqlite_disk::Disk;
 use std::alloc::Global;
 use std::io::{Read, Write};
@@ -72,9 +72,10 @@ pub(crate) fn refuse_file<W: Write, E: Write>(
     }
 }
 
-/// Asks the store of the database file at a path, which is made where it isn't there.
-pub(crate) fn call_in_file<R: Read, W: Write, E: Write>(
+/// Asks the store of the database file at a path, which is made where it isn't there. `start` stands for what the file held.
+pub(crate) fn call_in_file<F: Start, R: Read, W: Write, E: Write>(
     rt: &HostRuntime,
+    start: F,
     path: &str,
     config: Config,
     caller: &Caller,
@@ -85,10 +86,10 @@ pub(crate) fn call_in_file<R: Read, W: Write, E: Write>(
 ) -> u8
     requires { IsSome (asks (asked_view task.now)) }
     ensures answer { (ask : Ask) → asks (asked_view task.now) ≡ Some ask
-        → AnswersFile config (Wants ask config.store_dir caller.now) (R.remaining input.old) (W.contents output.old) (W.contents output.new) (E.contents errors.old) (E.contents errors.new) result }
+        → AnswersFile F.Start ⟦<FileFrom<F> as Disk>⟧ config caller.now (Wants ask config.store_dir caller.now) (R.remaining input.old) (W.contents output.old) (W.contents output.new) (E.contents errors.old) (E.contents errors.new) result }
     ensures reads { reads_all (asked_view task.now) ≡ false → TakesAtMost max_front (R.remaining input.old) (R.remaining input.new) }
 {
-    match opening::open(rt, path, store_dir(&config), Unknown) {
+    match opening::open(rt, path, store_dir(&config), start) {
         Ok(tables) => call_over(
             rt.alloc(),
             config,

@@ -2,6 +2,7 @@
 ghost use Rattle.std.specs.Prelude.{◌≡◌, ◌≢◌, ℕ, List, map, true, false};
 ghost use Rattle.std.specs.IoError.{error_kind};
 ghost use Rattle.tool.specs.Answer.{Explains, Helps, RefusesWords, RunsLine};
+ghost use Rattle.tool.specs.Files.{AnswersFile};
 ghost use Rattle.pure_commands.specs.Archive.{max_front};
 ghost use Rattle.command_line.specs.Line.{IsLine, IsUsageFault, Line, line_view};
 ghost use Rattle.streams.specs.Reads.{TakesAtMost};
@@ -14,6 +15,8 @@ use crate::answers::answer;
 use crate::usage::{USAGE, is_served, refuse, refuse_task};
 use command_line::{CommandError, CommandLine, Task, command};
 use pure_commands::{Failure, Stop, config_text, give, print, say};
+use sqlite::{FileFrom, Start};
+use sqlite_disk::Disk;
 use std::alloc::Global;
 use std::convert::AsStr;
 use std::io;
@@ -28,41 +31,44 @@ const NOT_UTF8: &str = "error: a word of the command line isn't UTF-8\n";
 /// The configuration is read from its file, if one is named. Results go to `output`; refusals,
 /// failures and what is wrong with the words go to `errors`, but for `who`, which puts everything
 /// on `output` once its words are read. No more than 16,777,224 bytes of the input are read, but by `import`,
-/// `runtime` and `serve`.
-pub fn run<S: AsStr, R: Read, W: Write, E: Write>(
+/// `runtime` and `serve`. `start` stands for what a database file held, which no code reads: what is said here holds over any,
+/// and a program passes `Unknown`.
+pub fn run<F: Start, S: AsStr, R: Read, W: Write, E: Write>(
     rt: &HostRuntime,
+    start: F,
     words: &[S],
     input: &mut R,
     output: &mut W,
     errors: &mut E,
 ) -> u8
     ensures line { (line : Line) → IsLine (map S.text words.now) line
-        → RunsLine line (R.remaining input.old) (W.contents output.old) (W.contents output.new) (E.contents errors.old) (E.contents errors.new) result }
+        → RunsLine (AnswersFile F.Start ⟦<FileFrom<F> as Disk>⟧) line (R.remaining input.old) (W.contents output.old) (W.contents output.new) (E.contents errors.old) (E.contents errors.new) result }
     ensures words { ¬ ((line : Line) × IsLine (map S.text words.now) line)
         → (fault : CommandError) × IsUsageFault (map S.text words.now) fault × Explains fault (W.contents output.old) (W.contents output.new) (E.contents errors.old) (E.contents errors.new) result }
     ensures reads { ((line : Line) → IsLine (map S.text words.now) line → reads_all line.asked ≡ false) → TakesAtMost max_front (R.remaining input.old) (R.remaining input.new) }
 {
     match command(rt.alloc(), words) {
-        Ok(line) => execute(rt, &line, input, output, errors),
+        Ok(line) => execute(rt, start, &line, input, output, errors),
         Err(fault) => explain(rt.alloc(), &fault, output, errors),
     }
 }
 
-fn execute<R: Read, W: Write, E: Write>(
+fn execute<F: Start, R: Read, W: Write, E: Write>(
     rt: &HostRuntime,
+    start: F,
     line: &CommandLine<'_>,
     input: &mut R,
     output: &mut W,
     errors: &mut E,
 ) -> u8
-    ensures answer { RunsLine (line_view line.now) (R.remaining input.old) (W.contents output.old) (W.contents output.new) (E.contents errors.old) (E.contents errors.new) result }
+    ensures answer { RunsLine (AnswersFile F.Start ⟦<FileFrom<F> as Disk>⟧) (line_view line.now) (R.remaining input.old) (W.contents output.old) (W.contents output.new) (E.contents errors.old) (E.contents errors.new) result }
     ensures reads { reads_all (line_view line.now).asked ≡ false → TakesAtMost max_front (R.remaining input.old) (R.remaining input.new) }
 {
     if !is_served(&line.task) {
         return refuse_task(rt.alloc(), errors);
     }
     match config_text(rt, line.config) {
-        Ok(text) => answer(rt, text.as_slice(), line, input, output, errors),
+        Ok(text) => answer(rt, start, text.as_slice(), line, input, output, errors),
         Err(stop) => match line.task {
             Task::Who => say(stop, output),
             _ => say(stop, errors),

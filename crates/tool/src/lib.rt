@@ -24,3 +24,4 @@ pub use command_line::{
 pub use launch::{refuse_words, run};
 pub use pure_commands::{Failure, Stop, Verdict, judge, ls, source_path, text_path, who};
 pub use report::Refusal;
+pub use sqlite::Unknown;

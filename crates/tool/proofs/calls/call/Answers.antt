@@ -1,7 +1,7 @@
 use Rattle.std.proofs.Common.{inl}
 use Rattle.command_line.specs.Asked.{optional_text}
 use Rattle.policy.specs.Toml.{config_of}
-use Rattle.tool.specs.Callers.{AnswersNamed}
+use Rattle.tool.specs.Callers.{AnswersCaller}
 use Rattle.tool.proofs.Answered.{stopped_under}
 use Rattle.tool.proofs.Called.{named, under}
 use Rattle.tool.proofs.calls.call.Goals as goal
@@ -19,6 +19,6 @@ returns-in-Ok-caller_of-clause-answer g c = λ ask is.
     let db = optional_text c.args.line.now.db in
     let user = optional_text c.args.line.now.user in
     let group = optional_text c.args.line.now.group in
-    under (config_of c.args.config.now) c.in-Ok.config (λ s. AnswersNamed db s user group ask known out out' err err' c.call_in.result) out out' err err' c.call_in.result c.in-Ok.ensures.ok
-    (named db c.in-Ok.config user group ask known c.in-Ok-caller_of.caller out out' err err' c.call_in.result c.in-Ok-caller_of.ensures.ok
+    under (config_of c.args.config.now) c.in-Ok.config _ out out' err err' c.call_in.result c.in-Ok.ensures.ok
+    (named (AnswersCaller _ db) c.in-Ok.config user group ask known c.in-Ok-caller_of.caller out out' err err' c.call_in.result c.in-Ok-caller_of.ensures.ok
     (c.call_in.ensures.answer ask is))
