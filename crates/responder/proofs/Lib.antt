@@ -1,3 +1,3 @@
 pub mod Held
-pub mod There
+pub mod Along
 pub mod Asked

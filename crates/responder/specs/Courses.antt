@@ -1,5 +1,5 @@
 -- What becomes of a message before the store is asked, in the order of the tests.
-use Rattle.std.specs.Prelude.{◌≡◌, ◌⊎◌, ℕ, Bool, true, false, cond, List, Option, Some, None}
+use Rattle.std.specs.Prelude.{◌≡◌, ◌⊎◌, ℕ, true, false, List, Option, Some, None}
 use Rattle.std.specs.Option.{option_and_then}
 use Rattle.httparse.specs.Grammar.{RequestHead}
 use Rattle.messages.specs.Fields.{fields_of}
@@ -14,7 +14,7 @@ use Rattle.routes.specs.Methods.{method_of, kind_of, allowed}
 use Rattle.routes.specs.Table.{requests_of}
 use Rattle.routes.specs.declared.kind.Kind.{Kind}
 use Rattle.routes.specs.declared.requests.Requests.{Requests}
-use Rattle.store.specs.Request.{Request, add_temp, end_session}
+use Rattle.store.specs.Request.{Request}
 use Rattle.store_requests.specs.View as views
 use Rattle.asking.specs.Asks.{Asks, has_bad_path}
 use Rattle.report.specs.Stops.{denial_text}
@@ -29,27 +29,14 @@ pub data Course : Type 0 where
   replies : Replied → Course
   calls : Caller → Request → Course
 
--- the requests that the store has by now: not yet what sessions keep
-abbrev pub is_there : Request → Bool
-is_there (add_temp owner session p) = false
-is_there (end_session owner session) = false
-is_there _ = true
-
-abbrev pub if_there : Request → Option Request
-if_there q = cond (is_there q) (Some q) None
-
 -- the denial of a caller who may not connect
 abbrev pub denied : List ℕ → Rule → Replied
 denied dir rule = responses.plain 403 (denial_text dir rule None)
 
--- a request that the store hasn't yet has no route
-abbrev pub course_to : Caller → Request → Course
-course_to c q = cond (is_there q) (calls c q) (replies (refused NoRoute None))
-
 -- something is asked; or the path in the target is bad; or it isn't, and the body says nothing of the kind
 abbrev pub Reads : List ℕ → Caller → Kind → List ℕ → List ℕ → Course → Type 0
 Reads dir c kind target body course =
-    ((q : Request) × Asks dir kind target body q × (course ≡ course_to c q))
+    ((q : Request) × Asks dir kind target body q × (course ≡ calls c q))
     ⊎ (((has_bad_path kind target ≡ true) × (course ≡ replies (refused BadStorePath None)))
     ⊎ ((has_bad_path kind target ≡ false) × ((q : Request) → Asks dir kind target body q → ⊥) × (course ≡ replies (refused BadBodyHead None))))
 

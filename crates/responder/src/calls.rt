@@ -1,10 +1,9 @@
-//! Requests that the store has.
-ghost use Rattle.std.specs.Prelude.{◌≡◌, option_map};
+//! What a message asks, as a request of the store.
+ghost use Rattle.std.specs.Prelude.{◌≡◌};
 ghost use Rattle.store.specs.Request as asked;
 ghost use Rattle.asking.specs.View as given;
 ghost use Rattle.asking.specs.View.{flag};
 ghost use Rattle.store_requests.specs.View as views;
-ghost use Rattle.responder.specs.Courses.{if_there};
 
 use asking::Request as Asked;
 use bodies::{CollectHead, DeleteHead, ImportHead, NamedHead};
@@ -49,11 +48,11 @@ fn delete(head: DeleteHead) -> Request
     Request::Delete(paths, ignore_liveness.unwrap_or(false))
 }
 
-/// The request of the store that is asked, or none where the store has none of this kind yet.
-pub(crate) fn call_of(asked: Asked) -> Option<Request>
-    ensures { option_map views.request_view result ≡ if_there (given.request_view asked) }
+/// The request of the store that is asked.
+pub(crate) fn call_of(asked: Asked) -> Request
+    ensures { views.request_view result ≡ given.request_view asked }
 {
-    Some(match asked {
+    match asked {
         Asked::AddText(head, text) => {
             let NamedHead { name, references } = head;
             Request::AddText(name, references, text)
@@ -83,6 +82,7 @@ pub(crate) fn call_of(asked: Asked) -> Option<Request>
         Asked::ReplaceRuntime(roots) => Request::ReplaceRuntime(roots),
         Asked::Collect(head) => collect(head),
         Asked::Delete(head) => delete(head),
-        _ => return None,
-    })
+        Asked::AddTemp(owner, session, path) => Request::AddTemp(owner, session, path),
+        Asked::EndSession(owner, session) => Request::EndSession(owner, session),
+    }
 }

@@ -7,13 +7,12 @@ ghost use Rattle.connection.specs.Answers.{body_in};
 ghost use Rattle.routes.specs.Methods.{method_of, kind_of};
 ghost use Rattle.routes.specs.Table.{requests_of};
 ghost use Rattle.wire.specs.Responses.{refused};
-ghost use Rattle.asking.specs.View.{request_view};
-ghost use Rattle.responder.specs.Courses.{replies, denied, course_to, Reads, ByMethod, ByRoute, ByCaller, Takes, course_view};
+ghost use Rattle.responder.specs.Courses.{replies, denied, Reads, ByMethod, ByRoute, ByCaller, Takes, course_view};
 
 use crate::calls::call_of;
 use crate::course::Course;
 use crate::parts::{body_of, method_of, target_of};
-use asking::{AskError, Request as Asked, read_request};
+use asking::{AskError, read_request};
 use callers::read_caller;
 use http::StatusCode;
 use messages::Head;
@@ -45,16 +44,6 @@ fn deny(alloc: Global, dir: &StoreDir, rule: Rule) -> Result<Course, AllocError>
     Ok(Course::Replies(response))
 }
 
-/// A call of the store; a request that it hasn't yet has no route.
-fn on_request(alloc: Global, caller: Caller, asked: Asked) -> Result<Course, AllocError>
-    ensures { IfOk result (λ course. course_view course ≡ course_to caller (request_view asked)) }
-{
-    match call_of(asked) {
-        Some(request) => Ok(Course::Calls(caller, request)),
-        None => refuse(alloc, Refusal::NoRoute, None),
-    }
-}
-
 /// What a message asks, by its kind.
 fn on_kind(
     alloc: Global,
@@ -67,7 +56,7 @@ fn on_kind(
     ensures { IfOk result (λ course. Reads dir.now caller kind target.now body.now (course_view course)) }
 {
     match read_request(alloc, dir, kind, target, body) {
-        Ok(asked) => on_request(alloc, caller, asked),
+        Ok(asked) => Ok(Course::Calls(caller, call_of(asked))),
         Err(AskError::BadPath) => refuse(alloc, Refusal::BadStorePath, None),
         Err(AskError::BadBodyHead) => refuse(alloc, Refusal::BadBodyHead, None),
         Err(AskError::Memory) => Err(AllocError),

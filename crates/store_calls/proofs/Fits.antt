@@ -4,16 +4,16 @@ use Rattle.std.specs.Prelude.{[], false, ◌==◌, is_some, nat_le}
 use Rattle.std.specs.List.{list_all}
 use Rattle.std.specs.FinMap as finite
 use Rattle.paths.specs.Names.{is_plain_name}
-use Rattle.paths.specs.Root.{is_runtime_label}
+use Rattle.paths.specs.Root.{is_runtime_label, is_session}
 use Rattle.policy.specs.Settings.{Settings}
 use Rattle.world.specs.World.{Path, Pair, World, has}
 use Rattle.world.specs.Sound.{IsSound}
-use Rattle.store.specs.Request.{set_permanent, set_user_root, set_profile, rollback, switch, delete_generation, replace_runtime}
+use Rattle.store.specs.Request.{set_permanent, set_user_root, set_profile, rollback, switch, delete_generation, replace_runtime, add_temp}
 use Rattle.store.specs.Profiles.{last_number, profile_at, has_profile, has_generation, number_for, previous, set_to, switched, rolled_back, without_generation}
 use Rattle.store.specs.Tests.{tests, refusal}
-use Rattle.store.specs.Effects.{with_permanent, with_user_root, with_profile, with_runtime, valid_pairs}
+use Rattle.store.specs.Effects.{with_permanent, with_user_root, with_profile, with_runtime, with_temporary, valid_pairs}
 use Rattle.store.proofs.Passed.{met, each_passed}
-use Rattle.store.proofs.SoundRoots.{permanent_set, user_root_set, runtime_replaced}
+use Rattle.store.proofs.SoundRoots.{permanent_set, user_root_set, runtime_replaced, temporary_added}
 use Rattle.store.proofs.SoundProfiles.{profile_set, profile_rolled_back, profile_switched, generation_deleted}
 
 -- the tests of roots ask nothing of the settings
@@ -64,3 +64,11 @@ module _ (dir : List ℕ) (w : World) (sound : IsSound dir w) where
   runtime_fits pairs e =
       runtime_replaced dir w sound pairs
       (met (list_all (λ p. is_runtime_label p.0) pairs) _ (each_passed (tests no_settings w (replace_runtime pairs)) e _ (0, omega arith, refl)))
+
+  pub temporary_fits : (owner : List ℕ) (session : ℕ) (p : Path) → refusal no_settings w (add_temp owner session p) ≡ None
+      → IsSound dir (with_temporary w (record { owner = owner; session = session; path = p }))
+  temporary_fits owner session p e =
+      temporary_added dir w sound (record { owner = owner; session = session; path = p })
+      (met (is_plain_name owner) _ (each_passed (tests no_settings w (add_temp owner session p)) e _ (0, omega arith, refl)))
+      (met (is_session session) _ (each_passed (tests no_settings w (add_temp owner session p)) e _ (1, omega arith, refl)))
+      (met (has w p) _ (each_passed (tests no_settings w (add_temp owner session p)) e _ (2, omega arith, refl)))

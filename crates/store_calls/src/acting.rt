@@ -17,6 +17,7 @@ use crate::imports::import_object;
 use crate::permanent::{drop_permanent, set_permanent};
 use crate::profiles::{delete_generation, rollback, set_profile, switch};
 use crate::runtime::replace_runtime;
+use crate::sessions::{add_temp, end_session};
 use crate::sources::add_source;
 use crate::user_roots::{drop_user_root, set_user_root};
 use policy::{Caller, Config};
@@ -59,6 +60,8 @@ pub(crate) fn act<S: Alter>(
         Request::Switch(owner, name, number) => switch(tables, (owner, name), number),
         Request::DeleteGeneration(owner, name, n) => delete_generation(tables, (owner, name), n),
         Request::SetProfile(owner, name, path) => set_profile(tables, (owner, name), path),
+        Request::AddTemp(owner, session, path) => add_temp(tables, owner, session, path),
+        Request::EndSession(owner, session) => end_session(tables, owner, session),
         Request::ReplaceRuntime(pairs) => replace_runtime(alloc, tables, pairs),
         Request::AddSource(name, refs, nar) => add_source(alloc, config, tables, name, refs, nar),
         Request::Import(object) => import_object(alloc, config, tables, object),

@@ -13,6 +13,7 @@ mod profiles;
 mod removing;
 mod running;
 mod runtime;
+mod sessions;
 mod sources;
 mod user_roots;
 mod writing;

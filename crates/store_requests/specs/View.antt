@@ -8,7 +8,7 @@ use Rattle.table_statements.specs.declared.failure.Failure.{Failure}
 use Rattle.table_statements.specs.declared.failure.Failure.TheVariants.{Memory, Size, Disk}
 use Rattle.store_requests.specs.declared.requests.Imported.{Imported}
 use Rattle.store_requests.specs.declared.requests.Request.{Request}
-use Rattle.store_requests.specs.declared.requests.Request.TheVariants.{AddText, Info as InfoOf, Nar, Ls, List as ListAll, ListLive, ListDead, ListRoots, ListRootsOf, Report, SetPermanent, DropPermanent, SetUserRoot, DropUserRoot, Rollback, Switch, DeleteGeneration, SetProfile, ReplaceRuntime, AddSource, Import, Collect, Delete}
+use Rattle.store_requests.specs.declared.requests.Request.TheVariants.{AddText, Info as InfoOf, Nar, Ls, List as ListAll, ListLive, ListDead, ListRoots, ListRootsOf, Report, SetPermanent, DropPermanent, SetUserRoot, DropUserRoot, Rollback, Switch, DeleteGeneration, SetProfile, AddTemp, EndSession, ReplaceRuntime, AddSource, Import, Collect, Delete}
 use Rattle.store_requests.specs.declared.replies.Info.{Info}
 use Rattle.store_requests.specs.declared.replies.Usage.{Usage}
 use Rattle.store_requests.specs.declared.replies.Answer.{Answer}
@@ -41,6 +41,8 @@ request_view (Rollback owner name) = asked.rollback (string_bytes owner) (string
 request_view (Switch owner name n) = asked.switch (string_bytes owner) (string_bytes name) n
 request_view (DeleteGeneration owner name n) = asked.delete_generation (string_bytes owner) (string_bytes name) n
 request_view (SetProfile owner name p) = asked.set_profile (string_bytes owner) (string_bytes name) p
+request_view (AddTemp owner session p) = asked.add_temp (string_bytes owner) session p
+request_view (EndSession owner session) = asked.end_session (string_bytes owner) session
 request_view (ReplaceRuntime pairs) = asked.replace_runtime (map labelled_bytes pairs.items)
 request_view (AddSource name refs nar) = asked.add_source name refs.items nar.items
 request_view (Import i) = asked.import_object (import_view i)

@@ -25,6 +25,7 @@ mod requests;
 pub mod root_listing;
 mod rules;
 pub mod runtime;
+pub mod sessions;
 pub mod sources;
 mod summaries;
 mod there;

@@ -9,7 +9,7 @@ ghost use Rattle.store_requests.specs.Tested.{Tested};
 use crate::replies::{Refusal, Stop};
 use paths::is_plain_name;
 
-/// Tests that the name of a root is a plain name.
+/// Tests that the name of a root, or of the owner of a session, is a plain name.
 pub(crate) fn is_named(name: &str) -> Result<(), Stop>
     ensures { Tested result (unless (is_plain_name name.now) replied.bad_root_name) }
 {

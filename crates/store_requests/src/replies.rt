@@ -52,7 +52,7 @@ pub enum Answer {
     Paths(Vec<StorePath>),
     /// Labels and targets of roots, in the order of roots.
     Roots(Vec<(String, StorePath)>),
-    /// Set, added, dropped or deleted.
+    /// Set, added, dropped, deleted or kept for a session.
     Changed,
     /// The number of the current generation.
     Generation(u32),

@@ -58,6 +58,10 @@ pub enum Request {
     DeleteGeneration(String, String, u32),
     /// A profile is set: its owner, its name and the path.
     SetProfile(String, String, StorePath),
+    /// A session is to keep a path: its owner, its number and the path. Sessions have the numbers 1 to 4,194,304.
+    AddTemp(String, u64, StorePath),
+    /// A session ends, and keeps nothing more: its owner and its number.
+    EndSession(String, u64),
     /// The runtime roots are replaced: labels and targets. Those whose target isn't valid are left out.
     ReplaceRuntime(Vec<(String, StorePath)>),
     /// An archive is added: its name, its references and its bytes.

@@ -31,6 +31,8 @@ pub fn operation(request: &Request) -> Op<'_>
         Request::Switch(owner, _, _) => Op::Switch(owner.as_str()),
         Request::DeleteGeneration(owner, _, _) => Op::DeleteGeneration(owner.as_str()),
         Request::SetProfile(owner, _, _) => Op::SetProfile(owner.as_str()),
+        Request::AddTemp(owner, _, _) => Op::AddTemporary(owner.as_str()),
+        Request::EndSession(owner, _) => Op::EndSession(owner.as_str()),
         Request::ReplaceRuntime(_) => Op::ReplaceRuntime,
         Request::AddSource(_, _, _) => Op::Plain,
         Request::Import(object) => Op::Import {

@@ -6,7 +6,7 @@ use Rattle.httparse.specs.Spans.{span_bytes}
 use Rattle.wire.specs.Responses.{refused}
 use Rattle.responder.specs.Courses.{replies, ByCaller, Takes, course_view}
 use Rattle.responder.proofs.Held.{takes_parts}
-use Rattle.responder.proofs.There.{along, mapped}
+use Rattle.responder.proofs.Along.{along, mapped}
 use Rattle.responder.proofs.courses.course_of.Goals as goal
 
 pub returns-in-Ok : goal.returns-in-Ok

@@ -1,14 +1,13 @@
-use Rattle.std.proofs.Common.{None, refl, inl, inr}
+use Rattle.std.proofs.Common.{None, refl, ap, inl, inr}
 use Rattle.asking.specs.View as given
 use Rattle.report.specs.declared.refusal.Refusal.TheVariants.{BadStorePath, BadBodyHead}
 use Rattle.wire.specs.Responses.{refused}
-use Rattle.responder.specs.Courses.{replies, course_to, Reads}
-use Rattle.responder.proofs.There.{along}
+use Rattle.responder.specs.Courses.{replies, calls, Reads}
+use Rattle.responder.proofs.Along.{along}
 use Rattle.responder.proofs.courses.on_kind.Goals as goal
 
 pub returns-in-Ok : goal.returns-in-Ok
-returns-in-Ok c = along (λ k. Reads c.args.dir.now c.args.caller c.args.kind c.args.target.now c.args.body.now k) (course_to c.args.caller (given.request_view c.in-Ok.asked)) c.on_request.result
-    (inl (given.request_view c.in-Ok.asked, c.in-Ok.ensures, refl)) c.on_request.ensures
+returns-in-Ok c = inl (given.request_view c.in-Ok.asked, c.in-Ok.ensures, ap (λ q. calls c.args.caller q) c.call_of.ensures)
 
 pub returns-in-Err-BadPath : goal.returns-in-Err-BadPath
 returns-in-Err-BadPath c =

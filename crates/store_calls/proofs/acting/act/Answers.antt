@@ -99,6 +99,16 @@ returns-in-SetProfile g c =
     subst (λ (q : Request). IsMet g.S.Store c.args.config.now c.args.caller.now (request_view q) c.set_profile.result c.args.tables.now c.set_profile.new.tables) (sym c.in-SetProfile.is)
     (c.set_profile.ensures c.args.config.now c.args.caller.now)
 
+pub returns-in-AddTemp : goal.returns-in-AddTemp
+returns-in-AddTemp g c =
+    subst (λ (q : Request). IsMet g.S.Store c.args.config.now c.args.caller.now (request_view q) c.add_temp.result c.args.tables.now c.add_temp.new.tables) (sym c.in-AddTemp.is)
+    (c.add_temp.ensures c.args.config.now c.args.caller.now)
+
+pub returns-in-EndSession : goal.returns-in-EndSession
+returns-in-EndSession g c =
+    subst (λ (q : Request). IsMet g.S.Store c.args.config.now c.args.caller.now (request_view q) c.end_session.result c.args.tables.now c.end_session.new.tables) (sym c.in-EndSession.is)
+    (c.end_session.ensures c.args.config.now c.args.caller.now)
+
 pub returns-in-ReplaceRuntime : goal.returns-in-ReplaceRuntime
 returns-in-ReplaceRuntime g c =
     subst (λ (q : Request). IsMet g.S.Store c.args.config.now c.args.caller.now (request_view q) c.replace_runtime.result c.args.tables.now c.replace_runtime.new.tables) (sym c.in-ReplaceRuntime.is)
