@@ -1,5 +1,5 @@
 -- The answer of a command line whose configuration or words are refused, or for which memory ran out.
-use Rattle.std.proofs.Common.{◌≡◌, ◌≢◌, ◌⊎◌, ℕ, true, false, MatchBool, List, [], Option, Some, None, Result, Ok, Err, inl, inr, subst, refl, sym, ◌∙◌}
+use Rattle.std.proofs.Common.{◌≡◌, ◌≢◌, ◌⊎◌, ℕ, List, [], Option, Some, None, Result, Ok, Err, inl, inr, subst, refl, sym, ◌∙◌}
 use Rattle.std.specs.Prelude.{IsSome}
 use Rattle.std.specs.Borrow.{Bor}
 use Rattle.std.proofs.KnownBytes.{Keeps-refl}
@@ -22,11 +22,10 @@ use Rattle.command_line.specs.declared.line.Unrooted.{Unrooted}
 use Rattle.command_line.specs.declared.line.Unrooted.TheVariants as unrooted
 use Rattle.command_line.specs.Asked.{asked_view, optional_text, source_path, text_path, unroot_view}
 use Rattle.command_line.specs.Line.{Line, IsLine, IsUsageFault, line_view}
-use Rattle.store_commands.specs.Outputs.{Prints}
 use Rattle.pure_commands.specs.Stream.{Answers, Says}
 use Rattle.pure_commands.specs.Who.{StopsFor}
 use Rattle.tool.specs.Callers.{Answering}
-use Rattle.tool.specs.Answer.{AnswersAlone, AnswersLine, AnswersUnder, Explains, Refuses, RunsLine, RunsServed, Stops, is_served}
+use Rattle.tool.specs.Answer.{AnswersAlone, AnswersLine, AnswersUnder, Explains, RunsLine, Stops}
 
 -- the stop of a configuration was said: the first writer got nothing
 pub stopped_under : (outcome : Result Settings KeyWord) (answered : Settings → Type 0) (stop : Stop) (out err err' : Option (List ℕ)) (status : ℕ)
@@ -66,24 +65,6 @@ line_run of_file words a b known out out' err err' status first second ran =
     let same : a ≡ b = cc in
     subst (λ l. RunsLine of_file l known out out' err err' status) same ran
 
--- ---- subcommands that aren't there yet
-
--- a usage fault was said, or that memory gave out: the first writer got nothing
-pub refuses : (out err err' : Option (List ℕ)) (status : ℕ) → ((text : List ℕ) × Prints text 2 err err' status) ⊎ Says (Failed NoMemory) err err' status
-    → Refuses out out err err' status
-refuses out err err' status (inl told) = inl (Keeps-refl out, told)
-refuses out err err' status (inr said) = inr (Keeps-refl out, said)
-
-pub runs_unserved : (of_file : Answering) (line : Line) (known out out' err err' : Option (List ℕ)) (status : ℕ) → is_served line.asked ≡ false → Refuses out out' err err' status
-    → RunsLine of_file line known out out' err err' status
-runs_unserved of_file line known out out' err err' status unserved refused =
-    inr (subst (λ b. MatchBool b (RunsServed of_file line known out out' err err' status) (Refuses out out' err err' status)) (sym unserved) refused)
-
-pub runs_served : (of_file : Answering) (line : Line) (known out out' err err' : Option (List ℕ)) (status : ℕ) → is_served line.asked ≡ true → RunsServed of_file line known out out' err err' status
-    → RunsLine of_file line known out out' err err' status
-runs_served of_file line known out out' err err' status served ran =
-    inr (subst (λ b. MatchBool b (RunsServed of_file line known out out' err err' status) (Refuses out out' err err' status)) (sym served) ran)
-
 -- ---- a configuration that can't be had
 
 stops_unroot : (root : Unrooted) (name : Text) (stop : Stop) (out out' err err' : Option (List ℕ)) (status : ℕ) → Answers (Err stop) out out' err err' status
@@ -108,13 +89,13 @@ no_config (Some text) is = cc
 
 -- a text of the configuration was there
 pub configured : (of_file : Answering) (line : CommandLine) (text : List ℕ) (known out out' err err' : Option (List ℕ)) (status : ℕ) → (line.config ≡ None → text ≡ [])
-    → AnswersLine of_file text (line_view line) known out out' err err' status → RunsServed of_file (line_view line) known out out' err err' status
-configured of_file line text known out out' err err' status empty answered = inr (text, λ none. empty (no_config line.config none), answered)
+    → AnswersLine of_file text (line_view line) known out out' err err' status → RunsLine of_file (line_view line) known out out' err err' status
+configured of_file line text known out out' err err' status empty answered = inr (inr (text, λ none. empty (no_config line.config none), answered))
 
 pub lacks : (of_file : Answering) (line : CommandLine) (stop : Stop) (known out out' err err' : Option (List ℕ)) (status : ℕ) → IsSome line.config
     → (stop ≡ Failed NoMemory) ⊎ (stop ≡ Failed File) → Stops (asked_view line.task) stop out out' err err' status
-    → RunsServed of_file (line_view line) known out out' err err' status
+    → RunsLine of_file (line_view line) known out out' err err' status
 lacks of_file line stop known out out' err err' status named (inl memory) said =
-    inl (config_is line.config named, inl (subst (λ x. Stops (asked_view line.task) x out out' err err' status) memory said))
+    inr (inl (config_is line.config named, inl (subst (λ x. Stops (asked_view line.task) x out out' err err' status) memory said)))
 lacks of_file line stop known out out' err err' status named (inr file) said =
-    inl (config_is line.config named, inr (subst (λ x. Stops (asked_view line.task) x out out' err err' status) file said))
+    inr (inl (config_is line.config named, inr (subst (λ x. Stops (asked_view line.task) x out out' err err' status) file said)))

@@ -1,8 +1,7 @@
 -- What is asked of a store, by the words and the input of a command line.
-use Rattle.std.proofs.Common.{◌≡◌, ◌⊎◌, ℕ, Bool, true, false, List, [], map, take, Option, Some, None, Result, Ok, Err, inl, inr, ap, ap₂, subst, refl, sym, ◌∙◌}
+use Rattle.std.proofs.Common.{◌≡◌, ◌⊎◌, ℕ, true, false, List, [], map, take, Option, Some, None, Result, Ok, Err, inl, inr, ap, ap₂, subst, refl, sym, ◌∙◌}
 use Rattle.std.specs.Prelude.{IfOk, IfErr, IfSome}
 use Rattle.std.specs.List.{list_all}
-use Rattle.nar.specs.Archive.{limit}
 use Rattle.paths.specs.Names.{is_store_name}
 use Rattle.paths.specs.StorePath.{base_of}
 use Rattle.world.specs.World.{Path}

@@ -1,5 +1,5 @@
 -- A store that couldn't be served.
-use Rattle.std.proofs.Common.{ℕ, List, Option, Some, None, Err, inl, inr}
+use Rattle.std.proofs.Common.{ℕ, List, Option, Some, None, Err, inr}
 use Rattle.clap.specs.Walk.{Text}
 use Rattle.table_statements.specs.declared.failure.Failure.TheVariants.{Memory as NoRoom}
 use Rattle.policy.specs.Settings.{Settings}

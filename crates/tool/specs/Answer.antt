@@ -1,5 +1,5 @@
 -- What a command line answers, by the text of its configuration.
-use Rattle.std.specs.Prelude.{◌≡◌, ◌⊎◌, ◌||◌, ℕ, Bool, true, false, MatchBool, MatchOption, List, [], map, Option, None, IsSome, is_some, Result, Ok, Err}
+use Rattle.std.specs.Prelude.{◌≡◌, ◌⊎◌, ℕ, MatchOption, List, [], map, Option, None, IsSome, Result, Ok, Err}
 use Rattle.std.specs.Io.KnownBytes.{Keeps}
 use Rattle.clap.specs.Values.{kind_of}
 use Rattle.clap.specs.Walk.{Text}
@@ -35,25 +35,8 @@ AnswersUnder (Err word) answered out out' err err' status =
 abbrev pub RefusesWords : Option (List ℕ) → Option (List ℕ) → Option (List ℕ) → Option (List ℕ) → ℕ → Type 0
 RefusesWords out out' err err' status = Keeps out out' × ((text : List ℕ) × Prints text 2 err err' status)
 
--- the same, or memory gave out
-abbrev pub Refuses : Option (List ℕ) → Option (List ℕ) → Option (List ℕ) → Option (List ℕ) → ℕ → Type 0
-Refuses out out' err err' status = RefusesWords out out' err err' status ⊎ Answers (Err (Failed NoMemory)) out out' err err' status
-
--- the subcommands that ask nothing of a store themselves
-abbrev pub asks_nothing : Asked → Bool
-asks_nothing who = true
-asks_nothing ls = true
-asks_nothing (text_path o) = true
-asks_nothing (source_path o) = true
-asks_nothing (serve a) = true
-asks_nothing _ = false
-
--- whether a subcommand is there yet
-abbrev pub is_served : Asked → Bool
-is_served asked = is_some (asks asked) || asks_nothing asked
-
--- what a subcommand that asks nothing of a store answers by the text of the configuration: `who` all on the first writer; one that isn't there
--- yet is a usage fault
+-- what a subcommand that asks nothing of a store itself answers by the text of the configuration: `who` all on the first writer; there are no
+-- others
 abbrev pub AnswersAlone : List ℕ → Option Text → Option (List ℕ) → Option (List ℕ) → Asked → Option (List ℕ) → Option (List ℕ) → Option (List ℕ) → Option (List ℕ) → Option (List ℕ) → ℕ → Type 0
 AnswersAlone config db user group who known out out' err err' status = AnswersWho (verdict_of config user group) out out' status × Keeps err err'
 AnswersAlone config db user group ls known out out' err err' status =
@@ -66,7 +49,7 @@ AnswersAlone config db user group (source_path o) known out out' err err' status
     out out' err err' status
 AnswersAlone config db user group (serve a) known out out' err err' status =
     AnswersUnder (config_of config) (λ s. ServesIn db s a known out out' err err' status) out out' err err' status
-AnswersAlone config db user group _ known out out' err err' status = Refuses out out' err err' status
+AnswersAlone config db user group _ known out out' err err' status = ⊥
 
 -- What any subcommand answers: what it asks of a store is answered to its caller, under the settings of the configuration. Here and below
 -- the first argument says what is answered by the store of a file, which depends on what that held.
@@ -91,17 +74,14 @@ abbrev pub LacksFile : Line → Option (List ℕ) → Option (List ℕ) → Opti
 LacksFile line out out' err err' status =
     IsSome line.config × (Stops line.asked (Failed NoMemory) out out' err err' status ⊎ Stops line.asked (Failed File) out out' err err' status)
 
--- What running a command line of a subcommand that is there does: the answer by some configuration, which is the empty one
--- where no file is named; or there is none to answer by.
-abbrev pub RunsServed : Answering → Line → Option (List ℕ) → Option (List ℕ) → Option (List ℕ) → Option (List ℕ) → Option (List ℕ) → ℕ → Type 0
-RunsServed of_file line known out out' err err' status = LacksFile line out out' err err' status
+-- the answer by some configuration, which is the empty one where no file is named; or there is none to answer by
+abbrev pub AnswersConfigured : Answering → Line → Option (List ℕ) → Option (List ℕ) → Option (List ℕ) → Option (List ℕ) → Option (List ℕ) → ℕ → Type 0
+AnswersConfigured of_file line known out out' err err' status = LacksFile line out out' err err' status
     ⊎ ((config : List ℕ) × (line.config ≡ None → config ≡ []) × AnswersLine of_file config line known out out' err err' status)
 
--- What running a command line does: that; or a usage fault, where the subcommand isn't there yet; or memory gave out while
--- the words were read.
+-- what running a command line does: that; or memory gave out while the words were read
 abbrev pub RunsLine : Answering → Line → Option (List ℕ) → Option (List ℕ) → Option (List ℕ) → Option (List ℕ) → Option (List ℕ) → ℕ → Type 0
-RunsLine of_file line known out out' err err' status = Answers (Err (Failed NoMemory)) out out' err err' status
-    ⊎ MatchBool (is_served line.asked) (RunsServed of_file line known out out' err err' status) (Refuses out out' err err' status)
+RunsLine of_file line known out out' err err' status = Answers (Err (Failed NoMemory)) out out' err err' status ⊎ AnswersConfigured of_file line known out out' err err' status
 
 -- the fault of the words is that they ask for help or for the version
 abbrev pub AsksHelp : CommandError → Type 0
@@ -117,5 +97,5 @@ Helps out out' err err' status = (text : List ℕ) × Answers (Ok text) out out'
 abbrev pub Explains : CommandError → Option (List ℕ) → Option (List ℕ) → Option (List ℕ) → Option (List ℕ) → ℕ → Type 0
 Explains (Usage fault) out out' err err' status = Answers (Err (Failed NoMemory)) out out' err err' status
     ⊎ ((AsksHelp (Usage fault) → Helps out out' err err' status) × (¬ AsksHelp (Usage fault) → RefusesWords out out' err err' status))
-Explains (Misuse fault) out out' err err' status = Refuses out out' err err' status
+Explains (Misuse fault) out out' err err' status = RefusesWords out out' err err' status ⊎ Answers (Err (Failed NoMemory)) out out' err err' status
 Explains Memory out out' err err' status = Answers (Err (Failed NoMemory)) out out' err err' status

@@ -14,7 +14,7 @@ use Rattle.store.specs.Step.{Step}
 use Rattle.report.specs.declared.refusal.Refusal.{Refusal}
 use Rattle.report.specs.declared.refusal.Refusal.TheVariants.{BadStoreName, BadStorePath}
 use Rattle.command_line.specs.Asked as asked
-use Rattle.command_line.specs.Asked.{Asked, OnProfile, add_source, add_text, cat_nar, delete, gc, import_object, info, list_dead, list_live, list_paths, optional_text, profile, report, root, roots, runtime, unroot_permanent, unroot_user, why, serve}
+use Rattle.command_line.specs.Asked.{Asked, OnProfile, OnSession, add_source, add_text, cat_nar, delete, gc, import_object, info, list_dead, list_live, list_paths, optional_text, profile, report, root, roots, runtime, temp, unroot_permanent, unroot_user, why, serve}
 use Rattle.command_line.specs.declared.line.Unrooted.{Unrooted}
 use Rattle.command_line.specs.declared.line.Unrooted.TheVariants as unrooted
 use Rattle.command_line.specs.declared.line.RootKind.{RootKind}
@@ -70,6 +70,11 @@ change_profile dir owner name asked.rollback = Ok (request.rollback owner name)
 change_profile dir owner name (asked.switch n) = Ok (request.switch owner name n)
 change_profile dir owner name (asked.delete_generation n) = Ok (request.delete_generation owner name n)
 
+-- what happens to a session's temporary roots: a path becomes one of them, where the text is one; or they all go
+abbrev pub change_session : List ℕ → List ℕ → ℕ → OnSession → Result Request Refusal
+change_session dir owner n (asked.add_temp text) = on_path dir text (request.add_temp owner n)
+change_session dir owner n asked.end_session = Ok (request.end_session owner n)
+
 -- what is asked of a store: by the store directory, the caller and the bytes of the input, or why the arguments are refused; or what
 -- the body says that the input is
 pub data Ask : Type 0 where
@@ -83,7 +88,7 @@ Wants (by ask) dir c bytes wanted = ask dir c bytes ≡ wanted
 Wants import_body dir c bytes wanted = Imports dir bytes wanted
 Wants runtime_body dir c bytes wanted = Replaces dir bytes wanted
 
--- what a subcommand asks of a store; the others ask nothing, or aren't there yet
+-- what a subcommand asks of a store; the others ask nothing
 abbrev pub asks : Asked → Option Ask
 asks list_paths = Some (by (λ dir c bytes. Ok request.list))
 asks list_live = Some (by (λ dir c bytes. Ok request.list_live))
@@ -101,6 +106,7 @@ asks (root kind name text) = Some (by (λ dir c bytes. on_path dir text (set_roo
 asks (unroot_permanent name) = Some (by (λ dir c bytes. Ok (request.drop_permanent name)))
 asks (unroot_user owner name) = Some (by (λ dir c bytes. Ok (request.drop_user_root (owner_of c owner) name)))
 asks (profile owner name action) = Some (by (λ dir c bytes. change_profile dir (owner_of c owner) name action))
+asks (temp owner n action) = Some (by (λ dir c bytes. change_session dir (owner_of c owner) n action))
 asks import_object = Some import_body
 asks runtime = Some runtime_body
 asks _ = None

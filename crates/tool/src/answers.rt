@@ -6,13 +6,12 @@ ghost use Rattle.pure_commands.specs.Archive.{max_front};
 ghost use Rattle.command_line.specs.Asked as asked;
 ghost use Rattle.command_line.specs.Asked.{optional_text};
 ghost use Rattle.command_line.specs.Line.{line_view};
-ghost use Rattle.tool.specs.Requests.{reads_all};
+ghost use Rattle.tool.specs.Requests.{asks, reads_all};
 ghost use Rattle.streams.specs.Reads.{TakesAtMost};
 
 use crate::calls::call;
 use crate::requests::is_asked;
 use crate::serve::serve;
-use crate::usage::refuse_task;
 use command_line::{CommandLine, Task};
 use policy::store_dir;
 use pure_commands::{ls, say, settings, source_path, text_path, who};
@@ -39,7 +38,7 @@ fn ls_under<R: Read, W: Write, E: Write>(
     ls(alloc, input, output, errors)
 }
 
-/// Answers a command line that asks nothing of a store itself.
+/// Answers a command line of a subcommand that asks nothing of a store itself.
 fn answer_alone<R: Read, W: Write, E: Write>(
     rt: &HostRuntime,
     config: &[u8],
@@ -48,6 +47,7 @@ fn answer_alone<R: Read, W: Write, E: Write>(
     output: &mut W,
     errors: &mut E,
 ) -> u8
+    requires { asks (asked.asked_view line.now.task) ≡ None }
     ensures answer { AnswersAlone config.now (optional_text line.now.db) (optional_text line.now.user) (optional_text line.now.group) (asked.asked_view line.now.task) (R.remaining input.old) (W.contents output.old) (W.contents output.new) (E.contents errors.old) (E.contents errors.new) result }
     ensures reads { reads_all (asked.asked_view line.now.task) ≡ false → TakesAtMost max_front (R.remaining input.old) (R.remaining input.new) }
 {
@@ -70,12 +70,12 @@ fn answer_alone<R: Read, W: Write, E: Write>(
             Err(stop) => say(stop, errors),
         },
         Task::Serve(serving) => serve(rt, config, line.db, *serving, input, output, errors),
-        _ => refuse_task(alloc, errors),
+        _ => unreachable!(),
     }
 }
 
 /// Answers a command line by the text of its configuration, and gives the exit status: 0 done, 1
-/// failed, 2 a subcommand that isn't there yet, 3 refused, 4 denied.
+/// failed, 3 refused, 4 denied.
 ///
 /// Results go to `output`; refusals and failures go to `errors`, but for `who`, which puts everything
 /// on `output`. The configuration file that the command line names isn't read. No more than 16,777,224 bytes of the input

@@ -12,7 +12,7 @@ ghost use Rattle.pure_commands.specs.Stream.{Says};
 ghost use Rattle.command_line.specs.declared.error.CommandError.{CommandError};
 
 use crate::answers::answer;
-use crate::usage::{USAGE, is_served, refuse, refuse_task};
+use crate::usage::{USAGE, refuse};
 use command_line::{CommandError, CommandLine, Task, command};
 use pure_commands::{Failure, Stop, config_text, give, print, say};
 use sqlite::{FileFrom, Start};
@@ -64,9 +64,6 @@ fn execute<F: Start, R: Read, W: Write, E: Write>(
     ensures answer { RunsLine (AnswersFile F.Start ⟦<FileFrom<F> as Disk>⟧) (line_view line.now) (R.remaining input.old) (W.contents output.old) (W.contents output.new) (E.contents errors.old) (E.contents errors.new) result }
     ensures reads { reads_all (line_view line.now).asked ≡ false → TakesAtMost max_front (R.remaining input.old) (R.remaining input.new) }
 {
-    if !is_served(&line.task) {
-        return refuse_task(rt.alloc(), errors);
-    }
     match config_text(rt, line.config) {
         Ok(text) => answer(rt, start, text.as_slice(), line, input, output, errors),
         Err(stop) => match line.task {

@@ -12,6 +12,7 @@ mod named;
 mod profiles;
 mod requests;
 mod serve;
+mod sessions;
 mod stores;
 mod usage;
 

@@ -11,6 +11,7 @@ use crate::deletions::delete_paths;
 use crate::handed::{import, replace_runtime};
 use crate::named::{drop_root, set_root};
 use crate::profiles::change_profile;
+use crate::sessions::change_session;
 use command_line::Task;
 use paths::StoreDir;
 use policy::Caller;
@@ -27,7 +28,7 @@ pub(crate) fn is_asked(task: &Task<'_>) -> bool
         Task::List | Task::Live | Task::Dead | Task::Roots | Task::Report | Task::Gc(_) => true,
         Task::Info(_) | Task::CatNar(_) | Task::Why(_) | Task::Delete(_) => true,
         Task::AddText(_) | Task::AddSource(_) | Task::Import | Task::Runtime => true,
-        Task::Root(_) | Task::Unroot(_) | Task::Profile(_) => true,
+        Task::Root(_) | Task::Unroot(_) | Task::Profile(_) | Task::Temp(_) => true,
         _ => false,
     }
 }
@@ -92,6 +93,7 @@ pub(crate) fn request<R: Read>(
         Task::Root(root) => set_root(alloc, dir, caller, root),
         Task::Unroot(root) => drop_root(alloc, caller, root),
         Task::Profile(profile) => change_profile(alloc, dir, caller, profile),
+        Task::Temp(session) => change_session(alloc, dir, caller, session),
         _ => unreachable!(),
     }
 }

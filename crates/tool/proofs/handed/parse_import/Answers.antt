@@ -1,4 +1,4 @@
-use Rattle.std.proofs.Common.{rules, ◌≡◌, Err, refl, ap, ◌∙◌}
+use Rattle.std.proofs.Common.{rules, Err, refl, ap, ◌∙◌}
 use Rattle.bodies.specs.Bodies.{IsImportBody}
 use Rattle.store.specs.Request.{import_object}
 use Rattle.store_requests.specs.declared.requests.Request.TheVariants.{Import}

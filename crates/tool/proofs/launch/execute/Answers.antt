@@ -1,13 +1,11 @@
-use Rattle.std.proofs.Common.{sym, ◌∙◌}
+use Rattle.std.proofs.Common.{◌∙◌}
 use Rattle.std.proofs.KnownBytes.{Keeps-refl}
-use Rattle.command_line.specs.Line.{line_view}
-use Rattle.tool.proofs.Answered.{configured, lacks, runs_served, stops_else}
+use Rattle.tool.proofs.Answered.{configured, lacks, stops_else}
 use Rattle.tool.proofs.launch.execute.Goals as goal
 
 pub returns-in-Ok-clause-answer : goal.returns-in-Ok-clause-answer
 returns-in-Ok-clause-answer g c =
-    runs_served _ (line_view c.args.line.now) _ _ _ _ _ _ (sym c.is_served.ensures ∙ c.if-not-is_served.false)
-    (configured _ c.args.line.now c.as_slice.result.now _ _ _ _ _ _ (λ none. c.as_slice.ensures.value ∙ c.in-Ok.ensures.none none) c.answer.ensures.answer)
+    configured _ c.args.line.now c.as_slice.result.now _ _ _ _ _ _ (λ none. c.as_slice.ensures.value ∙ c.in-Ok.ensures.none none) c.answer.ensures.answer
 
 pub returns-clause-answer : goal.returns-clause-answer
 returns-clause-answer g c =
@@ -17,6 +15,5 @@ returns-clause-answer g c =
     let err = g.E.Write.contents c.args.errors.now in
     let err' = g.E.Write.contents c.say-in_default.new.writer in
     let status = c.say-in_default.result in
-    runs_served _ (line_view line) known out out err err' status (sym c.is_served.ensures ∙ c.if-not-is_served.false)
-    (lacks _ line c.in-Err.stop known out out err err' status c.in-Err.ensures.named c.in-Err.ensures.err
-    (stops_else line.task c.in-Err.stop out out err err' status c.in_default.not-Who (Keeps-refl out, c.say-in_default.ensures)))
+    lacks _ line c.in-Err.stop known out out err err' status c.in-Err.ensures.named c.in-Err.ensures.err
+    (stops_else line.task c.in-Err.stop out out err err' status c.in_default.not-Who (Keeps-refl out, c.say-in_default.ensures))

@@ -2,8 +2,8 @@ use Rattle.std.proofs.Common.{◌≡◌, true, false, ap, refl, Ok, sym, ◌∙�
 use Rattle.clap.specs.Walk.{texts}
 use Rattle.store.specs.Request as request
 use Rattle.store_requests.specs.declared.requests.Request.TheVariants.{Collect, List, ListDead, ListLive, ListRoots, Report}
-use Rattle.command_line.specs.Asked.{asked_view, on_profile_view, optional_text}
-use Rattle.tool.specs.Requests.{asks, import_body, reads_all, runtime_body, change_profile, drop_root, on_path, on_paths, owner_of, set_root}
+use Rattle.command_line.specs.Asked.{asked_view, on_profile_view, on_session_view, optional_text}
+use Rattle.tool.specs.Requests.{asks, import_body, reads_all, runtime_body, change_profile, change_session, drop_root, on_path, on_paths, owner_of, set_root}
 use Rattle.tool.proofs.Requested.{arm, plain_arm, unread_arm, unroot_asks}
 use Rattle.tool.proofs.requests.request.Goals as goal
 
@@ -61,6 +61,11 @@ pub returns-in-Profile-clause-asked : goal.returns-in-Profile-clause-asked
 returns-in-Profile-clause-asked g c =
     unread_arm (asked_view c.args.task.now) (λ dir caller. change_profile dir (owner_of caller (optional_text c.in-Profile.profile.owner)) c.in-Profile.profile.name.now (on_profile_view c.in-Profile.profile.action)) c.args.dir.now c.args.caller.now (g.R.Read.remaining c.args.input.now) c.change_profile.result
     (ap (λ t. asks (asked_view t)) c.in-Profile.is) c.change_profile.ensures
+
+pub returns-in-Temp-clause-asked : goal.returns-in-Temp-clause-asked
+returns-in-Temp-clause-asked g c =
+    unread_arm (asked_view c.args.task.now) (λ dir caller. change_session dir (owner_of caller (optional_text c.in-Temp.session.owner)) c.in-Temp.session.session (on_session_view c.in-Temp.session.action)) c.args.dir.now c.args.caller.now (g.R.Read.remaining c.args.input.now) c.change_session.result
+    (ap (λ t. asks (asked_view t)) c.in-Temp.is) c.change_session.ensures
 
 pub returns-in-Gc-clause-asked : goal.returns-in-Gc-clause-asked
 returns-in-Gc-clause-asked g c =
