@@ -1,7 +1,8 @@
 //! The whole command line as `clap` is told of it.
-ghost use Rattle.std.specs.Prelude.{◌≡◌, IfOk};
+ghost use Rattle.std.specs.Prelude.{◌≡◌, IfOk, IsOkAnd, false};
 ghost use Rattle.clap.specs.Simple.{app_of};
-ghost use Rattle.command_line.specs.Grammar.{options_app, with_plain, with_objects, with_changes, nixkeep_app};
+ghost use Rattle.clap.specs.declared.builder.command.Command.TheViews.{out-Command};
+ghost use Rattle.command_line.specs.Grammar.{adding, options_app, with_plain, with_objects, with_changes, nixkeep_app};
 
 use crate::arguments::option;
 use crate::subcommands::{delete, gc, object, path, plain, profile, root, serve, temp, unroot};
@@ -46,30 +47,39 @@ fn with_plain<'a>(alloc: Global, command: Command<'a>) -> Result<Command<'a>, Al
         .subcommand(plain(alloc, Verb::Report))
 }
 
+/// One more subcommand, if it could be made.
+fn add<'a>(
+    command: Command<'a>,
+    subcommand: Result<Command<'a>, AllocError>,
+) -> Result<Command<'a>, AllocError>
+    requires { IfOk subcommand (λ s. (out-Command s).has_globals ≡ false) }
+    ensures { IfOk result (λ c. IsOkAnd subcommand.entry (λ s. app_of c ≡ adding (app_of command.entry) (app_of s))) }
+{
+    command.subcommand(subcommand?)
+}
+
 fn with_objects<'a>(alloc: Global, command: Command<'a>) -> Result<Command<'a>, AllocError>
     ensures { IfOk result (λ c. app_of c ≡ with_objects (app_of command.entry)) }
 {
-    command
-        .subcommand(object(alloc, Verb::TextPath)?)?
-        .subcommand(object(alloc, Verb::SourcePath)?)?
-        .subcommand(object(alloc, Verb::AddText)?)?
-        .subcommand(object(alloc, Verb::AddSource)?)?
-        .subcommand(path(alloc, Verb::Info)?)?
-        .subcommand(path(alloc, Verb::CatNar)?)?
-        .subcommand(path(alloc, Verb::Why)?)
+    let command = add(command, object(alloc, Verb::TextPath))?;
+    let command = add(command, object(alloc, Verb::SourcePath))?;
+    let command = add(command, object(alloc, Verb::AddText))?;
+    let command = add(command, object(alloc, Verb::AddSource))?;
+    let command = add(command, path(alloc, Verb::Info))?;
+    let command = add(command, path(alloc, Verb::CatNar))?;
+    add(command, path(alloc, Verb::Why))
 }
 
 fn with_changes<'a>(alloc: Global, command: Command<'a>) -> Result<Command<'a>, AllocError>
     ensures { IfOk result (λ c. app_of c ≡ with_changes (app_of command.entry)) }
 {
-    command
-        .subcommand(root(alloc)?)?
-        .subcommand(unroot(alloc)?)?
-        .subcommand(profile(alloc)?)?
-        .subcommand(temp(alloc)?)?
-        .subcommand(gc(alloc)?)?
-        .subcommand(delete(alloc)?)?
-        .subcommand(serve(alloc)?)
+    let command = add(command, root(alloc))?;
+    let command = add(command, unroot(alloc))?;
+    let command = add(command, profile(alloc))?;
+    let command = add(command, temp(alloc))?;
+    let command = add(command, gc(alloc))?;
+    let command = add(command, delete(alloc))?;
+    add(command, serve(alloc))
 }
 
 /// The command `nixkeep`, with its options and subcommands.

@@ -1,19 +1,16 @@
-use Rattle.std.proofs.Common.{◌≡◌, ap, ap₂, refl, ◌∙◌}
+use Rattle.std.proofs.Common.{◌≡◌, refl}
 use Rattle.std.proofs.lemmas.Result.{IfOk-weaker}
-use Rattle.clap.specs.Simple.{App, Shape, app_of, with_subcommand}
+use Rattle.clap.specs.Simple.{app_of}
+use Rattle.command_line.proofs.Adding.{added}
 use Rattle.command_line.proofs.grammar.with_changes.Goals as goal
-
--- what a subcommand is told of itself
-abbrev top : App → Shape
-top a = a.top
 
 pub returns : goal.returns
 returns c =
     let same : app_of c.args.command ≡ app_of c.args.command = refl in
-    let with_1 = c.in_ok-subcommand.ensures.shape c.in_ok-root.ensures.local ∙ ap₂ with_subcommand same (ap top c.in_ok-root.ensures.app) in
-    let with_2 = c.in_ok-subcommand-2.ensures.shape c.in_ok-unroot.ensures.local ∙ ap₂ with_subcommand with_1 (ap top c.in_ok-unroot.ensures.app) in
-    let with_3 = c.in_ok-subcommand-3.ensures.shape c.in_ok-profile.ensures.local ∙ ap₂ with_subcommand with_2 (ap top c.in_ok-profile.ensures.app) in
-    let with_4 = c.in_ok-subcommand-4.ensures.shape c.in_ok-temp.ensures.local ∙ ap₂ with_subcommand with_3 (ap top c.in_ok-temp.ensures.app) in
-    let with_5 = c.in_ok-subcommand-5.ensures.shape c.in_ok-gc.ensures.local ∙ ap₂ with_subcommand with_4 (ap top c.in_ok-gc.ensures.app) in
-    let with_6 = c.in_ok-subcommand-6.ensures.shape c.in_ok-delete.ensures.local ∙ ap₂ with_subcommand with_5 (ap top c.in_ok-delete.ensures.app) in
-    IfOk-weaker c.subcommand-7.result _ _ (λ r added. added.shape c.in_ok-serve.ensures.local ∙ ap₂ with_subcommand with_6 (ap top c.in_ok-serve.ensures.app)) c.subcommand-7.ensures
+    let with_1 = added _ _ _ _ c.root.result same c.root.ensures.app c.in_ok-command.ensures in
+    let with_2 = added _ _ _ _ c.unroot.result with_1 c.unroot.ensures.app c.in_ok-command-2.ensures in
+    let with_3 = added _ _ _ _ c.profile.result with_2 c.profile.ensures.app c.in_ok-command-3.ensures in
+    let with_4 = added _ _ _ _ c.temp.result with_3 c.temp.ensures.app c.in_ok-command-4.ensures in
+    let with_5 = added _ _ _ _ c.gc.result with_4 c.gc.ensures.app c.in_ok-command-5.ensures in
+    let with_6 = added _ _ _ _ c.delete.result with_5 c.delete.ensures.app c.in_ok-command-6.ensures in
+    IfOk-weaker c.add-7.result _ _ (λ r last. added _ _ _ _ c.serve.result with_6 c.serve.ensures.app last) c.add-7.ensures
