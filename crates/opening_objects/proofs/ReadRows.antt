@@ -1,5 +1,5 @@
 -- Reads, one after another.
-use Rattle.std.proofs.Common.{◌≡◌, ℕ, List, [], map, Bool, true, false, cond, Some, None, Option, refl, sym, ap, subst, ◌∙◌, arith}
+use Rattle.std.proofs.Common.{◌≡◌, ℕ, List, [], map, Bool, true, false, cond, Some, None, Option, refl, sym, ap, subst, ◌∙◌, arith, IsTrue}
 use Rattle.std.specs.Ordering.{eq_by_cmp}
 use Rattle.std.specs.FinMap as finite
 use Rattle.sqlite_trees.specs.Tree.{Trees}
@@ -8,7 +8,9 @@ use Rattle.sqlite.specs.State.{State, HasCleanDisk, Survives, IsUnchanged}
 use Rattle.sqlite.proofs.Callers.{unchanged_then}
 use Rattle.paths.specs.Root.{bytes_cmp}
 use Rattle.table_statements.specs.Contents.{Numbered, numbered_cmp, contents_of}
+use Rattle.table_statements.specs.Calls.{KeepsShown}
 use Rattle.table_statements.proofs.Orders.{numbered_total, numbered_antisymmetric}
+use Rattle.table_statements.proofs.TestFailures.{both_keep, survives_both}
 use Rattle.world.proofs.Empty.{no_entries}
 use Rattle.index.proofs.Puts.{get-kept}
 use Rattle.table_entries.specs.declared.objects.Object.{Object}
@@ -61,6 +63,19 @@ no_pieces m none = ap finite.keys none ∙ ap (map (λ (e : Numbered × List ℕ
 -- a state that shows the same has the further table still, or none of its rows
 pub further_still : (a b : State) (d : Database → Type 0) → b.now ≡ a.now → d a.now → d b.now
 further_still a b d same h = subst d (sym same) h
+
+-- so it is after a read
+pub further_after : (a b : State) (d : Database → Type 0) → (HasCleanDisk b → IsUnchanged a b) → Survives a b (λ _. ⊥) → (HasCleanDisk a → IsTrue a.is_open → d a.now) → HasCleanDisk b → d b.now
+further_after a b d read survives had clean =
+    let same = (read clean).0 in
+    further_still a b d same.now_is (had (clean_before a b (λ _. ⊥) survives clean) same.was_open)
+
+-- three reads keep what is shown
+pub three_keep : (a b c d : State) → (HasCleanDisk b → KeepsShown a b) → (HasCleanDisk c → KeepsShown b c) → (HasCleanDisk d → KeepsShown c d) → Survives b c (λ _. ⊥) → Survives c d (λ _. ⊥) → HasCleanDisk d → KeepsShown a d
+three_keep a b c d first second third next last = both_keep a c d (both_keep a b c first second next) third last
+
+pub survives_three : (a b c d : State) → Survives a b (λ _. ⊥) → Survives b c (λ _. ⊥) → Survives c d (λ _. ⊥) → Survives a d (λ _. ⊥)
+survives_three a b c d first second third = survives_both a c d (survives_both a b c first second) third
 
 -- a state that shows the same has the same rows in other tables
 pub joined_still : (a b : State) (all : Joined) → b.now ≡ a.now → AreJoined (contents_of a.now) all → AreJoined (contents_of b.now) all

@@ -7,7 +7,7 @@ use Rattle.table_forms.specs.Forms.{piece}
 use Rattle.table_statements.specs.Calls.{HasFurther}
 use Rattle.table_statements.specs.Contents.{contents_of}
 use Rattle.table_statements.proofs.TestFailures.{both_keep, survives_both}
-use Rattle.opening_objects.proofs.ReadRows.{clean_before, further_still}
+use Rattle.opening_objects.proofs.ReadRows.{clean_before, further_after, unchanged_both, three_keep, survives_three}
 use Rattle.opening_objects.proofs.joined.read_joined.Goals as goal
 
 pub keys_of-requires-clause-opened : goal.keys_of-requires-clause-opened
@@ -18,20 +18,18 @@ keys_of-requires-clause-stands g c clean has is_open =
     let s0 = state g.S.Store c.args.conn.now in
     let s1 = state g.S.Store c.all.new.conn in
     let s2 = state g.S.Store c.all-2.new.conn in
-    let clean1 = clean_before s1 s2 (λ _. ⊥) c.all-2.ensures.survives clean in
-    let clean0 = clean_before s0 s1 (λ _. ⊥) c.all.ensures.survives clean1 in
-    let two = unchanged_then s0 s1 s2 (c.in_ok-references.ensures.reads clean1).0 (c.in_ok-outputs.ensures.reads clean).0 in
-    further_still s0 s2 (λ d. HasFurther d piece) two.0.now_is (c.requires.stands clean0 has two.0.was_open)
+    further_after s0 s2 (λ d. HasFurther d piece)
+    (unchanged_both s0 s1 s2 (λ early. (c.in_ok-references.ensures.reads early).0) (λ late. (c.in_ok-outputs.ensures.reads late).0) c.all-2.ensures.survives)
+    (survives_both s0 s1 s2 c.all.ensures.survives c.all-2.ensures.survives) (λ was up. c.requires.stands was has up) clean
 
 pub keys_of-requires-clause-no_table : goal.keys_of-requires-clause-no_table
 keys_of-requires-clause-no_table g c clean has is_open =
     let s0 = state g.S.Store c.args.conn.now in
     let s1 = state g.S.Store c.all.new.conn in
     let s2 = state g.S.Store c.all-2.new.conn in
-    let clean1 = clean_before s1 s2 (λ _. ⊥) c.all-2.ensures.survives clean in
-    let clean0 = clean_before s0 s1 (λ _. ⊥) c.all.ensures.survives clean1 in
-    let two = unchanged_then s0 s1 s2 (c.in_ok-references.ensures.reads clean1).0 (c.in_ok-outputs.ensures.reads clean).0 in
-    further_still s0 s2 (λ d. (contents_of d).pieces ≡ finite.empty) two.0.now_is (c.requires.no_table clean0 has two.0.was_open)
+    further_after s0 s2 (λ d. (contents_of d).pieces ≡ finite.empty)
+    (unchanged_both s0 s1 s2 (λ early. (c.in_ok-references.ensures.reads early).0) (λ late. (c.in_ok-outputs.ensures.reads late).0) c.all-2.ensures.survives)
+    (survives_both s0 s1 s2 c.all.ensures.survives c.all-2.ensures.survives) (λ was up. c.requires.no_table was has up) clean
 
 pub returns-in_err-outputs-clause-same : goal.returns-in_err-outputs-clause-same
 returns-in_err-outputs-clause-same g c clean =
@@ -41,14 +39,11 @@ pub returns-in_err-outputs-clause-survives : goal.returns-in_err-outputs-clause-
 returns-in_err-outputs-clause-survives g c = survives_both _ _ _ c.all.ensures.survives c.all-2.ensures.survives
 
 pub returns-in_err-pieces-clause-same : goal.returns-in_err-pieces-clause-same
-returns-in_err-pieces-clause-same g c clean =
-    let s0 = state g.S.Store c.args.conn.now in
-    let s1 = state g.S.Store c.all.new.conn in
-    let s2 = state g.S.Store c.all-2.new.conn in
-    both_keep s0 s2 _ (both_keep s0 s1 s2 c.all.ensures.same c.all-2.ensures.same c.all-2.ensures.survives) c.keys_of.ensures.same c.keys_of.ensures.survives clean
+returns-in_err-pieces-clause-same g c =
+    three_keep (state g.S.Store c.args.conn.now) (state g.S.Store c.all.new.conn) (state g.S.Store c.all-2.new.conn) _ c.all.ensures.same c.all-2.ensures.same c.keys_of.ensures.same c.all-2.ensures.survives c.keys_of.ensures.survives
 
 pub returns-in_err-pieces-clause-survives : goal.returns-in_err-pieces-clause-survives
-returns-in_err-pieces-clause-survives g c = survives_both _ _ _ (survives_both _ _ _ c.all.ensures.survives c.all-2.ensures.survives) c.keys_of.ensures.survives
+returns-in_err-pieces-clause-survives g c = survives_three _ _ _ _ c.all.ensures.survives c.all-2.ensures.survives c.keys_of.ensures.survives
 
 pub returns-clause-reads : goal.returns-clause-reads
 returns-clause-reads g c clean =
@@ -71,11 +66,8 @@ returns-clause-reads g c clean =
     )
 
 pub returns-clause-same : goal.returns-clause-same
-returns-clause-same g c clean =
-    let s0 = state g.S.Store c.args.conn.now in
-    let s1 = state g.S.Store c.all.new.conn in
-    let s2 = state g.S.Store c.all-2.new.conn in
-    both_keep s0 s2 _ (both_keep s0 s1 s2 c.all.ensures.same c.all-2.ensures.same c.all-2.ensures.survives) c.keys_of.ensures.same c.keys_of.ensures.survives clean
+returns-clause-same g c =
+    three_keep (state g.S.Store c.args.conn.now) (state g.S.Store c.all.new.conn) (state g.S.Store c.all-2.new.conn) _ c.all.ensures.same c.all-2.ensures.same c.keys_of.ensures.same c.all-2.ensures.survives c.keys_of.ensures.survives
 
 pub returns-clause-survives : goal.returns-clause-survives
-returns-clause-survives g c = survives_both _ _ _ (survives_both _ _ _ c.all.ensures.survives c.all-2.ensures.survives) c.keys_of.ensures.survives
+returns-clause-survives g c = survives_three _ _ _ _ c.all.ensures.survives c.all-2.ensures.survives c.keys_of.ensures.survives

@@ -12,7 +12,7 @@ use Rattle.table_statements.proofs.TestFailures.{both_keep, survives_both}
 use Rattle.world.specs.World.{Path}
 use Rattle.index.specs.Outline.{Outline}
 use Rattle.opening_objects.specs.Taken.{IsSoundOne, with_objects}
-use Rattle.opening_objects.proofs.ReadRows.{clean_before, further_still, joined_still}
+use Rattle.opening_objects.proofs.ReadRows.{clean_before, further_after, joined_still}
 use Rattle.world.specs.View.{schema_view}
 use Rattle.opening_objects.proofs.Each.{if_ok, on_ok}
 use Rattle.opening_objects.proofs.taking.take_all.Goals as goal
@@ -25,12 +25,8 @@ take_each-requires g c =
       alone = c.keys.ensures.alone;
       ready = c.keys.ensures.ready;
       opened = λ clean. (c.in_ok-bases.ensures.reads clean).0.0.is_open;
-      stands = λ clean has is_open.
-          let read = (c.in_ok-bases.ensures.reads clean).0.0 in
-          further_still s0 s1 (λ d. HasFurther d piece) read.now_is (c.requires.stands (clean_before s0 s1 (λ _. ⊥) c.keys.ensures.survives clean) has read.was_open);
-      no_table = λ clean has is_open.
-          let read = (c.in_ok-bases.ensures.reads clean).0.0 in
-          further_still s0 s1 (λ d. (contents_of d).pieces ≡ finite.empty) read.now_is (c.requires.no_table (clean_before s0 s1 (λ _. ⊥) c.keys.ensures.survives clean) has read.was_open);
+      stands = λ clean has is_open. further_after s0 s1 (λ d. HasFurther d piece) (λ late. (c.in_ok-bases.ensures.reads late).0) c.keys.ensures.survives (λ was up. c.requires.stands was has up) clean;
+      no_table = λ clean has is_open. further_after s0 s1 (λ d. (contents_of d).pieces ≡ finite.empty) (λ late. (c.in_ok-bases.ensures.reads late).0) c.keys.ensures.survives (λ was up. c.requires.no_table was has up) clean;
       joined = λ clean. joined_still s0 s1 c.args.joined.now (c.in_ok-bases.ensures.reads clean).0.0.now_is (c.requires.joined (clean_before s0 s1 (λ _. ⊥) c.keys.ensures.survives clean));
     }
 
