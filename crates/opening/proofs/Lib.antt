@@ -3,3 +3,4 @@ pub mod Found
 pub mod Agreed
 pub mod Passed
 pub mod Brought
+pub mod Lasting

@@ -1,5 +1,5 @@
 -- What opening a file says of it.
-use Rattle.std.specs.Prelude.{ℕ, List}
+use Rattle.std.specs.Prelude.{ℕ, List, IsTrue}
 use Rattle.sqlite_disk.specs.declared.Disk as disk
 use Rattle.sqlite_disk.specs.declared.calls.Calls as calls
 use Rattle.sqlite_disk.specs.declared.modelled.Modelled.{Modelled}
@@ -11,6 +11,7 @@ use Rattle.sqlite.specs.State.{HasCleanDisk, Survives}
 use Rattle.sqlite.specs.Held.{Held}
 use Rattle.sqlite.specs.Start.{FindsIn}
 use Rattle.sqlite.specs.Files.{over_files, file_state}
+use Rattle.table_statements.specs.Calls.{IsDurable}
 use Rattle.table_opening.specs.Opened.{IsAsOpened, FailsToOpenFile}
 use Rattle.tables.specs.Kept.{Kept}
 use Rattle.opening.specs.declared.refusing.Unopened.{Unopened}
@@ -25,6 +26,7 @@ module _ {D : Type 0} {g : disk.Ghosts D} where
     pub opened : IsAsOpened held was conn
     pub found : HasCleanDisk (file_state t.connection) → FindsIn held (file_state conn)
     pub took : HasCleanDisk (file_state t.connection) → TakesUp over_files dir (file_state conn).now t
+    pub durable : IsTrue (file_state t.connection).is_open → IsDurable (file_state t.connection)
     pub survives : Survives (file_state conn) (file_state t.connection) (LeavesTaken dir (file_state conn).now)
 
 module _ {S : Type 0} {c : calls.Ghosts Host} {start : Ghosts S} {g : disk.Ghosts (Modelled Host S c start)} where

@@ -1,9 +1,9 @@
 //! Taking up a connection.
 
-ghost use Rattle.std.specs.Prelude.{◌≡◌, false, IfOk, IfErr, MatchResult};
+ghost use Rattle.std.specs.Prelude.{◌≡◌, false, IsTrue, IfOk, IfErr, MatchResult};
 ghost use Rattle.sqlite.specs.State.{HasCleanDisk, Survives};
 ghost use Rattle.sqlite.specs.Held.{state};
-ghost use Rattle.table_statements.specs.Calls.{KeepsShown};
+ghost use Rattle.table_statements.specs.Calls.{KeepsShown, IsDurable};
 ghost use Rattle.table_opening.specs.Opened.{IsFound};
 ghost use Rattle.opening.specs.Taken.{TakesUp, LeavesTaken, IsCause};
 
@@ -32,6 +32,7 @@ pub(crate) fn take<S: Alter>(
     ensures alone { IfErr result (λ e. e.conn.in_transaction ≡ false) }
     ensures cause { IfErr result (λ e. HasCleanDisk (state S.Store e.conn) → IsCause dir.now (state S.Store conn).now e.cause) }
     ensures same { IfErr result (λ e. HasCleanDisk (state S.Store e.conn) → KeepsShown (state S.Store conn) (state S.Store e.conn)) }
+    ensures durable { MatchResult result (λ t. IsTrue (state S.Store t.connection).is_open → IsDurable (state S.Store t.connection)) (λ e. IsTrue (state S.Store e.conn).is_open → IsDurable (state S.Store e.conn)) }
     ensures survives { MatchResult result (λ t. Survives (state S.Store conn) (state S.Store t.connection) (LeavesTaken dir.now (state S.Store conn).now)) (λ e. Survives (state S.Store conn) (state S.Store e.conn) (LeavesTaken dir.now (state S.Store conn).now)) }
 {
     match found {
@@ -65,6 +66,7 @@ pub fn adopt<S: Alter>(
     ensures alone { IfErr result (λ e. e.conn.in_transaction ≡ false) }
     ensures cause { IfErr result (λ e. HasCleanDisk (state S.Store e.conn) → IsCause dir.now (state S.Store conn).now e.cause) }
     ensures same { IfErr result (λ e. HasCleanDisk (state S.Store e.conn) → KeepsShown (state S.Store conn) (state S.Store e.conn)) }
+    ensures durable { MatchResult result (λ t. IsTrue (state S.Store t.connection).is_open → IsDurable (state S.Store t.connection)) (λ e. IsTrue (state S.Store e.conn).is_open → IsDurable (state S.Store e.conn)) }
     ensures survives { MatchResult result (λ t. Survives (state S.Store conn) (state S.Store t.connection) (LeavesTaken dir.now (state S.Store conn).now)) (λ e. Survives (state S.Store conn) (state S.Store e.conn) (LeavesTaken dir.now (state S.Store conn).now)) }
 {
     match file::take_up(alloc, conn) {

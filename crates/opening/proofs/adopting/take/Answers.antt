@@ -5,6 +5,7 @@ use Rattle.world.specs.Rows.{one, two}
 use Rattle.opening.specs.Taken.{TakesOver, TakesMigrated, TakesUp, LeavesBrought, LeavesTaken}
 use Rattle.opening.proofs.Found.{first_found, second_found, third_found}
 use Rattle.opening.proofs.Passed.{wider, among}
+use Rattle.opening.proofs.Lasting.{both_durable}
 use Rattle.opening.proofs.adopting.take.Goals as goal
 
 pub take_earlier-requires-clause-found : goal.take_earlier-requires-clause-found
@@ -50,3 +51,15 @@ pub returns-in-Third-clause-survives : goal.returns-in-Third-clause-survives
 returns-in-Third-clause-survives g c =
     let a = state g.S.Store c.args.conn in
     wider (λ t. state g.S.Store t.connection) (λ e. state g.S.Store e.conn) c.take_ours.result a (λ _. ⊥) (LeavesTaken c.args.dir.now a.now) (λ db none. absurd none) c.take_ours.ensures.survives
+
+pub returns-in-Nothing-clause-durable : goal.returns-in-Nothing-clause-durable
+returns-in-Nothing-clause-durable g c = both_durable g.S.Store g.met.S.Store.settled (λ t. t.connection) (λ e. e.conn) c.take_new.result
+
+pub returns-in-First-clause-durable : goal.returns-in-First-clause-durable
+returns-in-First-clause-durable g c = both_durable g.S.Store g.met.S.Store.settled (λ t. t.connection) (λ e. e.conn) c.take_earlier.result
+
+pub returns-in-Second-clause-durable : goal.returns-in-Second-clause-durable
+returns-in-Second-clause-durable g c = both_durable g.S.Store g.met.S.Store.settled (λ t. t.connection) (λ e. e.conn) c.take_earlier-in-Second.result
+
+pub returns-in-Third-clause-durable : goal.returns-in-Third-clause-durable
+returns-in-Third-clause-durable g c = both_durable g.S.Store g.met.S.Store.settled (λ t. t.connection) (λ e. e.conn) c.take_ours.result

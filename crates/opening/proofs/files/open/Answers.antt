@@ -5,7 +5,7 @@ pub returns-in-Ok-take-clause-took : goal.returns-in-Ok-take-clause-took
 returns-in-Ok-take-clause-took g c =
     let here = c.in-Ok.ensures in
     let now = c.in-Ok-take.ensures in
-    record { was = here.opened.0; conn = c.in-Ok.opened.conn; opened = here.opened.1; found = λ clean. here.held (omega (arith, now.survives.clean)); took = now.took; survives = now.survives }
+    record { was = here.opened.0; conn = c.in-Ok.opened.conn; opened = here.opened.1; found = λ clean. here.held (omega (arith, now.survives.clean)); took = now.took; durable = now.durable; survives = now.survives }
 
 pub returns-in-Err-take-clause-cause : goal.returns-in-Err-take-clause-cause
 returns-in-Err-take-clause-cause g c =
