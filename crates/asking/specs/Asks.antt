@@ -79,3 +79,9 @@ has_bad_path kinds.Nar target = not (is_base_name (part 2 target))
 has_bad_path kinds.Ls target = not (is_base_name (part 2 target))
 has_bad_path kinds.RootsOf target = not (is_base_name (part 2 target))
 has_bad_path _ target = false
+
+-- The payload of such a request is an archive.
+abbrev pub is_archive : Kind → Bool
+is_archive kinds.AddSource = true
+is_archive kinds.Import = true
+is_archive _ = false

@@ -1,3 +1,4 @@
 pub mod View
 pub mod Asks
 pub mod Reads
+pub mod Kept

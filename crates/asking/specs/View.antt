@@ -1,6 +1,7 @@
 -- What the requests of the program stand for.
 use Rattle.std.specs.Prelude.{ℕ, Bool, false, List, Option, unwrap_or, string_bytes}
 use Rattle.store.specs.Request as asked
+use Rattle.intake.specs.Arriving.{bytes_in}
 use Rattle.bodies.specs.Bodies.{labelled}
 use Rattle.bodies.specs.declared.import.ImportHead.{ImportHead}
 use Rattle.asking.specs.declared.request.Request.{Request}
@@ -16,8 +17,8 @@ flag given = unwrap_or given false
 
 abbrev pub request_view : Request → asked.Request
 request_view (AddText head contents) = asked.add_text head.name head.references.items contents.items
-request_view (AddSource head nar) = asked.add_source head.name head.references.items nar.items
-request_view (Import head nar) = asked.import_object (imported head nar.items)
+request_view (AddSource head nar) = asked.add_source head.name head.references.items (bytes_in nar)
+request_view (Import head nar) = asked.import_object (imported head (bytes_in nar))
 request_view (Info p) = asked.info p
 request_view (Nar p) = asked.nar p
 request_view (Ls p) = asked.ls p

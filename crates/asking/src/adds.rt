@@ -1,11 +1,17 @@
 //! Requests that hand in an object.
-ghost use Rattle.std.specs.Prelude.{◌≡◌, IfOk, List, ℕ};
+ghost use Rattle.std.specs.Prelude.{◌≡◌, IfOk, Err, List, ℕ};
 ghost use Rattle.routes.specs.declared.kind.Kind.TheVariants as kinds;
+ghost use Rattle.bodies.specs.Bodies.{IsNamedBody, IsImportBody};
+ghost use Rattle.bodies.specs.Front.{rest_of};
+ghost use Rattle.bodies.specs.declared.heads.NamedHead.{NamedHead as NamedOf};
+ghost use Rattle.bodies.specs.declared.import.ImportHead.{ImportHead as ImportOf};
 ghost use Rattle.asking.specs.Reads.{Reads};
 
+use crate::body::Body;
 use crate::error::AskError;
+use crate::parted::Parted;
 use crate::request::Request;
-use bodies::{BodyError, import_body, named_body};
+use bodies::{BodyError, ImportHead, NamedHead, import_body, named_body};
 use paths::StoreDir;
 use std::alloc::{AllocError, Global};
 
@@ -30,29 +36,53 @@ pub(crate) fn add_text(alloc: Global, dir: &StoreDir, body: &[u8]) -> Result<Req
     }
 }
 
-/// An archive, at the path that it is given.
-pub(crate) fn add_source(alloc: Global, dir: &StoreDir, body: &[u8]) -> Result<Request, AskError>
-    ensures { (target : List ℕ) → Reads dir.now kinds.AddSource target body.now result }
+/// The add that a body is, read of its front.
+fn named_front(alloc: Global, dir: &StoreDir, body: &Parted) -> Result<NamedHead, BodyError>
+    ensures ok { IfOk result (λ head. IsNamedBody dir.now body.now head (rest_of body.now)) }
+    ensures bad { result ≡ Err BodyError.BadBodyHead → (head : NamedOf) (nar : List ℕ) → IsNamedBody dir.now body.now head nar → ⊥ }
 {
-    match named_body(alloc, dir, body) {
-        Ok((head, nar)) => match copied(alloc, nar) {
-            Ok(nar) => Ok(Request::AddSource(head, nar)),
-            Err(_) => Err(AskError::Memory),
-        },
+    match named_body(alloc, dir, body.front()) {
+        Ok((head, _)) => Ok(head),
+        Err(BodyError::BadBodyHead) => Err(BodyError::BadBodyHead),
+        Err(BodyError::Memory) => Err(BodyError::Memory),
+    }
+}
+
+/// The import that a body is, read of its front.
+fn import_front(alloc: Global, dir: &StoreDir, body: &Parted) -> Result<ImportHead, BodyError>
+    ensures ok { IfOk result (λ head. IsImportBody dir.now body.now head (rest_of body.now)) }
+    ensures bad { result ≡ Err BodyError.BadBodyHead → (head : ImportOf) (nar : List ℕ) → IsImportBody dir.now body.now head nar → ⊥ }
+{
+    match import_body(alloc, dir, body.front()) {
+        Ok((head, _)) => Ok(head),
+        Err(BodyError::BadBodyHead) => Err(BodyError::BadBodyHead),
+        Err(BodyError::Memory) => Err(BodyError::Memory),
+    }
+}
+
+/// An archive, at the path that it is given.
+pub(crate) fn add_source(alloc: Global, dir: &StoreDir, body: Body) -> Result<Request, AskError>
+    ensures { (target : List ℕ) → Reads dir.now kinds.AddSource target body result }
+{
+    let Ok(body) = body.into_parted(alloc) else {
+        return Err(AskError::Memory);
+    };
+    match named_front(alloc, dir, &body) {
+        Ok(head) => Ok(Request::AddSource(head, body.into_archive())),
         Err(BodyError::BadBodyHead) => Err(AskError::BadBodyHead),
         Err(BodyError::Memory) => Err(AskError::Memory),
     }
 }
 
 /// An object with its path.
-pub(crate) fn import(alloc: Global, dir: &StoreDir, body: &[u8]) -> Result<Request, AskError>
-    ensures { (target : List ℕ) → Reads dir.now kinds.Import target body.now result }
+pub(crate) fn import(alloc: Global, dir: &StoreDir, body: Body) -> Result<Request, AskError>
+    ensures { (target : List ℕ) → Reads dir.now kinds.Import target body result }
 {
-    match import_body(alloc, dir, body) {
-        Ok((head, nar)) => match copied(alloc, nar) {
-            Ok(nar) => Ok(Request::Import(head, nar)),
-            Err(_) => Err(AskError::Memory),
-        },
+    let Ok(body) = body.into_parted(alloc) else {
+        return Err(AskError::Memory);
+    };
+    match import_front(alloc, dir, &body) {
+        Ok(head) => Ok(Request::Import(head, body.into_archive())),
         Err(BodyError::BadBodyHead) => Err(AskError::BadBodyHead),
         Err(BodyError::Memory) => Err(AskError::Memory),
     }

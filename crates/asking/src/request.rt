@@ -1,5 +1,6 @@
 //! What may be asked.
 use bodies::{CollectHead, DeleteHead, ImportHead, NamedHead};
+use intake::Intake;
 use paths::StorePath;
 
 /// What a message asks of the store.
@@ -8,9 +9,9 @@ pub enum Request {
     /// The contents of a file.
     AddText(NamedHead, Vec<u8>),
     /// An archive.
-    AddSource(NamedHead, Vec<u8>),
+    AddSource(NamedHead, Intake),
     /// An archive.
-    Import(ImportHead, Vec<u8>),
+    Import(ImportHead, Intake),
     Info(StorePath),
     Nar(StorePath),
     Ls(StorePath),

@@ -1,3 +1,4 @@
 pub mod Reading
 pub mod ValueLemmas
 pub mod Alone
+pub mod Fronts

@@ -2,3 +2,4 @@ pub mod Lines
 pub mod Values
 pub mod Kinds
 pub mod Bodies
+pub mod Front

@@ -1,2 +1,4 @@
 mod Told
 mod Ends
+mod Turns
+mod Received

@@ -1,3 +1,4 @@
 pub mod Answers
 pub mod Sends
 pub mod Serves
+pub mod Exchanges

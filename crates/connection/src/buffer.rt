@@ -1,12 +1,12 @@
 //! What was read and isn't answered yet.
-ghost use Rattle.std.specs.Prelude.{◌≡◌, ◌≤◌, drop, vec_len};
+ghost use Rattle.std.specs.Prelude.{◌≡◌, drop};
 
-/// Takes so many bytes off the front of a buffer.
-pub(crate) fn drop_front(buffer: &mut Vec<u8>, n: usize)
-    requires { n ≤ vec_len buffer.old }
+/// Takes so many bytes off the front of a buffer, or all where it has fewer.
+pub(crate) fn take_front(buffer: &mut Vec<u8>, n: usize)
     ensures { buffer.new.items ≡ drop n buffer.old.items }
 {
-    let rest = buffer.len() - n;
-    buffer.copy_within(n.., 0);
+    let taken = n.min(buffer.len());
+    let rest = buffer.len() - taken;
+    buffer.copy_within(taken.., 0);
     buffer.truncate(rest);
 }

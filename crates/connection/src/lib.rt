@@ -3,6 +3,7 @@
 
 mod buffer;
 mod error;
+mod exchange;
 mod faults;
 mod responder;
 mod sending;

@@ -6,7 +6,7 @@ ghost use Rattle.connection.specs.Sends.{SendsReply};
 use crate::error::WireError;
 use std::alloc::Global;
 use std::io::Write;
-use streams::send_bytes;
+use streams::{send_bytes, send_pieces};
 use wire::Response;
 
 /// Writes a reply: its head, and its text.
@@ -23,7 +23,7 @@ pub(crate) fn send_reply<W: Write>(
         Err(_) => return Err(WireError::Memory),
     };
     match send_bytes(output, head.as_bytes()) {
-        Ok(()) => match send_bytes(output, &response.text) {
+        Ok(()) => match send_pieces(output, &response.text) {
             Ok(()) => Ok(()),
             Err(_) => Err(WireError::Write),
         },

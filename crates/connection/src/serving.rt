@@ -1,12 +1,10 @@
 //! The one loop of a connection.
 ghost use Rattle.connection.specs.Serves.{Served};
 
-use crate::buffer::drop_front;
 use crate::error::WireError;
-use crate::faults::refuse;
+use crate::exchange::next_exchange;
 use crate::responder::Responder;
 use crate::sending::send_reply;
-use messages::{ReceiveError, Received, closes, receive_message};
 use std::alloc::Global;
 use std::io::{Read, Write};
 
@@ -27,33 +25,17 @@ pub fn serve<R: Read, W: Write, A: Responder>(
     let mut window = [0; 4096];
     let mut buffer = Vec::new(alloc);
     'messages: for count in 0..u64::MAX {
-        match receive_message(input, &mut window, &mut buffer) {
-            Ok(Received::Message(head, size)) => {
-                let Ok(response) = responder.answer(&buffer, &head, size) else {
-                    return Err(WireError::Memory);
-                };
-                let close = closes(&buffer, &head);
-                match send_reply(alloc, output, &response, close) {
-                    Ok(()) => {}
-                    Err(fault) => return Err(fault),
-                }
-                if close {
-                    return Ok(count + 1);
-                }
-                drop_front(&mut buffer, head.spans.len + size);
-            }
-            Ok(Received::End) => return Ok(count),
-            Ok(Received::Faulty(fault)) => {
-                let Ok(response) = refuse(alloc, fault) else {
-                    return Err(WireError::Memory);
-                };
-                match send_reply(alloc, output, &response, true) {
-                    Ok(()) => return Ok(count + 1),
-                    Err(fault) => return Err(fault),
-                }
-            }
-            Err(ReceiveError::Read) => return Err(WireError::Read),
-            Err(ReceiveError::Memory) => return Err(WireError::Memory),
+        let next = match next_exchange(alloc, input, &mut window, &mut buffer, responder) {
+            Ok(Some(next)) => next,
+            Ok(None) => return Ok(count),
+            Err(fault) => return Err(fault),
+        };
+        match send_reply(alloc, output, &next.response, next.close) {
+            Ok(()) => {}
+            Err(fault) => return Err(fault),
+        }
+        if next.close {
+            return Ok(count + 1);
         }
     }
     Ok(u64::MAX)

@@ -1,25 +1,28 @@
 -- What an intake knows of the bytes that it has taken, and what it tells of them.
-use Rattle.std.specs.Prelude.{List, ℕ, ◌++◌, Option, Some, None, Result, Ok, Err}
-use Rattle.sha2.specs.declared.Sha256.{Sha256}
-use Rattle.sha2.specs.Hashers.{Holds256}
+use Rattle.std.specs.Prelude.{List, ℕ, [], ◌++◌, ◌/◌, length, Option, Some, None, Result, Ok, Err}
 use Rattle.nar.specs.declared.error.NarError.{NarError}
 use Rattle.nar.specs.declared.error.NarError.TheVariants.{Memory}
 use Rattle.nar.specs.declared.checking.Checker.{Checker}
 use Rattle.nar.specs.Checking.{HasBeenFed, HasFailed}
 use Rattle.nar.specs.Tree.{Tree}
-use Rattle.intake.specs.Contents.{contents_so_far}
+use Rattle.intake.specs.declared.digests.Digests.{Digests}
+use Rattle.intake.specs.Digests.{HasHashed}
 
--- The checker and the hashers have taken these bytes, and the checker wanted no memory.
-pub record HasTaken (checker : Checker) (archive contents : Sha256) (bytes : List ℕ) : Type 0 where
+-- The checker has taken these bytes, and wanted no memory. Of them each whole piece is hashed.
+pub record HasTaken (checker : Checker) (digests : Digests) (bytes : List ℕ) : Type 0 where
   pub fed : HasBeenFed checker bytes
   pub sound : ¬ HasFailed checker Memory
-  pub archive_held : Holds256 archive bytes
-  pub contents_held : Holds256 contents (contents_so_far bytes)
+  pub hashed : HasHashed digests (length bytes / 65536) bytes
 
 -- the bytes and a piece behind them; nothing where the intake is spent
 abbrev pub appended : Option (List ℕ) → List ℕ → Option (List ℕ)
 appended None piece = None
 appended (Some bytes) piece = Some (bytes ++ piece)
+
+-- the bytes that have come; none where the intake is spent
+abbrev pub bytes_in : Option (List ℕ) → List ℕ
+bytes_in None = []
+bytes_in (Some bytes) = bytes
 
 -- what is wrong with bytes as an archive, if anything is
 abbrev pub fault_of : Result Tree NarError → Option NarError

@@ -1,2 +1,3 @@
 pub mod Contents
+pub mod Digests
 pub mod Arriving

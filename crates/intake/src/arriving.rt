@@ -1,20 +1,16 @@
 //! An archive that has come so far, with all that will be asked of it.
 
-ghost use Rattle.std.specs.Prelude.{◌≡◌, ◌++◌, List, ℕ, [], take, IfOk, OnOk};
+ghost use Rattle.std.specs.Prelude.{◌≡◌, ◌++◌, List, ℕ, [], OnOk};
 ghost use Rattle.nar.specs.declared.error.NarError.TheVariants.{Memory as memory};
 ghost use Rattle.nar.specs.Outcome.{outcome_of};
-ghost use Rattle.sha2.specs.Hashers.{Holds256};
 ghost use Rattle.nar.specs.Tree.{IsBytes};
 ghost use Rattle.nar.specs.Checking.{HasBeenFed, HasFailed};
-ghost use Rattle.paths.specs.ContentAddress.{plain_contents};
-ghost use Rattle.paths.specs.Facts.{hash_of, facts_of};
-ghost use Rattle.intake.specs.Contents.{contents_so_far, hash_so_far};
+ghost use Rattle.paths.specs.Facts.{facts_of};
 ghost use Rattle.intake.specs.Arriving.{HasTaken, fault_of};
 
-use crate::contents::{begins_plain, contents_in};
+use crate::digests::{Digests, SIZE};
 use nar::{Checker, NarError, Pieces};
 use paths::Facts;
-use sha2::{Digest, Sha256};
 use std::alloc::{AllocError, Global};
 use std::marker::Model;
 
@@ -34,8 +30,7 @@ pub struct Arrived {
 pub struct Arriving {
     alloc: Global,
     checker: Checker,
-    archive: Sha256,
-    contents: Sha256,
+    digests: Digests,
     pieces: Pieces,
 }
 
@@ -47,7 +42,7 @@ impl Model for Arriving {
 
     ghost view = { λ a. a.pieces };
 
-    ghost invariant = { λ a. HasTaken a.checker a.archive a.contents a.pieces };
+    ghost invariant = { λ a. HasTaken a.checker a.digests a.pieces };
 }
 
 /// Feeds a checker, of which only want of memory is told: it remembers a fault by itself.
@@ -72,52 +67,20 @@ fn fault_at_end(checker: Checker) -> Option<NarError>
     }
 }
 
-/// The digest of the contents, where the first piece begins as that of a file that isn't executable.
-fn hash_if_plain(first: &[u8], contents: Sha256) -> Option<[u8; 32]>
-    ensures { (all : List ℕ) → first.now ≡ take 65536 all → Holds256 contents (contents_so_far all) → result ≡ hash_so_far all }
-{
-    if begins_plain(first) {
-        return Some(contents.finalize());
-    }
-    None
-}
-
-/// The digest of the contents, where all bytes are the archive of a file that isn't executable.
-fn plain_hash(fault: Option<NarError>, first: &[u8], contents: Sha256) -> Option<[u8; 32]>
-    ensures { (all : List ℕ) → IsBytes all → fault ≡ fault_of (outcome_of all) → first.now ≡ take 65536 all → Holds256 contents (contents_so_far all) → result ≡ hash_of (plain_contents (outcome_of all)) }
-{
-    match fault {
-        Some(_) => None,
-        None => hash_if_plain(first, contents),
-    }
-}
-
-/// The first piece, or no bytes.
-fn first_of(pieces: &Pieces) -> &[u8]
-    ensures { result.now ≡ take 65536 pieces.now }
-{
-    if pieces.len() == 0 {
-        return b"";
-    }
-    pieces.piece(0)
-}
-
 /// Takes the next piece: what was known of the pieces so far is known of all. Where memory is refused, the parts no longer agree.
 fn take_in(
     checker: &mut Checker,
-    archive: &mut Sha256,
-    contents: &mut Sha256,
+    digests: &mut Digests,
     pieces: &mut Pieces,
     piece: &[u8],
 ) -> Result<(), AllocError>
     ensures pieces { OnOk result (pieces.new ≡ pieces.old ++ piece.now) }
-    ensures taken { OnOk result (HasTaken checker.old archive.old contents.old pieces.old → HasTaken checker.new archive.new contents.new pieces.new) }
+    ensures taken { OnOk result (HasTaken checker.old digests.old pieces.old → HasTaken checker.new digests.new pieces.new) }
 {
-    let before = pieces.len();
+    let whole = pieces.len() / SIZE;
     pieces.push(piece)?;
     feed(checker, piece)?;
-    archive.update(piece);
-    contents.update(contents_in(first_of(pieces), before, piece));
+    digests.hash(pieces, whole, pieces.len() / SIZE);
     Ok(())
 }
 
@@ -129,8 +92,7 @@ impl Arriving {
         Arriving {
             alloc,
             checker: Checker::new(alloc),
-            archive: Sha256::new(),
-            contents: Sha256::new(),
+            digests: Digests::new(),
             pieces: Pieces::new(alloc),
         }
     }
@@ -141,8 +103,7 @@ impl Arriving {
     {
         match take_in(
             &mut self.checker,
-            &mut self.archive,
-            &mut self.contents,
+            &mut self.digests,
             &mut self.pieces,
             piece,
         ) {
@@ -154,25 +115,29 @@ impl Arriving {
         }
     }
 
+    /// What has come are bytes: a law, that does nothing.
+    pub fn are_bytes(&self)
+        ensures { IsBytes self.now }
+    {
+        let _len = self.pieces.len();
+    }
+
     /// What is told at the end. It looks at no byte of the contents again.
     pub fn finish(self) -> Arrived
         ensures pieces { result.pieces ≡ self }
+        ensures bytes { IsBytes result.pieces }
         ensures facts { result.facts ≡ facts_of self }
         ensures fault { result.fault ≡ fault_of (outcome_of self) }
     {
         let Arriving {
             checker,
-            archive,
-            contents,
+            mut digests,
             pieces,
             ..
         } = self;
+        digests.hash(&pieces, pieces.len() / SIZE, pieces.count());
         let fault = fault_at_end(checker);
-        let facts = Facts {
-            nar_hash: archive.finalize(),
-            nar_size: pieces.len() as u64,
-            plain: plain_hash(fault, first_of(&pieces), contents),
-        };
+        let facts = digests.finish(&pieces, fault);
         Arrived {
             fault,
             facts,

@@ -7,6 +7,7 @@
 
 mod arriving;
 mod contents;
+mod digests;
 mod reading;
 mod taking;
 mod text;

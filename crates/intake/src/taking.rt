@@ -2,12 +2,14 @@
 
 ghost use Rattle.std.specs.Prelude.{◌≡◌, List, ℕ, [], Some, None, IsSome, IfOk, OnOk, OnErr};
 ghost use Rattle.nar.specs.Outcome.{outcome_of};
+ghost use Rattle.nar.specs.Tree.{IsBytes};
 ghost use Rattle.paths.specs.Facts.{facts_of};
-ghost use Rattle.intake.specs.Arriving.{appended, fault_of};
+ghost use Rattle.intake.specs.Arriving.{appended, bytes_in, fault_of};
 
 use crate::arriving::{Arrived, Arriving};
 use std::alloc::{AllocError, Global};
 use std::marker::Model;
+use streams::Sink;
 
 /// An archive that comes in pieces, however they are cut. Each byte is checked and hashed as it comes, and kept, also
 /// where it is no archive. Where memory is refused once, the intake is spent: from then on it only answers so.
@@ -35,6 +37,19 @@ impl Intake {
         }
     }
 
+    /// These bytes.
+    ///
+    /// # Errors
+    ///
+    /// Memory was refused.
+    pub fn of_bytes(alloc: Global, bytes: &[u8]) -> Result<Intake, AllocError>
+        ensures { IfOk result (λ i. i ≡ Some bytes.now) }
+    {
+        let mut intake = Intake::new(alloc);
+        intake.push(bytes)?;
+        Ok(intake)
+    }
+
     /// Takes the next piece.
     ///
     /// # Errors
@@ -54,6 +69,15 @@ impl Intake {
         Ok(())
     }
 
+    /// What has come are bytes: a law, that does nothing.
+    pub fn are_bytes(&self)
+        ensures { IsBytes (bytes_in self.now) }
+    {
+        if let Some(arriving) = &self.so_far {
+            arriving.are_bytes();
+        }
+    }
+
     /// The end of the archive: its fault or none, what is told of it, and its bytes. It takes no memory.
     ///
     /// # Errors
@@ -61,6 +85,7 @@ impl Intake {
     /// Memory was refused by an earlier piece.
     pub fn finish(self) -> Result<Arrived, AllocError>
         ensures pieces { IfOk result (λ a. self ≡ Some a.pieces) }
+        ensures bytes { IfOk result (λ a. IsBytes a.pieces) }
         ensures facts { IfOk result (λ a. a.facts ≡ facts_of a.pieces) }
         ensures fault { IfOk result (λ a. a.fault ≡ fault_of (outcome_of a.pieces)) }
         ensures spent { OnErr result (self ≡ None) }
@@ -69,5 +94,13 @@ impl Intake {
             return Err(AllocError);
         };
         Ok(arriving.finish())
+    }
+}
+
+impl Sink for Intake {
+    ghost taken = { bytes_in };
+
+    fn take(&mut self, piece: &[u8]) -> Result<(), AllocError> {
+        self.push(piece)
     }
 }

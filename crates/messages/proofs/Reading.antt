@@ -53,13 +53,6 @@ ends_inside held head h size holds states short =
     let fits = holds.within.section.len_fits in
     (h, drop head.spans.len held, size, holds.is_head, states, omega (arith, fits, length-drop head.spans.len held))
 
--- a read after another is one from the first
-pub receives_after : {A : Type 0} (is : List ℕ → Option (List ℕ) → A → Type 0) (a b c : Option (List ℕ)) (held mid held' bs : List ℕ) (result : Result A ReceiveError)
-    → Consumes a b bs → mid ≡ held ++ bs → Receives is b c mid held' result → Receives is a c held held' result
-receives_after is a b c held mid held' bs (Ok x) first kept ((more, second, e), found) =
-    ((bs ++ more, Consumes-trans a b c bs more first second, e ∙ ap (λ t. t ++ more) kept ∙ append_assoc held bs more), found)
-receives_after is a b c held mid held' bs (Err x) first kept ((more, second, e), found) = ((bs ++ more, Consumes-trans a b c bs more first second, tt), tt)
-
 -- what fields say of a body is never that there is no head
 abbrev fault_or : Result ℕ Fault → Fault
 fault_or (Ok n) = BadLength

@@ -1,5 +1,5 @@
 -- How an input divides from the front into messages, and what one read of a message leaves.
-use Rattle.std.specs.Prelude.{◌≡◌, ◌⊎◌, ℕ, ◌+◌, ◌<◌, ◌≤◌, List, [], ◌++◌, length, Option, Result, Ok, Err, Bool, true, false, IfOk, IfSome, OnOk}
+use Rattle.std.specs.Prelude.{◌≡◌, ◌⊎◌, ℕ, ◌+◌, ◌<◌, ◌≤◌, List, [], ◌++◌, length, take, drop, Option, Result, Ok, Err, Bool, true, false, IfOk, IfSome, OnOk}
 use Rattle.std.specs.Io.KnownBytes.{Consumes, IsAtEnd}
 use Rattle.httparse.specs.Grammar.{RequestHead}
 use Rattle.messages.specs.Heads.{IsHead, HasNoHead, Holds}
@@ -53,13 +53,26 @@ pub record HoldsMessage (held : List ℕ) (head : Head) (size : ℕ) (h : Reques
   pub states : body_length (fields_of h) ≡ Ok size
   pub whole : head.spans.len + size ≤ length held
 
--- what is held and what may follow it begin with a message, or with none
-abbrev pub Begins : List ℕ → Option (List ℕ) → Received → Type 0
-Begins held rest End = (held ≡ []) × IsAtEnd rest
-Begins held rest (Message head size) = (h : RequestHead) × HoldsMessage held head size h
-Begins held rest (Faulty fault) = (0 < length held) × IfSome rest (λ more. IsFault (held ++ more) fault)
+-- the head of a message that states this size of its body stands in the front of what is held
+abbrev pub HoldsHead : List ℕ → Head → ℕ → Type 0
+HoldsHead held head size = (h : RequestHead) × Holds held head h × (body_length (fields_of h) ≡ Ok size)
+
+-- what is held and what may follow it begin with such a head, or with no message
+abbrev pub Announces : List ℕ → Option (List ℕ) → Received → Type 0
+Announces held rest End = (held ≡ []) × IsAtEnd rest
+Announces held rest (Message head size) = HoldsHead held head size
+Announces held rest (Faulty fault) = (0 < length held) × IfSome rest (λ more. IsFault (held ++ more) fault)
 
 -- What was read is appended to what was held; and what is held and follows it is like that.
 abbrev pub Receives : {A : Type 0} → (List ℕ → Option (List ℕ) → A → Type 0) → Option (List ℕ) → Option (List ℕ) → List ℕ → List ℕ → Result A ReceiveError → Type 0
 Receives is old new held held' result =
     ((bs : List ℕ) × Consumes old new bs × OnOk result (held' ≡ held ++ bs)) × IfOk result (is held' new)
+
+-- A body of so many bytes was handed on that stands behind a head of `len` bytes: what was held of it, and what was read, which is
+-- nothing beyond it; or the input ended inside it.
+pub record HandsOn (old new : Option (List ℕ)) (held : List ℕ) (len size : ℕ) (taken taken' : List ℕ) (result : Result Bool ReceiveError) : Type 0 where
+  pub read : List ℕ
+  pub consumed : Consumes old new read
+  pub whole : result ≡ Ok true → (taken' ≡ taken ++ take size (drop len (held ++ read))) × (len + size ≤ length (held ++ read))
+      × (drop (len + size) (held ++ read) ≡ drop (len + size) held)
+  pub short : result ≡ Ok false → IsAtEnd new × (length (held ++ read) < len + size)

@@ -10,4 +10,4 @@ mod receive;
 pub use error::{Fault, ReceiveError};
 pub use fields::{Values, closes, length_of_body, values_of};
 pub use head::{Head, Look, MAX_HEAD, look_for_head};
-pub use receive::{Received, Start, receive_body, receive_message, receive_start};
+pub use receive::{Received, Start, receive_body, receive_head, receive_start};

@@ -1,14 +1,12 @@
 //! Messages, read from a reader in pieces of any size.
-ghost use Rattle.std.specs.Prelude.{◌≡◌, ◌<◌, length, vec_len, Ok};
-ghost use Rattle.httparse.specs.Grammar.{RequestHead};
-ghost use Rattle.messages.specs.Fields.{fields_of, body_length};
-ghost use Rattle.messages.specs.Heads.{Holds};
-ghost use Rattle.messages.specs.Messages.{ReadsMore, Receives, Starts, Begins};
+ghost use Rattle.std.specs.Prelude.{◌<◌, ◌≤◌, length, vec_len};
+ghost use Rattle.messages.specs.Messages.{ReadsMore, Receives, Starts, Announces, HandsOn};
 
 use crate::error::{Fault, ReceiveError};
 use crate::fields::length_of_body;
 use crate::head::{Head, Look, look_for_head};
-use std::io::Read;
+use std::io::{ErrorKind, Read};
+use streams::{Sink, receive_at_most};
 
 /// What the input begins with.
 #[derive(Clone, Copy)]
@@ -24,7 +22,7 @@ pub enum Start {
 pub enum Received {
     /// Nothing is left of it.
     End,
-    /// A head, and a body of so many bytes behind it.
+    /// A head, and a body of so many bytes that is to follow it.
     Message(Head, usize),
     Faulty(Fault),
 }
@@ -48,7 +46,7 @@ fn read_more<R: Read>(
 }
 
 /// Reads until the buffer, which isn't empty, begins with a whole head, or can't.
-fn receive_head<R: Read>(
+fn find_head<R: Read>(
     input: &mut R,
     window: &mut [u8],
     buffer: &mut Vec<u8>,
@@ -83,46 +81,24 @@ pub fn receive_start<R: Read>(
     ensures { Receives Starts (R.remaining input.old) (R.remaining input.new) buffer.old.items buffer.new.items result }
 {
     if !buffer.is_empty() {
-        return receive_head(input, window, buffer);
+        return find_head(input, window, buffer);
     }
     match read_more(input, window, buffer) {
-        Ok(true) => receive_head(input, window, buffer),
+        Ok(true) => find_head(input, window, buffer),
         Ok(false) => Ok(Start::NoMore),
         Err(fault) => Err(fault),
     }
 }
 
-/// Reads until the body of so many bytes is whole that follows the head in front of the buffer.
-pub fn receive_body<R: Read>(
-    input: &mut R,
-    window: &mut [u8],
-    buffer: &mut Vec<u8>,
-    head: Head,
-    size: usize,
-) -> Result<Received, ReceiveError>
-    requires room { 0 < length window.old }
-    requires some { 0 < vec_len buffer.old }
-    requires head { (h : RequestHead) × Holds buffer.old.items head h × (body_length (fields_of h) ≡ Ok size) }
-    ensures { Receives Begins (R.remaining input.old) (R.remaining input.new) buffer.old.items buffer.new.items result }
-{
-    'body: while buffer.len() < head.spans.len + size {
-        match read_more(input, window, buffer) {
-            Ok(true) => {}
-            Ok(false) => return Ok(Received::Faulty(Fault::BadLength)),
-            Err(fault) => return Err(fault),
-        }
-    }
-    Ok(Received::Message(head, size))
-}
-
-/// Reads one message, which begins the buffer then.
-pub fn receive_message<R: Read>(
+/// Reads until the buffer begins with a whole head that states the size of its body, or can't, or nothing is left. Some of the
+/// body may be held behind the head then.
+pub fn receive_head<R: Read>(
     input: &mut R,
     window: &mut [u8],
     buffer: &mut Vec<u8>,
 ) -> Result<Received, ReceiveError>
     requires { 0 < length window.old }
-    ensures { Receives Begins (R.remaining input.old) (R.remaining input.new) buffer.old.items buffer.new.items result }
+    ensures { Receives Announces (R.remaining input.old) (R.remaining input.new) buffer.old.items buffer.new.items result }
 {
     let head = match receive_start(input, window, buffer) {
         Ok(Start::Begun(head)) => head,
@@ -131,7 +107,38 @@ pub fn receive_message<R: Read>(
         Err(fault) => return Err(fault),
     };
     match length_of_body(buffer, &head) {
-        Ok(size) => receive_body(input, window, buffer, head, size),
+        Ok(size) => Ok(Received::Message(head, size)),
         Err(fault) => Ok(Received::Faulty(fault)),
+    }
+}
+
+/// Hands on the body of so many bytes that follows a head: what of it is held, and the rest as it arrives. Whether it came
+/// whole. Nothing is read beyond it.
+///
+/// # Errors
+///
+/// `Read` where the reader failed, and `Memory` where the sink was refused memory.
+pub fn receive_body<R: Read, S: Sink>(
+    input: &mut R,
+    held: &[u8],
+    head: &Head,
+    size: usize,
+    body: &mut S,
+) -> Result<bool, ReceiveError>
+    requires { head.now.spans.len ≤ length held.now }
+    ensures { HandsOn (R.remaining input.old) (R.remaining input.new) held.now head.now.spans.len size (S.taken body.old) (S.taken body.new) result }
+{
+    let behind = &held[head.spans.len..];
+    let (front, _) = behind.split_at(size.min(behind.len()));
+    if body.take(front).is_err() {
+        return Err(ReceiveError::Memory);
+    }
+    let left = size - front.len();
+    match receive_at_most(input, left, body) {
+        Ok(count) => Ok(count == left),
+        Err(fault) => match fault.kind() {
+            ErrorKind::OutOfMemory => Err(ReceiveError::Memory),
+            _ => Err(ReceiveError::Read),
+        },
     }
 }

@@ -1,3 +1,4 @@
 pub mod Archives
 pub mod Objects
 pub mod Results
+mod Received

@@ -13,9 +13,8 @@ mod stream;
 mod texts;
 mod verdicts;
 
-pub use archive::MOST_OF_ARCHIVE;
 pub use configuration::{config_text, settings};
-pub use input::read_input;
+pub use input::{read_input, receive_archive};
 pub use listings::ls;
 pub use object::{parse_name, parse_reference, parse_references};
 pub use report::Refusal;

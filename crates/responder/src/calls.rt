@@ -3,15 +3,17 @@ ghost use Rattle.std.specs.Prelude.{◌≡◌};
 ghost use Rattle.store.specs.Request as asked;
 ghost use Rattle.asking.specs.View as given;
 ghost use Rattle.asking.specs.View.{flag};
+ghost use Rattle.intake.specs.Arriving.{bytes_in};
 ghost use Rattle.store_requests.specs.View as views;
 
 use asking::Request as Asked;
 use bodies::{CollectHead, DeleteHead, ImportHead, NamedHead};
+use intake::Intake;
 use store_requests::{Imported, Request};
 
 /// An object that is handed in with its path: what the body says of it, and the archive.
-fn imported(head: ImportHead, nar: Vec<u8>) -> Imported
-    ensures { views.import_view result ≡ given.imported head nar.items }
+fn imported(head: ImportHead, nar: Intake) -> Imported
+    ensures { views.import_view result ≡ given.imported head (bytes_in nar) }
 {
     let ImportHead {
         path,

@@ -2,8 +2,7 @@
 ghost use Rattle.std.specs.Prelude.{◌≡◌, IfOk, Some, None, option_map};
 ghost use Rattle.std.specs.Option.{option_and_then};
 ghost use Rattle.httparse.specs.Grammar.{RequestHead};
-ghost use Rattle.messages.specs.Messages.{HoldsMessage};
-ghost use Rattle.connection.specs.Answers.{body_in};
+ghost use Rattle.messages.specs.Heads.{Holds};
 ghost use Rattle.routes.specs.Methods.{method_of, kind_of};
 ghost use Rattle.routes.specs.Table.{requests_of};
 ghost use Rattle.wire.specs.Responses.{refused};
@@ -11,15 +10,16 @@ ghost use Rattle.responder.specs.Courses.{replies, denied, Reads, ByMethod, ByRo
 
 use crate::calls::call_of;
 use crate::course::Course;
-use crate::parts::{body_of, method_of, target_of};
-use asking::{AskError, read_request};
+use crate::kinds::kind_by;
+use crate::parts::{method_of, target_of};
+use asking::{AskError, Body, read_request};
 use callers::read_caller;
 use http::StatusCode;
 use messages::Head;
 use paths::StoreDir;
 use policy::{Caller, CallerError, Config, Op, Rule, class, decide, store_dir};
 use report::Refusal;
-use routes::{Kind, Method, Requests, Routes};
+use routes::{Kind, Requests, Routes};
 use std::alloc::{AllocError, Global};
 use store_commands::denial_line;
 use wire::Response;
@@ -51,25 +51,15 @@ fn on_kind(
     caller: Caller,
     kind: Kind,
     target: &str,
-    body: &[u8],
+    body: Body,
 ) -> Result<Course, AllocError>
-    ensures { IfOk result (λ course. Reads dir.now caller kind target.now body.now (course_view course)) }
+    ensures { IfOk result (λ course. Reads dir.now caller kind target.now body (course_view course)) }
 {
     match read_request(alloc, dir, kind, target, body) {
         Ok(asked) => Ok(Course::Calls(caller, call_of(asked))),
         Err(AskError::BadPath) => refuse(alloc, Refusal::BadStorePath, None),
         Err(AskError::BadBodyHead) => refuse(alloc, Refusal::BadBodyHead, None),
         Err(AskError::Memory) => Err(AllocError),
-    }
-}
-
-/// The kind that a method stands for on a route.
-fn kind_by(route: Requests, method: &[u8]) -> Option<Kind>
-    ensures { result ≡ option_and_then (kind_of route) (method_of method.now) }
-{
-    match Method::parse(method) {
-        Some(method) => route.kind(method),
-        None => None,
     }
 }
 
@@ -81,9 +71,9 @@ fn on_method(
     route: Requests,
     method: &[u8],
     target: &str,
-    body: &[u8],
+    body: Body,
 ) -> Result<Course, AllocError>
-    ensures { IfOk result (λ course. ByMethod dir.now caller target.now body.now route (option_and_then (kind_of route) (method_of method.now)) (course_view course)) }
+    ensures { IfOk result (λ course. ByMethod dir.now caller target.now body route (option_and_then (kind_of route) (method_of method.now)) (course_view course)) }
 {
     match kind_by(route, method) {
         Some(kind) => on_kind(alloc, dir, caller, kind, target, body),
@@ -99,9 +89,9 @@ fn on_route(
     caller: Caller,
     method: &[u8],
     target: &str,
-    body: &[u8],
+    body: Body,
 ) -> Result<Course, AllocError>
-    ensures { IfOk result (λ course. ByRoute dir.now caller method.now target.now body.now (requests_of target.now) (course_view course)) }
+    ensures { IfOk result (λ course. ByRoute dir.now caller method.now target.now body (requests_of target.now) (course_view course)) }
 {
     match routes.find(target) {
         Some(route) => on_method(alloc, dir, caller, route, method, target, body),
@@ -117,9 +107,9 @@ fn on_caller(
     caller: Caller,
     method: &[u8],
     target: &str,
-    body: &[u8],
+    body: Body,
 ) -> Result<Course, AllocError>
-    ensures { IfOk result (λ course. ByCaller config.now method.now target.now body.now (Some caller) (course_view course)) }
+    ensures { IfOk result (λ course. ByCaller config.now method.now target.now body (Some caller) (course_view course)) }
 {
     let dir = store_dir(config);
     match decide(class(config, &caller), &caller, &Op::Plain) {
@@ -128,24 +118,22 @@ fn on_caller(
     }
 }
 
-/// The course of a message that is held.
+/// The course of a message whose head is held.
 pub(crate) fn course_of(
     alloc: Global,
     routes: &Routes,
     config: &Config,
     held: &[u8],
     head: &Head,
-    size: usize,
+    body: Body,
 ) -> Result<Course, AllocError>
-    requires { (h : RequestHead) × HoldsMessage held.now head.now size h }
-    ensures { (h : RequestHead) → HoldsMessage held.now head.now size h
-        → IfOk result (λ course. Takes config.now h (body_in held.now head.now size) (course_view course)) }
+    requires { (h : RequestHead) × Holds held.now head.now h }
+    ensures { (h : RequestHead) → Holds held.now head.now h → IfOk result (λ course. Takes config.now h body (course_view course)) }
 {
     match read_caller(alloc, held, head) {
         Ok(caller) => {
             let method = method_of(held, head);
             let target = target_of(held, head);
-            let body = body_of(held, head, size);
             on_caller(alloc, routes, config, caller, method, target, body)
         }
         Err(CallerError::BadCaller) => refuse(alloc, Refusal::BadCaller, None),

@@ -4,6 +4,7 @@
 mod calls;
 mod course;
 mod courses;
+mod kinds;
 mod parts;
 mod replies;
 mod server;

@@ -1,7 +1,6 @@
-//! The parts of a message that is held.
-ghost use Rattle.std.specs.Prelude.{◌≡◌, ◌+◌, ◌≤◌, length, IsUtf8};
+//! The parts of a message whose head is held.
+ghost use Rattle.std.specs.Prelude.{◌≡◌, IsUtf8};
 ghost use Rattle.httparse.specs.Spans.{IsRequestWithin, span_bytes};
-ghost use Rattle.connection.specs.Answers as answers;
 
 use messages::Head;
 use std::str;
@@ -24,13 +23,4 @@ pub(crate) fn target_of<'b>(held: &'b [u8], head: &Head) -> &'b str
         Ok(target) => target,
         Err(_) => unreachable!(),
     }
-}
-
-/// Its body.
-pub(crate) fn body_of<'b>(held: &'b [u8], head: &Head, size: usize) -> &'b [u8]
-    requires { head.now.spans.len + size ≤ length held.now }
-    ensures { result.now ≡ answers.body_in held.now head.now size }
-{
-    let behind = &held[head.spans.len..];
-    &behind[..size]
 }

@@ -4,7 +4,10 @@ ghost use Rattle.responder.specs.Answers.{Answers};
 
 use crate::course::Course;
 use crate::courses::course_of;
+use crate::kinds::body_for;
+use crate::parts::{method_of, target_of};
 use crate::replies::respond;
+use asking::Body;
 use connection::Responder;
 use messages::Head;
 use policy::store_dir;
@@ -59,17 +62,24 @@ impl<S: Alter> Server<S> {
 }
 
 impl<S: Alter> Responder for Server<S> {
+    type Body = Body;
+
     ghost answers = { Answers S.Store };
 
-    fn answer(&mut self, held: &[u8], head: &Head, size: usize) -> Result<Response, AllocError> {
+    fn begin(&self, held: &[u8], head: &Head, size: usize) -> Body {
+        let method = method_of(held, head);
+        let target = target_of(held, head);
+        body_for(self.alloc, &self.routes, method, target, size)
+    }
+
+    fn answer(&mut self, held: &[u8], head: &Head, body: Body) -> Result<Response, AllocError> {
         let config = self.store.config();
-        match course_of(self.alloc, &self.routes, config, held, head, size) {
-            Ok(Course::Replies(response)) => Ok(response),
-            Ok(Course::Calls(caller, request)) => {
+        match course_of(self.alloc, &self.routes, config, held, head, body)? {
+            Course::Replies(response) => Ok(response),
+            Course::Calls(caller, request) => {
                 let reply = self.store.call(&caller, request);
                 respond(self.alloc, store_dir(self.store.config()), reply)
             }
-            Err(fault) => Err(fault),
         }
     }
 }

@@ -22,8 +22,8 @@ use tables::Tables;
 
 /// An object is put at its path, unless the path is valid already.
 pub(crate) fn add<S: Alter>(tables: &mut Tables<S>, added: Added) -> Result<Answer, Stop>
-    requires size { added.object.size ≡ length added.nar.items }
-    requires hash { added.object.hash ≡ sha256 added.nar.items }
+    requires size { added.object.size ≡ length added.nar }
+    requires hash { added.object.hash ≡ sha256 added.nar }
     requires sound { (w : World) → Tells S.Store tables.old w → IsSound tables.old.dir (with_object w (added_view added)) }
     ensures { IsAdded S.Store (added_view added) result tables.old tables.new }
 {

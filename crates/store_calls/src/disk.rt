@@ -13,6 +13,7 @@ ghost use Rattle.store.specs.Answers.{archive_at, listing_at};
 ghost use Rattle.tables.specs.Kept.{Tells};
 ghost use Rattle.store_calls.specs.Meets.{IsMet, OnlyReads};
 
+use nar::Pieces;
 use paths::StorePath;
 use sqlite::Alter;
 use std::alloc::Global;
@@ -22,12 +23,12 @@ use table_statements::failure::Failure;
 use tables::Tables;
 
 /// The archive of a valid path. A disk that gives back what it was given has one.
-fn read<S: Alter>(tables: &mut Tables<S>, path: &StorePath) -> Result<Vec<u8>, Failure>
+fn read<S: Alter>(tables: &mut Tables<S>, path: &StorePath) -> Result<Pieces, Failure>
     ensures reads { OnlyReads S.Store tables.old tables.new }
-    ensures archive { HasCleanDisk (state S.Store tables.new.connection) → IfOk result (λ nar. (w : World) → Tells S.Store tables.old w → nar.items ≡ archive_at (finite.get w.objects path.now)) }
+    ensures archive { HasCleanDisk (state S.Store tables.new.connection) → IfOk result (λ nar. (w : World) → Tells S.Store tables.old w → nar ≡ archive_at (finite.get w.objects path.now)) }
 {
     match tables.archive(path) {
-        Ok(Some(bytes)) => Ok(bytes),
+        Ok(Some(nar)) => Ok(nar),
         Ok(None) => Err(Failure::Disk),
         Err(failure) => Err(failure),
     }
@@ -39,7 +40,7 @@ pub(crate) fn archive<S: Alter>(tables: &mut Tables<S>, path: StorePath) -> Resu
 {
     match may_read(tables.index(), &path) {
         Ok(()) => match read(tables, &path) {
-            Ok(bytes) => Ok(Answer::Archive(bytes)),
+            Ok(nar) => Ok(Answer::Archive(nar)),
             Err(failure) => Err(Stop::Failed(failure)),
         },
         Err(stop) => Err(stop),
@@ -55,7 +56,7 @@ fn read_listing<S: Alter>(
     ensures listing { HasCleanDisk (state S.Store tables.new.connection) → IfOk result (λ text. (w : World) → Tells S.Store tables.old w → string_bytes text ≡ listing_at (outcome_of (archive_at (finite.get w.objects path.now)))) }
 {
     match read(tables, path) {
-        Ok(bytes) => list(alloc, &bytes),
+        Ok(nar) => list(alloc, &nar),
         Err(failure) => Err(failure),
     }
 }

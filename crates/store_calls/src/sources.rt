@@ -3,9 +3,11 @@
 ghost use Rattle.std.specs.Prelude.{◌≡◌};
 ghost use Rattle.policy.specs.Caller.{Caller};
 ghost use Rattle.store.specs.Request as asked;
+ghost use Rattle.intake.specs.Arriving.{bytes_in};
 ghost use Rattle.store_calls.specs.Meets.{IsMet};
 
 use crate::adding::add;
+use intake::Intake;
 use paths::{Name, StorePath};
 use policy::{Config, store_dir};
 use sqlite::Alter;
@@ -21,10 +23,10 @@ pub(crate) fn add_source<S: Alter>(
     tables: &mut Tables<S>,
     name: Name,
     refs: Vec<StorePath>,
-    nar: Vec<u8>,
+    nar: Intake,
 ) -> Result<Answer, Stop>
     requires dir { tables.old.dir ≡ config.now.store_dir }
-    ensures { (c : Caller) → IsMet S.Store config.now c (asked.add_source name refs.items nar.items) result tables.old tables.new }
+    ensures { (c : Caller) → IsMet S.Store config.now c (asked.add_source name refs.items (bytes_in nar)) result tables.old tables.new }
 {
     // It is a store name.
     let _text = name.as_str();

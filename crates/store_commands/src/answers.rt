@@ -6,10 +6,19 @@ ghost use Rattle.report.specs.Narinfo as records;
 ghost use Rattle.report.specs.Usage as usages;
 ghost use Rattle.store_requests.specs.View.{answer_view, info_view, usage_view};
 
+use nar::Pieces;
 use paths::{StoreDir, StorePath};
 use std::alloc::{AllocError, Global};
 use std::fmt::Write;
 use store_requests::{Answer, Info, Usage};
+use streams::in_pieces;
+
+/// A text in pieces.
+fn text_in_pieces(alloc: Global, text: String) -> Result<Pieces, AllocError>
+    ensures { IfOk result (λ pieces. pieces ≡ string_bytes text) }
+{
+    in_pieces(alloc, text.as_str().as_bytes())
+}
 
 /// The record of an object.
 fn record_text(alloc: Global, dir: &StoreDir, info: &Info) -> Result<String, AllocError>
@@ -55,11 +64,11 @@ fn freed_text(
 /// # Errors
 ///
 /// Memory was refused.
-pub fn answer_text(alloc: Global, dir: &StoreDir, answer: Answer) -> Result<Vec<u8>, AllocError>
-    ensures { IfOk result (λ text. text.items ≡ spec.answer_text dir.now (answer_view answer)) }
+pub fn answer_text(alloc: Global, dir: &StoreDir, answer: Answer) -> Result<Pieces, AllocError>
+    ensures { IfOk result (λ text. text ≡ spec.answer_text dir.now (answer_view answer)) }
 {
     let text = match answer {
-        Answer::Archive(bytes) => return Ok(bytes),
+        Answer::Archive(nar) => return Ok(nar),
         Answer::Listing(text) => text,
         Answer::Path(path) => report::path_line(alloc, dir, &path)?,
         Answer::Record(info) => record_text(alloc, dir, &info)?,
@@ -72,5 +81,6 @@ pub fn answer_text(alloc: Global, dir: &StoreDir, answer: Answer) -> Result<Vec<
         Answer::Freed(paths, bytes) => freed_text(alloc, dir, &paths, bytes)?,
         Answer::Usage(live, dead, total) => usage_text(alloc, live, dead, total)?,
     };
-    Ok(text.into_bytes())
+    let pieces = text_in_pieces(alloc, text)?;
+    Ok(pieces)
 }

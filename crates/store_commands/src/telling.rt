@@ -10,13 +10,14 @@ ghost use Rattle.store_commands.specs.Telling.{IsTold};
 use crate::answers::answer_text;
 use crate::denials::denial_line;
 use crate::refusals::{failure_line, refusal_line};
+use nar::Pieces;
 use paths::{StoreDir, StorePath};
 use policy::Rule;
 use std::alloc::Global;
 use std::io;
 use std::io::{ErrorKind, Write};
 use store_requests::{Answer, Reply};
-use streams::send_bytes;
+use streams::{send_bytes, send_pieces};
 
 const NO_MEMORY: &str = "failed: memory\n";
 
@@ -43,10 +44,10 @@ fn output_line(fault: &io::Error) -> &'static str
 }
 
 /// Gives a text to the first writer; where it fails, the second is told so.
-fn offer<W: Write, E: Write>(text: &[u8], output: &mut W, errors: &mut E) -> u8
+fn offer<W: Write, E: Write>(text: &Pieces, output: &mut W, errors: &mut E) -> u8
     ensures { Offers text.now (W.contents output.old) (W.contents output.new) (E.contents errors.old) (E.contents errors.new) result }
 {
-    match send_bytes(output, text) {
+    match send_pieces(output, text) {
         Ok(()) => 0,
         Err(fault) => print(output_line(&fault), 1, errors),
     }
@@ -64,7 +65,7 @@ fn tell_answer<W: Write, E: Write>(
         ⊎ LacksMemory (W.contents output.old) (W.contents output.new) (E.contents errors.old) (E.contents errors.new) result }
 {
     match answer_text(alloc, dir, answer) {
-        Ok(text) => offer(text.as_slice(), output, errors),
+        Ok(text) => offer(&text, output, errors),
         Err(_) => print(NO_MEMORY, 1, errors),
     }
 }

@@ -7,3 +7,4 @@ pub mod Ordered
 pub mod RuntimePairs
 pub mod Addresses
 pub mod Denied
+pub mod ArchiveFaults

@@ -1,3 +1,4 @@
+pub mod Arrived
 pub mod View
 pub mod Told
 pub mod Tested

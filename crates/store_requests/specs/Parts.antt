@@ -17,7 +17,7 @@ outputs_view entries = seen_map bytes_cmp string_bytes (λ (p : Path). p) entrie
 
 -- an object with its path
 abbrev pub added_view : Added → adds.Added
-added_view a = record { path = a.path; object = with_archive a.nar.items a.object }
+added_view a = record { path = a.path; object = with_archive a.nar a.object }
 
 -- each reference is a path of the outline, the path itself apart; not asked of a path that the outline has
 abbrev pub is_complete_in : Outline → Path → List Path → Bool

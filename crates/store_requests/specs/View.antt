@@ -4,8 +4,10 @@ use Rattle.policy.specs.Caller.{Caller}
 use Rattle.store.specs.Request as asked
 use Rattle.store.specs.Reply as replied
 use Rattle.index.specs.Maps.{labelled_bytes}
+use Rattle.intake.specs.Arriving.{bytes_in}
 use Rattle.table_statements.specs.declared.failure.Failure.{Failure}
 use Rattle.table_statements.specs.declared.failure.Failure.TheVariants.{Memory, Size, Disk}
+use Rattle.store_requests.specs.declared.imported.Delivered.{Delivered}
 use Rattle.store_requests.specs.declared.requests.Imported.{Imported}
 use Rattle.store_requests.specs.declared.requests.Request.{Request}
 use Rattle.store_requests.specs.declared.requests.Request.TheVariants.{AddText, Info as InfoOf, Nar, Ls, List as ListAll, ListLive, ListDead, ListRoots, ListRootsOf, Report, SetPermanent, DropPermanent, SetUserRoot, DropUserRoot, Rollback, Switch, DeleteGeneration, SetProfile, AddTemp, EndSession, ReplaceRuntime, AddSource, Import, Collect, Delete}
@@ -18,9 +20,13 @@ use Rattle.store_requests.specs.declared.replies.Refusal.TheVariants.{Archive as
 use Rattle.store_requests.specs.declared.replies.Reply.{Reply}
 use Rattle.store_requests.specs.declared.replies.Reply.TheVariants.{Done, Denied, Refused, Failed}
 
--- what is handed in with its path
+-- what is handed in with its path; no bytes, where memory was refused as its archive came
 abbrev pub import_view : Imported → asked.Imported
-import_view i = record { path = i.path; nar_hash = i.nar_hash; refs = i.refs.items; deriver = i.deriver; ca = i.ca; nar = i.nar.items }
+import_view i = record { path = i.path; nar_hash = i.nar_hash; refs = i.refs.items; deriver = i.deriver; ca = i.ca; nar = bytes_in i.nar }
+
+-- the same, once its archive has come
+abbrev pub delivered_view : Delivered → asked.Imported
+delivered_view d = record { path = d.path; nar_hash = d.nar_hash; refs = d.refs.items; deriver = d.deriver; ca = d.ca; nar = d.nar.pieces }
 
 abbrev pub request_view : Request → asked.Request
 request_view (AddText name refs contents) = asked.add_text name refs.items contents.items
@@ -44,7 +50,7 @@ request_view (SetProfile owner name p) = asked.set_profile (string_bytes owner) 
 request_view (AddTemp owner session p) = asked.add_temp (string_bytes owner) session p
 request_view (EndSession owner session) = asked.end_session (string_bytes owner) session
 request_view (ReplaceRuntime pairs) = asked.replace_runtime (map labelled_bytes pairs.items)
-request_view (AddSource name refs nar) = asked.add_source name refs.items nar.items
+request_view (AddSource name refs nar) = asked.add_source name refs.items (bytes_in nar)
 request_view (Import i) = asked.import_object (import_view i)
 request_view (Collect ignores limit) = asked.collect ignores limit
 request_view (Delete named ignores) = asked.delete named.items ignores
@@ -64,7 +70,7 @@ usage_view u = record { paths = u.paths; bytes = u.bytes }
 abbrev pub answer_view : Answer → replied.Answer
 answer_view (Path p) = replied.path p
 answer_view (Record i) = replied.record_of (info_view i)
-answer_view (Archive b) = replied.archive_of b.items
+answer_view (Archive b) = replied.archive_of b
 answer_view (Listing text) = replied.listing_of (string_bytes text)
 answer_view (Paths ps) = replied.paths ps.items
 answer_view (Roots rs) = replied.roots (map labelled_bytes rs.items)

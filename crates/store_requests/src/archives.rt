@@ -3,6 +3,7 @@ ghost use Rattle.std.specs.Prelude.{◌≡◌, ◌≤◌, false, nat_le, IfOk, O
 ghost use Rattle.nar.specs.Tree.{regular};
 ghost use Rattle.nar.specs.Archive.{limit};
 ghost use Rattle.nar.specs.View.{tree_of};
+ghost use Rattle.paths.specs.Facts.{facts_of};
 ghost use Rattle.store.specs.Adds as adds;
 ghost use Rattle.store.specs.Adds.{text_archive_size};
 ghost use Rattle.store.specs.Reply as replied;
@@ -11,6 +12,7 @@ ghost use Rattle.store_requests.specs.Tested.{Tested};
 ghost use Rattle.nar.specs.declared.error.NarError.TheVariants.{TooLarge as too_large};
 
 use crate::replies::{Refusal, Stop};
+use intake::{Arrived, Intake};
 use nar::{NarError, Node};
 use std::alloc::{AllocError, Global};
 
@@ -36,13 +38,11 @@ pub(crate) fn has_archive(contents: &[u8]) -> Result<(), Stop>
     Ok(())
 }
 
-/// The archive of a text.
-pub(crate) fn text_archive(alloc: Global, contents: &[u8]) -> Result<Vec<u8>, AllocError>
-    requires { text_archive_size contents.now ≤ limit }
-    ensures { IfOk result (λ nar. nar.items ≡ adds.text_archive contents.now) }
+/// The archive of a text, and what is told of it.
+pub(crate) fn text_archive(alloc: Global, contents: &[u8]) -> Result<Arrived, AllocError>
+    ensures pieces { IfOk result (λ a. a.pieces ≡ adds.text_archive contents.now) }
+    ensures facts { IfOk result (λ a. a.facts ≡ facts_of a.pieces) }
 {
-    let file = plain(contents);
-    let mut nar = Vec::new(alloc);
-    nar::write(&file, &mut nar)?;
-    Ok(nar)
+    let nar = Intake::of_text(alloc, contents)?;
+    nar.finish()
 }

@@ -3,6 +3,7 @@ ghost use Rattle.std.specs.Prelude.{◌≡◌, Ok, if◌then◌else◌, IfOk};
 ghost use Rattle.std.specs.FinMap as finite;
 ghost use Rattle.paths.specs.StorePath.{is_derivation};
 ghost use Rattle.nar.specs.declared.error.NarError.{NarError as Fault};
+ghost use Rattle.nar.specs.Outcome.{outcome_of};
 ghost use Rattle.nar.specs.View.{tree_of};
 ghost use Rattle.drv.specs.Outcome as outcome;
 ghost use Rattle.drv.specs.View.{pairs};
@@ -13,7 +14,8 @@ ghost use Rattle.store_requests.specs.Parts.{outputs_view};
 
 use crate::replies::{Refusal, Stop};
 use drv::DrvError;
-use nar::Node;
+use intake::file_contents;
+use nar::{Node, Pieces};
 use paths::{StoreDir, StorePath};
 use std::alloc::{AllocError, Global};
 use std::collections::BTreeMap;
@@ -60,6 +62,51 @@ fn outputs_in(
     match node {
         Node::Regular { contents, .. } => outputs_of(alloc, dir, contents),
         _ => Err(Stop::Refused(Refusal::Derivation(DrvError::BadDerivation))),
+    }
+}
+
+/// The outputs of an archive as a derivation.
+fn outputs_from(
+    alloc: Global,
+    dir: &StoreDir,
+    nar: &[u8],
+) -> Result<BTreeMap<String, StorePath>, Stop>
+    ensures { Gives (λ map. outputs_view map.entries) result (tree_fault dir.now (outcome_of nar.now)) (objects.tree_outputs dir.now (outcome_of nar.now)) }
+{
+    match file_contents(alloc, nar) {
+        Ok(Some(text)) => outputs_of(alloc, dir, text),
+        Ok(None) => Err(Stop::Refused(Refusal::Derivation(DrvError::BadDerivation))),
+        Err(_) => Err(Stop::Failed(Failure::Memory)),
+    }
+}
+
+/// The same of an archive in pieces, which is joined.
+fn outputs_joined(
+    alloc: Global,
+    dir: &StoreDir,
+    nar: &Pieces,
+) -> Result<BTreeMap<String, StorePath>, Stop>
+    ensures { Gives (λ map. outputs_view map.entries) result (tree_fault dir.now (outcome_of nar.now)) (objects.tree_outputs dir.now (outcome_of nar.now)) }
+{
+    match nar.joined() {
+        Ok(nar) => outputs_from(alloc, dir, nar.as_slice()),
+        Err(_) => Err(Stop::Failed(Failure::Memory)),
+    }
+}
+
+/// The outputs that an object records, by its archive. A derivation text alone is joined.
+pub(crate) fn outputs_by(
+    alloc: Global,
+    dir: &StoreDir,
+    path: &StorePath,
+    nar: &Pieces,
+) -> Result<BTreeMap<String, StorePath>, Stop>
+    ensures { Gives (λ map. outputs_view map.entries) result (if_derivation path.now (tree_fault dir.now (outcome_of nar.now))) (objects.outputs_at dir.now path.now nar.now) }
+{
+    if path.is_derivation() {
+        outputs_joined(alloc, dir, nar)
+    } else {
+        Ok(BTreeMap::new(alloc))
     }
 }
 

@@ -13,7 +13,7 @@ ghost use Rattle.store_requests.specs.Tested.{Tested};
 use crate::replies::Stop;
 use crate::there::is_valid;
 use index::Index;
-use nar::NarError;
+use nar::{NarError, Pieces};
 use paths::StorePath;
 use std::alloc::Global;
 use table_statements::failure::Failure;
@@ -27,15 +27,13 @@ pub fn may_read(index: &Index, path: &StorePath) -> Result<(), Stop>
 }
 
 /// The listing of an archive. What is none was read of a disk that gave back something else than it was given.
-pub fn list(alloc: Global, bytes: &[u8]) -> Result<String, Failure>
-    ensures { IfOk result (λ text. string_bytes text ≡ listing_at (outcome_of bytes.now)) }
+pub fn list(alloc: Global, nar: &Pieces) -> Result<String, Failure>
+    ensures { IfOk result (λ text. string_bytes text ≡ listing_at (outcome_of nar.now)) }
 {
-    let node = match nar::read(alloc, bytes) {
-        Ok(node) => node,
-        Err(NarError::Memory) => return Err(Failure::Memory),
-        Err(_) => return Err(Failure::Disk),
-    };
     let mut text = String::new(alloc);
-    nar::list(alloc, &node, &mut text)?;
-    Ok(text)
+    match intake::list(alloc, nar, &mut text) {
+        Ok(()) => Ok(text),
+        Err(NarError::Memory) => Err(Failure::Memory),
+        Err(_) => Err(Failure::Disk),
+    }
 }

@@ -1,6 +1,6 @@
 //! Tests of what is handed in with an object.
 
-ghost use Rattle.std.specs.Prelude.{◌≡◌, ◌||◌, Some, IsTrue, not, is_none};
+ghost use Rattle.std.specs.Prelude.{◌≡◌, ◌||◌, Some, None, IfOk, IfErr, IsTrue, not, is_none};
 ghost use Rattle.sha2.specs.Sha256.{sha256};
 ghost use Rattle.paths.specs.StorePath.{is_base_name};
 ghost use Rattle.live.specs.Graph.{holds as is_held, same};
@@ -10,13 +10,17 @@ ghost use Rattle.store.specs.Reply as replied;
 ghost use Rattle.store.specs.Tests as tests;
 ghost use Rattle.store.specs.Tests.{unless};
 ghost use Rattle.store_requests.specs.Tested.{Tested};
-ghost use Rattle.store_requests.specs.View.{import_view};
+ghost use Rattle.table_statements.specs.declared.failure.Failure.TheVariants.{Memory as memory};
+ghost use Rattle.store_requests.specs.declared.replies.Stop.TheVariants.{Failed as failed};
+ghost use Rattle.store_requests.specs.Arrived.{IsTold};
+ghost use Rattle.store_requests.specs.View.{delivered_view, import_view};
 
+use crate::arrivals::arrived;
 use crate::references::are_others;
 use crate::replies::{Refusal, Stop};
 use crate::requests::Imported;
-use paths::{StoreDir, VerifyError};
-use sha2::{Digest, Sha256};
+use intake::Arrived;
+use paths::{Ca, StoreDir, StorePath, VerifyError};
 use std::alloc::Global;
 use table_statements::failure::Failure;
 
@@ -26,11 +30,50 @@ fn is_same(a: &[u8], b: &[u8]) -> bool
     a == b
 }
 
-impl Imported {
+/// An object that is handed in with its path, whose archive has come.
+#[derive(Drop)]
+pub(crate) struct Delivered {
+    pub(crate) path: StorePath,
+    pub(crate) nar_hash: [u8; 32],
+    pub(crate) refs: Vec<StorePath>,
+    pub(crate) deriver: Option<StorePath>,
+    pub(crate) ca: Option<Ca>,
+    pub(crate) nar: Arrived,
+}
+
+/// What is handed in, once its archive has come. Where memory was refused as that came, the call fails.
+pub(crate) fn at_end(import: Imported) -> Result<Delivered, Stop>
+    ensures same { IfOk result (λ d. delivered_view d ≡ import_view import) }
+    ensures told { IfOk result (λ d. IsTold d.nar) }
+    ensures spent { import.nar ≡ None → IfOk result (λ d. ⊥) }
+    ensures failed { IfErr result (λ stop. stop ≡ failed memory) }
+{
+    let Imported {
+        path,
+        nar_hash,
+        refs,
+        deriver,
+        ca,
+        nar,
+    } = import;
+    match arrived(nar) {
+        Ok(nar) => Ok(Delivered {
+            path,
+            nar_hash,
+            refs,
+            deriver,
+            ca,
+            nar,
+        }),
+        Err(stop) => Err(stop),
+    }
+}
+
+impl Delivered {
     /// Its path and its deriver are base names.
     pub(crate) fn has_base_names(&self)
-        ensures path { IsTrue (is_base_name (import_view self.now).path) }
-        ensures deriver { (d : PathOf) → (import_view self.now).deriver ≡ Some d → IsTrue (is_base_name d) }
+        ensures path { IsTrue (is_base_name (delivered_view self.now).path) }
+        ensures deriver { (d : PathOf) → (delivered_view self.now).deriver ≡ Some d → IsTrue (is_base_name d) }
     {
         let _path = self.path.as_str();
         if let Some(deriver) = &self.deriver {
@@ -40,10 +83,10 @@ impl Imported {
 
     /// Tests that the archive has the given digest.
     pub(crate) fn has_digest(&self) -> Result<(), Stop>
-        ensures { Tested result (unless (same (sha256 (import_view self.now).nar) (import_view self.now).nar_hash) replied.nar_hash_mismatch) }
+        requires { IsTold self.now.nar }
+        ensures { Tested result (unless (same (sha256 (delivered_view self.now).nar) (delivered_view self.now).nar_hash) replied.nar_hash_mismatch) }
     {
-        let digest = Sha256::digest(&self.nar);
-        if !is_same(&digest, &self.nar_hash) {
+        if !is_same(&self.nar.facts.nar_hash, &self.nar_hash) {
             return Err(Stop::Refused(Refusal::NarHashMismatch));
         }
         Ok(())
@@ -51,7 +94,7 @@ impl Imported {
 
     /// Tests that it doesn't refer to itself, if it has a content address.
     pub(crate) fn refers_to_others(&self) -> Result<(), Stop>
-        ensures { Tested result (unless (is_none (import_view self.now).ca || not (is_held (import_view self.now).refs (import_view self.now).path)) replied.self_reference) }
+        ensures { Tested result (unless (is_none (delivered_view self.now).ca || not (is_held (delivered_view self.now).refs (delivered_view self.now).path)) replied.self_reference) }
     {
         if self.ca.is_none() {
             return Ok(());
@@ -61,12 +104,13 @@ impl Imported {
 
     /// Tests that its content address verifies, if it has one.
     pub(crate) fn is_verified(&self, alloc: Global, dir: &StoreDir) -> Result<(), Stop>
-        ensures { Tested result (unless (tests.is_verified dir.now (import_view self.now).path (added_import dir.now (import_view self.now)).object (import_view self.now).ca) replied.ca_mismatch) }
+        requires { IsTold self.now.nar }
+        ensures { Tested result (unless (tests.is_verified dir.now (delivered_view self.now).path (added_import dir.now (delivered_view self.now)).object (delivered_view self.now).ca) replied.ca_mismatch) }
     {
         let Some(ca) = &self.ca else {
             return Ok(());
         };
-        match ca.verify(alloc, dir, &self.path, &self.refs, &self.nar) {
+        match ca.verify_facts(alloc, dir, &self.path, &self.refs, &self.nar.facts) {
             Ok(()) => Ok(()),
             Err(VerifyError::Memory) => Err(Stop::Failed(Failure::Memory)),
             Err(VerifyError::CaMismatch) => Err(Stop::Refused(Refusal::CaMismatch)),

@@ -1,6 +1,6 @@
 //! Imports: objects that are added at given paths.
 
-ghost use Rattle.std.specs.Prelude.{◌≡◌, IfOk, OnOk, length};
+ghost use Rattle.std.specs.Prelude.{◌≡◌, Err, None, IfOk, OnOk, length};
 ghost use Rattle.sha2.specs.Sha256.{sha256};
 ghost use Rattle.world.specs.World.{World};
 ghost use Rattle.world.specs.Objects as objects;
@@ -10,15 +10,20 @@ ghost use Rattle.store.specs.Soundness.{IsWellFormedImport};
 ghost use Rattle.store.specs.Tests.{first_failing, import_tests};
 ghost use Rattle.store_requests.specs.Tested.{Gives};
 ghost use Rattle.store_requests.specs.Parts.{added_view, outputs_view};
-ghost use Rattle.store_requests.specs.View.{import_view};
+ghost use Rattle.table_statements.specs.declared.failure.Failure.TheVariants.{Memory as memory};
+ghost use Rattle.store_requests.specs.declared.replies.Stop.TheVariants.{Failed as failed};
+ghost use Rattle.store_requests.specs.Arrived.{IsTold};
+ghost use Rattle.store_requests.specs.View.{delivered_view, import_view};
 
-use crate::derivations::outputs_at;
+use crate::arrivals::is_archive;
+use crate::derivations::outputs_by;
+use crate::imported::{Delivered, at_end};
 use crate::references::{are_few, are_there};
 use crate::replies::Stop;
 use crate::requests::Imported;
-use crate::sources::tree;
 use crate::summaries::{Added, summary};
 use index::Index;
+use intake::Arrived;
 use paths::{StoreDir, StorePath};
 use std::alloc::Global;
 use std::collections::BTreeMap;
@@ -28,25 +33,26 @@ fn examine_import(
     alloc: Global,
     dir: &StoreDir,
     index: &Index,
-    import: &Imported,
+    import: &Delivered,
 ) -> Result<BTreeMap<String, StorePath>, Stop>
+    requires { IsTold import.now.nar }
     ensures told { (w : World) → outline_of w ≡ index.now → Gives (λ map. outputs_view map.entries) result
-        (first_failing (import_tests dir.now w (import_view import.now))) (objects.outputs_at dir.now (import_view import.now).path (import_view import.now).nar) }
-    ensures formed { OnOk result (IsWellFormedImport (import_view import.now)) }
-    ensures hash { OnOk result ((import_view import.now).nar_hash ≡ sha256 (import_view import.now).nar) }
+        (first_failing (import_tests dir.now w (delivered_view import.now))) (objects.outputs_at dir.now (delivered_view import.now).path (delivered_view import.now).nar) }
+    ensures formed { OnOk result (IsWellFormedImport (delivered_view import.now)) }
+    ensures hash { OnOk result ((delivered_view import.now).nar_hash ≡ sha256 (delivered_view import.now).nar) }
 {
     import.has_base_names();
     are_few(&import.refs)?;
-    let node = tree(alloc, &import.nar)?;
+    is_archive(&import.nar)?;
     import.has_digest()?;
     import.refers_to_others()?;
     import.is_verified(alloc, dir)?;
-    let outputs = outputs_at(alloc, dir, &import.path, &node)?;
+    let outputs = outputs_by(alloc, dir, &import.path, &import.nar.pieces)?;
     are_there(index, &import.path, &import.refs)?;
     Ok(outputs)
 }
 
-/// The object of an import, tested.
+/// The object of an import, tested. Where memory was refused as its archive came, the call fails ahead of the tests.
 pub fn prepare_import(
     alloc: Global,
     dir: &StoreDir,
@@ -56,11 +62,13 @@ pub fn prepare_import(
     ensures told { (w : World) → outline_of w ≡ index.now → Gives added_view result
         (first_failing (import_tests dir.now w (import_view import))) (added_import dir.now (import_view import)) }
     ensures formed { OnOk result (IsWellFormedImport (import_view import)) }
-    ensures size { IfOk result (λ a. a.object.size ≡ length a.nar.items) }
-    ensures hash { IfOk result (λ a. a.object.hash ≡ sha256 a.nar.items) }
+    ensures size { IfOk result (λ a. a.object.size ≡ length a.nar) }
+    ensures hash { IfOk result (λ a. a.object.hash ≡ sha256 a.nar) }
+    ensures spent { import.nar ≡ None → result ≡ Err (failed memory) }
 {
+    let import = at_end(import)?;
     let outputs = examine_import(alloc, dir, index, &import)?;
-    let Imported {
+    let Delivered {
         path,
         nar_hash,
         refs,
@@ -68,6 +76,15 @@ pub fn prepare_import(
         ca,
         nar,
     } = import;
-    let object = summary(alloc, nar.len(), nar_hash, refs, deriver, ca, outputs)?;
-    Ok(Added { path, nar, object })
+    let Arrived {
+        fault: _fault,
+        facts: _facts,
+        pieces,
+    } = nar;
+    let object = summary(alloc, pieces.len(), nar_hash, refs, deriver, ca, outputs)?;
+    Ok(Added {
+        path,
+        nar: pieces,
+        object,
+    })
 }

@@ -3,6 +3,7 @@
 
 pub mod adding;
 mod archives;
+mod arrivals;
 pub mod collecting;
 pub mod deleting;
 mod derivations;

@@ -5,7 +5,7 @@ ghost use Rattle.store_requests.specs.declared.replies.Stop.TheVariants.{Failed 
 ghost use Rattle.table_statements.specs.declared.failure.Failure.TheVariants.{Memory as memory};
 
 use drv::DrvError;
-use nar::NarError;
+use nar::{NarError, Pieces};
 use paths::{Ca, StorePath};
 use policy::Rule;
 use std::alloc::{AllocError, AllocFailed};
@@ -45,7 +45,7 @@ pub enum Answer {
     /// The record of an object.
     Record(Info),
     /// The bytes of an archive.
-    Archive(Vec<u8>),
+    Archive(Pieces),
     /// The listing of an archive.
     Listing(String),
     /// Paths, in order.

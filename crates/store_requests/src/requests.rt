@@ -1,5 +1,6 @@
 //! What is asked of a store.
 
+use intake::Intake;
 use paths::{Ca, Name, StorePath};
 
 /// An object that is handed in with its path.
@@ -15,8 +16,8 @@ pub struct Imported {
     pub deriver: Option<StorePath>,
     /// The content address, if it is given.
     pub ca: Option<Ca>,
-    /// The bytes of the archive.
-    pub nar: Vec<u8>,
+    /// The archive, as it came in.
+    pub nar: Intake,
 }
 
 /// A request.
@@ -64,8 +65,8 @@ pub enum Request {
     EndSession(String, u64),
     /// The runtime roots are replaced: labels and targets. Those whose target isn't valid are left out.
     ReplaceRuntime(Vec<(String, StorePath)>),
-    /// An archive is added: its name, its references and its bytes.
-    AddSource(Name, Vec<StorePath>, Vec<u8>),
+    /// An archive is added, as it came in: its name and its references.
+    AddSource(Name, Vec<StorePath>, Intake),
     /// An object is added at a path.
     Import(Imported),
     /// Dead paths are deleted; whether liveness is to be ignored, and how many bytes are to be freed, if there is a limit.

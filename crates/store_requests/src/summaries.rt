@@ -9,6 +9,7 @@ ghost use Rattle.store_requests.specs.Parts.{outputs_view};
 
 use crate::references::in_order;
 use index::Summary;
+use nar::Pieces;
 use paths::{Ca, StorePath};
 use std::alloc::{AllocError, Global};
 use std::collections::BTreeMap;
@@ -18,8 +19,8 @@ use std::collections::BTreeMap;
 pub struct Added {
     /// The path.
     pub path: StorePath,
-    /// The bytes of the archive.
-    pub nar: Vec<u8>,
+    /// The archive.
+    pub nar: Pieces,
     /// All else that is kept of it.
     pub object: Summary,
 }

@@ -1,5 +1,5 @@
 -- What is taken from an input, and handed on.
-use Rattle.std.specs.Prelude.{◌≡◌, ◌≤◌, ◌<◌, ◌++◌, ℕ, List, [], length, Option, Some, None, Result, Ok, Err, OnOk}
+use Rattle.std.specs.Prelude.{◌≡◌, ◌≤◌, ◌<◌, ◌++◌, ℕ, List, [], length, Option, Some, None, Result, Ok, Err, IfOk}
 use Rattle.std.specs.Io.KnownBytes.{Consumes, IsAtEnd}
 use Rattle.std.specs.declared.io.Error.{Error}
 
@@ -14,8 +14,9 @@ ReadsOn room old new held held' (Ok (Some n)) = (bs : List ℕ) × Consumes old 
 ReadsOn room old new held held' (Ok None) = Consumes old new [] × IsAtEnd new × (held' ≡ held)
 ReadsOn room old new held held' (Err fault) = TakesAtMost room old new
 
--- An input was read to a bound: no more was taken from it, and all that was taken was handed on; where that is less, the input
--- is at its end.
-abbrev pub Receives : ℕ → Option (List ℕ) → Option (List ℕ) → List ℕ → List ℕ → Result (Unit {0}) Error → Type 0
+-- An input was read to a bound: no more was taken from it, and all that was taken, so many bytes, was handed on; where that is
+-- less, the input is at its end.
+abbrev pub Receives : ℕ → Option (List ℕ) → Option (List ℕ) → List ℕ → List ℕ → Result ℕ Error → Type 0
 Receives most old new held held' result =
-    (bs : List ℕ) × Consumes old new bs × (length bs ≤ most) × OnOk result ((held' ≡ held ++ bs) × (length bs < most → IsAtEnd new))
+    (bs : List ℕ) × Consumes old new bs × (length bs ≤ most)
+    × IfOk result (λ n. (n ≡ length bs) × (held' ≡ held ++ bs) × (n < most → IsAtEnd new))

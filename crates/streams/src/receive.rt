@@ -33,26 +33,30 @@ fn read_on<R: Read, S: Sink>(
     }
 }
 
-/// Reads an input to its end, but no more than `most` bytes, and hands each piece on as it arrives. An
-/// interrupted read is tried again.
+/// Reads an input to its end, but no more than `most` bytes, hands each piece on as it arrives, and tells how many
+/// bytes came. An interrupted read is tried again.
 ///
 /// # Errors
 ///
 /// The fault of the input, or `OutOfMemory` where the sink was refused memory. The sink has then taken
 /// what came before.
-pub fn receive_at_most<R: Read, S: Sink>(input: &mut R, most: usize, sink: &mut S) -> io::Result<()>
+pub fn receive_at_most<R: Read, S: Sink>(
+    input: &mut R,
+    most: usize,
+    sink: &mut S,
+) -> io::Result<usize>
     ensures { Receives most (R.remaining input.old) (R.remaining input.new) (S.taken sink.old) (S.taken sink.new) result }
 {
     let mut window = [0; PIECE];
     let mut left = most;
     for _ in 0..u64::MAX {
         if left == 0 {
-            return Ok(());
+            return Ok(most);
         }
         let room = left.min(PIECE);
         match read_on(input, &mut window[..room], sink) {
             Ok(Some(count)) => left -= count,
-            Ok(None) => return Ok(()),
+            Ok(None) => return Ok(most - left),
             Err(fault) => return Err(fault),
         }
     }

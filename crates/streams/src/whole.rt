@@ -1,5 +1,5 @@
 //! The bytes of an input, held whole.
-ghost use Rattle.std.specs.Prelude.{◌≡◌, IfOk, IfSome, take};
+ghost use Rattle.std.specs.Prelude.{◌≡◌, [], IfOk, IfSome, take};
 ghost use Rattle.streams.specs.Reads.{TakesAtMost};
 
 use crate::receive::receive_at_most;
@@ -7,16 +7,51 @@ use crate::sink::Sink;
 use std::alloc::{AllocError, Global};
 use std::io;
 use std::io::Read;
+use std::marker::Model;
 
-/// What came of an input, of which no more than some number of bytes will.
+/// What came of an input, of which no more than some number of bytes will. Contracts see the bytes.
 #[derive(Drop)]
-struct Held {
+pub struct Held {
     bytes: Vec<u8>,
     most: usize,
 }
 
+impl Model for Held {
+    ghost use Rattle.std.specs.Prelude.{List, ℕ};
+
+    ghost Value = { List ℕ };
+
+    ghost view = { λ held. held.bytes.items };
+}
+
+impl Held {
+    /// No bytes yet. It takes no memory.
+    pub fn new(alloc: Global, most: usize) -> Held
+        ensures { result ≡ [] }
+    {
+        Held {
+            bytes: Vec::new(alloc),
+            most,
+        }
+    }
+
+    /// What has come.
+    pub fn bytes(&self) -> &[u8]
+        ensures { result.now ≡ self.now }
+    {
+        &self.bytes
+    }
+
+    /// What has come, as its own.
+    pub fn into_bytes(self) -> Vec<u8>
+        ensures { result.items ≡ self }
+    {
+        self.bytes
+    }
+}
+
 impl Sink for Held {
-    ghost taken = { λ held. held.bytes.items };
+    ghost taken = { λ held. held };
 
     /// The room grows by doubling, and never beyond what may come.
     fn take(&mut self, piece: &[u8]) -> Result<(), AllocError> {
@@ -38,12 +73,9 @@ pub fn read_at_most<R: Read>(alloc: Global, input: &mut R, most: usize) -> io::R
     ensures bytes { IfOk result (λ bytes. IfSome (R.remaining input.old) (λ all. bytes.items ≡ take most all)) }
     ensures within { TakesAtMost most (R.remaining input.old) (R.remaining input.new) }
 {
-    let mut held = Held {
-        bytes: Vec::new(alloc),
-        most,
-    };
+    let mut held = Held::new(alloc, most);
     match receive_at_most(input, most, &mut held) {
-        Ok(()) => Ok(held.bytes),
+        Ok(_) => Ok(held.into_bytes()),
         Err(fault) => Err(fault),
     }
 }

@@ -41,7 +41,8 @@ set_again m = finite.same_map bytes_total bytes_antisymmetric _ _ (λ q.
 map_again : (m : finite.FinMap bytes_cmp Path) → finite.from_entries (finite.entries m) ≡ m
 map_again m = finite.same_map bytes_total bytes_antisymmetric _ _ (λ q. finite.get-from_entries bytes_total (finite.entries m) q ∙ sym (finite.get-entries m q))
 
-none_told : {X Y : Type 0} (f : X → Y) (g : Option X) → option_map f g ≡ None → g ≡ None
+-- what is made of nothing is nothing
+pub none_told : {X Y : Type 0} (f : X → Y) (g : Option X) → option_map f g ≡ None → g ≡ None
 none_told f None h = refl
 none_told f (Some x) h = absurd (false≢true (ap is_some (sym h)))
 

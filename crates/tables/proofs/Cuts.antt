@@ -1,7 +1,8 @@
 -- The further pieces of an archive, by what is left of it.
-use Rattle.std.proofs.Common.{◌≡◌, ℕ, ◌+◌, ◌<◌, ◌≤◌, List, [], ◌∷◌, length, take, drop, min, refl, ap, ◌∙◌, arith}
-use Rattle.std.specs.Prelude.{pos}
-use Rattle.std.proofs.lemmas.List.{length-drop, take_min, drop_min}
+use Rattle.std.proofs.Common.{◌≡◌, ℕ, ◌+◌, ◌*◌, ◌<◌, ◌≤◌, List, [], ◌∷◌, length, take, drop, refl, sym, ap, ap₂, ◌∙◌, arith}
+use Rattle.std.specs.Prelude.{ℤ, pos}
+use Rattle.std.proofs.lemmas.List.{length-drop, drop-drop}
+use Rattle.pieces.specs.Cut.{piece_of}
 use Rattle.world.specs.Pieces.{piece_size, pieces_by, further_pieces}
 use Rattle.world.proofs.Cuts.{cuts_one_way}
 
@@ -21,30 +22,46 @@ enough (x ∷ s) (y ∷ t) n (b ∷ bs) h k =
     let few : length (drop piece_size (b ∷ bs)) ≤ length t = omega (arith, length-drop piece_size (b ∷ bs), size_is, k) in
     ap (λ l. (pos n, take piece_size (b ∷ bs)) ∷ l) (enough s t (n + 1) (drop piece_size (b ∷ bs)) fewer few)
 
--- those of what the row doesn't hold
-pub rest_pieces : (nar rest : List ℕ) → rest ≡ drop piece_size nar → pieces_by rest 1 rest ≡ further_pieces nar
-rest_pieces nar rest is =
-    ap (λ l. pieces_by l 1 l) is
-    ∙ enough (drop piece_size nar) nar 1 (drop piece_size nar) (omega arith) (omega (arith, length-drop piece_size nar))
-
 -- the first of them, and those of what is left
-pub next_piece : (n : ℕ) (bytes : List ℕ) → 0 < length bytes → pieces_by bytes n bytes ≡ (pos n, take piece_size bytes) ∷ pieces_by (drop piece_size bytes) (n + 1) (drop piece_size bytes)
+next_piece : (n : ℕ) (bytes : List ℕ) → 0 < length bytes → pieces_by bytes n bytes ≡ (pos n, take piece_size bytes) ∷ pieces_by (drop piece_size bytes) (n + 1) (drop piece_size bytes)
 next_piece n [] some = absurd (omega (arith, some))
 next_piece n (b ∷ bs) some =
     let fewer : length (drop piece_size (b ∷ bs)) ≤ length bs = omega (arith, length-drop piece_size (b ∷ bs), size_is) in
     ap (λ l. (pos n, take piece_size (b ∷ bs)) ∷ l) (enough bs (drop piece_size (b ∷ bs)) (n + 1) (drop piece_size (b ∷ bs)) fewer (omega arith))
 
 -- of nothing there is none
-pub nothing_left : (n : ℕ) (bytes : List ℕ) → length bytes ≡ 0 → pieces_by bytes n bytes ≡ []
+nothing_left : (n : ℕ) (bytes : List ℕ) → length bytes ≡ 0 → pieces_by bytes n bytes ≡ []
 nothing_left n [] e = refl
 nothing_left n (b ∷ bs) e = absurd (omega (arith, e))
 
--- an archive is cut at 65,536 bytes, or at its end
-at_size : (n : ℕ) (nar : List ℕ) → n ≡ min (length nar) 65536 → n ≡ min piece_size (length nar)
-at_size n nar h = omega (arith, size_is, h)
+-- ---- of an archive, from the piece at a place on
 
-pub front_cut : (n : ℕ) (nar : List ℕ) → n ≡ min (length nar) 65536 → take n nar ≡ take piece_size nar
-front_cut n nar h = ap (λ k. take k nar) (at_size n nar h) ∙ take_min piece_size nar
+abbrev pub left_from : ℕ → List ℕ → List (ℤ × List ℕ)
+left_from n nar = pieces_by nar n (drop (65536 * n) nar)
 
-pub rest_cut : (n : ℕ) (nar : List ℕ) → n ≡ min (length nar) 65536 → drop n nar ≡ drop piece_size nar
-rest_cut n nar h = ap (λ k. drop k nar) (at_size n nar h) ∙ drop_min piece_size nar
+-- from the first on they are all
+pub all_left : (nar : List ℕ) → left_from 1 nar ≡ further_pieces nar
+all_left nar = ap (λ k. pieces_by nar 1 (drop k nar)) (sym size_is)
+
+-- the one at the place, and those behind it
+pub next_left : (n : ℕ) (nar : List ℕ) → 65536 * n < length nar → left_from n nar ≡ (pos n, piece_of n nar) ∷ left_from (n + 1) nar
+unfolding piece_of
+next_left n nar more =
+    let rest = drop (65536 * n) nar in
+    let after = drop piece_size rest in
+    let some : 0 < length rest = omega (arith, length-drop (65536 * n) nar, more) in
+    let few : length rest ≤ length nar = omega (arith, length-drop (65536 * n) nar) in
+    let fewer : length after ≤ length nar = omega (arith, length-drop piece_size rest, few) in
+    let count : 65536 * n + 65536 ≡ 65536 * (n + 1) = omega arith in
+    let behind : after ≡ drop (65536 * (n + 1)) nar = ap (λ k. drop k rest) size_is ∙ drop-drop 65536 (65536 * n) nar ∙ ap (λ k. drop k nar) count in
+    enough nar rest n rest few (omega arith)
+    ∙ next_piece n rest some
+    ∙ ap₂ (λ k l. (pos n, take k rest) ∷ l) size_is (enough after nar (n + 1) after (omega arith) fewer ∙ ap (pieces_by nar (n + 1)) behind)
+
+-- none, where the archive has ended
+pub past_end : (n : ℕ) (nar : List ℕ) → length nar ≤ 65536 * n → left_from n nar ≡ []
+past_end n nar end =
+    let rest = drop (65536 * n) nar in
+    let none : length rest ≡ 0 = omega (arith, length-drop (65536 * n) nar, end) in
+    let few : length rest ≤ length nar = omega (arith, length-drop (65536 * n) nar) in
+    enough nar rest n rest few (omega arith) ∙ nothing_left n rest none

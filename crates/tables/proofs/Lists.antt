@@ -59,10 +59,3 @@ sorted_is m = is_true _ (finite.entries_sorted m)
 pub keys_count : (m : finite.FinMap bytes_cmp Path) (names : List (String Global)) (paths : List Path) → map string_bytes names ≡ finite.keys m → paths ≡ finite.values m → length paths ≡ length names
 keys_count m names paths k v =
     ap length v ∙ mapped_length (λ (e : Path × Path). e.1) (finite.entries m) ∙ sym (mapped_length (λ (e : Path × Path). e.0) (finite.entries m)) ∙ ap length (sym k) ∙ mapped_length string_bytes names
-
--- ---- what is made of the items of a list, behind something
-
-pub flat_more : {A B : Type 0} (f : A → List B) (front : List B) (xs : List A) (i : ℕ) (x : A) → i < length xs → x ≡ get_or xs i x → (front ++ flat_map f (take i xs)) ++ f x ≡ front ++ flat_map f (take (i + 1) xs)
-flat_more f front xs i x h is =
-    append_assoc front (flat_map f (take i xs)) (f x)
-    ∙ ap (λ l. front ++ l) (ap (λ l. flat_map f (take i xs) ++ l) (sym (append-nil (f x))) ∙ sym (flat_map-append f (take i xs) (x ∷ [])) ∙ ap (flat_map f) (ap (λ y. take i xs ++ y ∷ []) is ∙ sym (take_more xs i x h)))

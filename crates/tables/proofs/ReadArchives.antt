@@ -1,10 +1,11 @@
 -- The archive of a path, as its row and its pieces have it.
-use Rattle.std.proofs.Common.{◌≡◌, ℕ, List, [], ◌∷◌, ◌++◌, map, Bool, true, false, cond, Some, None, Option, refl, sym, ap, subst, ◌∙◌, IsTrue, T}
+use Rattle.std.proofs.Common.{◌≡◌, ◌≤◌, ℕ, List, [], ◌∷◌, ◌++◌, length, length-append, arith, map, Bool, true, false, cond, Some, None, Option, refl, sym, ap, subst, ◌∙◌, IsTrue, T}
 use Rattle.std.specs.Prelude.{ℤ, option_map}
 use Rattle.std.specs.List.{filter, flat_map}
 use Rattle.std.specs.declared.cmp.Ordering.TheVariants.{Equal}
 use Rattle.std.specs.Ordering.{eq_by_cmp, is_lt, int_cmp, ordering_then}
 use Rattle.std.specs.Cmp.{tied_itself, eq_by_cmp_equiv, int_cmp_total}
+use Rattle.std.proofs.lemmas.Option.{same_Some}
 use Rattle.std.specs.FinMap as finite
 use Rattle.std.specs.FinMap.Entries.{is_sorted, below_all, where_key, same_entries, is_sorted-where_key, find-where_key}
 use Rattle.sqlite_trees.specs.declared.store.Store.{Ghosts}
@@ -17,14 +18,17 @@ use Rattle.table_statements.proofs.Orders.{numbered_total, numbered_antisymmetri
 use Rattle.table_entries.specs.declared.objects.Object.{Object as Row}
 use Rattle.table_entries.specs.declared.pieces.Piece.{Piece}
 use Rattle.world.specs.World.{Path, Object, World}
-use Rattle.world.specs.Pieces.{joined}
+use Rattle.world.specs.Pieces.{joined, IsCut}
 use Rattle.world.specs.Rows.{pieces_in, archive_in, object_in}
 use Rattle.world.specs.Told.{rows_of, world_in}
 use Rattle.index.proofs.Orders.{bytes_total, bytes_antisymmetric}
 use Rattle.index.proofs.Ordered.{both_T, from_both, listed_as}
 use Rattle.index.proofs.Puts.{tied_is}
 use Rattle.index.proofs.Told.{get-told}
-use Rattle.tables.specs.Kept.{Kept, Tells}
+use Rattle.index.specs.Outline.{Outline, Outlined, outlined}
+use Rattle.tables.proofs.AddedObjects.{none_told}
+use Rattle.tables.proofs.Cuts.{size_is}
+use Rattle.tables.specs.Kept.{Kept, Agrees, Tells}
 
 -- ---- the pieces of a path, as a read lists them
 
@@ -100,6 +104,21 @@ pub all_read : (c : Contents) (base : Path) (e : Row) (rows : List Piece) (nar :
     → nar ≡ e.nar.items ++ flat_map (λ (x : Piece). x.bytes.items) rows → Some nar ≡ option_map (archive_in (rows_of c) base) (finite.get c.objects base)
 all_read c base e rows nar there listed is = ap Some (is ∙ ap (λ l. e.nar.items ++ l) (pieces_read base c rows listed)) ∙ sym (ap (option_map (archive_in (rows_of c) base)) there)
 
+-- An archive that fits into a row has no further pieces.
+ends : (row : List ℕ) (pieces : List (ℤ × List ℕ)) → IsCut row pieces → length (row ++ joined pieces) ≤ 65536 → joined pieces ≡ []
+ends row [] cut few = refl
+ends row (e ∷ es) cut few =
+    absurd (omega (arith, few, cut.0, cut.2, size_is, length-append row (e.1 ++ joined es), length-append e.1 (joined es)))
+
+-- then the row alone is read
+pub row_read : (c : Contents) (base : Path) (e : Row) (size : ℕ) (rows : List Piece) (nar : List ℕ) → (finite.get c.objects base ≡ Some (stored_of e).1)
+    → IsCut e.nar.items (finite.entries (pieces_in (rows_of c) base)) → length (archive_in (rows_of c) base (stored_of e).1) ≡ size → size ≤ 65536
+    → rows ≡ [] → nar ≡ e.nar.items ++ flat_map (λ (x : Piece). x.bytes.items) rows → Some nar ≡ option_map (archive_in (rows_of c) base) (finite.get c.objects base)
+row_read c base e size rows nar there cut counts few none is =
+    let fits : length (archive_in (rows_of c) base (stored_of e).1) ≤ 65536 = omega (arith, counts, few) in
+    ap Some (is ∙ ap (λ l. e.nar.items ++ l) (ap (flat_map (λ (x : Piece). x.bytes.items)) none ∙ sym (ends e.nar.items (finite.entries (pieces_in (rows_of c) base)) cut fits)))
+    ∙ sym (ap (option_map (archive_in (rows_of c) base)) there)
+
 abbrev nar_of : Object → List ℕ
 nar_of o = o.nar
 
@@ -118,3 +137,30 @@ archive_told g k now view base path nar same clean is_open is w t =
     let told = subst (λ (n : Kept _). Tells g n w) (sym view) t in
     let c = contents_of (state g k.connection).now in
     is ∙ ap (λ p. option_map (archive_in (rows_of c) p) (finite.get c.objects p)) same ∙ sym (in_world c path) ∙ ap (λ (v : World). option_map nar_of (finite.get v.objects path)) (told.rows clean is_open)
+
+-- ---- what the outline says of it
+
+some_told : {X Y : Type 0} (f : X → Y) (g : Option X) (x : X) (y : Y) → g ≡ Some x → Some y ≡ option_map f g → y ≡ f x
+some_told f g x y there is = same_Some y (f x) (is ∙ ap (option_map f) there)
+
+module _ {S : Type 0} (g : Ghosts S) (k : Kept S) (agrees : Agrees g k) (base path : Path) (same : base ≡ path) (clean : HasCleanDisk (state g k.connection)) (is_open : IsTrue (state g k.connection).is_open) where
+  abbrev contents : Contents
+  contents = contents_of (state g k.connection).now
+
+  -- it is cut the right way
+  pub archive_cut : (o : Stored) → finite.get contents.objects base ≡ Some o → IsCut o.nar (finite.entries (pieces_in (rows_of contents) base))
+  archive_cut o there = (agrees.rows clean is_open).sound.cut refl base o there
+
+  -- it has as many bytes as the outline says
+  pub archive_size : (found : Outlined) (size : ℕ) → Some found ≡ finite.get k.outline.objects path → size ≡ found.size → (o : Stored) → finite.get contents.objects base ≡ Some o → length (archive_in (rows_of contents) base o) ≡ size
+  archive_size found size at is o there =
+      let told = at ∙ ap (λ (x : Outline). finite.get x.objects path) (sym (agrees.rows clean is_open).same) ∙ get-told bytes_total bytes_antisymmetric (λ _ x. outlined x) (world_in contents).objects path in
+      let stored = get-told bytes_total bytes_antisymmetric (object_in (rows_of contents)) contents.objects path ∙ ap (option_map (object_in (rows_of contents) path)) (ap (finite.get contents.objects) (sym same) ∙ there) in
+      ap (λ p. length (archive_in (rows_of contents) p o)) same ∙ sym (is ∙ ap (λ (x : Outlined). x.size) (some_told outlined (finite.get (world_in contents).objects path) (object_in (rows_of contents) path o) found stored told))
+
+-- a path that the outline hasn't has none
+pub none_kept : {S : Type 0} (g : Ghosts S) (k now : Kept S) → k ≡ now → (path : Path) → None ≡ finite.get k.outline.objects path → (w : World) → Tells g now w → None ≡ option_map nar_of (finite.get w.objects path)
+none_kept g k now view path none w t =
+    let told = subst (λ (n : Kept _). Tells g n w) (sym view) t in
+    let gone = get-told bytes_total bytes_antisymmetric (λ _ x. outlined x) w.objects path in
+    sym (ap (option_map nar_of) (none_told outlined (finite.get w.objects path) (sym gone ∙ ap (λ (x : Outline). finite.get x.objects path) told.outline ∙ sym none)))

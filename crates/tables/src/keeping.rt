@@ -15,6 +15,7 @@ use crate::change;
 use crate::objects::InsertObject;
 use crate::texts::texts_of;
 use index::{Index, Summary};
+use nar::Pieces;
 use paths::{StoreDir, StorePath};
 use sqlite::{Alter, Connection};
 use std::alloc::Global;
@@ -71,7 +72,7 @@ impl<S: Alter> Tables<S> {
     pub fn insert_object(
         &mut self,
         path: &StorePath,
-        nar: &[u8],
+        nar: &Pieces,
         object: Summary,
     ) -> Result<(), Failure>
         requires new { finite.get self.old.outline.objects path.now ≡ None }

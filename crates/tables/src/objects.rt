@@ -12,9 +12,10 @@ ghost use Rattle.rows.specs.Contents.{contents_of};
 ghost use Rattle.tables.specs.Rewritten.{put_references, put_outputs};
 
 use crate::change::Change;
-use crate::cutting::{cut, put_pieces};
+use crate::cutting::{first_of, put_pieces};
 use crate::texts::Texts;
 use index::Summary;
+use nar::Pieces;
 use paths::StorePath;
 use rows::{objects, outputs, references};
 use sqlite::{Alter, Transaction};
@@ -68,7 +69,7 @@ pub(crate) fn put_outputs<S: Alter>(
 #[derive(Drop)]
 pub(crate) struct InsertObject<'a> {
     pub(crate) base: &'a str,
-    pub(crate) nar: &'a [u8],
+    pub(crate) nar: &'a Pieces,
     pub(crate) object: &'a Summary,
     pub(crate) texts: &'a Texts,
 }
@@ -83,17 +84,16 @@ impl<'a> Change for InsertObject<'a> {
     ghost fits = { λ o c. (finite.get c.objects o.base.now ≡ None) × ((name : List ℕ) → finite.get c.outs (o.base.now, name) ≡ None) };
 
     fn write<S: Alter>(&self, tx: &mut Transaction<'_, S>) -> Result<(), Failure> {
-        let (row, rest) = cut(self.nar);
         objects::insert(
             tx,
             self.base,
-            row,
+            first_of(self.nar),
             self.object.hash(),
             &self.texts.deriver,
             &self.texts.ca,
         )?;
         put_references(tx, self.base, self.object.references())?;
         put_outputs(tx, self.base, self.object.names(), self.object.outputs())?;
-        put_pieces(tx, self.base, rest)
+        put_pieces(tx, self.base, self.nar)
     }
 }

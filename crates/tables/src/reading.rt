@@ -1,19 +1,22 @@
 //! Archives, read when they are asked for.
 
-ghost use Rattle.std.specs.Prelude.{◌≡◌, ◌++◌, false, IfOk, IsTrue, option_map};
+ghost use Rattle.std.specs.Prelude.{◌≡◌, ◌++◌, false, IfOk, IsTrue, Some, length, option_map};
 ghost use Rattle.std.specs.List.{flat_map};
 ghost use Rattle.std.specs.FinMap as finite;
 ghost use Rattle.sqlite.specs.State.{HasCleanDisk, Survives, IsUnchanged};
 ghost use Rattle.sqlite.specs.Held.{state};
 ghost use Rattle.rows.specs.Forms.{piece};
-ghost use Rattle.rows.specs.Contents.{contents_of};
+ghost use Rattle.rows.specs.Contents.{Stored, contents_of};
 ghost use Rattle.table_statements.specs.Calls.{IsReady, HasFurther, KeepsShown};
 ghost use Rattle.world.specs.World.{World};
-ghost use Rattle.world.specs.Rows.{archive_in};
+ghost use Rattle.world.specs.Pieces.{IsCut};
+ghost use Rattle.world.specs.Rows.{archive_in, pieces_in};
 ghost use Rattle.world.specs.Told.{rows_of};
 ghost use Rattle.tables.specs.Kept.{Tells};
 
+use crate::cutting::PIECE_SIZE;
 use crate::keeping::Tables;
+use nar::Pieces;
 use paths::StorePath;
 use rows::objects;
 use rows::pieces::{self, Piece};
@@ -21,29 +24,37 @@ use sqlite::{Alter, Connection};
 use std::alloc::{AllocError, Global};
 use table_statements::failure::Failure;
 
-/// What a row holds of an archive, and its pieces in their order, as one.
-fn joined(row: Vec<u8>, pieces: &[Piece]) -> Result<Vec<u8>, AllocError>
-    ensures { IfOk result (λ nar. nar.items ≡ row.items ++ flat_map (λ p. p.bytes.items) pieces.now) }
+/// What a row holds of an archive, and its further pieces in their order. Each is freed once it is copied.
+fn joined(alloc: Global, row: Vec<u8>, further: Vec<Piece>) -> Result<Pieces, AllocError>
+    ensures { IfOk result (λ nar. nar ≡ row.items ++ flat_map (λ p. p.bytes.items) further.items) }
 {
-    let mut nar = row;
-    for piece in pieces {
-        nar.extend_from_slice(piece.bytes.as_slice())?;
+    let mut nar = Pieces::new(alloc);
+    nar.push(&row)?;
+    drop(row);
+    'further: for piece in further {
+        nar.push(&piece.bytes)?;
     }
     Ok(nar)
 }
 
-/// The archive of a path, if it has an object: what the object's row holds, and the pieces.
+/// The archive of a path, if it has an object: what the object's row holds, and its further pieces, which are asked for
+/// where there are some. It has so many bytes.
 pub(crate) fn read_archive<S: Alter>(
     alloc: Global,
     conn: &mut Connection<S>,
     base: &str,
-) -> Result<Option<Vec<u8>>, Failure>
+    size: usize,
+) -> Result<Option<Pieces>, Failure>
     requires alone { conn.old.in_transaction ≡ false }
     requires ready { HasCleanDisk (state S.Store conn.old) → IsTrue (state S.Store conn.old).is_open → IsReady (state S.Store conn.old) }
     requires stands { HasCleanDisk (state S.Store conn.old) → IsTrue (state S.Store conn.old).is_open → HasFurther (state S.Store conn.old).now piece }
+    requires cut { HasCleanDisk (state S.Store conn.old) → IsTrue (state S.Store conn.old).is_open
+        → (o : Stored) → finite.get (contents_of (state S.Store conn.old).now).objects base.now ≡ Some o → IsCut o.nar (finite.entries (pieces_in (rows_of (contents_of (state S.Store conn.old).now)) base.now)) }
+    requires size { HasCleanDisk (state S.Store conn.old) → IsTrue (state S.Store conn.old).is_open
+        → (o : Stored) → finite.get (contents_of (state S.Store conn.old).now).objects base.now ≡ Some o → length (archive_in (rows_of (contents_of (state S.Store conn.old).now)) base.now o) ≡ size }
     ensures alone { conn.new.in_transaction ≡ false }
     ensures reads { HasCleanDisk (state S.Store conn.new) → IfOk result (λ nar. IsUnchanged (state S.Store conn.old) (state S.Store conn.new)
-        × (option_map (λ n. n.items) nar ≡ option_map (archive_in (rows_of (contents_of (state S.Store conn.old).now)) base.now) (finite.get (contents_of (state S.Store conn.old).now).objects base.now))) }
+        × (nar ≡ option_map (archive_in (rows_of (contents_of (state S.Store conn.old).now)) base.now) (finite.get (contents_of (state S.Store conn.old).now).objects base.now))) }
     ensures same { HasCleanDisk (state S.Store conn.new) → KeepsShown (state S.Store conn.old) (state S.Store conn.new) }
     ensures survives { Survives (state S.Store conn.old) (state S.Store conn.new) (λ _. ⊥) }
 {
@@ -51,21 +62,29 @@ pub(crate) fn read_archive<S: Alter>(
     let Some(object) = found else {
         return Ok(None);
     };
+    if size <= PIECE_SIZE {
+        let nar = joined(alloc, object.nar, Vec::new(alloc))?;
+        return Ok(Some(nar));
+    }
     let further = pieces::of(alloc, conn, base)?;
-    let nar = joined(object.nar, further.as_slice())?;
+    let nar = joined(alloc, object.nar, further)?;
     Ok(Some(nar))
 }
 
 impl<S: Alter> Tables<S> {
     /// The archive of a path, if it is valid. It is read from the disk, and nothing changes.
-    pub fn archive(&mut self, path: &StorePath) -> Result<Option<Vec<u8>>, Failure>
+    pub fn archive(&mut self, path: &StorePath) -> Result<Option<Pieces>, Failure>
         ensures dir { self.new.dir ≡ self.old.dir }
-        ensures found { HasCleanDisk (state S.Store self.new.connection) → IfOk result (λ nar. (w : World) → Tells S.Store self.old w → option_map (λ n. n.items) nar ≡ option_map (λ o. o.nar) (finite.get w.objects path.now)) }
+        ensures found { HasCleanDisk (state S.Store self.new.connection) → IfOk result (λ nar. (w : World) → Tells S.Store self.old w → nar ≡ option_map (λ o. o.nar) (finite.get w.objects path.now)) }
         ensures same { (w : World) → Tells S.Store self.old w → Tells S.Store self.new w }
         ensures shown { HasCleanDisk (state S.Store self.new.connection) → KeepsShown (state S.Store self.old.connection) (state S.Store self.new.connection) }
         ensures survives { Survives (state S.Store self.old.connection) (state S.Store self.new.connection) (λ _. ⊥) }
     {
-        let found = read_archive(self.alloc, &mut self.connection, path.as_str())?;
+        let Some(object) = self.index.object(path) else {
+            return Ok(None);
+        };
+        let size = object.size();
+        let found = read_archive(self.alloc, &mut self.connection, path.as_str(), size)?;
         Ok(found)
     }
 }

@@ -1,7 +1,6 @@
 //! What is asked of a store to which an object is added.
 ghost use Rattle.std.specs.Prelude.{◌≡◌, IfOk, IfErr, Ok, Err, List, ℕ};
 ghost use Rattle.command_line.specs.Asked.{object_view};
-ghost use Rattle.nar.specs.Tree.{IsBytes};
 ghost use Rattle.store.specs.Request as asked;
 ghost use Rattle.streams.specs.Reads.{TakesAtMost};
 ghost use Rattle.pure_commands.specs.Archive.{max_front};
@@ -10,7 +9,7 @@ ghost use Rattle.tool.specs.Requests.{Gives, IsAsked, IsAskedOver, on_object};
 use command_line::ObjectArguments;
 use paths::{Name, StoreDir, StorePath};
 use pure_commands::{
-    MOST_OF_ARCHIVE, MOST_OF_CONTENTS, Stop, parse_name, parse_references, read_input,
+    MOST_OF_CONTENTS, Stop, parse_name, parse_references, read_input, receive_archive,
 };
 use std::alloc::Global;
 use std::io::Read;
@@ -55,11 +54,6 @@ pub(crate) fn add_text<R: Read>(
     }
 }
 
-/// What a slice of bytes holds is below 256: a law, that does nothing.
-fn are_bytes(_bytes: &[u8])
-    ensures { IsBytes _bytes.now }
-{}
-
 /// An archive is to be added, at its own path. Nothing is read where the name or a reference is refused.
 pub(crate) fn add_source<R: Read>(
     alloc: Global,
@@ -74,11 +68,8 @@ pub(crate) fn add_source<R: Read>(
         Ok(arguments) => arguments,
         Err(stop) => return Err(stop),
     };
-    match read_input(alloc, input, MOST_OF_ARCHIVE) {
-        Ok(nar) => {
-            are_bytes(nar.as_slice());
-            Ok(Request::AddSource(name, references, nar))
-        }
+    match receive_archive(alloc, input) {
+        Ok(nar) => Ok(Request::AddSource(name, references, nar)),
         Err(stop) => Err(stop),
     }
 }

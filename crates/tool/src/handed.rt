@@ -1,11 +1,13 @@
 //! What is asked of a store by a body on the input.
 ghost use Rattle.std.specs.Prelude.{◌≡◌, ◌⊎◌, IfOk, IfErr, IfSome};
 ghost use Rattle.store_requests.specs.View.{import_view};
+ghost use Rattle.intake.specs.Arriving.{bytes_in};
 ghost use Rattle.tool.specs.Bodies as spec;
 ghost use Rattle.tool.specs.Bodies.{imported};
 ghost use Rattle.tool.specs.Requests.{IsAsked, IsAskedOver};
 
 use bodies::{BodyError, ImportHead, import_body, runtime_body};
+use intake::Intake;
 use paths::StoreDir;
 use pure_commands::{Failure, Stop, read_input};
 use report::Refusal;
@@ -35,8 +37,8 @@ fn stop_by(fault: BodyError) -> Stop
 }
 
 /// An object that is handed in with its path, and its archive.
-fn imported_of(head: ImportHead, nar: Vec<u8>) -> Imported
-    ensures { import_view result ≡ imported head nar.items }
+fn imported_of(head: ImportHead, nar: Intake) -> Imported
+    ensures { import_view result ≡ imported head (bytes_in nar) }
 {
     let ImportHead {
         path,
@@ -60,7 +62,7 @@ fn parse_import(alloc: Global, dir: &StoreDir, body: &[u8]) -> Result<Request, S
     ensures { IsAsked (spec.Imports dir.now body.now) result }
 {
     match import_body(alloc, dir, body) {
-        Ok((head, nar)) => match nar.to_vec(alloc) {
+        Ok((head, nar)) => match Intake::of_bytes(alloc, nar) {
             Ok(nar) => Ok(Request::Import(imported_of(head, nar))),
             Err(_) => Err(Stop::Failed(Failure::Memory)),
         },

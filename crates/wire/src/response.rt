@@ -6,8 +6,10 @@ ghost use Rattle.wire.specs.Responses.{replied, plain, refused};
 use crate::reply_head::{ReplyHead, write_reply_head};
 use crate::statuses::refusal_status;
 use http::StatusCode;
+use nar::Pieces;
 use report::Refusal;
 use std::alloc::{AllocError, Global};
+use streams::in_pieces;
 
 /// What is replied to a message.
 #[derive(Drop)]
@@ -17,13 +19,13 @@ pub struct Response {
     pub kind: &'static str,
     /// The methods of the route, where the request has another.
     pub allow: Option<&'static str>,
-    pub text: Vec<u8>,
+    pub text: Pieces,
 }
 
 impl Response {
     /// The head of the reply: it tells whether the connection is closed, and how many bytes the text has.
     pub fn head(&self, alloc: Global, close: bool) -> Result<String, AllocError>
-        ensures { IfOk result (λ head. string_bytes head ≡ reply_head self.now.status self.now.kind.now (option_map (λ methods. methods.now) self.now.allow) close (length self.now.text.items)) }
+        ensures { IfOk result (λ head. string_bytes head ≡ reply_head self.now.status self.now.kind.now (option_map (λ methods. methods.now) self.now.allow) close (length self.now.text)) }
     {
         let mut head = String::new(alloc);
         let front = ReplyHead {
@@ -45,7 +47,7 @@ impl Response {
             status,
             kind: "text/plain",
             allow: None,
-            text: text.as_bytes().to_vec(alloc)?,
+            text: in_pieces(alloc, text.as_bytes())?,
         })
     }
 
@@ -61,7 +63,7 @@ impl Response {
             status: refusal_status(refusal),
             kind: "text/plain",
             allow,
-            text: refusal.line().as_bytes().to_vec(alloc)?,
+            text: in_pieces(alloc, refusal.line().as_bytes())?,
         })
     }
 }

@@ -1,11 +1,17 @@
 //! Memory that is refused: run with each allocation refused in turn.
 use super::archives::{MY_FILE, fault_of, front, spelled};
-use super::derivation_texts::{ONE, TWICE};
 use drv::{DrvError, outputs};
 use nar::{Checker, Entry, NarError, Node, is_writable, list, read, write};
 use paths::StoreDir;
 use policy::{Caller, CallerError, Class, Config, ConfigError, KeyWord, class};
 use std::alloc::{AllocError, Global};
+
+/// A derivation with one output.
+const ONE: &str =
+    r#"Derive([("out","/nix/store/11111111111111111111111111111111-o","","")],[],[],"p","b",[],[])"#;
+
+/// One with two outputs of one name.
+const TWICE: &str = r#"Derive([("out","","",""),("out","","","")],[],[],"p","b",[],[])"#;
 
 /// A directory with a directory and a link whose name is 300 bytes long, so that a checker holds much.
 fn archive_of_two(alloc: Global) -> Result<Vec<u8>, AllocError> {

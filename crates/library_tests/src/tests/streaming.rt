@@ -1,13 +1,16 @@
 //! Readers and writers that move one byte a call and fail at each call in turn, and readers that are interrupted.
+use messages::{ReceiveError, Received, receive_body, receive_head};
+use std::alloc::Global;
 use std::io;
 use std::io::{ErrorKind, Read, Write};
-use streams::{read_at_most, send_bytes};
+use streams::{Held, read_at_most, send_bytes};
 
-/// A reader that gives one byte a call, every other call of which is interrupted, and that fails once `calls` are used up.
+/// A reader that gives one byte a call, and fails once `calls` are used up; every other call of one that halts is interrupted.
 #[derive(Drop)]
 struct Drip<'a> {
     rest: &'a [u8],
     calls: usize,
+    does_halt: bool,
 }
 
 impl Read for Drip<'_> {
@@ -16,7 +19,7 @@ impl Read for Drip<'_> {
             return Err(io::Error::from(ErrorKind::Other));
         }
         self.calls -= 1;
-        if self.calls % 2 == 1 {
+        if self.does_halt && self.calls % 2 == 1 {
             return Err(io::Error::from(ErrorKind::Interrupted));
         }
         let [first, rest @ ..] = self.rest else {
@@ -64,7 +67,11 @@ const BYTES: &[u8] = b"mycontent\n";
 fn readers_that_fail(rt: HostRuntime) {
     for (most, needed) in [(100, 21), (4, 7)] {
         for calls in 0..24usize {
-            let mut input = Drip { rest: BYTES, calls };
+            let mut input = Drip {
+                rest: BYTES,
+                calls,
+                does_halt: true,
+            };
             let found = read_at_most(rt.alloc(), &mut input, most);
             let is_whole = found.is_ok_and(|bytes| BYTES.starts_with(&bytes)
                 && bytes.len() == most.min(10));
@@ -86,5 +93,33 @@ fn writers_that_fail(rt: HostRuntime) {
             BYTES.starts_with(&output.taken) && output.taken.len() == calls.min(10),
             "{calls}"
         );
+    }
+}
+
+/// Whether a reader gives one whole message.
+fn gives_message(alloc: Global, input: &mut Drip) -> Result<bool, ReceiveError> {
+    let mut window = [0; 512];
+    let mut buffer = Vec::new(alloc);
+    match receive_head(input, &mut window, &mut buffer) {
+        Ok(Received::Message(head, size)) => {
+            let mut body = Held::new(alloc, size);
+            receive_body(input, &buffer, &head, size, &mut body)
+        }
+        Ok(_) => Ok(false),
+        Err(fault) => Err(fault),
+    }
+}
+
+#[test]
+fn messages_of_readers_that_fail(rt: HostRuntime) {
+    let message = b"POST / HTTP/1.1\r\ncontent-length: 10\r\n\r\n0123456789";
+    for calls in 0..message.len() {
+        let mut input = Drip {
+            rest: message,
+            calls,
+            does_halt: false,
+        };
+        let found = gives_message(rt.alloc(), &mut input);
+        assert!(rt; matches!(&found, Err(ReceiveError::Read)), "{calls}");
     }
 }

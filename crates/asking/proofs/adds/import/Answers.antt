@@ -1,16 +1,18 @@
-use Rattle.std.proofs.Common.{rules, ◌≡◌, Err, refl, ap, ◌∙◌}
+use Rattle.std.proofs.Common.{◌≡◌, Err, refl, sym, ap, subst, ◌∙◌}
 use Rattle.bodies.specs.declared.error.BodyError.TheVariants.{BadBodyHead}
 use Rattle.bodies.specs.Bodies.{IsImportBody}
-use Rattle.store.specs.Request.{import_object}
-use Rattle.asking.specs.View.{imported}
+use Rattle.intake.specs.Arriving.{bytes_in}
 use Rattle.asking.proofs.adds.import.Goals as goal
 
 pub returns-in-Err-BadBodyHead : goal.returns-in-Err-BadBodyHead
 returns-in-Err-BadBodyHead c = λ target.
-    let told : c.import_body.result ≡ Err BadBodyHead = c.in-Err-BadBodyHead.is ∙ ap (λ e. Err e) c.in-Err-BadBodyHead.field-0-is in
-    (refl, λ q is. c.import_body.ensures.bad told is.0 is.1 is.2)
+    let told : c.import_front.result ≡ Err BadBodyHead = c.in-Err-BadBodyHead.is ∙ ap (λ e. Err e) c.in-Err-BadBodyHead.field-0-is in
+    (refl, λ q is. c.import_front.ensures.bad told is.0 is.1 (subst (λ body. IsImportBody c.args.dir.now body is.0 is.1) (sym c.in-Ok.ensures) is.2))
 
-pub returns-in-Ok-copied : goal.returns-in-Ok-copied
-returns-in-Ok-copied c = λ target.
-    let said : IsImportBody c.args.dir.now c.args.body.now c.in-Ok.head c.in-Ok.nar.now = search rules in
-    (c.in-Ok.head, c.in-Ok.nar.now, said, ap (λ v. import_object (imported c.in-Ok.head v)) c.in-Ok-copied.ensures)
+pub returns-in-Ok-import_front : goal.returns-in-Ok-import_front
+returns-in-Ok-import_front c = λ target.
+    let head = c.in-Ok-import_front.head in
+    let nar = bytes_in c.into_archive.result in
+    let parted : IsImportBody c.args.dir.now c.in-Ok.body head nar = subst (λ rest. IsImportBody c.args.dir.now c.in-Ok.body head rest) (sym c.into_archive.ensures) c.in-Ok-import_front.ensures.ok in
+    let said : IsImportBody c.args.dir.now c.args.body head nar = subst (λ body. IsImportBody c.args.dir.now body head nar) c.in-Ok.ensures parted in
+    (head, nar, said, refl)

@@ -1,20 +1,16 @@
-use Rattle.std.proofs.Common.{rules, sym, append-nil, arith}
-use Rattle.std.proofs.KnownBytes.{Consumes-nil, Consumes-trans}
-use Rattle.messages.proofs.Heads.{none_in_nothing}
+use Rattle.std.proofs.Common.{◌≡◌, ℕ, List, ◌++◌, sym, ◌∙◌, Err}
+use Rattle.messages.specs.Messages.{IsFault}
+use Rattle.messages.specs.Fields.{fields_at, body_length}
+use Rattle.messages.proofs.Reading.{fault_of_head, is_fault, whatever}
 use Rattle.messages.proofs.receive.receive_head.Goals as goal
 
--- src/receive.rt:70:5
-pub head-init : goal.head-init
-head-init g c = record {
-  took = record { bytes = _; taken = Consumes-nil _; kept = sym (append-nil _) };
-  none = none_in_nothing;
-  within = omega arith;
-  some = search rules;
-  window = search rules;
-}
-
--- src/receive.rt:80:27
-pub returns-in-Err : goal.returns-in-Err
-returns-in-Err g c =
-    let took = c.head.invariant.took in
-    ((_, Consumes-trans _ _ _ _ _ took.taken c.read_more.ensures.taken.1, tt), tt)
+-- src/receive.rt:95:1
+pub returns-in-Err-length_of_body : goal.returns-in-Err-length_of_body
+returns-in-Err-length_of_body g c =
+    let start = rw c.in-Ok-Begun.field-0-is at c.in-Ok-Begun.ensures in
+    let fault = c.in-Err-length_of_body.fault in
+    let held = c.receive_start.new.buffer.items in
+    let states : Err fault ≡ body_length (fields_at held c.in-Ok-Begun.head) =
+    sym c.in-Err-length_of_body.is ∙ (rw c.deref.ensures.value at c.length_of_body.ensures) in
+    let whole = λ (more : List ℕ). is_fault (held ++ more) fault (fault_of_head held c.in-Ok-Begun.head start.1.1.0 fault start.1.1.1 states more) in
+    ((start.0.0, start.0.1, start.0.2), (start.1.0, whatever (λ t. IsFault t fault) held _ whole))

@@ -2,15 +2,16 @@ use Rattle.std.proofs.Common.{◌≡◌}
 use Rattle.sqlite.specs.State.{HasCleanDisk, Survives}
 use Rattle.sqlite.specs.Held.{state}
 use Rattle.rows.specs.Contents.{Contents}
-use Rattle.world.specs.Pieces.{pieces_by}
+use Rattle.world.specs.Pieces.{further_pieces}
 use Rattle.tables.specs.Rewritten.{put_pieces}
 use Rattle.table_statements.proofs.Going.{Goes}
+use Rattle.tables.proofs.Cuts.{left_from}
 use Rattle.tables.proofs.cutting.put_pieces.Given as goal
 
 -- what is left to write
 abbrev pub invariant-pieces : goal.invariant-pieces
 invariant-pieces g l = record {
   same_reference : l.tx.conn.ghost_name ≡ l.fn.tx.conn.ghost_name;
-  goes : HasCleanDisk (state g.S.Store l.tx.conn.now) → Goes (λ ps (c : Contents). record c { pieces = put_pieces l.base ps c.pieces }) (pieces_by l.fn.bytes 1 l.fn.bytes) (state g.S.Store l.fn.tx.conn.now) (state g.S.Store l.tx.conn.now) (pieces_by l.rest l.number l.rest);
+  goes : HasCleanDisk (state g.S.Store l.tx.conn.now) → Goes (λ ps (c : Contents). record c { pieces = put_pieces l.base ps c.pieces }) (further_pieces l.nar) (state g.S.Store l.fn.tx.conn.now) (state g.S.Store l.tx.conn.now) (left_from l.number l.nar);
   survives : Survives (state g.S.Store l.fn.tx.conn.now) (state g.S.Store l.tx.conn.now) (λ _. ⊥);
 }

@@ -10,10 +10,10 @@ use Rattle.paths.specs.Root.{bytes_cmp}
 use Rattle.rows.specs.Forms.{piece}
 use Rattle.rows.specs.Calls.{HasFurther}
 use Rattle.rows.specs.Contents.{contents_of}
-use Rattle.rows.specs.Entries.{IsStored}
+use Rattle.rows.specs.Entries.{IsStored, stored_of}
 use Rattle.table_statements.proofs.Steps.{shown_then}
 use Rattle.table_entries.specs.declared.pieces.Piece.{Piece}
-use Rattle.tables.proofs.ReadArchives.{none_read, all_read}
+use Rattle.tables.proofs.ReadArchives.{none_read, all_read, row_read}
 use Rattle.tables.proofs.Transactions.{survives_both}
 use Rattle.tables.proofs.reading.read_archive.Goals as goal
 
@@ -41,8 +41,22 @@ returns-clause-reads g c clean =
     let stored = subst (IsStored (contents_of s0.now).objects base) c.in-Some.is first.1 in
     let listed = next.1 ∙ ap (λ (d : Database). finite.entries (finite.retain_keys (contents_of d).pieces (λ k. eq_by_cmp bytes_cmp k.0 base))) first.0.0.now_is in (
       unchanged_then s0 s1 s2 first.0 next.0,
-      all_read (contents_of s0.now) base c.in-Some.object c.in_ok-further.further.items c.in_ok-nar.nar.items stored.1 listed
-          (c.in_ok-nar.ensures ∙ ap (λ (rows : List Piece). c.in-Some.object.nar.items ++ flat_map (λ (x : Piece). x.bytes.items) rows) c.as_slice.ensures.value),
+      all_read (contents_of s0.now) base c.in-Some.object c.in_ok-further.further.items c.in_ok-nar-2.nar stored.1 listed c.in_ok-nar-2.ensures,
+    )
+
+-- one row holds all of it
+pub returns-then-size-le-PIECE_SIZE-clause-reads : goal.returns-then-size-le-PIECE_SIZE-clause-reads
+returns-then-size-le-PIECE_SIZE-clause-reads g c clean =
+    let base = c.args.base.now in
+    let s0 = state g.S.Store c.args.conn.now in
+    let there = contents_of s0.now in
+    let early : HasCleanDisk s0 = omega (arith, c.get.ensures.survives.clean, clean) in
+    let first = c.in_ok-found.ensures.reads clean in
+    let stored = subst (IsStored there.objects base) c.in-Some.is first.1 in
+    let object = (stored_of c.in-Some.object).1 in (
+      first.0,
+      row_read there base c.in-Some.object c.args.size c.new.result.items c.in_ok-nar.nar stored.1 (c.requires.cut early first.0.0.was_open object stored.1) (c.requires.size early first.0.0.was_open object stored.1) (omega arith)
+          c.new.ensures.items c.in_ok-nar.ensures,
     )
 
 pub returns-in_err-further-clause-same : goal.returns-in_err-further-clause-same
@@ -50,8 +64,8 @@ returns-in_err-further-clause-same g c clean =
     let early : HasCleanDisk (state g.S.Store c.get.new.conn) = omega (arith, c.of.ensures.survives.clean, clean) in
     shown_then (state g.S.Store c.args.conn.now) (state g.S.Store c.get.new.conn) (state g.S.Store c.of.new.conn) (c.get.ensures.same early) (c.of.ensures.same clean)
 
-pub returns-in_err-nar-clause-same : goal.returns-in_err-nar-clause-same
-returns-in_err-nar-clause-same g c clean =
+pub returns-in_err-nar-2-clause-same : goal.returns-in_err-nar-2-clause-same
+returns-in_err-nar-2-clause-same g c clean =
     let early : HasCleanDisk (state g.S.Store c.get.new.conn) = omega (arith, c.of.ensures.survives.clean, clean) in
     shown_then (state g.S.Store c.args.conn.now) (state g.S.Store c.get.new.conn) (state g.S.Store c.of.new.conn) (c.get.ensures.same early) (c.of.ensures.same clean)
 
@@ -63,8 +77,8 @@ returns-clause-same g c clean =
 pub returns-in_err-further-clause-survives : goal.returns-in_err-further-clause-survives
 returns-in_err-further-clause-survives g c = survives_both (state g.S.Store c.args.conn.now) (state g.S.Store c.get.new.conn) (state g.S.Store c.of.new.conn) c.get.ensures.survives c.of.ensures.survives
 
-pub returns-in_err-nar-clause-survives : goal.returns-in_err-nar-clause-survives
-returns-in_err-nar-clause-survives g c = survives_both (state g.S.Store c.args.conn.now) (state g.S.Store c.get.new.conn) (state g.S.Store c.of.new.conn) c.get.ensures.survives c.of.ensures.survives
+pub returns-in_err-nar-2-clause-survives : goal.returns-in_err-nar-2-clause-survives
+returns-in_err-nar-2-clause-survives g c = survives_both (state g.S.Store c.args.conn.now) (state g.S.Store c.get.new.conn) (state g.S.Store c.of.new.conn) c.get.ensures.survives c.of.ensures.survives
 
 pub returns-clause-survives : goal.returns-clause-survives
 returns-clause-survives g c = survives_both (state g.S.Store c.args.conn.now) (state g.S.Store c.get.new.conn) (state g.S.Store c.of.new.conn) c.get.ensures.survives c.of.ensures.survives

@@ -3,6 +3,7 @@ use Rattle.bodies.specs.Bodies.{IsImportBody}
 use Rattle.store.specs.Request.{import_object}
 use Rattle.store_requests.specs.declared.requests.Request.TheVariants.{Import}
 use Rattle.store_requests.specs.View.{request_view}
+use Rattle.intake.specs.Arriving.{bytes_in}
 use Rattle.tool.specs.Bodies.{IsImported, imported}
 use Rattle.tool.proofs.Whole.{body_refused}
 use Rattle.tool.proofs.Requested.{same_steps}
@@ -13,12 +14,12 @@ returns-in-Err c =
     body_refused (IsImported c.args.dir.now c.args.body.now) c.in-Err.fault c.stop_by.result c.stop_by.ensures
     (λ is q said. c.import_body.ensures.bad (c.in-Err.is ∙ ap (λ e. Err e) is) said.0 said.1 said.2)
 
-pub returns-in-Ok-to_vec : goal.returns-in-Ok-to_vec
-returns-in-Ok-to_vec c =
+pub returns-in-Ok-of_bytes : goal.returns-in-Ok-of_bytes
+returns-in-Ok-of_bytes c =
     let head = c.in-Ok.head in
     let said : IsImportBody c.args.dir.now c.args.body.now head c.in-Ok.nar.now = search rules in
     let wanted = import_object (imported head c.in-Ok.nar.now) in (
       wanted,
       (head, c.in-Ok.nar.now, said, refl),
-      same_steps (request_view (Import c.imported_of.result)) wanted (ap import_object (c.imported_of.ensures ∙ ap (imported head) (c.in-Ok-to_vec.ensures.items_if_clones_equal (λ x y same. same)))),
+      same_steps (request_view (Import c.imported_of.result)) wanted (ap import_object (c.imported_of.ensures ∙ ap (λ i. imported head (bytes_in i)) c.in-Ok-of_bytes.ensures)),
     )

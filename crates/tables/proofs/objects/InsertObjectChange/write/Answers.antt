@@ -7,8 +7,8 @@ use Rattle.sqlite.specs.State.{HasCleanDisk}
 use Rattle.sqlite.specs.Held.{state}
 use Rattle.rows.specs.Contents.{Contents}
 use Rattle.rows.specs.Entries.{stored}
+use Rattle.world.specs.Pieces.{further_pieces}
 use Rattle.tables.specs.Rewritten.{put_object}
-use Rattle.tables.proofs.Cuts.{rest_pieces}
 use Rattle.tables.proofs.Lists.{zipped, keys_count, sorted_is}
 use Rattle.table_statements.proofs.Transactions.{done_both, failed_next, steps_both}
 use Rattle.table_statements.proofs.Steps.{under_after}
@@ -101,7 +101,7 @@ returns-clause-done g c =
     let d = state g.S.Store c.put_references.new.tx.conn.now in
     let e = state g.S.Store c.put_outputs.new.tx.conn.now in
     done_both a e (state g.S.Store c.put_pieces.new.tx.conn.now) _ _ (steps_both a d e _ _ (steps_both a b d _ _ c.in_ok-insert.ensures.done c.put_references.ensures.survives c.in_ok-put_references.ensures.done) c.put_outputs.ensures.survives c.in_ok-put_outputs.ensures.done) c.put_pieces.ensures.survives
-    c.put_pieces.result _ (λ x i. put_object it.base.now (stored (c.cut.ensures.row i) (c.hash.ensures i) it.texts.now.deriver it.texts.now.ca) (c.references.ensures i) ((ap₂ zip c.names.ensures c.outputs.ensures ∙ zipped (finite.entries it.object.now.outputs)) i) (rest_pieces it.nar.now c.cut.result.1.now c.cut.ensures.rest i) x) c.put_pieces.ensures.done
+    c.put_pieces.result _ (λ x i. put_object it.base.now (stored (c.first_of.ensures i) (c.hash.ensures i) it.texts.now.deriver it.texts.now.ca) (c.references.ensures i) ((ap₂ zip c.names.ensures c.outputs.ensures ∙ zipped (finite.entries it.object.now.outputs)) i) (further_pieces it.nar.now) x) c.put_pieces.ensures.done
 
 pub returns-clause-failed : goal.returns-clause-failed
 returns-clause-failed g c =

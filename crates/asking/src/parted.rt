@@ -1,0 +1,73 @@
+//! A body whose payload is an archive, as it comes.
+ghost use Rattle.std.specs.Prelude.{◌≡◌, ◌++◌, [], IfOk, OnOk};
+ghost use Rattle.bodies.specs.Front.{front_of, rest_of};
+ghost use Rattle.intake.specs.Arriving.{bytes_in};
+
+use bodies::Front;
+use intake::Intake;
+use std::alloc::{AllocError, Global};
+use std::marker::Model;
+
+/// The front of a body, and the archive behind it, which is checked and hashed as it comes. Contracts see all bytes.
+#[derive(Drop)]
+pub(crate) struct Parted {
+    front: Front,
+    archive: Intake,
+}
+
+impl Model for Parted {
+    ghost use Rattle.std.specs.Prelude.{◌≡◌, ◌++◌, List, ℕ};
+    ghost use Rattle.bodies.specs.Front.{front_of};
+    ghost use Rattle.intake.specs.Arriving.{bytes_in};
+
+    ghost Value = { List ℕ };
+
+    ghost view = { λ parted. parted.front ++ bytes_in parted.archive };
+
+    ghost invariant = { λ parted. front_of (parted.front ++ bytes_in parted.archive) ≡ parted.front };
+}
+
+impl Parted {
+    /// No bytes yet. It takes no memory.
+    pub(crate) fn new(alloc: Global) -> Parted
+        ensures { result ≡ [] }
+    {
+        Parted {
+            front: Front::new(alloc),
+            archive: Intake::new(alloc),
+        }
+    }
+
+    /// Takes the next piece.
+    pub(crate) fn push(&mut self, piece: &[u8]) -> Result<(), AllocError>
+        ensures { OnOk result (self.new ≡ self.old ++ piece.now) }
+    {
+        let rest = self.front.take(piece)?;
+        self.archive.push(rest)?;
+        Ok(())
+    }
+
+    /// Its lines up to and with the first empty one.
+    pub(crate) fn front(&self) -> &[u8]
+        ensures { result.now ≡ front_of self.now }
+    {
+        self.front.bytes()
+    }
+
+    /// The archive, without a copy.
+    pub(crate) fn into_archive(self) -> Intake
+        ensures { bytes_in result ≡ rest_of self }
+    {
+        self.archive
+    }
+
+    /// All bytes in one buffer.
+    pub(crate) fn joined(self, alloc: Global) -> Result<Vec<u8>, AllocError>
+        ensures { IfOk result (λ bytes. bytes.items ≡ self) }
+    {
+        let mut bytes = self.front.bytes().to_vec(alloc)?;
+        let archive = self.archive.finish()?.pieces.joined()?;
+        bytes.extend_from_slice(&archive)?;
+        Ok(bytes)
+    }
+}
