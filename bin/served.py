@@ -1,0 +1,37 @@
+"""Messages to the server of a store, and its replies."""
+import re
+import sys
+
+
+def message(user, method, target, body=b""):
+    head = f"{method} {target} HTTP/1.1\r\nstore-user: {user}\r\ncontent-length: {len(body)}\r\n\r\n"
+    return head.encode() + body
+
+
+def messages(asked):
+    return b"".join(message(*it) for it in asked)
+
+
+def lines(*pairs, payload=b""):
+    """A body: its entries, an empty line, and what follows."""
+    return "".join(f"{key}: {value}\n" for key, value in pairs).encode() + b"\n" + payload
+
+
+def replies(written):
+    """The whole replies one by one, each its head and its text; and what is left behind them."""
+    found = []
+    while True:
+        head, end, rest = written.partition(b"\r\n\r\n")
+        length = re.search(rb"content-length: (\d+)", head)
+        if not end or not length or len(rest) < int(length[1]):
+            return found, written
+        found.append((head, rest[:int(length[1])]))
+        written = rest[int(length[1]):]
+
+
+def all_replies(written, count):
+    """As many replies as there were messages, and nothing else."""
+    found, left = replies(written)
+    if left or len(found) != count:
+        sys.exit(f"{len(found)} replies to {count} messages, and {left[:300]!r}")
+    return found
