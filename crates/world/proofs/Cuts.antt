@@ -5,7 +5,7 @@ use Rattle.std.proofs.lemmas.List.{append-nil, length-take, length-drop, take-ap
 use Rattle.world.specs.Pieces.{piece_size, joined, GoOn, IsCut, row_part, pieces_by, further_pieces}
 use Rattle.world.specs.Laws.{CutsOneWay}
 
-size : piece_size ≡ 65536
+pub size : piece_size ≡ 65536
 unfolding piece_size
 size = refl
 

@@ -8,3 +8,9 @@ pub mod SoundParts
 pub mod Told
 pub mod Schemas
 pub mod Recorded
+pub mod Faults
+pub mod FaultyObjects
+pub mod FaultyReferences
+pub mod FaultyOutputs
+pub mod FaultyPieces
+pub mod FaultyRoots

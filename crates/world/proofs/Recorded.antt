@@ -30,20 +30,20 @@ archive_is_read t b a = (outcome_archive b t (subst IsBytes (sym a.spells) (spel
 -- ---- members
 
 module _ {X : Type 0} where
-  at_head : (x : X) (xs : List X) → Contains (x ∷ xs) x
+  pub at_head : (x : X) (xs : List X) → Contains (x ∷ xs) x
   at_head x xs = (0, omega arith, refl)
 
-  behind : (x y : X) (xs : List X) → Contains xs y → Contains (x ∷ xs) y
+  pub behind : (x y : X) (xs : List X) → Contains xs y → Contains (x ∷ xs) y
   behind x y xs h = let lt = h.1 in (suc h.0, omega arith, h.2)
 
-  cases : (x y : X) (xs : List X) → Contains (x ∷ xs) y → (x ≡ y) ⊎ Contains xs y
+  pub cases : (x y : X) (xs : List X) → Contains (x ∷ xs) y → (x ≡ y) ⊎ Contains xs y
   cases x y xs h = by h.0 h.1 h.2
     where
       by : (k : ℕ) → k < length (x ∷ xs) → get_or (x ∷ xs) k y ≡ y → (x ≡ y) ⊎ Contains xs y
       by zero lt e = inl e
       by (suc k) lt e = inr (k, omega arith, e)
 
-  no_member : (y : X) → Contains [] y → ⊥
+  pub no_member : (y : X) → Contains [] y → ⊥
   no_member y h = let lt = h.1 in omega arith
 
 -- ---- what is found by a name

@@ -24,7 +24,7 @@ schema_set schema dir =
 directory_set : (schema : Schema) (dir : List ℕ) → finite.get (settings schema dir) (codes "store-dir") ≡ Some dir
 directory_set schema dir = finite.get-insert nat_list_cmp_total (finite.insert finite.empty (codes "schema") (schema_text schema)) (codes "store-dir") dir (codes "store-dir")
 
-names : (schema : Schema) (dir : List ℕ) (c : Rows) → IsSoundRows schema dir c → NamesSchema (schema_text schema) dir c
+pub names : (schema : Schema) (dir : List ℕ) (c : Rows) → IsSoundRows schema dir c → NamesSchema (schema_text schema) dir c
 names schema dir c sound = record {
   schema = ap (λ m. finite.get m (codes "schema")) sound.settings_are ∙ schema_set schema dir;
   directory = ap (λ m. finite.get m (codes "store-dir")) sound.settings_are ∙ directory_set schema dir;

@@ -16,7 +16,7 @@ some_mapped : {X Y : Type 0} (f : X → Y) (g : Option X) (y : Y) → option_map
 some_mapped f None y h = absurd (false≢true (ap is_some h))
 some_mapped f (Some x) y h = (x, refl, same_Some (f x) y h)
 
-some_key : {X : Type 0} (g : Option X) → IsTrue (is_some g) → (x : X) × (g ≡ Some x)
+pub some_key : {X : Type 0} (g : Option X) → IsTrue (is_some g) → (x : X) × (g ≡ Some x)
 some_key None h = absurd (false≢true h)
 some_key (Some x) h = (x, refl)
 

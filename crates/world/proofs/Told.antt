@@ -14,6 +14,7 @@ use Rattle.world.specs.World.{Path}
 use Rattle.world.specs.Pieces.{joined}
 use Rattle.world.specs.Rows.{Piece, piece_cmp, references_in, outputs_in, pieces_in, archive_in}
 use Rattle.world.specs.Told.{rows_of}
+use Rattle.world.specs.Laws.{TablesAreRows}
 use Rattle.world.proofs.Columns.{get_part, piece_at}
 use Rattle.world.proofs.Empty.{no_entries}
 
@@ -49,3 +50,19 @@ whole c p x none = ap (λ (es : List (ℤ × List ℕ)). x.nar ++ joined es) not
         ap taken none
         ∙ ap (λ (es : List (Piece × List ℕ)). finite.entries (finite.from_entries {R = int_cmp} (map (λ (e : Piece × List ℕ). let d : ℤ × List ℕ = (e.0.1, e.1) in d) (filter (λ (e : Piece × List ℕ). eq_by_cmp bytes_cmp p e.0.0) es)))) (no_entries (List ℕ) piece_cmp)
         ∙ no_entries (List ℕ) int_cmp
+
+pub tables_rows : TablesAreRows
+tables_rows c = record {
+  meta = refl;
+  objects = refl;
+  refs = refl;
+  outs = refl;
+  permanent = refl;
+  user_roots = refl;
+  profiles = refl;
+  generations = refl;
+  runtime = refl;
+  pieces = refl;
+  temp_roots = refl;
+  world = refl;
+}

@@ -6,11 +6,12 @@ use Rattle.nar.specs.Archive.{IsArchive}
 use Rattle.paths.specs.StorePath.{is_derivation}
 use Rattle.paths.specs.ContentAddress.{ContentAddress, IsAddressText}
 use Rattle.drv.specs.Derivation.{Records}
-use Rattle.table_statements.specs.Contents.{Stored}
+use Rattle.table_statements.specs.Contents.{Contents, Stored}
 use Rattle.world.specs.World.{Path, Pair, Object, Profile, Temporary, World}
 use Rattle.world.specs.Objects.{outputs_at}
 use Rattle.world.specs.Pieces.{piece_size, joined, IsCut, row_part, further_pieces}
 use Rattle.world.specs.Rows.{Schema, three, Rows, pieces_in, world_of, IsSoundRows, migrated}
+use Rattle.world.specs.Told.{rows_of, world_in}
 
 -- Each archive can be cut the right way, and in one way alone: a row and pieces that are cut right are those of the archive that
 -- they tell.
@@ -50,6 +51,24 @@ pub record TellsWorld (c : Rows) (w : World) : Type 0 where
 
 abbrev pub RowsTellTheWorld : Type 0
 RowsTellTheWorld = (schema : Schema) (dir : List ℕ) (c : Rows) → IsSoundRows schema dir c → TellsWorld c (world_of c)
+
+-- What our tables hold is the rows, each table its own, and they tell the world of these.
+pub record AreRowsOf (c : Contents) (r : Rows) : Type 0 where
+  pub meta : r.meta ≡ c.meta
+  pub objects : r.objects ≡ c.objects
+  pub refs : r.refs ≡ c.refs
+  pub outs : r.outs ≡ c.outs
+  pub permanent : r.permanent ≡ c.permanent
+  pub user_roots : r.user_roots ≡ c.user_roots
+  pub profiles : r.profiles ≡ c.profiles
+  pub generations : r.generations ≡ c.generations
+  pub runtime : r.runtime ≡ c.runtime
+  pub pieces : r.pieces ≡ c.pieces
+  pub temp_roots : r.temp_roots ≡ c.temp_roots
+  pub world : world_in c ≡ world_of r
+
+abbrev pub TablesAreRows : Type 0
+TablesAreRows = (c : Contents) → AreRowsOf c (rows_of c)
 
 -- rows that are sound by a schema are sound by the third once they are migrated, and tell the same world
 abbrev pub MigratesSoundly : Type 0

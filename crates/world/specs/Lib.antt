@@ -7,5 +7,9 @@ pub mod Rows
 pub mod Laws
 pub mod Parts
 pub mod Told
+pub mod Archives
 pub mod Schemas
 pub mod View
+pub mod Faults
+pub mod FaultyPieces
+pub mod FaultyRoots

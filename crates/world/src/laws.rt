@@ -4,7 +4,8 @@ ghost use Rattle.paths.specs.Names.{is_store_dir};
 ghost use Rattle.world.specs.World.{no_world};
 ghost use Rattle.world.specs.Sound.{IsSound};
 ghost use Rattle.world.specs.Rows.{Rows, Schema, IsSoundRows, new_rows, world_of};
-ghost use Rattle.world.specs.Laws.{CutsOneWay, MigratesSoundly, OutputsAreRecorded, RowsTellTheWorld};
+ghost use Rattle.world.specs.Archives.{ArchivesAreTold};
+ghost use Rattle.world.specs.Laws.{CutsOneWay, MigratesSoundly, OutputsAreRecorded, RowsTellTheWorld, TablesAreRows};
 ghost use Rattle.world.specs.Schemas.{PiecesCountFromOne, SchemasDiffer, SessionsKeepInBounds};
 ghost use Rattle.world.specs.Parts.{AreSoundByParts};
 
@@ -27,6 +28,13 @@ pub fn archives_are_cut_one_way()
 /// Sound rows tell the world entry by entry: what stands in each column.
 pub fn rows_tell_the_world()
     ensures { RowsTellTheWorld }
+{}
+
+/// What the eleven tables hold is the rows, each table its own, and tells the world of these; an object's archive is its row and the pieces
+/// that follow it, from the first on.
+pub fn tables_are_rows()
+    ensures rows { TablesAreRows }
+    ensures archives { ArchivesAreTold }
 {}
 
 /// A migration keeps the world, and what was sound by its schema is sound by the third.
