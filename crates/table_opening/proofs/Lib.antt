@@ -6,3 +6,4 @@ pub mod ReadableTexts
 pub mod FurtherRowids
 pub mod FurtherTests
 pub mod Opened
+pub mod OneAfterAnother

@@ -1,12 +1,14 @@
-use Rattle.std.proofs.Common.{codes}
+use Rattle.std.proofs.Common.{codes, arith}
 use Rattle.std.specs.List.{AllByRecursion}
 use Rattle.table_forms.specs.Forms.{our_tables}
 use Rattle.sqlite.specs.Effect.{Database}
+use Rattle.sqlite.specs.State.{HasCleanDisk}
 use Rattle.sqlite.specs.Held.{state}
 use Rattle.table_statements.specs.Contents.{rows_named}
 use Rattle.table_statements.specs.Calls.{IsKeyed}
 use Rattle.table_statements.proofs.Scans.{err_with}
-use Rattle.table_statements.proofs.TestFailures.{passed_on, fails_for, passes_then, fails_after, not_before, survives_both}
+use Rattle.table_statements.proofs.TestFailures.{passed_on, fails_for, passes_then, fails_after, not_before, both_keep, survives_both}
+use Rattle.table_opening.proofs.OneAfterAnother.{nine_keyed}
 use Rattle.table_opening.proofs.keyed.all.Goals as goal
 
 abbrev First : Database → Type 0
@@ -46,3 +48,22 @@ returns-clause-cause g c clean =
 
 pub returns-clause-survives : goal.returns-clause-survives
 returns-clause-survives g c = survives_both _ _ _ c.first.ensures.survives (survives_both _ _ _ c.next.ensures.survives c.last.ensures.survives)
+
+pub returns-in_err-next-clause-same : goal.returns-in_err-next-clause-same
+returns-in_err-next-clause-same g c = both_keep _ _ _ c.first.ensures.same c.next.ensures.same c.next.ensures.survives
+
+pub returns-in_err-next-clause-survives : goal.returns-in_err-next-clause-survives
+returns-in_err-next-clause-survives g c = survives_both _ _ _ c.first.ensures.survives c.next.ensures.survives
+
+pub returns-clause-same : goal.returns-clause-same
+returns-clause-same g c = both_keep _ _ _ (both_keep _ _ _ c.first.ensures.same c.next.ensures.same c.next.ensures.survives) c.last.ensures.same c.last.ensures.survives
+
+pub returns-clause-keyed : goal.returns-clause-keyed
+returns-clause-keyed g c clean =
+    let one = state g.S.Store c.args.conn.now in
+    let two = state g.S.Store c.first.new.conn in
+    let three = state g.S.Store c.next.new.conn in
+    let four = state g.S.Store c.last.new.conn in
+    let clean3 : HasCleanDisk three = omega (arith, c.last.ensures.survives.clean) in
+    let clean2 : HasCleanDisk two = omega (arith, c.next.ensures.survives.clean) in
+    nine_keyed one two three four c.last.result (c.in_ok-first.ensures.keyed clean2) (c.in_ok-next.ensures.keyed clean3) (c.last.ensures.keyed clean)
