@@ -25,6 +25,20 @@ put_outputs-requires-clause-ordered g c =
     let m = c.args.self.now.object.now.outputs in
     ap (is_sorted bytes_cmp) (ap₂ zip c.names.ensures c.outputs.ensures ∙ zipped (finite.entries m)) ∙ sorted_is m
 
+pub put_references-requires-clause-under_way : goal.put_references-requires-clause-under_way
+put_references-requires-clause-under_way g c clean =
+    under_after (state g.S.Store c.args.tx.now.conn.now) (state g.S.Store c.insert.new.tx.conn.now) _ (c.in_ok-insert.ensures.done clean)
+
+pub put_references-requires-clause-is_open : goal.put_references-requires-clause-is_open
+put_references-requires-clause-is_open g c clean = (c.in_ok-insert.ensures.done clean).is_open
+
+pub returns-in_err-put_references-clause-same_reference : goal.returns-in_err-put_references-clause-same_reference
+returns-in_err-put_references-clause-same_reference g c = c.put_references.ensures.same_reference ∙ c.insert.ensures.same_reference
+
+pub returns-in_err-put_references-clause-failed : goal.returns-in_err-put_references-clause-failed
+returns-in_err-put_references-clause-failed g c clean =
+    err_kept (state g.S.Store c.args.tx.now.conn.now) (state g.S.Store c.insert.new.tx.conn.now) (state g.S.Store c.put_references.new.tx.conn.now) _ c.from_residual-in_err-put_references.result c.in_ok-insert.ensures.done c.put_references.ensures.survives (c.in_err-put_references.ensures.failed clean) clean
+
 pub returns-in_err-put_references-clause-survives : goal.returns-in_err-put_references-clause-survives
 returns-in_err-put_references-clause-survives g c =
     survives_both (state g.S.Store c.args.tx.now.conn.now) (state g.S.Store c.insert.new.tx.conn.now) (state g.S.Store c.put_references.new.tx.conn.now) c.insert.ensures.survives c.put_references.ensures.survives
@@ -51,6 +65,9 @@ put_outputs-requires-clause-free g c clean name =
     let it = steps_both a b d _ _ c.in_ok-insert.ensures.done c.put_references.ensures.survives c.in_ok-put_references.ensures.done clean in
     let early : HasCleanDisk a = omega (arith, c.insert.ensures.survives.clean, c.put_references.ensures.survives.clean, clean) in
     ap (λ (x : Contents). finite.get x.outs (c.args.self.now.base.now, name)) it.contents ∙ (c.requires.fits early it.was_open).1 name
+
+pub returns-in_err-put_outputs-clause-same_reference : goal.returns-in_err-put_outputs-clause-same_reference
+returns-in_err-put_outputs-clause-same_reference g c = c.put_outputs.ensures.same_reference ∙ c.put_references.ensures.same_reference ∙ c.insert.ensures.same_reference
 
 pub returns-in_err-put_outputs-clause-failed : goal.returns-in_err-put_outputs-clause-failed
 returns-in_err-put_outputs-clause-failed g c clean =
@@ -92,6 +109,9 @@ put_pieces-requires-clause-stands g c clean =
     let e = state g.S.Store c.put_outputs.new.tx.conn.now in
     pieces_stand a e _ (steps_both a d e _ _ (steps_both a b d _ _ c.in_ok-insert.ensures.done c.put_references.ensures.survives c.in_ok-put_references.ensures.done) c.put_outputs.ensures.survives c.in_ok-put_outputs.ensures.done)
     (survives_both a d e (survives_both a b d c.insert.ensures.survives c.put_references.ensures.survives) c.put_outputs.ensures.survives) (λ early is_open. (c.requires.whole early is_open).pieces) clean
+
+pub returns-clause-same_reference : goal.returns-clause-same_reference
+returns-clause-same_reference g c = c.put_pieces.ensures.same_reference ∙ c.put_outputs.ensures.same_reference ∙ c.put_references.ensures.same_reference ∙ c.insert.ensures.same_reference
 
 pub returns-clause-done : goal.returns-clause-done
 returns-clause-done g c =

@@ -2,14 +2,28 @@ use Rattle.std.proofs.Common.{ap, ◌∙◌}
 use Rattle.sqlite.specs.Held.{state}
 use Rattle.rows.specs.Contents.{Contents}
 use Rattle.table_statements.proofs.Transactions.{done_both, failed_next}
+use Rattle.table_statements.proofs.Steps.{under_after}
 use Rattle.tables.specs.Rewritten.{without_object, without_objects}
 use Rattle.tables.proofs.Removed.{without_next}
 use Rattle.tables.proofs.Transactions.{survives_both, pieces_stand}
 use Rattle.tables.proofs.removal.RemoveObjectsChange.write.Goals as goal
 
+pub delete_object-requires-clause-stands : goal.delete_object-requires-clause-stands
+delete_object-requires-clause-stands g c clean is_open = (c.requires.whole clean is_open).pieces
+
+pub delete_objects-requires-clause-under_way : goal.delete_objects-requires-clause-under_way
+delete_objects-requires-clause-under_way g c clean =
+    under_after (state g.S.Store c.args.tx.now.conn.now) (state g.S.Store c.delete_object.new.tx.conn.now) _ (c.in_ok-delete_object.ensures.done clean)
+
+pub delete_objects-requires-clause-is_open : goal.delete_objects-requires-clause-is_open
+delete_objects-requires-clause-is_open g c clean = (c.in_ok-delete_object.ensures.done clean).is_open
+
 pub delete_objects-requires-clause-stands : goal.delete_objects-requires-clause-stands
 delete_objects-requires-clause-stands g c clean =
     pieces_stand (state g.S.Store c.args.tx.now.conn.now) (state g.S.Store c.delete_object.new.tx.conn.now) _ c.in_ok-delete_object.ensures.done c.delete_object.ensures.survives (λ early is_open. (c.requires.whole early is_open).pieces) clean
+
+pub returns-clause-same_reference : goal.returns-clause-same_reference
+returns-clause-same_reference g c = c.delete_objects.ensures.same_reference ∙ c.delete_object.ensures.same_reference
 
 pub returns-clause-done : goal.returns-clause-done
 returns-clause-done g c =
