@@ -1,9 +1,16 @@
-use Rattle.std.proofs.Common.{refl}
+use Rattle.std.proofs.Common.{refl, ◌∙◌}
 use Rattle.sqlite.specs.Held.{state}
 use Rattle.rows.specs.Contents.{Contents}
 use Rattle.table_statements.proofs.Transactions.{done_both, failed_next}
+use Rattle.table_statements.proofs.Steps.{under_after}
 use Rattle.tables.proofs.Transactions.{survives_both}
 use Rattle.tables.proofs.profiles.AddGenerationChange.write.Goals as goal
+
+pub insert-requires : goal.insert-requires
+insert-requires g c clean = under_after (state g.S.Store c.args.tx.now.conn.now) (state g.S.Store c.put_current.new.tx.conn.now) _ (c.in_ok-put_current.ensures.done clean)
+
+pub returns-clause-same_reference : goal.returns-clause-same_reference
+returns-clause-same_reference g c = c.insert.ensures.same_reference ∙ c.put_current.ensures.same_reference
 
 pub returns-clause-done : goal.returns-clause-done
 returns-clause-done g c =

@@ -1,11 +1,21 @@
-use Rattle.std.proofs.Common.{map, ap}
+use Rattle.std.proofs.Common.{map, ap, ◌∙◌}
 use Rattle.sqlite.specs.Held.{state}
 use Rattle.rows.specs.Contents.{Contents}
 use Rattle.index.specs.Maps.{labelled_bytes}
 use Rattle.table_statements.proofs.Transactions.{done_both, failed_next}
+use Rattle.table_statements.proofs.Steps.{under_after}
 use Rattle.tables.proofs.PutPairs.{all_put}
 use Rattle.tables.proofs.Transactions.{survives_both}
 use Rattle.tables.proofs.runtime.ReplaceRuntimeChange.write.Goals as goal
+
+pub put_runtime-requires-clause-under_way : goal.put_runtime-requires-clause-under_way
+put_runtime-requires-clause-under_way g c clean = under_after (state g.S.Store c.args.tx.now.conn.now) (state g.S.Store c.delete_all.new.tx.conn.now) _ (c.in_ok-delete_all.ensures.done clean)
+
+pub put_runtime-requires-clause-is_open : goal.put_runtime-requires-clause-is_open
+put_runtime-requires-clause-is_open g c clean = (c.in_ok-delete_all.ensures.done clean).is_open
+
+pub returns-clause-same_reference : goal.returns-clause-same_reference
+returns-clause-same_reference g c = c.put_runtime.ensures.same_reference ∙ c.delete_all.ensures.same_reference
 
 pub returns-clause-done : goal.returns-clause-done
 returns-clause-done g c =

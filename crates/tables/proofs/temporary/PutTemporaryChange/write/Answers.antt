@@ -5,6 +5,7 @@ use Rattle.sqlite.specs.Held.{state}
 use Rattle.rows.specs.Contents.{Contents, Kept}
 use Rattle.table_statements.proofs.Orders.{kept_total, kept_antisymmetric}
 use Rattle.table_statements.proofs.Transactions.{done_both, failed_next}
+use Rattle.table_statements.proofs.Steps.{under_after}
 use Rattle.index.proofs.Puts.{put_over}
 use Rattle.tables.proofs.SessionRows.{without_one}
 use Rattle.tables.proofs.Transactions.{survives_both, temp_roots_stand}
@@ -16,6 +17,12 @@ delete-requires-clause-stands g c clean is_open = (c.requires.whole clean is_ope
 pub insert-requires-clause-stands : goal.insert-requires-clause-stands
 insert-requires-clause-stands g c clean is_open =
     temp_roots_stand (state g.S.Store c.args.tx.now.conn.now) (state g.S.Store c.delete.new.tx.conn.now) _ c.in_ok-delete.ensures.done c.delete.ensures.survives (λ early up. (c.requires.whole early up).temp_roots) clean
+
+pub insert-requires-clause-under : goal.insert-requires-clause-under
+insert-requires-clause-under g c clean = under_after (state g.S.Store c.args.tx.now.conn.now) (state g.S.Store c.delete.new.tx.conn.now) _ (c.in_ok-delete.ensures.done clean)
+
+pub returns-clause-same_reference : goal.returns-clause-same_reference
+returns-clause-same_reference g c = c.insert.ensures.same_reference ∙ c.delete.ensures.same_reference
 
 pub returns-clause-done : goal.returns-clause-done
 returns-clause-done g c =

@@ -6,8 +6,15 @@ use Rattle.index.proofs.Orders.{pair_total, pair_antisymmetric}
 use Rattle.index.proofs.Puts.{put_over}
 use Rattle.tables.proofs.Parts.{without_pair}
 use Rattle.table_statements.proofs.Transactions.{done_both, failed_next}
+use Rattle.table_statements.proofs.Steps.{under_after}
 use Rattle.tables.proofs.Transactions.{survives_both}
 use Rattle.tables.proofs.user_roots.PutUserRootChange.write.Goals as goal
+
+pub insert-requires : goal.insert-requires
+insert-requires g c clean = under_after (state g.S.Store c.args.tx.now.conn.now) (state g.S.Store c.delete.new.tx.conn.now) _ (c.in_ok-delete.ensures.done clean)
+
+pub returns-clause-same_reference : goal.returns-clause-same_reference
+returns-clause-same_reference g c = c.insert.ensures.same_reference ∙ c.delete.ensures.same_reference
 
 pub returns-clause-done : goal.returns-clause-done
 returns-clause-done g c =
