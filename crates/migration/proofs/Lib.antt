@@ -4,3 +4,4 @@ pub mod Rewritten
 pub mod Steps
 pub mod Grown
 pub mod Failed
+pub mod Failing

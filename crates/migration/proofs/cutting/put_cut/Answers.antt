@@ -2,7 +2,7 @@ use Rattle.std.proofs.Common.{◌≡◌, take, drop, string_bytes, sym, ap, ◌�
 use Rattle.sqlite.specs.Held.{state}
 use Rattle.sqlite.specs.State.{HasCleanDisk}
 use Rattle.table_statements.specs.Contents.{Contents}
-use Rattle.table_statements.proofs.Steps.{clean_before}
+use Rattle.table_statements.proofs.Steps.{clean_before, under_after}
 use Rattle.table_statements.proofs.TestFailures.{survives_both}
 use Rattle.table_statements.proofs.Transactions.{done_both, failed_next, steps_both}
 use Rattle.table_statements.proofs.Under.{piece_after}
@@ -10,8 +10,39 @@ use Rattle.table_entries.specs.Entries.{stored_of}
 use Rattle.world.specs.Pieces.{piece_size, row_part}
 use Rattle.migration.specs.Cutting.{cut_row}
 use Rattle.migration.proofs.Cuts.{size}
+use Rattle.migration.proofs.Failing.{err_kept}
 use Rattle.migration.proofs.Steps.{written}
 use Rattle.migration.proofs.cutting.put_cut.Goals as goal
+
+pub insert-requires : goal.insert-requires
+insert-requires g c clean = under_after (state g.S.Store c.args.tx.now.conn.now) (state g.S.Store c.delete.new.tx.conn.now) _ (c.in_ok-delete.ensures.done clean)
+
+pub returns-in_err-insert-clause-same_reference : goal.returns-in_err-insert-clause-same_reference
+returns-in_err-insert-clause-same_reference g c = c.insert.ensures.same_reference ∙ c.delete.ensures.same_reference
+
+pub returns-in_err-insert-clause-failed : goal.returns-in_err-insert-clause-failed
+returns-in_err-insert-clause-failed g c clean =
+    let a = state g.S.Store c.args.tx.now.conn.now in
+    let b = state g.S.Store c.delete.new.tx.conn.now in
+    let d = state g.S.Store c.insert.new.tx.conn.now in
+    err_kept a b d _ c.from_residual-in_err-insert.result c.in_ok-delete.ensures.done c.insert.ensures.survives (c.in_err-insert.ensures.failed clean) clean
+
+pub returns-in_err-insert-clause-survives : goal.returns-in_err-insert-clause-survives
+returns-in_err-insert-clause-survives g c =
+    let a = state g.S.Store c.args.tx.now.conn.now in
+    let b = state g.S.Store c.delete.new.tx.conn.now in
+    let d = state g.S.Store c.insert.new.tx.conn.now in
+    survives_both a b d c.delete.ensures.survives c.insert.ensures.survives
+
+pub put_pieces-requires-clause-under_way : goal.put_pieces-requires-clause-under_way
+put_pieces-requires-clause-under_way g c clean =
+    let a = state g.S.Store c.args.tx.now.conn.now in
+    let b = state g.S.Store c.delete.new.tx.conn.now in
+    let d = state g.S.Store c.insert.new.tx.conn.now in
+    under_after a d _ (steps_both a b d _ _ c.in_ok-delete.ensures.done c.insert.ensures.survives c.in_ok-insert.ensures.done clean)
+
+pub put_pieces-requires-clause-is_open : goal.put_pieces-requires-clause-is_open
+put_pieces-requires-clause-is_open g c clean = (c.in_ok-insert.ensures.done clean).is_open
 
 pub put_pieces-requires-clause-stands : goal.put_pieces-requires-clause-stands
 put_pieces-requires-clause-stands g c clean =
@@ -20,6 +51,9 @@ put_pieces-requires-clause-stands g c clean =
     let d = state g.S.Store c.insert.new.tx.conn.now in
     let early : HasCleanDisk b = clean_before b d _ c.insert.ensures.survives clean in
     piece_after b d _ (c.in_ok-insert.ensures.done clean) (piece_after a b _ (c.in_ok-delete.ensures.done early) (c.requires.stands (clean_before a b _ c.delete.ensures.survives early)))
+
+pub returns-clause-same_reference : goal.returns-clause-same_reference
+returns-clause-same_reference g c = c.put_pieces.ensures.same_reference ∙ c.insert.ensures.same_reference ∙ c.delete.ensures.same_reference
 
 pub returns-clause-done : goal.returns-clause-done
 returns-clause-done g c =
