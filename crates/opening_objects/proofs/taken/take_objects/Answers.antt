@@ -3,7 +3,9 @@ use Rattle.std.specs.List.{list_all, AllByRecursion}
 use Rattle.std.specs.FinMap as finite
 use Rattle.std.proofs.lemmas.Bool.{false≢true}
 use Rattle.sqlite.specs.Held.{state}
+use Rattle.table_forms.specs.Forms.{piece}
 use Rattle.table_entries.specs.Entries.{numbered_in, output_of, reference_of}
+use Rattle.table_statements.specs.Calls.{HasFurther}
 use Rattle.table_statements.specs.Contents.{Contents, contents_of}
 use Rattle.table_statements.proofs.TestFailures.{both_keep, survives_both}
 use Rattle.world.specs.Told.{world_in}
@@ -12,10 +14,36 @@ use Rattle.index.specs.Outline.{Outline, outline_of}
 use Rattle.opening_objects.specs.declared.joined.Joined.{Joined}
 use Rattle.opening_objects.specs.Rows.{AreJoined}
 use Rattle.opening_objects.specs.Taken.{Objects, IsSoundOne, with_objects, is_reference, is_output, is_owned}
-use Rattle.opening_objects.proofs.ReadRows.{clean_before}
+use Rattle.opening_objects.proofs.ReadRows.{clean_before, unchanged_both, further_after, joined_still}
 use Rattle.opening_objects.proofs.AllObjects.{put_all_objects}
 use Rattle.opening_objects.proofs.AllTests.{rows_of_all, cut_of_all, all_of_rows, to_objects, of_objects}
 use Rattle.opening_objects.proofs.taken.take_objects.Goals as goal
+
+pub take_all-requires-clause-stands : goal.take_all-requires-clause-stands
+take_all-requires-clause-stands g c clean has is_open =
+    let s0 = state g.S.Store c.args.conn.now in
+    let s1 = state g.S.Store c.read_joined.new.conn in
+    further_after s0 s1 (λ d. HasFurther d piece) (λ clean. (c.in_ok-joined.ensures.reads clean).0) c.read_joined.ensures.survives (λ early up. c.requires.stands early has up) clean
+
+pub take_all-requires-clause-no_table : goal.take_all-requires-clause-no_table
+take_all-requires-clause-no_table g c clean has is_open =
+    let s0 = state g.S.Store c.args.conn.now in
+    let s1 = state g.S.Store c.read_joined.new.conn in
+    further_after s0 s1 (λ d. (contents_of d).pieces ≡ finite.empty) (λ clean. (c.in_ok-joined.ensures.reads clean).0) c.read_joined.ensures.survives (λ early up. c.requires.no_table early has up) clean
+
+pub take_all-requires-clause-joined : goal.take_all-requires-clause-joined
+take_all-requires-clause-joined g c clean =
+    let s0 = state g.S.Store c.args.conn.now in
+    let s1 = state g.S.Store c.read_joined.new.conn in
+    let read = c.in_ok-joined.ensures.reads clean in
+    joined_still s0 s1 c.in_ok-joined.joined read.0.0.now_is read.1
+
+pub returns-in_err-take_all-clause-same : goal.returns-in_err-take_all-clause-same
+returns-in_err-take_all-clause-same g c clean =
+    both_keep (state g.S.Store c.args.conn.now) (state g.S.Store c.read_joined.new.conn) _ c.read_joined.ensures.same c.take_all.ensures.same c.take_all.ensures.survives clean
+
+pub returns-in_err-take_all-clause-survives : goal.returns-in_err-take_all-clause-survives
+returns-in_err-take_all-clause-survives g c = survives_both _ _ _ c.read_joined.ensures.survives c.take_all.ensures.survives
 
 pub returns-then-not-branch-clause-told : goal.returns-then-not-branch-clause-told
 returns-then-not-branch-clause-told g c clean =
@@ -31,6 +59,12 @@ returns-then-not-branch-clause-told g c clean =
       λ h. absurd (false≢true h),
       λ sound. absurd (false≢true (sym c.if-not-branch.true ∙ (c.in_ok-take_all.ensures.told clean).1 (subst Every (sym same) (all_of_rows x schema dir sound.objects.objects sound.cut)))),
     )
+
+pub returns-then-not-branch-clause-unchanged : goal.returns-then-not-branch-clause-unchanged
+returns-then-not-branch-clause-unchanged g c =
+    let s0 = state g.S.Store c.args.conn.now in
+    let s1 = state g.S.Store c.read_joined.new.conn in
+    unchanged_both s0 s1 (state g.S.Store c.take_all.new.conn) (λ clean. (c.in_ok-joined.ensures.reads clean).0) (λ clean. c.in_ok-take_all.ensures.unchanged clean) c.take_all.ensures.survives
 
 pub returns-then-not-branch-clause-same : goal.returns-then-not-branch-clause-same
 returns-then-not-branch-clause-same g c clean =
@@ -84,6 +118,12 @@ returns-clause-taken g c clean t =
     let old : Outline = c.args.index.now in
     c.in_ok-take_all.ensures.taken clean c.if-not-branch.false
     ∙ ap (λ (m : Objects). record old { objects = m }) (ap (λ (y : Contents). with_objects y (finite.keys y.objects) old.objects) now ∙ ap (with_objects x (finite.keys x.objects)) c.requires.empty ∙ put_all_objects x)
+
+pub returns-clause-unchanged : goal.returns-clause-unchanged
+returns-clause-unchanged g c =
+    let s0 = state g.S.Store c.args.conn.now in
+    let s1 = state g.S.Store c.read_joined.new.conn in
+    unchanged_both s0 s1 (state g.S.Store c.take_all.new.conn) (λ clean. (c.in_ok-joined.ensures.reads clean).0) (λ clean. c.in_ok-take_all.ensures.unchanged clean) c.take_all.ensures.survives
 
 pub returns-clause-same : goal.returns-clause-same
 returns-clause-same g c clean =

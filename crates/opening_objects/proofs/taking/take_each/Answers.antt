@@ -9,10 +9,10 @@ use Rattle.table_statements.specs.Calls.{HasFurther}
 use Rattle.table_statements.specs.Contents.{Contents, contents_of}
 use Rattle.table_statements.proofs.Steps.{shown_then}
 use Rattle.table_statements.proofs.Transactions.{survives_none}
-use Rattle.table_statements.proofs.TestFailures.{survives_both}
+use Rattle.table_statements.proofs.TestFailures.{both_keep, survives_both}
 use Rattle.index.specs.Outline.{Outline}
 use Rattle.opening_objects.specs.Taken.{IsSoundOne, with_object}
-use Rattle.opening_objects.proofs.ReadRows.{clean_before, further_still, joined_still}
+use Rattle.opening_objects.proofs.ReadRows.{clean_before, unchanged_both, further_still, joined_still}
 use Rattle.world.specs.View.{schema_view}
 use Rattle.opening_objects.proofs.Each.{left_at, shown_of, no_change, decides_next, decides_one, decides_all, makes_next, makes_all}
 use Rattle.opening_objects.proofs.taking.take_each.Goals as goal
@@ -82,6 +82,41 @@ bases-preserved g c =
           ∙ ap₂ (λ (x : Contents) (p : List ℕ). record index { objects = with_object x p index.objects }) same c.as_str.ensures.value)
           (inv.makes was);
     }
+
+pub returns-in_err-take_object-clause-same : goal.returns-in_err-take_object-clause-same
+returns-in_err-take_object-clause-same g c =
+    let first = state g.S.Store c.args.conn.now in
+    let now = state g.S.Store c.bases.conn in
+    let next = state g.S.Store c.take_object.new.conn in
+    both_keep first now next c.bases.invariant.same c.take_object.ensures.same c.take_object.ensures.survives
+
+pub returns-in_err-take_object-clause-survives : goal.returns-in_err-take_object-clause-survives
+returns-in_err-take_object-clause-survives g c =
+    let first = state g.S.Store c.args.conn.now in
+    let now = state g.S.Store c.bases.conn in
+    let next = state g.S.Store c.take_object.new.conn in
+    survives_both first now next c.bases.invariant.survives c.take_object.ensures.survives
+
+pub returns-then-not-branch-clause-unchanged : goal.returns-then-not-branch-clause-unchanged
+returns-then-not-branch-clause-unchanged g c =
+    let first = state g.S.Store c.args.conn.now in
+    let now = state g.S.Store c.bases.conn in
+    let next = state g.S.Store c.take_object.new.conn in
+    unchanged_both first now next c.bases.invariant.unchanged (λ clean. c.in_ok-take_object.ensures.unchanged clean) c.take_object.ensures.survives
+
+pub returns-then-not-branch-clause-same : goal.returns-then-not-branch-clause-same
+returns-then-not-branch-clause-same g c =
+    let first = state g.S.Store c.args.conn.now in
+    let now = state g.S.Store c.bases.conn in
+    let next = state g.S.Store c.take_object.new.conn in
+    both_keep first now next c.bases.invariant.same c.take_object.ensures.same c.take_object.ensures.survives
+
+pub returns-then-not-branch-clause-survives : goal.returns-then-not-branch-clause-survives
+returns-then-not-branch-clause-survives g c =
+    let first = state g.S.Store c.args.conn.now in
+    let now = state g.S.Store c.bases.conn in
+    let next = state g.S.Store c.take_object.new.conn in
+    survives_both first now next c.bases.invariant.survives c.take_object.ensures.survives
 
 pub returns-then-not-branch-clause-told : goal.returns-then-not-branch-clause-told
 returns-then-not-branch-clause-told g c clean =
