@@ -9,3 +9,4 @@ pub mod Stood
 pub mod FrozenThen
 pub mod FurtherMade
 pub mod Growing
+pub mod Kept

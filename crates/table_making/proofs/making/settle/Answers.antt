@@ -1,10 +1,11 @@
-use Rattle.std.proofs.Common.{codes, arith}
+use Rattle.std.proofs.Common.{codes, arith, ◌∙◌}
 use Rattle.sqlite.specs.State.{HasCleanDisk}
 use Rattle.sqlite.specs.Held.{state}
-use Rattle.table_statements.proofs.TestFailures.{passed_on}
+use Rattle.table_statements.proofs.TestFailures.{passed_on, survives_both}
 use Rattle.table_statements.proofs.Scans.{on_ok, err_with}
 use Rattle.table_making.proofs.SettingFailures.{first_fails, second_fails}
 use Rattle.table_making.proofs.Settles.{free_name, has_meta, has_still, meta_made}
+use Rattle.table_making.proofs.Kept.{both_keep_commit}
 use Rattle.table_making.proofs.making.settle.Goals as goal
 
 pub put-requires : goal.put-requires
@@ -60,3 +61,39 @@ returns-clause-cause g c clean =
     let made = c.in_ok-meta.ensures.makes clean2 in
     let under = c.requires clean1 in
     err_with c.put-2.result _ _ (λ f h. second_fails a (free_name a.now.schema (codes "meta") (under.free made.was_open).0 (under.unawaited made.was_open).0) (under.sound made.was_open) b made c.meta.ensures.survives.counts c.meta.ensures.survives.limit c.args.store_dir.now d e (c.in_ok-put.ensures.puts clean3) c.put.ensures.survives.counts c.put.ensures.survives.limit f h) (c.put-2.ensures.cause clean)
+
+pub returns-in_err-put-clause-same_reference : goal.returns-in_err-put-clause-same_reference
+returns-in_err-put-clause-same_reference g c = c.put.ensures.same_reference ∙ c.meta.ensures.same_reference
+
+pub returns-in_err-put-clause-kept : goal.returns-in_err-put-clause-kept
+returns-in_err-put-clause-kept g c =
+    let s0 = state g.S.Store c.args.tx.now.conn.now in
+    let s1 = state g.S.Store c.meta.new.tx.conn.now in
+    let s2 = state g.S.Store c.put.new.tx.conn.now in
+    both_keep_commit s0 s1 s2 c.meta.ensures.kept c.put.ensures.kept c.put.ensures.survives
+
+pub returns-in_err-put-clause-survives : goal.returns-in_err-put-clause-survives
+returns-in_err-put-clause-survives g c =
+    let s0 = state g.S.Store c.args.tx.now.conn.now in
+    let s1 = state g.S.Store c.meta.new.tx.conn.now in
+    let s2 = state g.S.Store c.put.new.tx.conn.now in
+    survives_both s0 s1 s2 c.meta.ensures.survives c.put.ensures.survives
+
+pub returns-clause-same_reference : goal.returns-clause-same_reference
+returns-clause-same_reference g c = c.put-2.ensures.same_reference ∙ c.put.ensures.same_reference ∙ c.meta.ensures.same_reference
+
+pub returns-clause-kept : goal.returns-clause-kept
+returns-clause-kept g c =
+    let s0 = state g.S.Store c.args.tx.now.conn.now in
+    let s1 = state g.S.Store c.meta.new.tx.conn.now in
+    let s2 = state g.S.Store c.put.new.tx.conn.now in
+    let s3 = state g.S.Store c.put-2.new.tx.conn.now in
+    both_keep_commit s0 s2 s3 (both_keep_commit s0 s1 s2 c.meta.ensures.kept c.put.ensures.kept c.put.ensures.survives) c.put-2.ensures.kept c.put-2.ensures.survives
+
+pub returns-clause-survives : goal.returns-clause-survives
+returns-clause-survives g c =
+    let s0 = state g.S.Store c.args.tx.now.conn.now in
+    let s1 = state g.S.Store c.meta.new.tx.conn.now in
+    let s2 = state g.S.Store c.put.new.tx.conn.now in
+    let s3 = state g.S.Store c.put-2.new.tx.conn.now in
+    survives_both s0 s2 s3 (survives_both s0 s1 s2 c.meta.ensures.survives c.put.ensures.survives) c.put-2.ensures.survives
