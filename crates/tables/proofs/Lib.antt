@@ -22,3 +22,4 @@ pub mod Cuts
 pub mod SessionRows
 pub mod SessionChanges
 pub mod Failing
+pub mod Begun

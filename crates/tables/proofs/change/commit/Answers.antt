@@ -9,7 +9,8 @@ use Rattle.table_statements.proofs.Scans.{on_ok}
 use Rattle.table_statements.proofs.Steps.{under_after}
 use Rattle.table_statements.proofs.Transactions.{survives_all}
 use Rattle.tables.specs.Kept.{IsWritten}
-use Rattle.tables.proofs.Transactions.{always_done, begun_has, undone, written}
+use Rattle.tables.proofs.Begun.{always_done, begun_has, undone}
+use Rattle.tables.proofs.Transactions.{written}
 use Rattle.tables.proofs.change.commit.Goals as goal
 
 pub write-requires-clause-whole : goal.write-requires-clause-whole

@@ -1,5 +1,4 @@
-use Rattle.std.proofs.Common.{◌++◌, List, sym, ap, subst, arith, ◌∙◌}
-use Rattle.std.specs.List.{flat_map}
+use Rattle.std.proofs.Common.{sym, ap, subst, arith, ◌∙◌}
 use Rattle.std.specs.Ordering.{eq_by_cmp}
 use Rattle.std.specs.FinMap as finite
 use Rattle.sqlite.specs.Effect.{Database}
@@ -12,7 +11,6 @@ use Rattle.rows.specs.Calls.{HasFurther}
 use Rattle.rows.specs.Contents.{contents_of}
 use Rattle.rows.specs.Entries.{IsStored, stored_of}
 use Rattle.table_statements.proofs.Steps.{shown_then}
-use Rattle.table_entries.specs.declared.pieces.Piece.{Piece}
 use Rattle.tables.proofs.ReadArchives.{none_read, all_read, row_read}
 use Rattle.tables.proofs.Transactions.{survives_both}
 use Rattle.tables.proofs.reading.read_archive.Goals as goal
