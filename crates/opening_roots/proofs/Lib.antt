@@ -7,3 +7,4 @@ pub mod SoundRoots
 pub mod TwoReads
 pub mod Sessions
 pub mod AllReads
+pub mod ThreeTests

@@ -11,7 +11,7 @@ use Rattle.world.specs.Told.{world_in}
 use Rattle.index.specs.Filling.{has_currents}
 use Rattle.index.specs.Outline.{Outline}
 use Rattle.opening_roots.specs.Taken.{is_profile, is_generation, bare_profiles}
-use Rattle.opening_roots.proofs.TwoReads.{first_failed, second_failed, third_decides}
+use Rattle.opening_roots.proofs.ThreeTests.{first_failed, second_failed, third_decides}
 use Rattle.opening_roots.proofs.profiles.read.Goals as goal
 
 pub read-requires-clause-profiles : goal.read-requires-clause-profiles

@@ -4,7 +4,7 @@ use Rattle.std.specs.FinMap as finite
 use Rattle.sqlite.specs.State.{HasCleanDisk}
 use Rattle.sqlite.specs.Held.{state}
 use Rattle.table_statements.specs.Contents.{contents_of}
-use Rattle.table_statements.proofs.TestFailures.{survives_both}
+use Rattle.table_statements.proofs.TestFailures.{both_keep, survives_both}
 use Rattle.index.specs.Outline.{Outline}
 use Rattle.opening_roots.specs.Taken.{is_permanent_root, is_user_root}
 use Rattle.opening_roots.proofs.TwoReads.{told_next, taken_next, unchanged_next}
@@ -40,6 +40,9 @@ returns-clause-unchanged g c clean =
     let b = state g.S.Store c.read.new.conn in
     let middle : HasCleanDisk b = omega (arith, c.read-2.ensures.survives.clean) in
     unchanged_next c.read-2.result a b (state g.S.Store c.read-2.new.conn) (c.in_ok-read.ensures.unchanged middle) (c.read-2.ensures.unchanged clean)
+
+pub returns-clause-same : goal.returns-clause-same
+returns-clause-same g c = both_keep (state g.S.Store c.args.conn.now) (state g.S.Store c.read.new.conn) (state g.S.Store c.read-2.new.conn) c.read.ensures.same c.read-2.ensures.same c.read-2.ensures.survives
 
 pub returns-clause-survives : goal.returns-clause-survives
 returns-clause-survives g c = survives_both (state g.S.Store c.args.conn.now) (state g.S.Store c.read.new.conn) (state g.S.Store c.read-2.new.conn) c.read.ensures.survives c.read-2.ensures.survives

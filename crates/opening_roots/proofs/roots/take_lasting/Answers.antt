@@ -2,7 +2,7 @@ use Rattle.std.proofs.Common.{sym, ap, ◌∙◌, arith}
 use Rattle.sqlite.specs.State.{HasCleanDisk}
 use Rattle.sqlite.specs.Held.{state}
 use Rattle.table_statements.specs.Contents.{contents_of}
-use Rattle.table_statements.proofs.TestFailures.{survives_both}
+use Rattle.table_statements.proofs.TestFailures.{both_keep, survives_both}
 use Rattle.world.specs.Told.{world_in}
 use Rattle.index.specs.Outline.{Outline}
 use Rattle.opening_roots.specs.Taken.{are_moving}
@@ -49,6 +49,9 @@ returns-clause-unchanged g c clean =
     let b = state g.S.Store c.take_fixed.new.conn in
     let middle : HasCleanDisk b = omega (arith, c.take_moving.ensures.survives.clean) in
     unchanged_next c.take_moving.result a b (state g.S.Store c.take_moving.new.conn) (c.in_ok-take_fixed.ensures.unchanged middle) (c.take_moving.ensures.unchanged clean)
+
+pub returns-clause-same : goal.returns-clause-same
+returns-clause-same g c = both_keep (state g.S.Store c.args.conn.now) (state g.S.Store c.take_fixed.new.conn) (state g.S.Store c.take_moving.new.conn) c.take_fixed.ensures.same c.take_moving.ensures.same c.take_moving.ensures.survives
 
 pub returns-clause-survives : goal.returns-clause-survives
 returns-clause-survives g c = survives_both (state g.S.Store c.args.conn.now) (state g.S.Store c.take_fixed.new.conn) (state g.S.Store c.take_moving.new.conn) c.take_fixed.ensures.survives c.take_moving.ensures.survives

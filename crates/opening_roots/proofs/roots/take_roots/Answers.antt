@@ -5,7 +5,7 @@ use Rattle.sqlite.specs.Held.{state}
 use Rattle.table_forms.specs.Forms.{temp_root}
 use Rattle.table_statements.specs.Calls.{HasFurther}
 use Rattle.table_statements.specs.Contents.{contents_of}
-use Rattle.table_statements.proofs.TestFailures.{survives_both}
+use Rattle.table_statements.proofs.TestFailures.{both_keep, survives_both}
 use Rattle.world.specs.Told.{world_in}
 use Rattle.index.specs.Outline.{Outline}
 use Rattle.opening_roots.specs.Taken.{with_lasting, are_temporary}
@@ -69,6 +69,9 @@ returns-clause-unchanged g c clean =
     let b = state g.S.Store c.take_lasting.new.conn in
     let middle : HasCleanDisk b = omega (arith, c.read.ensures.survives.clean) in
     unchanged_next c.read.result a b (state g.S.Store c.read.new.conn) (c.in_ok-take_lasting.ensures.unchanged middle) (c.read.ensures.unchanged clean)
+
+pub returns-clause-same : goal.returns-clause-same
+returns-clause-same g c = both_keep (state g.S.Store c.args.conn.now) (state g.S.Store c.take_lasting.new.conn) (state g.S.Store c.read.new.conn) c.take_lasting.ensures.same c.read.ensures.same c.read.ensures.survives
 
 pub returns-clause-survives : goal.returns-clause-survives
 returns-clause-survives g c = survives_both (state g.S.Store c.args.conn.now) (state g.S.Store c.take_lasting.new.conn) (state g.S.Store c.read.new.conn) c.take_lasting.ensures.survives c.read.ensures.survives
