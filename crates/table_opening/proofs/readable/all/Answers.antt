@@ -5,6 +5,12 @@ use Rattle.table_opening.proofs.ReadableRows.{all_nine}
 use Rattle.table_statements.proofs.TestFailures.{passed_on, passes_then, fails_after, both_keep, survives_both}
 use Rattle.table_opening.proofs.readable.all.Goals as goal
 
+pub returns-in_err-next-clause-same : goal.returns-in_err-next-clause-same
+returns-in_err-next-clause-same g c = both_keep _ _ _ c.first.ensures.same c.next.ensures.same c.next.ensures.survives
+
+pub returns-in_err-next-clause-survives : goal.returns-in_err-next-clause-survives
+returns-in_err-next-clause-survives g c = survives_both _ _ _ c.first.ensures.survives c.next.ensures.survives
+
 pub returns-in_err-last-clause-same : goal.returns-in_err-last-clause-same
 returns-in_err-last-clause-same g c = both_keep _ _ _ (both_keep _ _ _ c.first.ensures.same c.next.ensures.same c.next.ensures.survives) c.last.ensures.same c.last.ensures.survives
 

@@ -1,13 +1,23 @@
 use Rattle.std.proofs.Common.{codes, arith}
-use Rattle.sqlite.specs.Effect.{Database}
+use Rattle.sqlite.specs.Effect.{Database, IsDatabase}
 use Rattle.sqlite.specs.State.{HasCleanDisk}
 use Rattle.sqlite.specs.Held.{state}
 use Rattle.table_statements.specs.Contents.{rows_named}
 use Rattle.table_forms.specs.Forms.{meta, object, refs}
 use Rattle.table_statements.specs.Texts.{AreReadableRows}
+use Rattle.table_opening.proofs.OneAfterAnother.{holds_still}
 use Rattle.table_opening.proofs.ReadableRows.{all_three}
 use Rattle.table_statements.proofs.TestFailures.{passed_on, passes_then, fails_after, both_keep, survives_both}
 use Rattle.table_opening.proofs.readable.first.Goals as goal
+
+pub object-requires-clause-sound : goal.object-requires-clause-sound
+object-requires-clause-sound g c = holds_still _ _ (λ clean. (c.in_ok-meta.ensures.told clean).0) c.meta.ensures.survives IsDatabase c.requires.sound
+
+pub returns-in_err-object-clause-same : goal.returns-in_err-object-clause-same
+returns-in_err-object-clause-same g c = both_keep _ _ _ c.meta.ensures.same c.object.ensures.same c.object.ensures.survives
+
+pub returns-in_err-object-clause-survives : goal.returns-in_err-object-clause-survives
+returns-in_err-object-clause-survives g c = survives_both _ _ _ c.meta.ensures.survives c.object.ensures.survives
 
 pub returns-in_err-refs-clause-same : goal.returns-in_err-refs-clause-same
 returns-in_err-refs-clause-same g c = both_keep _ _ _ (both_keep _ _ _ c.meta.ensures.same c.object.ensures.same c.object.ensures.survives) c.refs.ensures.same c.refs.ensures.survives

@@ -9,6 +9,12 @@ use Rattle.table_opening.proofs.ReadableRows.{all_three}
 use Rattle.table_statements.proofs.TestFailures.{passed_on, passes_then, fails_after, both_keep, survives_both}
 use Rattle.table_opening.proofs.readable.last.Goals as goal
 
+pub returns-in_err-generation-clause-same : goal.returns-in_err-generation-clause-same
+returns-in_err-generation-clause-same g c = both_keep _ _ _ c.profile.ensures.same c.generation.ensures.same c.generation.ensures.survives
+
+pub returns-in_err-generation-clause-survives : goal.returns-in_err-generation-clause-survives
+returns-in_err-generation-clause-survives g c = survives_both _ _ _ c.profile.ensures.survives c.generation.ensures.survives
+
 pub returns-in_err-runtime-clause-same : goal.returns-in_err-runtime-clause-same
 returns-in_err-runtime-clause-same g c = both_keep _ _ _ (both_keep _ _ _ c.profile.ensures.same c.generation.ensures.same c.generation.ensures.survives) c.runtime.ensures.same c.runtime.ensures.survives
 

@@ -9,6 +9,12 @@ use Rattle.table_opening.proofs.ReadableRows.{all_three}
 use Rattle.table_statements.proofs.TestFailures.{passed_on, passes_then, fails_after, both_keep, survives_both}
 use Rattle.table_opening.proofs.readable.next.Goals as goal
 
+pub returns-in_err-permanent-clause-same : goal.returns-in_err-permanent-clause-same
+returns-in_err-permanent-clause-same g c = both_keep _ _ _ c.outs.ensures.same c.permanent.ensures.same c.permanent.ensures.survives
+
+pub returns-in_err-permanent-clause-survives : goal.returns-in_err-permanent-clause-survives
+returns-in_err-permanent-clause-survives g c = survives_both _ _ _ c.outs.ensures.survives c.permanent.ensures.survives
+
 pub returns-in_err-user_root-clause-same : goal.returns-in_err-user_root-clause-same
 returns-in_err-user_root-clause-same g c = both_keep _ _ _ (both_keep _ _ _ c.outs.ensures.same c.permanent.ensures.same c.permanent.ensures.survives) c.user_root.ensures.same c.user_root.ensures.survives
 
