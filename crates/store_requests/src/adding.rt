@@ -1,7 +1,6 @@
 //! Texts that are handed in.
 
-ghost use Rattle.std.specs.Prelude.{◌≡◌, IfOk, OnOk, length, option_map};
-ghost use Rattle.paths.specs.ContentAddress.{ContentAddress};
+ghost use Rattle.std.specs.Prelude.{◌≡◌, IfOk, OnOk, length};
 ghost use Rattle.sha2.specs.Sha256.{sha256};
 ghost use Rattle.nar.specs.Tree.{IsBytes};
 ghost use Rattle.world.specs.World.{World};
@@ -13,24 +12,14 @@ ghost use Rattle.paths.specs.Path as paths;
 ghost use Rattle.store_requests.specs.Tested.{Gives};
 ghost use Rattle.store_requests.specs.Parts.{added_view};
 
-use crate::archives::text_archive;
+use crate::archives::{has_archive, text_archive};
 use crate::examining::examine_text;
+use crate::references::are_few;
 use crate::replies::Stop;
 use crate::summaries::{Added, summary};
 use index::Index;
-use intake::Arrived;
-use paths::{Ca, Method, Name, StoreDir, StorePath, text_path};
+use paths::{Ca, Method, Name, StoreDir, StorePath, text_path_of};
 use std::alloc::Global;
-
-/// The content address of a text, by the digest of its contents.
-fn text_address(digest: Option<[u8; 32]>) -> Option<Ca>
-    ensures { result ≡ option_map (λ h. let a : ContentAddress = record { method = Method.Text; digest = h } in a) digest }
-{
-    match digest {
-        Some(digest) => Some(Ca::new(Method::Text, digest)),
-        None => None,
-    }
-}
 
 /// The object of a text, tested.
 pub fn prepare_text(
@@ -47,19 +36,17 @@ pub fn prepare_text(
     ensures size { IfOk result (λ a. a.object.size ≡ length a.nar) }
     ensures hash { IfOk result (λ a. a.object.hash ≡ sha256 a.nar) }
 {
-    let path = text_path(alloc, dir, name, &refs, contents)?;
-    let outputs = examine_text(alloc, dir, index, &path, &refs, contents)?;
+    are_few(&refs)?;
+    has_archive(contents)?;
     let archive = text_archive(alloc, contents)?;
-    let Arrived {
-        fault: _fault,
-        facts,
-        pieces,
-    } = archive;
-    let ca = text_address(facts.plain);
-    let object = summary(alloc, pieces.len(), facts.nar_hash, refs, None, ca, outputs)?;
+    let path = text_path_of(alloc, dir, name, &refs, &archive.contents_hash)?;
+    let outputs = examine_text(alloc, dir, index, &path, &refs, contents)?;
+    let size = archive.pieces.len();
+    let ca = Ca::new(Method::Text, archive.contents_hash);
+    let object = summary(alloc, size, archive.hash, refs, None, Some(ca), outputs)?;
     Ok(Added {
         path,
-        nar: pieces,
+        nar: archive.pieces,
         object,
     })
 }

@@ -1,9 +1,9 @@
 //! Archives of objects.
 ghost use Rattle.std.specs.Prelude.{◌≡◌, ◌≤◌, false, nat_le, IfOk, OnOk};
+ghost use Rattle.sha2.specs.Sha256.{sha256};
 ghost use Rattle.nar.specs.Tree.{regular};
 ghost use Rattle.nar.specs.Archive.{limit};
 ghost use Rattle.nar.specs.View.{tree_of};
-ghost use Rattle.paths.specs.Facts.{facts_of};
 ghost use Rattle.store.specs.Adds as adds;
 ghost use Rattle.store.specs.Adds.{text_archive_size};
 ghost use Rattle.store.specs.Reply as replied;
@@ -12,8 +12,8 @@ ghost use Rattle.store_requests.specs.Tested.{Tested};
 ghost use Rattle.nar.specs.declared.error.NarError.TheVariants.{TooLarge as too_large};
 
 use crate::replies::{Refusal, Stop};
-use intake::{Arrived, Intake};
-use nar::{NarError, Node};
+use intake::Intake;
+use nar::{NarError, Node, Pieces};
 use std::alloc::{AllocError, Global};
 
 /// A regular file that isn't executable.
@@ -38,11 +38,37 @@ pub(crate) fn has_archive(contents: &[u8]) -> Result<(), Stop>
     Ok(())
 }
 
-/// The archive of a text, and what is told of it.
-pub(crate) fn text_archive(alloc: Global, contents: &[u8]) -> Result<Arrived, AllocError>
+/// The archive of a text, with the digests that were taken as it was made.
+#[derive(Drop)]
+pub(crate) struct TextArchive {
+    /// Its bytes.
+    pub(crate) pieces: Pieces,
+    /// Their SHA-256 digest.
+    pub(crate) hash: [u8; 32],
+    /// The SHA-256 digest of the contents.
+    pub(crate) contents_hash: [u8; 32],
+}
+
+/// Makes the archive of a text that is small enough for one.
+///
+/// # Errors
+///
+/// Memory was refused.
+pub(crate) fn text_archive(alloc: Global, contents: &[u8]) -> Result<TextArchive, AllocError>
+    requires fits { text_archive_size contents.now ≤ limit }
     ensures pieces { IfOk result (λ a. a.pieces ≡ adds.text_archive contents.now) }
-    ensures facts { IfOk result (λ a. a.facts ≡ facts_of a.pieces) }
+    ensures hash { IfOk result (λ a. a.hash ≡ sha256 a.pieces) }
+    ensures contents { IfOk result (λ a. a.contents_hash ≡ sha256 contents.now) }
 {
     let nar = Intake::of_text(alloc, contents)?;
-    nar.finish()
+    let arrived = nar.finish()?;
+    let Some(contents_hash) = arrived.facts.plain else {
+        unreachable!()
+    };
+    let hash = arrived.facts.nar_hash;
+    Ok(TextArchive {
+        pieces: arrived.pieces,
+        hash,
+        contents_hash,
+    })
 }

@@ -1,6 +1,6 @@
 //! The tests of the objects that are handed in, in their order.
 
-ghost use Rattle.std.specs.Prelude.{◌≡◌, ◌≤◌, OnOk};
+ghost use Rattle.std.specs.Prelude.{◌≡◌, ◌≤◌, drop};
 ghost use Rattle.nar.specs.Archive.{limit};
 ghost use Rattle.world.specs.World.{World};
 ghost use Rattle.world.specs.Objects as objects;
@@ -10,16 +10,16 @@ ghost use Rattle.store.specs.Tests.{first_failing, text_tests};
 ghost use Rattle.store_requests.specs.Tested.{Gives};
 ghost use Rattle.store_requests.specs.Parts.{outputs_view};
 
-use crate::archives::{has_archive, plain};
+use crate::archives::plain;
 use crate::derivations::outputs_at;
-use crate::references::{are_few, are_others, are_there};
+use crate::references::{are_others, are_there};
 use crate::replies::Stop;
 use index::Index;
 use paths::{StoreDir, StorePath};
 use std::alloc::Global;
 use std::collections::BTreeMap;
 
-/// Tests a text object; gives the outputs that it records.
+/// Tests a text object of few references, whose archive is small enough, at its path; gives the outputs that it records.
 pub(crate) fn examine_text(
     alloc: Global,
     dir: &StoreDir,
@@ -28,12 +28,11 @@ pub(crate) fn examine_text(
     refs: &[StorePath],
     contents: &[u8],
 ) -> Result<BTreeMap<String, StorePath>, Stop>
-    ensures told { (w : World) → outline_of w ≡ index.now → Gives (λ map. outputs_view map.entries) result
-        (first_failing (text_tests dir.now w path.now refs.now contents.now)) (objects.outputs_at dir.now path.now (text_archive contents.now)) }
-    ensures fits { OnOk result (text_archive_size contents.now ≤ limit) }
+    requires { text_archive_size contents.now ≤ limit }
+    // Of all tests of a text, the first two are over.
+    ensures { (w : World) → outline_of w ≡ index.now → Gives (λ map. outputs_view map.entries) result
+        (first_failing (drop 2 (text_tests dir.now w path.now refs.now contents.now))) (objects.outputs_at dir.now path.now (text_archive contents.now)) }
 {
-    are_few(refs)?;
-    has_archive(contents)?;
     are_others(refs, path)?;
     let file = plain(contents);
     let outputs = outputs_at(alloc, dir, path, &file)?;

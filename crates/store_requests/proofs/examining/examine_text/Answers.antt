@@ -10,14 +10,14 @@ use Rattle.store_requests.proofs.Passing.{pass}
 use Rattle.store_requests.proofs.TextArchives.{outputs_of_text}
 use Rattle.store_requests.proofs.examining.examine_text.Goals as goal
 
-pub returns-clause-told : goal.returns-clause-told
-returns-clause-told c w is =
+pub returns : goal.returns
+returns c w is =
     let dir = c.args.dir.now in
     let p = c.args.path.now in
     let contents = c.args.contents.now in
     let bytes : IsBytes contents = λ i. omega (arith, c.type_inv.contents i) in (
-      pass _ _ c.in_ok-are_few.ensures ∙ pass _ _ c.in_ok-has_archive.ensures.told ∙ pass _ _ c.in_ok-are_others.ensures
+      pass _ _ c.in_ok-are_others.ensures
           ∙ pass _ _ (ap (λ t. if_derivation p (tree_fault dir (Ok t))) (sym c.plain-file.ensures) ∙ c.in_ok-outputs.ensures.0) ∙ pass _ _ (c.in_ok-are_there.ensures w is),
       c.in_ok-outputs.ensures.1 ∙ ap (λ t. if is_derivation p then tree_outputs {E = NarError} dir (Ok t) else finite.empty) c.plain-file.ensures
-          ∙ sym (outputs_of_text dir p contents bytes c.in_ok-has_archive.ensures.fits),
+          ∙ sym (outputs_of_text dir p contents bytes c.requires),
     )
