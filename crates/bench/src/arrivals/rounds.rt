@@ -7,7 +7,8 @@ use std::io;
 use std::rt::Clock;
 use std::time::Instant;
 
-fn pushed(alloc: Global, bytes: &[u8], size: usize) -> Result<Arrived, AllocError> {
+/// What is told of an archive that is pushed in pieces of such a size.
+pub fn pushed(alloc: Global, bytes: &[u8], size: usize) -> Result<Arrived, AllocError> {
     let mut intake = Intake::new(alloc);
     for piece in bytes.chunks(size.max(1)) {
         intake.push(piece)?;
