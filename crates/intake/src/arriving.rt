@@ -25,7 +25,7 @@ pub struct Arrived {
     pub pieces: Pieces,
 }
 
-/// The bytes so far; contracts see them. Each is looked at as it comes, and then only kept.
+/// The bytes so far; contracts see them. Each is checked as it comes, hashed with its piece, and then only kept.
 #[derive(Drop)]
 pub struct Arriving {
     alloc: Global,
@@ -122,7 +122,7 @@ impl Arriving {
         let _len = self.pieces.len();
     }
 
-    /// What is told at the end. It looks at no byte of the contents again.
+    /// What is told at the end. Of the contents it looks only at what isn't hashed yet.
     pub fn finish(self) -> Arrived
         ensures pieces { result.pieces ≡ self }
         ensures bytes { IsBytes result.pieces }

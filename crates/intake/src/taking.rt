@@ -11,9 +11,9 @@ use std::alloc::{AllocError, Global};
 use std::marker::Model;
 use streams::Sink;
 
-/// An archive that comes in pieces, however they are cut. Each byte is checked and hashed as it comes, and kept, also
-/// where it is no archive. Where memory is refused once, the intake is spent: from then on it only answers so.
-/// Contracts see the bytes that have come, or nothing where it is spent.
+/// An archive that comes in pieces, however they are cut. Each byte is checked and kept as it comes, also where it is no
+/// archive, and hashed with the 65,536 with which it is kept. Where memory is refused once, the intake is spent: from
+/// then on it only answers so. Contracts see the bytes that have come, or nothing where it is spent.
 #[derive(Drop)]
 pub struct Intake {
     so_far: Option<Arriving>,
