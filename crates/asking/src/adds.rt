@@ -5,6 +5,7 @@ ghost use Rattle.bodies.specs.Bodies.{IsNamedBody, IsImportBody};
 ghost use Rattle.bodies.specs.Front.{rest_of};
 ghost use Rattle.bodies.specs.declared.heads.NamedHead.{NamedHead as NamedOf};
 ghost use Rattle.bodies.specs.declared.import.ImportHead.{ImportHead as ImportOf};
+ghost use Rattle.intake.specs.Arriving.{bytes_in};
 ghost use Rattle.asking.specs.Reads.{Reads};
 
 use crate::body::Body;
@@ -12,6 +13,7 @@ use crate::error::AskError;
 use crate::parted::Parted;
 use crate::request::Request;
 use bodies::{BodyError, ImportHead, NamedHead, import_body, named_body};
+use intake::Intake;
 use paths::StoreDir;
 use std::alloc::{AllocError, Global};
 
@@ -74,15 +76,36 @@ pub(crate) fn add_source(alloc: Global, dir: &StoreDir, body: Body) -> Result<Re
     }
 }
 
+/// The import that a body is: what its head says of the object, and the archive, without a copy where the body keeps it
+/// apart.
+///
+/// # Errors
+///
+/// `BadBodyHead` exactly where the body is no import, and `Memory`.
+pub fn read_import(
+    alloc: Global,
+    dir: &StoreDir,
+    body: Body,
+) -> Result<(ImportHead, Intake), BodyError>
+    ensures ok { IfOk result (λ found. IsImportBody dir.now body found.0 (bytes_in found.1)) }
+    ensures bad { result ≡ Err BodyError.BadBodyHead → (head : ImportOf) (nar : List ℕ) → IsImportBody dir.now body head nar → ⊥ }
+{
+    let Ok(body) = body.into_parted(alloc) else {
+        return Err(BodyError::Memory);
+    };
+    match import_front(alloc, dir, &body) {
+        Ok(head) => Ok((head, body.into_archive())),
+        Err(BodyError::BadBodyHead) => Err(BodyError::BadBodyHead),
+        Err(BodyError::Memory) => Err(BodyError::Memory),
+    }
+}
+
 /// An object with its path.
 pub(crate) fn import(alloc: Global, dir: &StoreDir, body: Body) -> Result<Request, AskError>
     ensures { (target : List ℕ) → Reads dir.now kinds.Import target body result }
 {
-    let Ok(body) = body.into_parted(alloc) else {
-        return Err(AskError::Memory);
-    };
-    match import_front(alloc, dir, &body) {
-        Ok(head) => Ok(Request::Import(head, body.into_archive())),
+    match read_import(alloc, dir, body) {
+        Ok((head, nar)) => Ok(Request::Import(head, nar)),
         Err(BodyError::BadBodyHead) => Err(AskError::BadBodyHead),
         Err(BodyError::Memory) => Err(AskError::Memory),
     }

@@ -12,6 +12,7 @@ mod request;
 mod sweeps;
 mod targets;
 
+pub use adds::read_import;
 pub use body::{Body, is_archive};
 pub use error::AskError;
 pub use read::read_request;

@@ -1,18 +1,12 @@
-use Rattle.std.proofs.Common.{◌≡◌, Err, refl, sym, ap, subst, ◌∙◌}
+use Rattle.std.proofs.Common.{◌≡◌, Err, refl, ap, ◌∙◌}
 use Rattle.bodies.specs.declared.error.BodyError.TheVariants.{BadBodyHead}
-use Rattle.bodies.specs.Bodies.{IsImportBody}
 use Rattle.intake.specs.Arriving.{bytes_in}
 use Rattle.asking.proofs.adds.import.Goals as goal
 
 pub returns-in-Err-BadBodyHead : goal.returns-in-Err-BadBodyHead
 returns-in-Err-BadBodyHead c = λ target.
-    let told : c.import_front.result ≡ Err BadBodyHead = c.in-Err-BadBodyHead.is ∙ ap (λ e. Err e) c.in-Err-BadBodyHead.field-0-is in
-    (refl, λ q is. c.import_front.ensures.bad told is.0 is.1 (subst (λ body. IsImportBody c.args.dir.now body is.0 is.1) (sym c.in-Ok.ensures) is.2))
+    let told : c.read_import.result ≡ Err BadBodyHead = c.in-Err-BadBodyHead.is ∙ ap (λ e. Err e) c.in-Err-BadBodyHead.field-0-is in
+    (refl, λ q is. c.read_import.ensures.bad told is.0 is.1 is.2)
 
-pub returns-in-Ok-import_front : goal.returns-in-Ok-import_front
-returns-in-Ok-import_front c = λ target.
-    let head = c.in-Ok-import_front.head in
-    let nar = bytes_in c.into_archive.result in
-    let parted : IsImportBody c.args.dir.now c.in-Ok.body head nar = subst (λ rest. IsImportBody c.args.dir.now c.in-Ok.body head rest) (sym c.into_archive.ensures) c.in-Ok-import_front.ensures.ok in
-    let said : IsImportBody c.args.dir.now c.args.body head nar = subst (λ body. IsImportBody c.args.dir.now body head nar) c.in-Ok.ensures parted in
-    (head, nar, said, refl)
+pub returns-in-Ok : goal.returns-in-Ok
+returns-in-Ok c = λ target. (c.in-Ok.head, bytes_in c.in-Ok.nar, c.in-Ok.ensures.ok, refl)
