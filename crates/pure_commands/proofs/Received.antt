@@ -19,3 +19,12 @@ front_received most (Some all) (Some rest) bs taken n read short count is end =
           let reach : most ≤ length bs = omega (arith, count, full) in
           is ∙ sym (ap (take most) read ∙ take-append-le most bs rest reach ∙ take_all most bs short)
     ]
+
+-- it is all of the input, behind what was there before
+pub all_received : (old new : Option (List ℕ)) (bs held taken : List ℕ) → Consumes old new bs → IsAtEnd new → taken ≡ held ++ bs
+    → IfSome old (λ all. taken ≡ held ++ all)
+all_received None new bs held taken read end is = tt
+all_received (Some all) None bs held taken read end is = absurd read
+all_received (Some all) (Some rest) bs held taken read end is =
+    let whole : all ≡ bs = read ∙ ap (λ t. bs ++ t) end ∙ append-nil bs in
+    is ∙ ap (λ t. held ++ t) (sym whole)

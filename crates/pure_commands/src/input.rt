@@ -1,5 +1,5 @@
-//! An input to a bound.
-ghost use Rattle.std.specs.Prelude.{◌≡◌, ◌⊎◌, IfOk, IfErr, IfSome, take};
+//! An input, to a bound or all of it.
+ghost use Rattle.std.specs.Prelude.{◌≡◌, ◌⊎◌, ◌++◌, IfOk, IfErr, IfSome, OnOk, take};
 ghost use Rattle.nar.specs.Tree.{IsBytes};
 ghost use Rattle.intake.specs.Arriving.{bytes_in};
 ghost use Rattle.pure_commands.specs.Archive.{max_front};
@@ -11,7 +11,7 @@ use crate::stream::stop_for;
 use intake::Intake;
 use std::alloc::Global;
 use std::io::Read;
-use streams::{read_at_most, receive_at_most};
+use streams::{Sink, read_at_most, receive_at_most};
 
 /// The bytes of standard input, of which no more than `most` are read.
 pub fn read_input<R: Read>(alloc: Global, input: &mut R, most: usize) -> Result<Vec<u8>, Stop>
@@ -37,6 +37,30 @@ pub fn receive_archive<R: Read>(alloc: Global, input: &mut R) -> Result<Intake, 
         Ok(_) => {
             nar.are_bytes();
             Ok(nar)
+        }
+        Err(fault) => Err(stop_for(&fault, Failure::Input)),
+    }
+}
+
+/// More bytes than memory holds.
+const UNBOUNDED: usize = usize::MAX;
+
+/// All of standard input, handed on piece by piece as it arrives, however long it is.
+///
+/// # Errors
+///
+/// Memory was refused, or the input could not be read.
+pub fn receive_input<R: Read, S: Sink>(input: &mut R, sink: &mut S) -> Result<(), Stop>
+    ensures ok { OnOk result (IfSome (R.remaining input.old) (λ all. S.taken sink.new ≡ S.taken sink.old ++ all)) }
+    ensures err { IfErr result (λ e. (e ≡ Stop.Failed Failure.Memory) ⊎ (e ≡ Stop.Failed Failure.Input)) }
+{
+    match receive_at_most(input, UNBOUNDED, sink) {
+        Ok(count) => {
+            if count < UNBOUNDED {
+                Ok(())
+            } else {
+                Err(Stop::Failed(Failure::Memory))
+            }
         }
         Err(fault) => Err(stop_for(&fault, Failure::Input)),
     }

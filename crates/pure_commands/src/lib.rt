@@ -14,7 +14,7 @@ mod texts;
 mod verdicts;
 
 pub use configuration::{config_text, settings};
-pub use input::{read_input, receive_archive};
+pub use input::{read_input, receive_archive, receive_input};
 pub use listings::ls;
 pub use object::{parse_name, parse_reference, parse_references};
 pub use report::Refusal;
