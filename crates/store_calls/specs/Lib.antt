@@ -5,3 +5,4 @@ pub mod Meets
 pub mod Adding
 pub mod Writing
 pub mod Removing
+pub mod Laws

@@ -8,6 +8,7 @@ mod collecting;
 mod deleting;
 mod disk;
 mod imports;
+pub mod laws;
 mod permanent;
 mod profiles;
 mod removing;

@@ -1,0 +1,33 @@
+-- Laws of steps and runs over a disk.
+use Rattle.std.specs.Prelude.{Bool, List, IsTrue}
+use Rattle.std.specs.List.{list_any}
+use Rattle.sqlite_trees.specs.declared.store.Store.{Ghosts}
+use Rattle.sqlite.specs.State.{HasCleanDisk}
+use Rattle.sqlite.specs.Held.{Held, state}
+use Rattle.policy.specs.Settings.{Settings}
+use Rattle.policy.specs.Caller.{Caller}
+use Rattle.world.specs.World.{World}
+use Rattle.store.specs.Request.{Request}
+use Rattle.store.specs.Reply.{Reply}
+use Rattle.store.specs.Step.{Step, Run}
+use Rattle.store_calls.specs.Disk.{reads_disk, StepOver, RunOver}
+
+-- whether one of some calls is answered from the disk
+abbrev pub read_disk : List (Caller × Request) → Bool
+read_disk calls = list_any (λ (call : Caller × Request). reads_disk call.1) calls
+
+module _ {S : Type 0} (g : Ghosts S) where
+  -- over a clean disk a step over the disk is a step, and so it is over any where the answer isn't from it
+  abbrev pub AreSteps : Type 0
+  AreSteps = (h : Held S) (s : Settings) (w : World) (c : Caller) (q : Request) (reply : Reply) (next : World)
+      → (IsTrue (reads_disk q) → HasCleanDisk (state g h)) → StepOver (HasCleanDisk (state g h)) s w c q reply next → Step s w c q reply next
+
+  -- the same of a run, where none of the answers is from the disk
+  abbrev pub AreRuns : Type 0
+  AreRuns = (h : Held S) (s : Settings) (w : World) (calls : List (Caller × Request)) (replies : List Reply) (next : World)
+      → (IsTrue (read_disk calls) → HasCleanDisk (state g h)) → RunOver (HasCleanDisk (state g h)) s w calls replies next → Run s w calls replies next
+
+  -- where the disk is always clean, each run over it is a run
+  abbrev pub AreAllRuns : Type 0
+  AreAllRuns = (h : Held S) (s : Settings) (w : World) (calls : List (Caller × Request)) (replies : List Reply) (next : World)
+      → RunOver (HasCleanDisk (state g h)) s w calls replies next → Run s w calls replies next

@@ -1,0 +1,17 @@
+//! Laws of the definitions: each is the contract of a function that does nothing.
+ghost use Rattle.sqlite.specs.Steps.{over_memory};
+ghost use Rattle.store_calls.specs.Laws.{AreAllRuns, AreRuns, AreSteps};
+
+use sqlite::Alter;
+
+/// Over a clean disk a step or a run over the disk is a step or a run of the definitions; so it is over any disk where no
+/// answer is an archive or its listing.
+pub fn runs_over_a_clean_disk_are_runs<S: Alter>()
+    ensures step { AreSteps S.Store }
+    ensures run { AreRuns S.Store }
+{}
+
+/// Over memory each run is a run of the definitions, with no condition.
+pub fn runs_over_memory_are_runs()
+    ensures { AreAllRuns over_memory }
+{}
