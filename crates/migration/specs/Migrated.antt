@@ -1,13 +1,12 @@
 -- What a migration leaves of a database.
 use Rattle.std.specs.Prelude.{◌≡◌, List, [], ◌∷◌, ℕ, true, IsTrue}
-use Rattle.sqlite_trees.specs.Tree.{Trees}
 use Rattle.sqlite_schema.specs.declared.schema.Table.{Table}
 use Rattle.sqlite.specs.Effect.{Database}
 use Rattle.sqlite.specs.State.{State}
 use Rattle.table_forms.specs.Forms.{piece, temp_root}
 use Rattle.table_statements.specs.Contents.{Contents, contents_of}
 use Rattle.table_statements.specs.Frozen.{KeepsFrozen}
-use Rattle.table_statements.specs.Calls.{IsReady, IsWhole, KeepsTheirs, Leaves}
+use Rattle.table_statements.specs.Calls.{IsReady, IsWhole, KeepsTheirs, Remains, Leaves}
 use Rattle.table_making.specs.Making.{all_created}
 use Rattle.table_making.specs.Further.{grown}
 use Rattle.world.specs.Rows.{Schema, one, two, three, Rows, migrated}
@@ -69,5 +68,5 @@ abbrev pub IsMigrated : Schema → List ℕ → State → State → Type 0
 IsMigrated from dir old new = IsGrown (lacking from) (migrated_contents from dir (contents_of old.now)) old new
 
 -- what a crash may leave of that, if it leaves any of it
-abbrev pub LeavesMigrated : Schema → List ℕ → Database → Trees → Type 0
-LeavesMigrated from dir db trees = Leaves (grown (lacking from) db) trees (migrated_contents from dir (contents_of db))
+abbrev pub LeavesMigrated : Schema → List ℕ → Database → Remains → Type 0
+LeavesMigrated from dir db left = Leaves (grown (lacking from) db) left (migrated_contents from dir (contents_of db))

@@ -4,3 +4,4 @@ pub mod Agreed
 pub mod Passed
 pub mod Brought
 pub mod Lasting
+pub mod Unlimited

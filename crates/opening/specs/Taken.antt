@@ -1,17 +1,17 @@
 -- What taking up a database says of it.
-use Rattle.std.specs.Prelude.{◌≡◌, ◌≢◌, ◌⊎◌, ℕ, List, IsTrue, IsFalse, ⊤}
+use Rattle.std.specs.Prelude.{◌≡◌, ◌≢◌, ◌⊎◌, ℕ, List, None, IsTrue, IsFalse, ⊤}
 use Rattle.std.specs.FinMap as finite
 use Rattle.sqlite_trees.specs.declared.store.Store.{Ghosts}
-use Rattle.sqlite_trees.specs.Tree.{Trees}
 use Rattle.sqlite_schema.specs.declared.schema.Schema.{Schema as Shown}
 use Rattle.sqlite.specs.Effect.{Database}
+use Rattle.sqlite.specs.State.{State}
 use Rattle.sqlite.specs.Held.{state}
 use Rattle.table_forms.specs.Forms.{piece, temp_root}
 use Rattle.table_forms.specs.Finding.{HasNone, HasFirst, HasSecond, HasThird}
 use Rattle.table_statements.specs.Contents.{contents_of}
 use Rattle.table_statements.specs.Texts.{AreReadable}
 use Rattle.table_statements.specs.Frozen.{KeepsFrozen}
-use Rattle.table_statements.specs.Calls.{HasFurther, KeepsTheirs}
+use Rattle.table_statements.specs.Calls.{Remains, HasFurther, KeepsTheirs}
 use Rattle.table_making.specs.Making.{LeavesMade, all_created}
 use Rattle.migration.specs.Migrated.{lacking, migrated_contents, LeavesMigrated}
 use Rattle.world.specs.World.{no_world}
@@ -21,6 +21,10 @@ use Rattle.index.specs.Outline.{Outline, outline_of}
 use Rattle.tables.specs.Kept.{Kept, Tells}
 use Rattle.opening.specs.declared.refusing.Cause.{Cause}
 use Rattle.opening.specs.declared.refusing.Cause.TheVariants.{BadSchema, OtherStoreDir, Failed}
+
+-- the same connection without a limit on steps
+abbrev pub unlimited : State → State
+unlimited s = record s { step_limit = None }
 
 -- each further table that a schema has stands, and one that it hasn't holds nothing
 pub record HasFurtherOf (schema : Schema) (db : Database) : Type 0 where
@@ -84,12 +88,12 @@ module _ {S : Type 0} (g : Ghosts S) where
   TakesUp dir db t = TakesNew db t ⊎ (TakesOver dir db t ⊎ (TakesMigrated one dir db t ⊎ TakesMigrated two dir db t))
 
 -- a store of an earlier schema was there, and this is what a crash may leave of bringing it to the third, if it leaves any of it
-abbrev pub LeavesBrought : Schema → List ℕ → Database → Trees → Type 0
-LeavesBrought from dir db trees = HoldsBy from dir db × LeavesMigrated from dir db trees
+abbrev pub LeavesBrought : Schema → List ℕ → Database → Remains → Type 0
+LeavesBrought from dir db left = HoldsBy from dir db × LeavesMigrated from dir db left
 
 -- What a crash may leave of taking up a database, beside what it could leave before: the new tables, or those that were brought to the third schema.
-abbrev pub LeavesTaken : List ℕ → Database → Trees → Type 0
-LeavesTaken dir db trees = LeavesMade dir db trees ⊎ (LeavesBrought one dir db trees ⊎ LeavesBrought two dir db trees)
+abbrev pub LeavesTaken : List ℕ → Database → Remains → Type 0
+LeavesTaken dir db left = LeavesMade dir db left ⊎ (LeavesBrought one dir db left ⊎ LeavesBrought two dir db left)
 
 -- Why a database isn't taken up: something of ours is there, but no store; or the store of another directory is.
 abbrev pub IsCause : List ℕ → Database → Cause → Type 0

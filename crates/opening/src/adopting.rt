@@ -5,7 +5,7 @@ ghost use Rattle.sqlite.specs.State.{HasCleanDisk, Survives};
 ghost use Rattle.sqlite.specs.Held.{state};
 ghost use Rattle.table_statements.specs.Calls.{KeepsShown, IsDurable};
 ghost use Rattle.table_opening.specs.Opened.{IsFound};
-ghost use Rattle.opening.specs.Taken.{TakesUp, LeavesTaken, IsCause};
+ghost use Rattle.opening.specs.Taken.{TakesUp, LeavesTaken, IsCause, unlimited};
 
 use crate::earlier::take_earlier;
 use crate::refusing::{Cause, Unadopted};
@@ -47,15 +47,8 @@ pub(crate) fn take<S: Alter>(
     }
 }
 
-/// Takes up a connection as the store of a directory. All of its rows are read and tested; where none of our tables is there, they
-/// are made, and those of an earlier schema are brought to the third. At an error the connection is handed back, with our tables as they
-/// were.
-///
-/// # Errors
-///
-/// `BadSchema` where something of ours is there that isn't a store, and then `OtherStoreDir` where it is that of another
-/// directory; a failure of the database, or want of memory.
-pub fn adopt<S: Alter>(
+/// Takes up a connection that has no limit on steps.
+fn take_unlimited<S: Alter>(
     alloc: Global,
     conn: Connection<S>,
     dir: &StoreDir,
@@ -80,4 +73,30 @@ pub fn adopt<S: Alter>(
             Err(Unadopted { conn, cause })
         }
     }
+}
+
+/// Takes up a connection as the store of a directory. All of its rows are read and tested; where none of our tables is there, they
+/// are made, and those of an earlier schema are brought to the third. At an error the connection is handed back, with our tables as they
+/// were. A limit on steps is cleared in either case.
+///
+/// # Errors
+///
+/// `BadSchema` where something of ours is there that isn't a store, and then `OtherStoreDir` where it is that of another
+/// directory; a failure of the database, or want of memory.
+pub fn adopt<S: Alter>(
+    alloc: Global,
+    mut conn: Connection<S>,
+    dir: &StoreDir,
+) -> Result<Tables<S>, Unadopted<S>>
+    requires alone { conn.in_transaction ≡ false }
+    ensures dir { IfOk result (λ t. t.dir ≡ dir.now) }
+    ensures took { IfOk result (λ t. HasCleanDisk (state S.Store t.connection) → TakesUp S.Store dir.now (state S.Store conn).now t) }
+    ensures alone { IfErr result (λ e. e.conn.in_transaction ≡ false) }
+    ensures cause { IfErr result (λ e. HasCleanDisk (state S.Store e.conn) → IsCause dir.now (state S.Store conn).now e.cause) }
+    ensures same { IfErr result (λ e. HasCleanDisk (state S.Store e.conn) → KeepsShown (state S.Store conn) (state S.Store e.conn)) }
+    ensures durable { MatchResult result (λ t. IsTrue (state S.Store t.connection).is_open → IsDurable (state S.Store t.connection)) (λ e. IsTrue (state S.Store e.conn).is_open → IsDurable (state S.Store e.conn)) }
+    ensures survives { MatchResult result (λ t. Survives (unlimited (state S.Store conn)) (state S.Store t.connection) (LeavesTaken dir.now (state S.Store conn).now)) (λ e. Survives (unlimited (state S.Store conn)) (state S.Store e.conn) (LeavesTaken dir.now (state S.Store conn).now)) }
+{
+    conn.set_step_limit(None);
+    take_unlimited(alloc, conn, dir)
 }

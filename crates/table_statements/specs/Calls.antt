@@ -15,6 +15,10 @@ use Rattle.table_statements.specs.Contents.{Contents, contents_of, rows_named}
 use Rattle.table_statements.specs.Frozen.{KeepsUnshown, KeepsFrozen}
 use Rattle.table_statements.specs.Texts.{AreReadableRows, HasReadableRows}
 
+-- what a disk holds once its connection is gone, as an opening after a crash finds it
+abbrev pub Remains : Type 0
+Remains = Trees
+
 -- each row has a rowid of its own, an integer: the list of rowids has no value twice, so no row stands there twice
 pub record IsKeyed (rows : List Row) : Type 0 where
   pub ints : (a : Row) → Has rows a → IsTrue (is_int (rowid a))

@@ -5,10 +5,9 @@ use Rattle.sqlite_trees.specs.declared.store.Store.{Ghosts}
 use Rattle.sqlite.specs.Effect.{Database}
 use Rattle.sqlite.specs.State.{State, HasCleanDisk}
 use Rattle.sqlite.specs.Held.{Held, held_code, state}
-use Rattle.sqlite_trees.specs.Tree.{Trees}
 use Rattle.rows.specs.Contents.{Contents, contents_of}
 use Rattle.rows.specs.Frozen.{KeepsUnshown}
-use Rattle.rows.specs.Calls.{IsWhole, IsReady, KeepsTheirs}
+use Rattle.rows.specs.Calls.{Remains, IsWhole, IsReady, KeepsTheirs}
 use Rattle.world.specs.World.{World}
 use Rattle.world.specs.Sound.{IsSound}
 use Rattle.world.specs.Told.{IsSoundContents, world_in}
@@ -56,7 +55,7 @@ pub record IsWritten (old new : State) (change : Contents → Contents) : Type 0
   pub ready : IsReady new
 
 -- What a crash may leave of a write: sound rows that tell this world, and the rows of the others.
-pub record LeavesWorld (dir : List ℕ) (old : Database) (trees : Trees) (w : World) : Type 0 where
-  pub sound : IsSoundContents dir (contents_of (record old { trees = trees }))
-  pub world : world_in (contents_of (record old { trees = trees })) ≡ w
-  pub theirs : KeepsTheirs old (record old { trees = trees })
+pub record LeavesWorld (dir : List ℕ) (old : Database) (left : Remains) (w : World) : Type 0 where
+  pub sound : IsSoundContents dir (contents_of (record old { trees = left }))
+  pub world : world_in (contents_of (record old { trees = left })) ≡ w
+  pub theirs : KeepsTheirs old (record old { trees = left })

@@ -1,18 +1,24 @@
 use Rattle.sqlite.specs.Held.{state}
-use Rattle.opening.proofs.Passed.{both_survive, both_same, same_cause}
+use Rattle.opening.specs.Taken.{TakesUp, IsCause}
+use Rattle.opening.proofs.Unlimited.{cleared, ok_of, err_of, shown_of, survive_of}
 use Rattle.opening.proofs.adopting.adopt.Goals as goal
 
-pub returns-in-Ok-clause-cause : goal.returns-in-Ok-clause-cause
-returns-in-Ok-clause-cause g c =
-    same_cause (λ t. state g.S.Store t.connection) (λ e. state g.S.Store e.conn) c.take.result (state g.S.Store c.args.conn) (state g.S.Store c.in-Ok.opened.conn) c.args.dir.now
-    c.in-Ok.ensures.unchanged c.in-Ok.ensures.survives c.take.ensures.survives (λ e. e.cause) c.take.ensures.cause
+pub returns-clause-took : goal.returns-clause-took
+returns-clause-took g c =
+    ok_of (λ t. state g.S.Store t.connection) (λ e. state g.S.Store e.conn) c.take_unlimited.result (state g.S.Store c.args.conn) (state g.S.Store c.set_step_limit.new.self)
+    (cleared g.S.Store c.args.conn c.set_step_limit.new.self c.set_step_limit.ensures) (TakesUp g.S.Store c.args.dir.now) c.take_unlimited.ensures.took
 
-pub returns-in-Ok-clause-same : goal.returns-in-Ok-clause-same
-returns-in-Ok-clause-same g c =
-    both_same (λ t. state g.S.Store t.connection) (λ e. state g.S.Store e.conn) c.take.result (state g.S.Store c.args.conn) (state g.S.Store c.in-Ok.opened.conn) c.args.dir.now
-    c.in-Ok.ensures.unchanged c.in-Ok.ensures.survives c.take.ensures.survives c.in-Ok.ensures.same c.take.ensures.same
+pub returns-clause-cause : goal.returns-clause-cause
+returns-clause-cause g c =
+    err_of (λ t. state g.S.Store t.connection) (λ e. state g.S.Store e.conn) c.take_unlimited.result (state g.S.Store c.args.conn) (state g.S.Store c.set_step_limit.new.self)
+    (cleared g.S.Store c.args.conn c.set_step_limit.new.self c.set_step_limit.ensures) (λ db e. IsCause c.args.dir.now db e.cause) c.take_unlimited.ensures.cause
 
-pub returns-in-Ok-clause-survives : goal.returns-in-Ok-clause-survives
-returns-in-Ok-clause-survives g c =
-    both_survive (λ t. state g.S.Store t.connection) (λ e. state g.S.Store e.conn) c.take.result (state g.S.Store c.args.conn) (state g.S.Store c.in-Ok.opened.conn) c.args.dir.now
-    c.in-Ok.ensures.unchanged c.in-Ok.ensures.survives c.take.ensures.survives
+pub returns-clause-same : goal.returns-clause-same
+returns-clause-same g c =
+    shown_of (λ t. state g.S.Store t.connection) (λ e. state g.S.Store e.conn) c.take_unlimited.result (state g.S.Store c.args.conn) (state g.S.Store c.set_step_limit.new.self)
+    (cleared g.S.Store c.args.conn c.set_step_limit.new.self c.set_step_limit.ensures) c.take_unlimited.ensures.same
+
+pub returns-clause-survives : goal.returns-clause-survives
+returns-clause-survives g c =
+    survive_of (λ t. state g.S.Store t.connection) (λ e. state g.S.Store e.conn) c.take_unlimited.result (state g.S.Store c.args.conn) (state g.S.Store c.set_step_limit.new.self)
+    (cleared g.S.Store c.args.conn c.set_step_limit.new.self c.set_step_limit.ensures) c.args.dir.now c.take_unlimited.ensures.survives
