@@ -1,0 +1,88 @@
+"""A server over a store or over files, and a client of it on one connection that stays open."""
+import contextlib
+import signal
+import socket
+import subprocess
+import sys
+import time
+
+from figures import MIB, free_port
+
+
+class Client:
+    """One connection that stays open."""
+
+    def __init__(self, port):
+        self.socket = socket.create_connection(("127.0.0.1", port))
+        self.socket.setsockopt(socket.IPPROTO_TCP, socket.TCP_NODELAY, 1)
+        self.room = memoryview(bytearray(17 * MIB))
+
+    def close(self):
+        self.socket.close()
+
+    def reply(self):
+        """The length of the text of the next reply, which has to be 200."""
+        at, end = 0, -1
+        while end < 0:
+            count = self.socket.recv_into(self.room[at:])
+            if not count:
+                sys.exit("the server closed the connection")
+            at += count
+            end = bytes(self.room[:min(at, 4096)]).find(b"\r\n\r\n")
+        head = bytes(self.room[:end]).lower()
+        if not head.startswith(b"http/1.1 200"):
+            sys.exit(f"a reply: {bytes(self.room[:at])[:300]!r}")
+        length = int(head.partition(b"content-length:")[2].split()[0])
+        while at < end + 4 + length:
+            at += self.socket.recv_into(self.room[at:])
+        return length
+
+    def ask(self, method, target, body=b""):
+        self.socket.sendall(f"{method} {target} HTTP/1.1\r\nhost: a\r\nstore-user: root\r\ncontent-length: {len(body)}\r\n\r\n".encode() + body)
+        return self.reply()
+
+    def get(self, target):
+        self.socket.sendall(f"GET {target} HTTP/1.1\r\nhost: a\r\nstore-user: root\r\n\r\n".encode())
+        return self.reply()
+
+
+def timed(call, *words):
+    start = time.perf_counter()
+    call(*words)
+    return time.perf_counter() - start
+
+
+class Serving:
+    """A program that listens on a port meanwhile, and a client of it."""
+
+    def __init__(self, port, *words, folder=None):
+        self.started = subprocess.Popen(words, cwd=folder, stdout=subprocess.DEVNULL, stderr=subprocess.DEVNULL)
+        for _ in range(600):
+            with contextlib.suppress(OSError):
+                self.client = Client(port)
+                return
+            time.sleep(0.1)
+        sys.exit(f"{words[0]} doesn't listen")
+
+    def __enter__(self):
+        return self.client
+
+    def __exit__(self, *_):
+        self.client.close()
+        self.started.send_signal(signal.SIGTERM)
+        self.started.wait()
+
+    def processor(self):
+        """The seconds that its processor has spent on it."""
+        with open(f"/proc/{self.started.pid}/schedstat") as file:
+            return int(file.read().split()[0]) / 1e9
+
+    def memory(self):
+        """The most memory in MiB that it held."""
+        with open(f"/proc/{self.started.pid}/status") as file:
+            return int(next(line for line in file if line.startswith("VmHWM")).split()[1]) / 1024
+
+
+def served(run, path=None):
+    port = free_port()
+    return Serving(port, run.file, *(["--db", path] if path else []), "serve", "--port", str(port), "--connections", "1")
