@@ -20,9 +20,10 @@ def string(text):
     return len(text).to_bytes(8, "little") + text + b"\0" * (-len(text) % 8)
 
 
-def archive(contents):
+def archive(contents, is_executable=False):
     """The archive of a file."""
-    return b"".join(map(string, [b"nix-archive-1", b"(", b"type", b"regular", b"contents", contents, b")"]))
+    mark = [b"executable", b""] if is_executable else []
+    return b"".join(map(string, [b"nix-archive-1", b"(", b"type", b"regular", *mark, b"contents", contents, b")"]))
 
 
 def base(number):
