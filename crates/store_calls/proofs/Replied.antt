@@ -13,7 +13,7 @@ use Rattle.policy.specs.Rules.{first_broken}
 use Rattle.world.specs.World.{Pair, World}
 use Rattle.store.specs.Request.{Request}
 use Rattle.store.specs.Liveness.{lives}
-use Rattle.store.specs.Reply.{Failure, Reply, denied, failed}
+use Rattle.store.specs.Reply.{Failure, Reply, done, denied, refused, failed}
 use Rattle.store.specs.Verdict.{operation_of, named_in, shown, verdict}
 use Rattle.store.specs.Step.{IsNoneOrLive}
 use Rattle.tables.specs.Kept.{Kept, Tells}
@@ -22,6 +22,7 @@ use Rattle.store_requests.specs.declared.replies.Stop.{Stop}
 use Rattle.store_requests.specs.declared.replies.Stop.TheVariants.{Refused, Failed}
 use Rattle.store_calls.specs.Standing.{IsDone, IsStill}
 use Rattle.store_calls.specs.Disk.{StepOver}
+use Rattle.store_calls.specs.Forbidden.{IsForbidden}
 use Rattle.store_calls.specs.Meets.{MeetsOver, IsMet, IsAnswered, IsRefused, reply_to}
 use Rattle.store_calls.proofs.Verdicts.{denied_by, denied_live, none_or_live, permitted}
 
@@ -42,32 +43,39 @@ answered_of (Ok a) h = tt
 answered_of (Err (Refused r)) h = absurd h
 answered_of (Err (Failed f)) h = absurd h
 
+-- a reply to what is not done is one over any disk
+over_disk : (is_clean : Type 0) (s : Settings) (w : World) (c : Caller) (q : Request) (r : Reply) → IsForbidden s w c q (Some r) → StepOver is_clean s w c q r w
+over_disk is_clean s w c q (done a) f = absurd f
+over_disk is_clean s w c q (denied rule root) f = f
+over_disk is_clean s w c q (refused r) f = absurd f
+over_disk is_clean s w c q (failed x) f = f
+
 module _ {S : Type 0} (g : Ghosts S) (s : Settings) (c : Caller) (q : Request) where
   -- a denial
-  pub step_denied : (rule : Rule) (k : Kept S) → first_broken (class_of s c) c (operation_of q) ≡ Some rule → (w : World) → Tells g k w
-      → (next : World) × StepOver (HasCleanDisk (state g k.connection)) s w c q (denied rule None) next × Tells g k next
-  step_denied rule k broken w t =
+  pub forbidden_by : (rule : Rule) → first_broken (class_of s c) c (operation_of q) ≡ Some rule → (w : World) → IsForbidden s w c q (Some (denied rule None))
+  forbidden_by rule broken w =
       let d = denied_by s w c q rule broken in
-      (w, (d.0, d.1, refl), t)
+      (d.0, d.1, refl)
 
   -- a denial for a live path
-  pub step_living : (root : Pair) (k : Kept S) → first_broken (class_of s c) c (operation_of q) ≡ None
-      → ((w : World) → Tells g k w → (list_any (lives s w) (named_in q) ≡ true) × (shown s w c q Live ≡ Some root))
-      → (w : World) → Tells g k w → (next : World) × StepOver (HasCleanDisk (state g k.connection)) s w c q (denied Live (Some root)) next × Tells g k next
-  step_living root k allowed living w t =
-      let l = living w t in
-      (w, (denied_live s w c q allowed l.0, sym l.1, refl), t)
+  pub forbidden_living : (root : Pair) (w : World) → first_broken (class_of s c) c (operation_of q) ≡ None → (list_any (lives s w) (named_in q) ≡ true) × (shown s w c q Live ≡ Some root)
+      → IsForbidden s w c q (Some (denied Live (Some root)))
+  forbidden_living root w allowed living = (denied_live s w c q allowed living.0, sym living.1, refl)
 
   -- whether a path lives couldn't be told
-  pub step_failing : (f : Failure) (k : Kept S) → first_broken (class_of s c) c (operation_of q) ≡ None → (w : World) → Tells g k w
-      → (next : World) × StepOver (HasCleanDisk (state g k.connection)) s w c q (failed f) next × Tells g k next
-  step_failing f k allowed w t = (w, (none_or_live s w c q allowed, refl), t)
+  pub forbidden_failing : (f : Failure) → first_broken (class_of s c) c (operation_of q) ≡ None → (w : World) → IsForbidden s w c q (Some (failed f))
+  forbidden_failing f allowed w = (none_or_live s w c q allowed, refl)
+
+  -- what is forbidden is a step
+  pub step_forbidden : (reply : Reply) (k : Kept S) → ((w : World) → Tells g k w → IsForbidden s w c q (Some reply)) → (w : World) → Tells g k w
+      → (next : World) × StepOver (HasCleanDisk (state g k.connection)) s w c q reply next × Tells g k next
+  step_forbidden reply k forbidden w t = (w, over_disk (HasCleanDisk (state g k.connection)) s w c q reply (forbidden w t), t)
 
   -- what no rule forbids
-  pub step_met : (r : Result Answer Stop) (reply : Reply) (old new : Kept S) → first_broken (class_of s c) c (operation_of q) ≡ None
-      → ((w : World) → Tells g old w → list_any (lives s w) (named_in q) ≡ false) → reply ≡ reply_to r → IsMet g s c q r old new
+  pub step_met : (r : Result Answer Stop) (reply : Reply) (old new : Kept S) → ((w : World) → Tells g old w → IsForbidden s w c q None) → reply ≡ reply_to r → IsMet g s c q r old new
       → (w : World) → Tells g old w → (next : World) × StepOver (HasCleanDisk (state g new.connection)) s w c q reply next × Tells g new next
-  step_met r reply old new allowed dead is met w t =
+  step_met r reply old new allowed is met w t =
+      let a = allowed w t in
       let m = met.world w t in
       let is_clean = HasCleanDisk (state g new.connection) in
-      (m.0, subst (λ (x : Reply). StepOver is_clean s w c q x m.0) (sym is) (step_of is_clean s w c q r m.0 (permitted s w c q allowed (dead w t)) m.1), m.2)
+      (m.0, subst (λ (x : Reply). StepOver is_clean s w c q x m.0) (sym is) (step_of is_clean s w c q r m.0 (permitted s w c q a.0 a.1) m.1), m.2)

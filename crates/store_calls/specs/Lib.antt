@@ -2,6 +2,7 @@ pub mod Standing
 pub mod Lasting
 pub mod Disk
 pub mod Meets
+pub mod Forbidden
 pub mod Adding
 pub mod Writing
 pub mod Removing

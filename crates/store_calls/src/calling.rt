@@ -1,13 +1,18 @@
 //! The store: its tables, its settings, and the one way of a call.
 
-ghost use Rattle.std.specs.Prelude.{◌≡◌, ◌≤◌, [], IfOk, vec_capacity, vec_len};
+ghost use Rattle.std.specs.Prelude.{◌≡◌, ◌≤◌, false, [], IfOk, option_map, vec_capacity, vec_len};
+ghost use Rattle.std.specs.List.{list_any};
 ghost use Rattle.sqlite.specs.State.{HasCleanDisk, Survives};
 ghost use Rattle.sqlite.specs.Held.{state};
 ghost use Rattle.world.specs.World.{World};
 ghost use Rattle.store.specs.Effects.{effect};
+ghost use Rattle.store.specs.Liveness.{lives};
+ghost use Rattle.store.specs.Verdict.{named_in};
 ghost use Rattle.tables.specs.Kept.{Tells, LeavesWorld};
 ghost use Rattle.store_calls.specs.Disk.{StepOver};
+ghost use Rattle.store_calls.specs.Forbidden.{IsForbidden};
 ghost use Rattle.store_calls.specs.Lasting.{Lasts};
+ghost use Rattle.store_calls.specs.Meets.{IsMet};
 ghost use Rattle.store_requests.specs.View.{request_view, reply_view};
 ghost use Rattle.store_calls.specs.Standing.{IsDone, IsStill};
 
@@ -17,7 +22,7 @@ use sqlite::Alter;
 use std::alloc::{AllocError, Global};
 use std::marker::Model;
 use store_requests::deleting::denial;
-use store_requests::{Reply, Request, operation};
+use store_requests::{Answer, Reply, Request, Stop, operation};
 use table_statements::failure::Failure;
 use tables::Tables;
 
@@ -82,6 +87,36 @@ impl<S: Alter> Store<S> {
         Vec::with_capacity(self.alloc, count)
     }
 
+    /// The reply to a request that a rule forbids, the first that does, or of which memory was refused to tell so. None where
+    /// no rule forbids it.
+    fn forbidden(&self, caller: &Caller, request: &Request) -> Option<Reply>
+        ensures { (w : World) → Tells S.Store self.now.tables w → IsForbidden self.now.settings w caller.now (request_view request.now) (option_map reply_view result) }
+    {
+        if let Some(rule) = decide(class(&self.config, caller), caller, &operation(request)) {
+            return Some(Reply::Denied(rule, None));
+        }
+        match denial(
+            self.alloc,
+            &self.config,
+            caller,
+            self.tables.index(),
+            request,
+        ) {
+            Ok(None) => None,
+            Ok(Some(root)) => Some(Reply::Denied(Rule::Live, Some(root))),
+            Err(_) => Some(Reply::Failed(Failure::Memory)),
+        }
+    }
+
+    /// Does what no rule forbids.
+    fn act(&mut self, caller: &Caller, request: Request) -> Result<Answer, Stop>
+        requires { (w : World) → Tells S.Store self.old.tables w → list_any (lives self.old.settings w) (named_in (request_view request)) ≡ false }
+        ensures settings { self.new.settings ≡ self.old.settings }
+        ensures met { IsMet S.Store self.old.settings caller.now (request_view request) result self.old.tables self.new.tables }
+    {
+        act(self.alloc, &self.config, caller, &mut self.tables, request)
+    }
+
     /// Does what a caller asks, or says why not: the first rule that forbids it, or else the first of its tests that
     /// fails. What isn't done changes nothing, and neither a denial nor a refusal touches the tables. Only a call that no
     /// rule but the one on live paths forbids fails.
@@ -96,21 +131,9 @@ impl<S: Alter> Store<S> {
         ensures survives { (w : World) → Tells S.Store self.old.tables w → Survives (state S.Store self.old.tables.connection) (state S.Store self.new.tables.connection)
             (λ db. LeavesWorld self.old.tables.dir (state S.Store self.old.tables.connection).now db (effect self.old.settings w (request_view request))) }
     {
-        if let Some(rule) = decide(class(&self.config, caller), caller, &operation(&request)) {
-            return Reply::Denied(rule, None);
+        match self.forbidden(caller, &request) {
+            Some(forbidden) => forbidden,
+            None => reply(self.act(caller, request)),
         }
-        match denial(
-            self.alloc,
-            &self.config,
-            caller,
-            self.tables.index(),
-            &request,
-        ) {
-            Ok(None) => {}
-            Ok(Some(root)) => return Reply::Denied(Rule::Live, Some(root)),
-            Err(_) => return Reply::Failed(Failure::Memory),
-        }
-        let met = act(self.alloc, &self.config, caller, &mut self.tables, request);
-        reply(met)
     }
 }
