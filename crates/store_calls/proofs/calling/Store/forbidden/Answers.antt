@@ -5,7 +5,6 @@ use Rattle.policy.specs.Operation.{Operation}
 use Rattle.policy.specs.declared.kinds.Class.{Class}
 use Rattle.store.specs.Reply.{memory}
 use Rattle.store.specs.Verdict.{operation_of}
-use Rattle.world.specs.World.{World}
 use Rattle.index.specs.Maps.{labelled_bytes}
 use Rattle.tables.specs.Kept.{Tells}
 use Rattle.store_requests.specs.Removing.{IsDenial}
