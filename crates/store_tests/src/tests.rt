@@ -1,0 +1,132 @@
+//! A list of calls on a store in memory.
+use paths::{Name, StoreDir, StorePath};
+use policy::{Caller, Config, store_dir};
+use sqlite::MemStore;
+use std::alloc::{AllocError, Global};
+use std::test::Fail;
+use store_calls::Store;
+use store_commands::reply_text;
+use store_requests::{Reply, Request};
+use tables::Tables;
+
+/// `ann` is trusted, `bob` is allowed, and nobody else is.
+const SETTINGS: &[u8] = b"allowed-users = [\"bob\"]\ntrusted-users = [\"ann\"]\n";
+
+/// The path of the text that is added first.
+const TEXT: &str = "a0d1zlpv81nsfbam8ay3i7snrc0sgsvr-myfile";
+
+/// What the calls are told, in turn.
+const TOLD: &str = "/nix/store/a0d1zlpv81nsfbam8ay3i7snrc0sgsvr-myfile
+/nix/store/jpzwwkzwcap53421pll8gza0knik4xzf-other
+done
+denied: connect
+/nix/store/jpzwwkzwcap53421pll8gza0knik4xzf-other
+freed 1 paths 112 bytes
+/nix/store/a0d1zlpv81nsfbam8ay3i7snrc0sgsvr-myfile
+";
+
+fn push(
+    calls: &mut Vec<(Caller, Request)>,
+    caller: Caller,
+    request: Request,
+) -> Result<(), AllocError> {
+    match calls.push((caller, request)) {
+        Ok(()) => Ok(()),
+        Err(_) => Err(AllocError),
+    }
+}
+
+fn push_text(alloc: Global, calls: &mut Vec<(Caller, Request)>) -> Result<(), Fail> {
+    let caller = Caller::new(alloc, "bob", None)?;
+    let name = Name::parse(alloc, "myfile")?;
+    let contents = Vec::from_slice(alloc, b"mycontent\n")?;
+    push(
+        calls,
+        caller,
+        Request::AddText(name, Vec::new(alloc), contents),
+    )?;
+    Ok(())
+}
+
+/// An empty text that refers to the first.
+fn push_referrer(alloc: Global, calls: &mut Vec<(Caller, Request)>) -> Result<(), Fail> {
+    let caller = Caller::new(alloc, "bob", None)?;
+    let name = Name::parse(alloc, "other")?;
+    let mut refs = Vec::new(alloc);
+    refs.push(StorePath::from_base(alloc, TEXT)?)?;
+    push(calls, caller, Request::AddText(name, refs, Vec::new(alloc)))?;
+    Ok(())
+}
+
+/// A permanent root is set, whose target is the first text.
+fn push_root(alloc: Global, calls: &mut Vec<(Caller, Request)>) -> Result<(), Fail> {
+    let caller = Caller::new(alloc, "ann", None)?;
+    let name = String::from_str(alloc, "kept")?;
+    let target = StorePath::from_base(alloc, TEXT)?;
+    push(calls, caller, Request::SetPermanent(name, target))?;
+    Ok(())
+}
+
+fn push_list(alloc: Global, calls: &mut Vec<(Caller, Request)>, caller: &str) -> Result<(), Fail> {
+    let caller = Caller::new(alloc, caller, None)?;
+    push(calls, caller, Request::List)?;
+    Ok(())
+}
+
+fn push_collection(alloc: Global, calls: &mut Vec<(Caller, Request)>) -> Result<(), Fail> {
+    let caller = Caller::new(alloc, "bob", None)?;
+    push(calls, caller, Request::Collect(false, None))?;
+    Ok(())
+}
+
+/// A text and its referrer are added, and the text gets a root; a stranger asks; what is dead is collected.
+fn push_all(alloc: Global, calls: &mut Vec<(Caller, Request)>) -> Result<(), Fail> {
+    push_text(alloc, calls)?;
+    push_referrer(alloc, calls)?;
+    push_root(alloc, calls)?;
+    push_list(alloc, calls, "eve")?;
+    push_collection(alloc, calls)?;
+    push_list(alloc, calls, "bob")?;
+    Ok(())
+}
+
+/// A store in memory, in which there is nothing yet.
+fn store(alloc: Global) -> Result<Store<MemStore>, Fail> {
+    let config = Config::from_toml(alloc, SETTINGS)?;
+    let tables = Tables::open_in_memory(alloc, store_dir(&config))?;
+    Ok(Store::new(alloc, config, tables))
+}
+
+fn replies(alloc: Global, calls: Vec<(Caller, Request)>) -> Result<Vec<Reply>, Fail> {
+    let mut store = store(alloc)?;
+    let replies = store.run(calls);
+    drop(store.release().release());
+    Ok(replies?)
+}
+
+fn tell(alloc: Global, dir: &StoreDir, reply: Reply, told: &mut Vec<u8>) -> Result<(), Fail> {
+    let text = reply_text(alloc, dir, reply)?.joined()?;
+    told.extend_from_slice(&text)?;
+    Ok(())
+}
+
+fn tell_all(alloc: Global, replies: Vec<Reply>, told: &mut Vec<u8>) -> Result<(), Fail> {
+    let dir = StoreDir::parse(alloc, "/nix/store")?;
+    for reply in replies {
+        tell(alloc, &dir, reply, told)?;
+    }
+    Ok(())
+}
+
+#[test]
+fn calls_in_turn(rt: HostRuntime) -> Result<(), Fail> {
+    let alloc = rt.alloc();
+    let mut calls = Vec::new(alloc);
+    push_all(alloc, &mut calls)?;
+    let replies = replies(alloc, calls)?;
+    assert_eq!(rt; replies.len(), 6);
+    let mut told = Vec::new(alloc);
+    tell_all(alloc, replies, &mut told)?;
+    assert!(rt; told.as_slice() == TOLD.as_bytes());
+    Ok(())
+}
