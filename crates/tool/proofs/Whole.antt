@@ -1,5 +1,5 @@
 -- What a body on the input asks, of which all is read.
-use Rattle.std.proofs.Common.{◌≡◌, ◌⊎◌, ℕ, ◌<◌, List, length, take, Option, Some, None, Result, Err, inl, inr, ap, subst, refl, sym, ◌∙◌, arith, take_all, length-take}
+use Rattle.std.proofs.Common.{◌≡◌, ◌⊎◌, ◌++◌, ℕ, ◌<◌, List, [], length, take, Option, Some, None, Result, Err, inl, inr, ap, subst, refl, sym, ◌∙◌, arith, take_all, length-take}
 use Rattle.std.specs.Prelude.{IfSome}
 use Rattle.store.specs.Request.{Request}
 use Rattle.store_requests.specs.declared.requests.Request.{Request as Made}
@@ -20,6 +20,11 @@ whole_is None bytes short is = is
 whole_is (Some all) bytes short is =
     let cut : length bytes ≡ length (take 18446744073709551615 all) = ap length is in
     is ∙ take_all 18446744073709551615 all (omega (arith, cut, short, length-take 18446744073709551615 all))
+
+-- what came behind nothing is all of the input
+pub behind_nothing : (known : Option (List ℕ)) (held taken : List ℕ) → held ≡ [] → IfSome known (λ all. taken ≡ held ++ all) → IfSome known (λ all. taken ≡ all)
+behind_nothing None held taken none is = tt
+behind_nothing (Some all) held taken none is = is ∙ ap (λ h. h ++ all) none
 
 module _ (ask : List ℕ → Result Request Refusal → Type 0) where
   -- what the whole input asks

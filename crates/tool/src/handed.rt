@@ -6,10 +6,11 @@ ghost use Rattle.tool.specs.Bodies as spec;
 ghost use Rattle.tool.specs.Bodies.{imported};
 ghost use Rattle.tool.specs.Requests.{IsAsked, IsAskedOver};
 
-use bodies::{BodyError, ImportHead, import_body, runtime_body};
+use asking::{Body, read_import};
+use bodies::{BodyError, ImportHead, runtime_body};
 use intake::Intake;
 use paths::StoreDir;
-use pure_commands::{Failure, Stop, read_input};
+use pure_commands::{Failure, Stop, read_input, receive_input};
 use report::Refusal;
 use std::alloc::Global;
 use std::io::Read;
@@ -58,14 +59,11 @@ fn imported_of(head: ImportHead, nar: Intake) -> Imported
 }
 
 /// The object that a body hands in, at its path.
-fn parse_import(alloc: Global, dir: &StoreDir, body: &[u8]) -> Result<Request, Stop>
-    ensures { IsAsked (spec.Imports dir.now body.now) result }
+fn parse_import(alloc: Global, dir: &StoreDir, body: Body) -> Result<Request, Stop>
+    ensures { IsAsked (spec.Imports dir.now body) result }
 {
-    match import_body(alloc, dir, body) {
-        Ok((head, nar)) => match Intake::of_bytes(alloc, nar) {
-            Ok(nar) => Ok(Request::Import(imported_of(head, nar))),
-            Err(_) => Err(Stop::Failed(Failure::Memory)),
-        },
+    match read_import(alloc, dir, body) {
+        Ok((head, nar)) => Ok(Request::Import(imported_of(head, nar))),
         Err(fault) => Err(stop_by(fault)),
     }
 }
@@ -80,12 +78,13 @@ fn parse_runtime(alloc: Global, dir: &StoreDir, body: &[u8]) -> Result<Request, 
     }
 }
 
-/// An object is to be added at the path that the input says.
+/// An object is to be added at the path that the input says. Its archive is checked and hashed as it comes.
 pub(crate) fn import<R: Read>(alloc: Global, dir: &StoreDir, input: &mut R) -> Result<Request, Stop>
     ensures { IsAskedOver (spec.Imports dir.now) (R.remaining input.old) result }
 {
-    match read_whole(alloc, input) {
-        Ok(body) => parse_import(alloc, dir, body.as_slice()),
+    let mut body = Body::parted(alloc);
+    match receive_input(input, &mut body) {
+        Ok(()) => parse_import(alloc, dir, body),
         Err(stop) => Err(stop),
     }
 }

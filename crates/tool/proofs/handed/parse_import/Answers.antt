@@ -1,5 +1,4 @@
-use Rattle.std.proofs.Common.{rules, Err, refl, ap, ◌∙◌}
-use Rattle.bodies.specs.Bodies.{IsImportBody}
+use Rattle.std.proofs.Common.{Err, refl, ap, ◌∙◌}
 use Rattle.store.specs.Request.{import_object}
 use Rattle.store_requests.specs.declared.requests.Request.TheVariants.{Import}
 use Rattle.store_requests.specs.View.{request_view}
@@ -11,15 +10,11 @@ use Rattle.tool.proofs.handed.parse_import.Goals as goal
 
 pub returns-in-Err : goal.returns-in-Err
 returns-in-Err c =
-    body_refused (IsImported c.args.dir.now c.args.body.now) c.in-Err.fault c.stop_by.result c.stop_by.ensures
-    (λ is q said. c.import_body.ensures.bad (c.in-Err.is ∙ ap (λ e. Err e) is) said.0 said.1 said.2)
+    body_refused (IsImported c.args.dir.now c.args.body) c.in-Err.fault c.stop_by.result c.stop_by.ensures
+    (λ is q said. c.read_import.ensures.bad (c.in-Err.is ∙ ap (λ e. Err e) is) said.0 said.1 said.2)
 
-pub returns-in-Ok-of_bytes : goal.returns-in-Ok-of_bytes
-returns-in-Ok-of_bytes c =
-    let head = c.in-Ok.head in
-    let said : IsImportBody c.args.dir.now c.args.body.now head c.in-Ok.nar.now = search rules in
-    let wanted = import_object (imported head c.in-Ok.nar.now) in (
-      wanted,
-      (head, c.in-Ok.nar.now, said, refl),
-      same_steps (request_view (Import c.imported_of.result)) wanted (ap import_object (c.imported_of.ensures ∙ ap (λ i. imported head (bytes_in i)) c.in-Ok-of_bytes.ensures)),
-    )
+pub returns-in-Ok : goal.returns-in-Ok
+returns-in-Ok c =
+    let nar = bytes_in c.in-Ok.nar in
+    let wanted = import_object (imported c.in-Ok.head nar) in
+    (wanted, (c.in-Ok.head, nar, c.in-Ok.ensures.ok, refl), same_steps (request_view (Import c.imported_of.result)) wanted (ap import_object c.imported_of.ensures))
