@@ -20,12 +20,12 @@ use Rattle.command_line.specs.declared.line.Task.{Task}
 use Rattle.command_line.specs.declared.line.Task.TheVariants as task
 use Rattle.command_line.specs.declared.line.Unrooted.{Unrooted}
 use Rattle.command_line.specs.declared.line.Unrooted.TheVariants as unrooted
-use Rattle.command_line.specs.Asked.{asked_view, optional_text, source_path, text_path, unroot_view}
+use Rattle.command_line.specs.Asked.{asked_view, optional_text, unroot_view}
 use Rattle.command_line.specs.Line.{Line, IsLine, IsUsageFault, line_view}
 use Rattle.pure_commands.specs.Stream.{Answers, Says}
 use Rattle.pure_commands.specs.Who.{StopsFor}
-use Rattle.tool.specs.Callers.{Answering}
-use Rattle.tool.specs.Answer.{AnswersAlone, AnswersLine, AnswersUnder, Explains, RunsLine, Stops}
+use Rattle.tool.specs.Serving.{OfFile}
+use Rattle.tool.specs.Answer.{AnswersTextPath, AnswersSourcePath, AnswersLine, AnswersUnder, Explains, RunsLine, Stops}
 
 -- the stop of a configuration was said: the first writer got nothing
 pub stopped_under : (outcome : Result Settings KeyWord) (answered : Settings → Type 0) (stop : Stop) (out err err' : Option (List ℕ)) (status : ℕ)
@@ -36,12 +36,12 @@ stopped_under (Err word) answered stop out err err' status (inl memory) said end
 stopped_under outcome answered stop out err err' status (inr why) said end =
     rw why.1 (inl (Keeps-refl out, subst (λ x. Says x err err' status) why.2 said))
 
-module _ (config : List ℕ) (db : Option Text) (user group : Option (List ℕ)) (o : Text × List Text) (known out err err' : Option (List ℕ)) (status : ℕ) (stop : Stop) where
+module _ (config : List ℕ) (o : Text × List Text) (known out err err' : Option (List ℕ)) (status : ℕ) (stop : Stop) where
   -- so `text-path` and `source-path` answer a refused configuration
-  pub text_stopped : StopsFor (config_of config) stop → Says stop err err' status → AnswersAlone config db user group (text_path o) known out out err err' status
+  pub text_stopped : StopsFor (config_of config) stop → Says stop err err' status → AnswersTextPath config o known out out err err' status
   text_stopped why said = stopped_under (config_of config) _ stop out err err' status why said (λ s memory. inl (inl memory))
 
-  pub source_stopped : StopsFor (config_of config) stop → Says stop err err' status → AnswersAlone config db user group (source_path o) known out out err err' status
+  pub source_stopped : StopsFor (config_of config) stop → Says stop err err' status → AnswersSourcePath config o known out out err err' status
   source_stopped why said = stopped_under (config_of config) _ stop out err err' status why said (λ s memory. inl (inl memory))
 
 -- ---- words
@@ -52,13 +52,13 @@ refused_line words line (Usage fault) is among = absurd (subst (IsAmong (kind_of
 refused_line words line (Misuse fault) is found = let both : Ok line ≡ Err fault = sym is.stands ∙ found.1 in cc
 refused_line words line Memory is found = refl
 
-pub line_refused : (of_file : Answering) (words : List (List ℕ)) (e : CommandError) (known out out' err err' : Option (List ℕ)) (status : ℕ) → IsUsageFault words e
+pub line_refused : (of_file : OfFile) (words : List (List ℕ)) (e : CommandError) (known out out' err err' : Option (List ℕ)) (status : ℕ) → IsUsageFault words e
     → Explains e out out' err err' status → (line : Line) → IsLine words line → RunsLine of_file line known out out' err err' status
 line_refused of_file words e known out out' err err' status fault explained line is =
     inl (subst (λ x. Explains x out out' err err' status) (refused_line words line e is fault) explained)
 
 -- words stand for one command line
-pub line_run : (of_file : Answering) (words : List (List ℕ)) (a b : Line) (known out out' err err' : Option (List ℕ)) (status : ℕ) → IsLine words a → IsLine words b
+pub line_run : (of_file : OfFile) (words : List (List ℕ)) (a b : Line) (known out out' err err' : Option (List ℕ)) (status : ℕ) → IsLine words a → IsLine words b
     → RunsLine of_file a known out out' err err' status → RunsLine of_file b known out out' err err' status
 line_run of_file words a b known out out' err err' status first second ran =
     let both : ◌≡◌ {A = Result Line UsageFault} (Ok a) (Ok b) = sym first.stands ∙ second.stands in
@@ -88,11 +88,11 @@ no_config None is = refl
 no_config (Some text) is = cc
 
 -- a text of the configuration was there
-pub configured : (of_file : Answering) (line : CommandLine) (text : List ℕ) (known out out' err err' : Option (List ℕ)) (status : ℕ) → (line.config ≡ None → text ≡ [])
+pub configured : (of_file : OfFile) (line : CommandLine) (text : List ℕ) (known out out' err err' : Option (List ℕ)) (status : ℕ) → (line.config ≡ None → text ≡ [])
     → AnswersLine of_file text (line_view line) known out out' err err' status → RunsLine of_file (line_view line) known out out' err err' status
 configured of_file line text known out out' err err' status empty answered = inr (inr (text, λ none. empty (no_config line.config none), answered))
 
-pub lacks : (of_file : Answering) (line : CommandLine) (stop : Stop) (known out out' err err' : Option (List ℕ)) (status : ℕ) → IsSome line.config
+pub lacks : (of_file : OfFile) (line : CommandLine) (stop : Stop) (known out out' err err' : Option (List ℕ)) (status : ℕ) → IsSome line.config
     → (stop ≡ Failed NoMemory) ⊎ (stop ≡ Failed File) → Stops (asked_view line.task) stop out out' err err' status
     → RunsLine of_file (line_view line) known out out' err err' status
 lacks of_file line stop known out out' err err' status named (inl memory) said =

@@ -17,11 +17,11 @@ use Rattle.pure_commands.specs.declared.stops.Failure.TheVariants.{Memory as NoM
 use Rattle.pure_commands.specs.declared.stops.Stop.{Stop}
 use Rattle.pure_commands.specs.declared.stops.Stop.TheVariants.{Refused, Failed}
 use Rattle.pure_commands.specs.Archive.{ls_answer}
-use Rattle.tool.specs.Callers.{Answering, AnswersCaller, AnswersNamed}
+use Rattle.tool.specs.Callers.{AnswersCaller, AnswersNamed}
 use Rattle.pure_commands.specs.Object.{object_fault, text_path_answer, source_path_answer}
 use Rattle.store_commands.specs.Outputs.{Prints}
 use Rattle.tool.specs.Requests.{asks}
-use Rattle.tool.specs.Serving.{ServesIn}
+use Rattle.tool.specs.Serving.{OfFile, Serving, ServesIn}
 use Rattle.pure_commands.specs.Stream.{Answers, AnswersTo, Says}
 use Rattle.pure_commands.specs.Who.{AnswersWho, verdict_of}
 
@@ -35,30 +35,37 @@ AnswersUnder (Err word) answered out out' err err' status =
 abbrev pub RefusesWords : Option (List ℕ) → Option (List ℕ) → Option (List ℕ) → Option (List ℕ) → ℕ → Type 0
 RefusesWords out out' err err' status = Keeps out out' × ((text : List ℕ) × Prints text 2 err err' status)
 
--- what a subcommand that asks nothing of a store itself answers by the text of the configuration: `who` all on the first writer; there are no
--- others
-abbrev pub AnswersAlone : List ℕ → Option Text → Option (List ℕ) → Option (List ℕ) → Asked → Option (List ℕ) → Option (List ℕ) → Option (List ℕ) → Option (List ℕ) → Option (List ℕ) → ℕ → Type 0
-AnswersAlone config db user group who known out out' err err' status = AnswersWho (verdict_of config user group) out out' status × Keeps err err'
-AnswersAlone config db user group ls known out out' err err' status =
-    AnswersUnder (config_of config) (λ s. AnswersTo None ls_answer known out out' err err' status) out out' err err' status
-AnswersAlone config db user group (text_path o) known out out' err err' status =
+-- `text-path` and `source-path`, by the text of the configuration
+abbrev pub AnswersTextPath : List ℕ → Text × List Text → Option (List ℕ) → Option (List ℕ) → Option (List ℕ) → Option (List ℕ) → Option (List ℕ) → ℕ → Type 0
+AnswersTextPath config o known out out' err err' status =
     AnswersUnder (config_of config) (λ s. AnswersTo (object_fault s.store_dir o.0 o.1) (text_path_answer s.store_dir o.0 (map (base_of s.store_dir) o.1)) known out out' err err' status)
     out out' err err' status
-AnswersAlone config db user group (source_path o) known out out' err err' status =
+
+abbrev pub AnswersSourcePath : List ℕ → Text × List Text → Option (List ℕ) → Option (List ℕ) → Option (List ℕ) → Option (List ℕ) → Option (List ℕ) → ℕ → Type 0
+AnswersSourcePath config o known out out' err err' status =
     AnswersUnder (config_of config) (λ s. AnswersTo (object_fault s.store_dir o.0 o.1) (source_path_answer s.store_dir o.0 (map (base_of s.store_dir) o.1)) known out out' err err' status)
     out out' err err' status
-AnswersAlone config db user group (serve a) known out out' err err' status =
-    AnswersUnder (config_of config) (λ s. ServesIn db s a known out out' err err' status) out out' err err' status
-AnswersAlone config db user group _ known out out' err err' status = ⊥
+
+-- what a subcommand that asks nothing of a store itself answers by the text of the configuration: `who` all on the first writer; there are no
+-- others. The first argument says how the store of a file is served.
+abbrev pub AnswersAlone : Serving → List ℕ → Option Text → Option (List ℕ) → Option (List ℕ) → Asked → Option (List ℕ) → Option (List ℕ) → Option (List ℕ) → Option (List ℕ) → Option (List ℕ) → ℕ → Type 0
+AnswersAlone of_file config db user group who known out out' err err' status = AnswersWho (verdict_of config user group) out out' status × Keeps err err'
+AnswersAlone of_file config db user group ls known out out' err err' status =
+    AnswersUnder (config_of config) (λ s. AnswersTo None ls_answer known out out' err err' status) out out' err err' status
+AnswersAlone of_file config db user group (text_path o) known out out' err err' status = AnswersTextPath config o known out out' err err' status
+AnswersAlone of_file config db user group (source_path o) known out out' err err' status = AnswersSourcePath config o known out out' err err' status
+AnswersAlone of_file config db user group (serve a) known out out' err err' status =
+    AnswersUnder (config_of config) (λ s. ServesIn of_file db s a known out out' err err' status) out out' err err' status
+AnswersAlone of_file config db user group _ known out out' err err' status = ⊥
 
 -- What any subcommand answers: what it asks of a store is answered to its caller, under the settings of the configuration. Here and below
--- the first argument says what is answered by the store of a file, which depends on what that held.
-abbrev pub AnswersAsked : Answering → List ℕ → Option Text → Option (List ℕ) → Option (List ℕ) → Asked → Option (List ℕ) → Option (List ℕ) → Option (List ℕ) → Option (List ℕ) → Option (List ℕ) → ℕ → Type 0
-AnswersAsked of_file config db user group asked known out out' err err' status = MatchOption (asks asked) (AnswersAlone config db user group asked known out out' err err' status)
-    (λ ask. AnswersUnder (config_of config) (λ s. AnswersNamed (AnswersCaller of_file db) s user group ask known out out' err err' status) out out' err err' status)
+-- the first argument says what is answered by the store of a file, and how it is served.
+abbrev pub AnswersAsked : OfFile → List ℕ → Option Text → Option (List ℕ) → Option (List ℕ) → Asked → Option (List ℕ) → Option (List ℕ) → Option (List ℕ) → Option (List ℕ) → Option (List ℕ) → ℕ → Type 0
+AnswersAsked of_file config db user group asked known out out' err err' status = MatchOption (asks asked) (AnswersAlone of_file.serves config db user group asked known out out' err err' status)
+    (λ ask. AnswersUnder (config_of config) (λ s. AnswersNamed (AnswersCaller of_file.answers db) s user group ask known out out' err err' status) out out' err err' status)
 
 -- what a command line answers by the text of its configuration
-abbrev pub AnswersLine : Answering → List ℕ → Line → Option (List ℕ) → Option (List ℕ) → Option (List ℕ) → Option (List ℕ) → Option (List ℕ) → ℕ → Type 0
+abbrev pub AnswersLine : OfFile → List ℕ → Line → Option (List ℕ) → Option (List ℕ) → Option (List ℕ) → Option (List ℕ) → Option (List ℕ) → ℕ → Type 0
 AnswersLine of_file config line known out out' err err' status = AnswersAsked of_file config line.db line.user line.group line.asked known out out' err err' status
 
 -- a stop before there is anything to answer by is said by `who` on the first writer, and else on the second
@@ -75,12 +82,12 @@ LacksFile line out out' err err' status =
     IsSome line.config × (Stops line.asked (Failed NoMemory) out out' err err' status ⊎ Stops line.asked (Failed File) out out' err err' status)
 
 -- the answer by some configuration, which is the empty one where no file is named; or there is none to answer by
-abbrev pub AnswersConfigured : Answering → Line → Option (List ℕ) → Option (List ℕ) → Option (List ℕ) → Option (List ℕ) → Option (List ℕ) → ℕ → Type 0
+abbrev pub AnswersConfigured : OfFile → Line → Option (List ℕ) → Option (List ℕ) → Option (List ℕ) → Option (List ℕ) → Option (List ℕ) → ℕ → Type 0
 AnswersConfigured of_file line known out out' err err' status = LacksFile line out out' err err' status
     ⊎ ((config : List ℕ) × (line.config ≡ None → config ≡ []) × AnswersLine of_file config line known out out' err err' status)
 
 -- what running a command line does: that; or memory gave out while the words were read
-abbrev pub RunsLine : Answering → Line → Option (List ℕ) → Option (List ℕ) → Option (List ℕ) → Option (List ℕ) → Option (List ℕ) → ℕ → Type 0
+abbrev pub RunsLine : OfFile → Line → Option (List ℕ) → Option (List ℕ) → Option (List ℕ) → Option (List ℕ) → Option (List ℕ) → ℕ → Type 0
 RunsLine of_file line known out out' err err' status = Answers (Err (Failed NoMemory)) out out' err err' status ⊎ AnswersConfigured of_file line known out out' err err' status
 
 -- the fault of the words is that they ask for help or for the version

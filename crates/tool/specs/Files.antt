@@ -25,8 +25,10 @@ use Rattle.opening.specs.Opened.{IsUnopened, Opens}
 use Rattle.report.specs.declared.refusal.Refusal.{Refusal}
 use Rattle.report.specs.declared.refusal.Refusal.TheVariants as refusal
 use Rattle.store_commands.specs.Telling.{IsTold}
+use Rattle.responder.specs.Answers as message
 use Rattle.pure_commands.specs.declared.stops.Stop.TheVariants.{Refused}
 use Rattle.tool.specs.Calls.{AnswersIn, Serves}
+use Rattle.tool.specs.Serving.{OfFile, Serving, ServesBy}
 use Rattle.pure_commands.specs.Stream.{Answers}
 
 module _ {S D : Type 0} {g : disk.Ghosts D} where
@@ -64,3 +66,15 @@ module _ {S : Type 0} {host : calls.Ghosts Host} (start : Ghosts S) (g : disk.Gh
       → Option (List ℕ) → Option (List ℕ) → Option (List ℕ) → Option (List ℕ) → ℕ → Type 0
   AnswersFile s c ask known out out' err err' status =
       AnswersTaken s c ask known out out' err err' status ⊎ AnswersUntaken s.store_dir out out' err err' status
+
+  -- it was taken up as the store of the directory, and each message is answered over its tables as the one before it left them
+  abbrev pub ServesTaken : Serving
+  ServesTaken s a known out out' err err' status = (t : Kept (FileStore (Modelled Host S host start) g)) × Opens (image_at start) s.store_dir t
+      × ServesBy (message.Answers over_files) a known out out' err err' (record { tables = t; settings = s }) status
+
+  -- one of both
+  abbrev pub ServesFile : Serving
+  ServesFile s a known out out' err err' status = ServesTaken s a known out out' err err' status ⊎ AnswersUntaken s.store_dir out out' err err' status
+
+  abbrev pub by_file : OfFile
+  by_file = record { answers = AnswersFile; serves = ServesFile }

@@ -1,5 +1,5 @@
 -- What `serve` does: the store is served over HTTP.
-use Rattle.std.specs.Prelude.{◌⊎◌, ℕ, List, Option, Some, None}
+use Rattle.std.specs.Prelude.{◌⊎◌, ℕ, List, Option, Some, None, Err}
 use Rattle.std.specs.Io.KnownBytes.{Keeps}
 use Rattle.clap.specs.Walk.{Text}
 use Rattle.httparse.specs.Grammar.{RequestHead}
@@ -7,13 +7,15 @@ use Rattle.world.specs.World.{no_world}
 use Rattle.policy.specs.Settings.{Settings}
 use Rattle.store.specs.Reply.{Failure as Lack, failed}
 use Rattle.wire.specs.Responses.{Replied}
-use Rattle.opening.specs.declared.refusing.Cause.{Cause}
 use Rattle.store_commands.specs.Telling.{IsTold}
-use Rattle.server.specs.Worlds.{AnswersFrom, AnswersSome}
+use Rattle.server.specs.Worlds.{AnswersFrom}
 use Rattle.server.specs.Ends.{ServesPort, ServesStreams}
+use Rattle.pure_commands.specs.declared.stops.Failure.TheVariants.{Memory}
+use Rattle.pure_commands.specs.declared.stops.Stop.TheVariants.{Failed}
+use Rattle.pure_commands.specs.Stream.{Answers}
 use Rattle.command_line.specs.declared.line.ServeArguments.{ServeArguments}
 use Rattle.command_line.specs.declared.line.ServeArguments.TheVariants.{Streams, Port}
-use Rattle.tool.specs.Files.{TellsCause}
+use Rattle.tool.specs.Callers.{Answering}
 
 -- on the two streams; or on a port, and then nothing goes to the streams
 abbrev pub ServesBy : {S : Type 0} → (S → RequestHead → List ℕ → Replied → S → Type 0) → ServeArguments → Option (List ℕ)
@@ -21,9 +23,21 @@ abbrev pub ServesBy : {S : Type 0} → (S → RequestHead → List ℕ → Repli
 ServesBy answers Streams known out out' err err' old status = ServesStreams answers known out out' err err' old status
 ServesBy answers (Port port n) known out out' err err' old status = Keeps out out' × ServesPort answers n err err' old status
 
--- by the file of the store. In a store in memory there is nothing yet; or there was no store to be had, and the cause is told.
-abbrev pub ServesIn : Option Text → Settings → ServeArguments → Option (List ℕ) → Option (List ℕ) → Option (List ℕ) → Option (List ℕ) → Option (List ℕ) → ℕ → Type 0
-ServesIn None s a known out out' err err' status =
+-- how a store is served, under settings
+abbrev pub Serving : Type 1
+Serving = Settings → ServeArguments → Option (List ℕ) → Option (List ℕ) → Option (List ℕ) → Option (List ℕ) → Option (List ℕ) → ℕ → Type 0
+
+-- what a caller is answered by the store of a file, and how that is served, which depends on what it held
+pub record OfFile : Type 1 where
+  pub answers : Answering
+  pub serves : Serving
+
+-- in a store in memory there is nothing yet; or there was no store to be had
+abbrev pub ServesNew : Serving
+ServesNew s a known out out' err err' status =
     ServesBy (AnswersFrom s) a known out out' err err' no_world status ⊎ ((f : Lack) × IsTold s.store_dir (failed f) out out' err err' status)
-ServesIn (Some file) s a known out out' err err' status =
-    ServesBy (AnswersSome s) a known out out' err err' tt status ⊎ ((cause : Cause) × TellsCause s.store_dir cause out out' err err' status)
+
+-- the store of the file, if one is named, which is served so; or memory gave out before
+abbrev pub ServesIn : Serving → Option Text → Serving
+ServesIn of_file None s a known out out' err err' status = ServesNew s a known out out' err err' status
+ServesIn of_file (Some file) s a known out out' err err' status = Answers (Err (Failed Memory)) out out' err err' status ⊎ of_file s a known out out' err err' status

@@ -1,7 +1,10 @@
 //! What a command line answers, by the text of its configuration.
 ghost use Rattle.std.specs.Prelude.{◌≡◌, None, false};
-ghost use Rattle.tool.specs.Answer.{AnswersAlone, AnswersLine};
-ghost use Rattle.tool.specs.Files.{AnswersFile};
+ghost use Rattle.policy.specs.Toml.{config_of};
+ghost use Rattle.pure_commands.specs.Archive.{ls_answer};
+ghost use Rattle.pure_commands.specs.Stream.{AnswersTo};
+ghost use Rattle.tool.specs.Answer.{AnswersAlone, AnswersLine, AnswersSourcePath, AnswersTextPath, AnswersUnder};
+ghost use Rattle.tool.specs.Files.{ServesFile, by_file};
 ghost use Rattle.pure_commands.specs.Archive.{max_front};
 ghost use Rattle.command_line.specs.Asked as asked;
 ghost use Rattle.command_line.specs.Asked.{optional_text};
@@ -12,7 +15,7 @@ ghost use Rattle.streams.specs.Reads.{TakesAtMost};
 use crate::calls::call;
 use crate::requests::is_asked;
 use crate::serve::serve;
-use command_line::{CommandLine, Task};
+use command_line::{CommandLine, ObjectArguments, Task};
 use policy::store_dir;
 use pure_commands::{ls, say, settings, source_path, text_path, who};
 use sqlite::{FileFrom, Start};
@@ -29,7 +32,8 @@ fn ls_under<R: Read, W: Write, E: Write>(
     output: &mut W,
     errors: &mut E,
 ) -> u8
-    ensures answer { AnswersAlone config.now None None None asked.ls (R.remaining input.old) (W.contents output.old) (W.contents output.new) (E.contents errors.old) (E.contents errors.new) result }
+    ensures answer { AnswersUnder (config_of config.now) (λ s. AnswersTo None ls_answer (R.remaining input.old) (W.contents output.old) (W.contents output.new) (E.contents errors.old) (E.contents errors.new) result)
+        (W.contents output.old) (W.contents output.new) (E.contents errors.old) (E.contents errors.new) result }
     ensures reads { TakesAtMost max_front (R.remaining input.old) (R.remaining input.new) }
 {
     if let Err(stop) = settings(alloc, config) {
@@ -38,9 +42,52 @@ fn ls_under<R: Read, W: Write, E: Write>(
     ls(alloc, input, output, errors)
 }
 
+/// Answers `text-path`, by the text of the configuration.
+fn text_path_under<R: Read, W: Write, E: Write>(
+    alloc: Global,
+    config: &[u8],
+    object: &ObjectArguments<'_>,
+    input: &mut R,
+    output: &mut W,
+    errors: &mut E,
+) -> u8
+    ensures answer { AnswersTextPath config.now (asked.object_view object.now) (R.remaining input.old) (W.contents output.old) (W.contents output.new) (E.contents errors.old) (E.contents errors.new) result }
+    ensures reads { TakesAtMost max_front (R.remaining input.old) (R.remaining input.new) }
+{
+    match settings(alloc, config) {
+        Ok(config) => {
+            let (dir, references) = (store_dir(&config), object.references.as_slice());
+            text_path(alloc, dir, object.name, references, input, output, errors)
+        }
+        Err(stop) => say(stop, errors),
+    }
+}
+
+/// Answers `source-path`, by the text of the configuration.
+fn source_path_under<R: Read, W: Write, E: Write>(
+    alloc: Global,
+    config: &[u8],
+    object: &ObjectArguments<'_>,
+    input: &mut R,
+    output: &mut W,
+    errors: &mut E,
+) -> u8
+    ensures answer { AnswersSourcePath config.now (asked.object_view object.now) (R.remaining input.old) (W.contents output.old) (W.contents output.new) (E.contents errors.old) (E.contents errors.new) result }
+    ensures reads { TakesAtMost max_front (R.remaining input.old) (R.remaining input.new) }
+{
+    match settings(alloc, config) {
+        Ok(config) => {
+            let (dir, references) = (store_dir(&config), object.references.as_slice());
+            source_path(alloc, dir, object.name, references, input, output, errors)
+        }
+        Err(stop) => say(stop, errors),
+    }
+}
+
 /// Answers a command line of a subcommand that asks nothing of a store itself.
-fn answer_alone<R: Read, W: Write, E: Write>(
+fn answer_alone<F: Start, R: Read, W: Write, E: Write>(
     rt: &HostRuntime,
+    start: F,
     config: &[u8],
     line: &CommandLine<'_>,
     input: &mut R,
@@ -48,28 +95,18 @@ fn answer_alone<R: Read, W: Write, E: Write>(
     errors: &mut E,
 ) -> u8
     requires { asks (asked.asked_view line.now.task) ≡ None }
-    ensures answer { AnswersAlone config.now (optional_text line.now.db) (optional_text line.now.user) (optional_text line.now.group) (asked.asked_view line.now.task) (R.remaining input.old) (W.contents output.old) (W.contents output.new) (E.contents errors.old) (E.contents errors.new) result }
+    ensures answer { AnswersAlone (ServesFile F.Start ⟦<FileFrom<F> as Disk>⟧) config.now (optional_text line.now.db) (optional_text line.now.user) (optional_text line.now.group) (asked.asked_view line.now.task) (R.remaining input.old) (W.contents output.old) (W.contents output.new) (E.contents errors.old) (E.contents errors.new) result }
     ensures reads { reads_all (asked.asked_view line.now.task) ≡ false → TakesAtMost max_front (R.remaining input.old) (R.remaining input.new) }
 {
     let alloc = rt.alloc();
     match &line.task {
         Task::Who => who(alloc, config, line.user, line.group, output),
         Task::Ls => ls_under(alloc, config, input, output, errors),
-        Task::TextPath(object) => match settings(alloc, config) {
-            Ok(config) => {
-                let (dir, references) = (store_dir(&config), object.references.as_slice());
-                text_path(alloc, dir, object.name, references, input, output, errors)
-            }
-            Err(stop) => say(stop, errors),
-        },
-        Task::SourcePath(object) => match settings(alloc, config) {
-            Ok(config) => {
-                let (dir, references) = (store_dir(&config), object.references.as_slice());
-                source_path(alloc, dir, object.name, references, input, output, errors)
-            }
-            Err(stop) => say(stop, errors),
-        },
-        Task::Serve(serving) => serve(rt, config, line.db, *serving, input, output, errors),
+        Task::TextPath(object) => text_path_under(alloc, config, object, input, output, errors),
+        Task::SourcePath(object) => {
+            source_path_under(alloc, config, object, input, output, errors)
+        }
+        Task::Serve(serving) => serve(rt, start, config, line.db, *serving, input, output, errors),
         _ => unreachable!(),
     }
 }
@@ -90,11 +127,11 @@ pub fn answer<F: Start, R: Read, W: Write, E: Write>(
     output: &mut W,
     errors: &mut E,
 ) -> u8
-    ensures answer { AnswersLine (AnswersFile F.Start ⟦<FileFrom<F> as Disk>⟧) config.now (line_view line.now) (R.remaining input.old) (W.contents output.old) (W.contents output.new) (E.contents errors.old) (E.contents errors.new) result }
+    ensures answer { AnswersLine (by_file F.Start ⟦<FileFrom<F> as Disk>⟧) config.now (line_view line.now) (R.remaining input.old) (W.contents output.old) (W.contents output.new) (E.contents errors.old) (E.contents errors.new) result }
     ensures reads { reads_all (asked.asked_view line.now.task) ≡ false → TakesAtMost max_front (R.remaining input.old) (R.remaining input.new) }
 {
     if is_asked(&line.task) {
         return call(rt, start, config, line, input, output, errors);
     }
-    answer_alone(rt, config, line, input, output, errors)
+    answer_alone(rt, start, config, line, input, output, errors)
 }

@@ -2,7 +2,7 @@
 ghost use Rattle.std.specs.Prelude.{◌≡◌, ◌≢◌, ℕ, List, map, true, false};
 ghost use Rattle.std.specs.IoError.{error_kind};
 ghost use Rattle.tool.specs.Answer.{Explains, Helps, RefusesWords, RunsLine};
-ghost use Rattle.tool.specs.Files.{AnswersFile};
+ghost use Rattle.tool.specs.Files.{by_file};
 ghost use Rattle.pure_commands.specs.Archive.{max_front};
 ghost use Rattle.command_line.specs.Line.{IsLine, IsUsageFault, Line, line_view};
 ghost use Rattle.streams.specs.Reads.{TakesAtMost};
@@ -42,7 +42,7 @@ pub fn run<F: Start, S: AsStr, R: Read, W: Write, E: Write>(
     errors: &mut E,
 ) -> u8
     ensures line { (line : Line) → IsLine (map S.text words.now) line
-        → RunsLine (AnswersFile F.Start ⟦<FileFrom<F> as Disk>⟧) line (R.remaining input.old) (W.contents output.old) (W.contents output.new) (E.contents errors.old) (E.contents errors.new) result }
+        → RunsLine (by_file F.Start ⟦<FileFrom<F> as Disk>⟧) line (R.remaining input.old) (W.contents output.old) (W.contents output.new) (E.contents errors.old) (E.contents errors.new) result }
     ensures words { ¬ ((line : Line) × IsLine (map S.text words.now) line)
         → (fault : CommandError) × IsUsageFault (map S.text words.now) fault × Explains fault (W.contents output.old) (W.contents output.new) (E.contents errors.old) (E.contents errors.new) result }
     ensures reads { ((line : Line) → IsLine (map S.text words.now) line → reads_all line.asked ≡ false) → TakesAtMost max_front (R.remaining input.old) (R.remaining input.new) }
@@ -61,7 +61,7 @@ fn execute<F: Start, R: Read, W: Write, E: Write>(
     output: &mut W,
     errors: &mut E,
 ) -> u8
-    ensures answer { RunsLine (AnswersFile F.Start ⟦<FileFrom<F> as Disk>⟧) (line_view line.now) (R.remaining input.old) (W.contents output.old) (W.contents output.new) (E.contents errors.old) (E.contents errors.new) result }
+    ensures answer { RunsLine (by_file F.Start ⟦<FileFrom<F> as Disk>⟧) (line_view line.now) (R.remaining input.old) (W.contents output.old) (W.contents output.new) (E.contents errors.old) (E.contents errors.new) result }
     ensures reads { reads_all (line_view line.now).asked ≡ false → TakesAtMost max_front (R.remaining input.old) (R.remaining input.new) }
 {
     match config_text(rt, line.config) {

@@ -6,16 +6,19 @@ ghost use Rattle.command_line.specs.Asked.{optional_text};
 ghost use Rattle.policy.specs.Toml.{config_of};
 ghost use Rattle.world.specs.World.{World};
 ghost use Rattle.tables.specs.Kept.{Tells};
-ghost use Rattle.server.specs.Worlds.{AnswersFrom, AnswersSome};
+ghost use Rattle.responder.specs.Answers as message;
+ghost use Rattle.server.specs.Worlds.{AnswersFrom};
 ghost use Rattle.tool.specs.Answer.{AnswersUnder};
-ghost use Rattle.tool.specs.Serving.{ServesBy, ServesIn};
+ghost use Rattle.tool.specs.Files.{ServesFile};
+ghost use Rattle.tool.specs.Serving.{ServesBy, ServesNew, ServesIn};
 
 use crate::files::{cause_of, refuse_file};
 use command_line::ServeArguments;
 use policy::{Config, store_dir};
 use pure_commands::{say, settings};
 use server::{serve_port, serve_streams};
-use sqlite::{Alter, Unknown};
+use sqlite::{Alter, FileFrom, Start};
+use sqlite_disk::Disk;
 use std::io::{Read, Write};
 use std::rt::HostRuntime;
 use store_commands::tell;
@@ -35,7 +38,7 @@ fn serve_over<S: Alter + Drop, R: Read, W: Write, E: Write>(
     requires { tables.dir ≡ config.store_dir }
     ensures worlds { ((h : Held S) → HasCleanDisk (state S.Store h)) → (w : World) → Tells S.Store tables w
         → ServesBy (AnswersFrom config) arguments (R.remaining input.old) (W.contents output.old) (W.contents output.new) (E.contents errors.old) (E.contents errors.new) w result }
-    ensures replies { ServesBy (AnswersSome config) arguments (R.remaining input.old) (W.contents output.old) (W.contents output.new) (E.contents errors.old) (E.contents errors.new) tt result }
+    ensures served { ServesBy (message.Answers S.Store) arguments (R.remaining input.old) (W.contents output.old) (W.contents output.new) (E.contents errors.old) (E.contents errors.new) (record { tables = tables; settings = config }) result }
 {
     match arguments {
         ServeArguments::Streams => {
@@ -56,7 +59,7 @@ fn serve_in_memory<R: Read, W: Write, E: Write>(
     output: &mut W,
     errors: &mut E,
 ) -> u8
-    ensures { ServesIn None config arguments (R.remaining input.old) (W.contents output.old) (W.contents output.new) (E.contents errors.old) (E.contents errors.new) result }
+    ensures { ServesNew config arguments (R.remaining input.old) (W.contents output.old) (W.contents output.new) (E.contents errors.old) (E.contents errors.new) result }
 {
     match Tables::open_in_memory(rt.alloc(), store_dir(&config)) {
         Ok(tables) => serve_over(rt, config, tables, arguments, input, output, errors),
@@ -67,9 +70,10 @@ fn serve_in_memory<R: Read, W: Write, E: Write>(
     }
 }
 
-/// Serves the store of the database file at a path, which is made where it isn't there.
-fn serve_in_file<R: Read, W: Write, E: Write>(
+/// Serves the store of the database file at a path, which is made where it isn't there. `start` stands for what the file held.
+fn serve_in_file<F: Start, R: Read, W: Write, E: Write>(
     rt: &HostRuntime,
+    start: F,
     path: &str,
     config: Config,
     arguments: ServeArguments,
@@ -77,9 +81,9 @@ fn serve_in_file<R: Read, W: Write, E: Write>(
     output: &mut W,
     errors: &mut E,
 ) -> u8
-    ensures { ServesIn (Some path.now) config arguments (R.remaining input.old) (W.contents output.old) (W.contents output.new) (E.contents errors.old) (E.contents errors.new) result }
+    ensures { ServesFile F.Start ⟦<FileFrom<F> as Disk>⟧ config arguments (R.remaining input.old) (W.contents output.old) (W.contents output.new) (E.contents errors.old) (E.contents errors.new) result }
 {
-    match opening::open(rt, path, store_dir(&config), Unknown) {
+    match opening::open(rt, path, store_dir(&config), start) {
         Ok(tables) => serve_over(rt, config, tables, arguments, input, output, errors),
         Err(unopened) => {
             let dir = store_dir(&config);
@@ -89,8 +93,9 @@ fn serve_in_file<R: Read, W: Write, E: Write>(
 }
 
 /// Serves the store of a file, or one in memory where none is named.
-fn serve_in<R: Read, W: Write, E: Write>(
+fn serve_in<F: Start, R: Read, W: Write, E: Write>(
     rt: &HostRuntime,
+    start: F,
     db: Option<&str>,
     config: Config,
     arguments: ServeArguments,
@@ -98,17 +103,18 @@ fn serve_in<R: Read, W: Write, E: Write>(
     output: &mut W,
     errors: &mut E,
 ) -> u8
-    ensures { ServesIn (optional_text db.entry) config arguments (R.remaining input.old) (W.contents output.old) (W.contents output.new) (E.contents errors.old) (E.contents errors.new) result }
+    ensures { ServesIn (ServesFile F.Start ⟦<FileFrom<F> as Disk>⟧) (optional_text db.entry) config arguments (R.remaining input.old) (W.contents output.old) (W.contents output.new) (E.contents errors.old) (E.contents errors.new) result }
 {
     match db {
-        Some(path) => serve_in_file(rt, path, config, arguments, input, output, errors),
+        Some(path) => serve_in_file(rt, start, path, config, arguments, input, output, errors),
         None => serve_in_memory(rt, config, arguments, input, output, errors),
     }
 }
 
 /// Serves a store, by the text of the configuration.
-pub(crate) fn serve<R: Read, W: Write, E: Write>(
+pub(crate) fn serve<F: Start, R: Read, W: Write, E: Write>(
     rt: &HostRuntime,
+    start: F,
     config: &[u8],
     db: Option<&str>,
     arguments: ServeArguments,
@@ -116,11 +122,11 @@ pub(crate) fn serve<R: Read, W: Write, E: Write>(
     output: &mut W,
     errors: &mut E,
 ) -> u8
-    ensures { AnswersUnder (config_of config.now) (λ s. ServesIn (optional_text db.entry) s arguments (R.remaining input.old) (W.contents output.old) (W.contents output.new) (E.contents errors.old) (E.contents errors.new) result)
+    ensures { AnswersUnder (config_of config.now) (λ s. ServesIn (ServesFile F.Start ⟦<FileFrom<F> as Disk>⟧) (optional_text db.entry) s arguments (R.remaining input.old) (W.contents output.old) (W.contents output.new) (E.contents errors.old) (E.contents errors.new) result)
         (W.contents output.old) (W.contents output.new) (E.contents errors.old) (E.contents errors.new) result }
 {
     match settings(rt.alloc(), config) {
-        Ok(config) => serve_in(rt, db, config, arguments, input, output, errors),
+        Ok(config) => serve_in(rt, start, db, config, arguments, input, output, errors),
         Err(stop) => say(stop, errors),
     }
 }

@@ -13,9 +13,9 @@ returns-in-Ok g c =
     let out' = g.W.Write.contents c.serve_in.new.output in
     let err = g.E.Write.contents c.args.errors.now in
     let err' = g.E.Write.contents c.serve_in.new.errors in
-    under (config_of c.args.config.now) c.in-Ok.config (λ s. ServesIn (optional_text c.args.db) s c.args.arguments known out out' err err' c.serve_in.result) out out' err err' c.serve_in.result
+    under (config_of c.args.config.now) c.in-Ok.config (λ s. ServesIn _ (optional_text c.args.db) s c.args.arguments known out out' err err' c.serve_in.result) out out' err err' c.serve_in.result
     c.in-Ok.ensures.ok c.serve_in.ensures
 
 pub returns-in-Err : goal.returns-in-Err
 returns-in-Err g c = stopped_under _ _ _ _ _ _ _ c.in-Err.ensures.err c.say.ensures
-    (λ s memory. serves_lacking _ s c.args.arguments (g.R.Read.remaining c.args.input.now) _ _ _ _ memory)
+    (λ s memory. serves_lacking _ _ s c.args.arguments (g.R.Read.remaining c.args.input.now) _ _ _ _ memory)

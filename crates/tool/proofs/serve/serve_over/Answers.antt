@@ -3,3 +3,6 @@ use Rattle.tool.proofs.serve.serve_over.Goals as goal
 
 pub returns-in-Port-clause-worlds : goal.returns-in-Port-clause-worlds
 returns-in-Port-clause-worlds g c = λ clean w told. rw c.in-Port.is (Keeps-refl (g.W.Write.contents c.args.output.now), c.serve_port.ensures.worlds clean w told)
+
+pub returns-in-Port-clause-served : goal.returns-in-Port-clause-served
+returns-in-Port-clause-served g c = rw c.in-Port.is (Keeps-refl (g.W.Write.contents c.args.output.now), c.serve_port.ensures.served)

@@ -1,0 +1,21 @@
+use Rattle.std.proofs.Common.{List, ℕ, inl, inr, subst}
+use Rattle.sqlite_wal.specs.Files.{image_at}
+use Rattle.opening.specs.Opened.{IsUnopened, Opens}
+use Rattle.tool.specs.Files.{TellsCause}
+use Rattle.tool.proofs.serve.serve_in_file.Goals as goal
+
+pub returns-in-Ok : goal.returns-in-Ok
+returns-in-Ok g c =
+    inl (c.in-Ok.tables, subst (λ (d : List ℕ). Opens (image_at g.F.Start) d c.in-Ok.tables) c.store_dir.ensures c.in-Ok.ensures.took, c.serve_over.ensures.served)
+
+pub returns-in-Err : goal.returns-in-Err
+returns-in-Err g c =
+    let out = g.W.Write.contents c.args.output.now in
+    let out' = g.W.Write.contents c.refuse_file.new.output in
+    let err = g.E.Write.contents c.args.errors.now in
+    let err' = g.E.Write.contents c.refuse_file.new.errors in
+    inr (
+      c.in-Err.unopened,
+      subst (λ (d : List ℕ). IsUnopened (image_at g.F.Start) d c.in-Err.unopened) c.store_dir.ensures c.in-Err.ensures.cause,
+      subst (λ cause. TellsCause c.args.config.store_dir cause out out' err err' c.refuse_file.result) c.cause_of.ensures c.refuse_file.ensures,
+    )
