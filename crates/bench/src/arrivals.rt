@@ -21,7 +21,7 @@ const NEAR: usize = 100;
 pub fn example(rt: &HostRuntime) -> io::Result<()> {
     let contents = vec![in rt.alloc(); b'a'; 100_000]?;
     let arrived = Intake::of_text(rt.alloc(), &contents)?.finish()?;
-    let size = arrived.facts.nar_size;
+    let size = arrived.pieces.len();
     println!(rt;
         "a text whose archive has {size} bytes in {} pieces",
         arrived.pieces.count()

@@ -1,12 +1,10 @@
 -- Bytes that are hashed piece by piece.
-use Rattle.std.proofs.Common.{◌≡◌, ℕ, ◌+◌, ◌*◌, ◌/◌, ◌<◌, ◌≤◌, List, ◌++◌, length, take, drop, take_all, ap, sym, subst, ◌∙◌, arith}
+use Rattle.std.proofs.Common.{◌≡◌, ℕ, ◌+◌, ◌*◌, ◌≤◌, List, ◌++◌, length, take, take_all, ap, sym, subst, ◌∙◌, arith}
 use Rattle.std.proofs.Math.Seq.{take-add}
 use Rattle.std.proofs.lemmas.List.{take-append-le, take-take}
+use Rattle.sha2.specs.declared.Sha256.{Sha256}
 use Rattle.sha2.specs.Hashers.{Holds256}
 use Rattle.pieces.specs.Cut.{piece_of, count_of}
-use Rattle.intake.specs.declared.digests.Digests.{Digests}
-use Rattle.intake.specs.Contents.{contents_so_far}
-use Rattle.intake.specs.Digests.{HasHashed}
 
 -- the pieces up to a place, and the one there
 pub one_more : (bytes : List ℕ) (i : ℕ) (piece : List ℕ) → piece ≡ piece_of i bytes → take (65536 * i) bytes ++ piece ≡ take (65536 * (i + 1)) bytes
@@ -21,13 +19,8 @@ unfolding piece_of
 first_of_some bytes i first piece is e = is ∙ sym (ap (take 65536) (one_more bytes i piece e) ∙ take-take 65536 (65536 * (i + 1)) bytes (omega arith))
 
 -- what comes behind the pieces that are hashed changes nothing
-pub with_more : (d : Digests) (n : ℕ) (bytes piece : List ℕ) → 65536 * n ≤ length bytes → HasHashed d n bytes → HasHashed d n (bytes ++ piece)
-with_more d n bytes piece within has =
-    let same : take (65536 * n) bytes ≡ take (65536 * n) (bytes ++ piece) = sym (take-append-le (65536 * n) bytes piece within) in
-    record {
-      archive_held = subst (Holds256 d.archive) same has.archive_held;
-      contents_held = subst (λ t. Holds256 d.contents (contents_so_far t)) same has.contents_held;
-    }
+pub with_more : (hasher : Sha256) (n : ℕ) (bytes piece : List ℕ) → 65536 * n ≤ length bytes → Holds256 hasher (take (65536 * n) bytes) → Holds256 hasher (take (65536 * n) (bytes ++ piece))
+with_more hasher n bytes piece within has = subst (Holds256 hasher) (sym (take-append-le (65536 * n) bytes piece within)) has
 
 -- the pieces are all bytes
 pub all_pieces : (bytes : List ℕ) → take (65536 * count_of bytes) bytes ≡ bytes

@@ -1,3 +1,3 @@
 pub mod Contents
-pub mod Digests
 pub mod Arriving
+pub mod Told

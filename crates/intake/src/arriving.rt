@@ -7,10 +7,12 @@ ghost use Rattle.nar.specs.Tree.{IsBytes};
 ghost use Rattle.nar.specs.Checking.{HasBeenFed, HasFailed};
 ghost use Rattle.paths.specs.Facts.{facts_of};
 ghost use Rattle.intake.specs.Arriving.{HasTaken, fault_of};
+ghost use Rattle.intake.specs.Told.{IsTold};
 
-use crate::digests::{Digests, SIZE};
+use crate::digests::{SIZE, hash_pieces, plain_hash};
 use nar::{Checker, NarError, Pieces};
 use paths::Facts;
+use sha2::{Digest, Sha256};
 use std::alloc::{AllocError, Global};
 use std::marker::Model;
 
@@ -19,10 +21,24 @@ use std::marker::Model;
 pub struct Arrived {
     /// What is wrong with them as an archive, if anything is.
     pub fault: Option<NarError>,
-    /// Their digests and size.
-    pub facts: Facts,
+    /// Their SHA-256 digest.
+    pub nar_hash: [u8; 32],
     /// The bytes themselves.
     pub pieces: Pieces,
+}
+
+impl Arrived {
+    /// What is told of the bytes for a content address. Where they are the archive of a file that isn't executable, its
+    /// contents are hashed here: only the address of a text asks for them.
+    pub fn facts(&self) -> Facts
+        ensures { IsTold self.now → result ≡ facts_of self.now.pieces }
+    {
+        Facts {
+            nar_hash: self.nar_hash,
+            nar_size: self.pieces.len() as u64,
+            plain: plain_hash(self.fault, &self.pieces),
+        }
+    }
 }
 
 /// The bytes so far; contracts see them. Each is checked as it comes, hashed with its piece, and then only kept.
@@ -30,7 +46,7 @@ pub struct Arrived {
 pub struct Arriving {
     alloc: Global,
     checker: Checker,
-    digests: Digests,
+    hasher: Sha256,
     pieces: Pieces,
 }
 
@@ -42,7 +58,7 @@ impl Model for Arriving {
 
     ghost view = { λ a. a.pieces };
 
-    ghost invariant = { λ a. HasTaken a.checker a.digests a.pieces };
+    ghost invariant = { λ a. HasTaken a.checker a.hasher a.pieces };
 }
 
 /// Feeds a checker, of which only want of memory is told: it remembers a fault by itself.
@@ -70,17 +86,17 @@ fn fault_at_end(checker: Checker) -> Option<NarError>
 /// Takes the next piece: what was known of the pieces so far is known of all. Where memory is refused, the parts no longer agree.
 fn take_in(
     checker: &mut Checker,
-    digests: &mut Digests,
+    hasher: &mut Sha256,
     pieces: &mut Pieces,
     piece: &[u8],
 ) -> Result<(), AllocError>
     ensures pieces { OnOk result (pieces.new ≡ pieces.old ++ piece.now) }
-    ensures taken { OnOk result (HasTaken checker.old digests.old pieces.old → HasTaken checker.new digests.new pieces.new) }
+    ensures taken { OnOk result (HasTaken checker.old hasher.old pieces.old → HasTaken checker.new hasher.new pieces.new) }
 {
     let whole = pieces.len() / SIZE;
     pieces.push(piece)?;
     feed(checker, piece)?;
-    digests.hash(pieces, whole, pieces.len() / SIZE);
+    hash_pieces(hasher, pieces, whole, pieces.len() / SIZE);
     Ok(())
 }
 
@@ -92,7 +108,7 @@ impl Arriving {
         Arriving {
             alloc,
             checker: Checker::new(alloc),
-            digests: Digests::new(),
+            hasher: Sha256::new(),
             pieces: Pieces::new(alloc),
         }
     }
@@ -101,12 +117,7 @@ impl Arriving {
     pub fn push(&mut self, piece: &[u8]) -> Result<(), AllocError>
         ensures { OnOk result (self.new ≡ self.old ++ piece.now) }
     {
-        match take_in(
-            &mut self.checker,
-            &mut self.digests,
-            &mut self.pieces,
-            piece,
-        ) {
+        match take_in(&mut self.checker, &mut self.hasher, &mut self.pieces, piece) {
             Ok(()) => Ok(()),
             Err(refused) => {
                 *self = Arriving::new(self.alloc);
@@ -122,25 +133,21 @@ impl Arriving {
         let _len = self.pieces.len();
     }
 
-    /// What is told at the end. Of the contents it looks only at what isn't hashed yet.
+    /// What is told at the end. Of the bytes it looks only at what isn't hashed yet.
     pub fn finish(self) -> Arrived
         ensures pieces { result.pieces ≡ self }
-        ensures bytes { IsBytes result.pieces }
-        ensures facts { result.facts ≡ facts_of self }
-        ensures fault { result.fault ≡ fault_of (outcome_of self) }
+        ensures told { IsTold result }
     {
         let Arriving {
             checker,
-            mut digests,
+            mut hasher,
             pieces,
             ..
         } = self;
-        digests.hash(&pieces, pieces.len() / SIZE, pieces.count());
-        let fault = fault_at_end(checker);
-        let facts = digests.finish(&pieces, fault);
+        hash_pieces(&mut hasher, &pieces, pieces.len() / SIZE, pieces.count());
         Arrived {
-            fault,
-            facts,
+            fault: fault_at_end(checker),
+            nar_hash: hasher.finalize(),
             pieces,
         }
     }

@@ -1,22 +1,34 @@
-//! The digests of an archive that is held in pieces.
+//! The digests of an archive that is held in pieces, and of the contents of its file.
 
-ghost use Rattle.std.specs.Prelude.{◌≡◌, ◌<◌, ◌≤◌, ◌^◌, List, ℕ, length, take};
+ghost use Rattle.std.specs.Prelude.{◌≡◌, ◌<◌, ◌≤◌, ◌*◌, ◌^◌, length, take};
 ghost use Rattle.nar.specs.Outcome.{outcome_of};
 ghost use Rattle.nar.specs.Tree.{IsBytes};
 ghost use Rattle.sha2.specs.Hashers.{Holds256};
 ghost use Rattle.paths.specs.ContentAddress.{plain_contents};
-ghost use Rattle.paths.specs.Facts.{hash_of, facts_of};
+ghost use Rattle.paths.specs.Facts.{hash_of};
 ghost use Rattle.pieces.specs.Cut.{count_of};
 ghost use Rattle.intake.specs.Contents.{contents_so_far, hash_so_far};
 ghost use Rattle.intake.specs.Arriving.{fault_of};
 
 use crate::contents::{begins_plain, contents_in};
 use nar::{NarError, Pieces};
-use paths::Facts;
 use sha2::{Digest, Sha256};
 
 /// How many bytes each piece but the last has.
 pub const SIZE: usize = 65_536;
+
+/// Hashes the pieces from one place up to another. What is hashed are whole pieces, so that bytes which come a few at a
+/// time cost no more.
+pub fn hash_pieces(hasher: &mut Sha256, pieces: &Pieces, from: usize, to: usize)
+    requires order { from ≤ to }
+    requires within { to ≤ count_of pieces.now }
+    requires small { length pieces.now < 2 ^ 64 }
+    ensures { Holds256 hasher.old (take (65536 * from) pieces.now) → Holds256 hasher.new (take (65536 * to) pieces.now) }
+{
+    'pieces: for i in from..to {
+        hasher.update(pieces.piece(i));
+    }
+}
 
 /// The first piece, or no bytes.
 fn first_of(pieces: &Pieces) -> &[u8]
@@ -28,70 +40,36 @@ fn first_of(pieces: &Pieces) -> &[u8]
     pieces.piece(0)
 }
 
-/// The digest of the contents, where the first piece begins as that of a file that isn't executable.
-fn hash_if_plain(first: &[u8], contents: Sha256) -> Option<[u8; 32]>
-    ensures { (all : List ℕ) → first.now ≡ take 65536 all → Holds256 contents (contents_so_far all) → result ≡ hash_so_far all }
+/// The running digest of the contents, once all of them are hashed.
+fn hash_contents(pieces: &Pieces) -> Sha256
+    requires small { length pieces.now < 2 ^ 64 }
+    ensures { Holds256 result (contents_so_far pieces.now) }
 {
-    if begins_plain(first) {
-        return Some(contents.finalize());
+    let mut hasher = Sha256::new();
+    'pieces: for i in 0..pieces.count() {
+        hasher.update(contents_in(pieces.piece(0), SIZE * i, pieces.piece(i)));
     }
-    None
+    hasher
 }
 
-/// The digest of the contents, where all bytes are the archive of a file that isn't executable.
-fn plain_hash(fault: Option<NarError>, first: &[u8], contents: Sha256) -> Option<[u8; 32]>
-    ensures { (all : List ℕ) → IsBytes all → fault ≡ fault_of (outcome_of all) → first.now ≡ take 65536 all → Holds256 contents (contents_so_far all) → result ≡ hash_of (plain_contents (outcome_of all)) }
+/// The digest of the contents, where the bytes begin as the archive of a file that isn't executable.
+fn hash_if_plain(pieces: &Pieces) -> Option<[u8; 32]>
+    requires small { length pieces.now < 2 ^ 64 }
+    ensures { result ≡ hash_so_far pieces.now }
+{
+    if !begins_plain(first_of(pieces)) {
+        return None;
+    }
+    Some(hash_contents(pieces).finalize())
+}
+
+/// The digest of the contents, where the bytes, whose fault is known, are the archive of a file that isn't executable.
+pub fn plain_hash(fault: Option<NarError>, pieces: &Pieces) -> Option<[u8; 32]>
+    requires small { length pieces.now < 2 ^ 64 }
+    ensures { IsBytes pieces.now → fault ≡ fault_of (outcome_of pieces.now) → result ≡ hash_of (plain_contents (outcome_of pieces.now)) }
 {
     match fault {
         Some(_) => None,
-        None => hash_if_plain(first, contents),
-    }
-}
-
-/// The running digests of an archive, and of the contents where it is that of a file that isn't executable. They are
-/// taken of whole pieces, so that bytes which come a few at a time cost no more.
-#[derive(Drop)]
-pub struct Digests {
-    archive: Sha256,
-    contents: Sha256,
-}
-
-impl Digests {
-    ghost use Rattle.intake.specs.Digests.{HasHashed};
-
-    /// Of no piece, whatever will come.
-    pub fn new() -> Digests
-        ensures { (bytes : List ℕ) → HasHashed result 0 bytes }
-    {
-        Digests {
-            archive: Sha256::new(),
-            contents: Sha256::new(),
-        }
-    }
-
-    /// Hashes the pieces from one place up to another.
-    pub fn hash(&mut self, pieces: &Pieces, from: usize, to: usize)
-        requires order { from ≤ to }
-        requires within { to ≤ count_of pieces.now }
-        requires small { length pieces.now < 2 ^ 64 }
-        ensures { HasHashed self.old from pieces.now → HasHashed self.new to pieces.now }
-    {
-        'pieces: for i in from..to {
-            let piece = pieces.piece(i);
-            self.archive.update(piece);
-            self.contents
-                .update(contents_in(pieces.piece(0), SIZE * i, piece));
-        }
-    }
-
-    /// What is told of all bytes, once each piece is hashed, and their fault as an archive is known.
-    pub fn finish(self, pieces: &Pieces, fault: Option<NarError>) -> Facts
-        ensures { HasHashed self (count_of pieces.now) pieces.now → IsBytes pieces.now → fault ≡ fault_of (outcome_of pieces.now) → result ≡ facts_of pieces.now }
-    {
-        Facts {
-            nar_hash: self.archive.finalize(),
-            nar_size: pieces.len() as u64,
-            plain: plain_hash(fault, first_of(pieces), self.contents),
-        }
+        None => hash_if_plain(pieces),
     }
 }

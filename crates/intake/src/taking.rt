@@ -1,10 +1,9 @@
 //! An archive on its way in.
 
 ghost use Rattle.std.specs.Prelude.{◌≡◌, List, ℕ, [], Some, None, IsSome, IfOk, OnOk, OnErr};
-ghost use Rattle.nar.specs.Outcome.{outcome_of};
 ghost use Rattle.nar.specs.Tree.{IsBytes};
-ghost use Rattle.paths.specs.Facts.{facts_of};
-ghost use Rattle.intake.specs.Arriving.{appended, bytes_in, fault_of};
+ghost use Rattle.intake.specs.Arriving.{appended, bytes_in};
+ghost use Rattle.intake.specs.Told.{IsTold};
 
 use crate::arriving::{Arrived, Arriving};
 use std::alloc::{AllocError, Global};
@@ -78,16 +77,14 @@ impl Intake {
         }
     }
 
-    /// The end of the archive: its fault or none, what is told of it, and its bytes. It takes no memory.
+    /// The end of the archive: its fault or none, its digest, and its bytes. It takes no memory.
     ///
     /// # Errors
     ///
     /// Memory was refused by an earlier piece.
     pub fn finish(self) -> Result<Arrived, AllocError>
         ensures pieces { IfOk result (λ a. self ≡ Some a.pieces) }
-        ensures bytes { IfOk result (λ a. IsBytes a.pieces) }
-        ensures facts { IfOk result (λ a. a.facts ≡ facts_of a.pieces) }
-        ensures fault { IfOk result (λ a. a.fault ≡ fault_of (outcome_of a.pieces)) }
+        ensures told { IfOk result IsTold }
         ensures spent { OnErr result (self ≡ None) }
     {
         let Some(arriving) = self.so_far else {

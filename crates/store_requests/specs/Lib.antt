@@ -1,4 +1,3 @@
-pub mod Arrived
 pub mod View
 pub mod Told
 pub mod Tested

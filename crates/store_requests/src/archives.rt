@@ -14,6 +14,7 @@ ghost use Rattle.nar.specs.declared.error.NarError.TheVariants.{TooLarge as too_
 use crate::replies::{Refusal, Stop};
 use intake::Intake;
 use nar::{NarError, Node, Pieces};
+use sha2::{Digest, Sha256};
 use std::alloc::{AllocError, Global};
 
 /// A regular file that isn't executable.
@@ -49,23 +50,20 @@ pub(crate) struct TextArchive {
     pub(crate) contents_hash: [u8; 32],
 }
 
-/// Makes the archive of a text that is small enough for one.
+/// Makes the archive of a text.
 ///
 /// # Errors
 ///
 /// Memory was refused.
 pub(crate) fn text_archive(alloc: Global, contents: &[u8]) -> Result<TextArchive, AllocError>
-    requires fits { text_archive_size contents.now ≤ limit }
     ensures pieces { IfOk result (λ a. a.pieces ≡ adds.text_archive contents.now) }
     ensures hash { IfOk result (λ a. a.hash ≡ sha256 a.pieces) }
     ensures contents { IfOk result (λ a. a.contents_hash ≡ sha256 contents.now) }
 {
     let nar = Intake::of_text(alloc, contents)?;
     let arrived = nar.finish()?;
-    let Some(contents_hash) = arrived.facts.plain else {
-        unreachable!()
-    };
-    let hash = arrived.facts.nar_hash;
+    let hash = arrived.nar_hash;
+    let contents_hash = Sha256::digest(contents);
     Ok(TextArchive {
         pieces: arrived.pieces,
         hash,

@@ -6,7 +6,7 @@ ghost use Rattle.store.specs.Tests.{archive_fault};
 ghost use Rattle.table_statements.specs.declared.failure.Failure.TheVariants.{Memory as memory};
 ghost use Rattle.store_requests.specs.declared.replies.Stop.TheVariants.{Failed as failed};
 ghost use Rattle.intake.specs.Arriving.{bytes_in};
-ghost use Rattle.store_requests.specs.Arrived.{IsTold};
+ghost use Rattle.intake.specs.Told.{IsTold};
 ghost use Rattle.store_requests.specs.Tested.{Tested};
 
 use crate::replies::{Refusal, Stop};

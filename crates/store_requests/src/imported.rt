@@ -1,8 +1,9 @@
 //! Tests of what is handed in with an object.
 
-ghost use Rattle.std.specs.Prelude.{◌≡◌, ◌||◌, Some, None, IfOk, IfErr, IsTrue, not, is_none};
+ghost use Rattle.std.specs.Prelude.{◌≡◌, ◌||◌, Some, None, IfOk, IfErr, IsTrue, not, is_none, length};
 ghost use Rattle.sha2.specs.Sha256.{sha256};
 ghost use Rattle.paths.specs.StorePath.{is_base_name};
+ghost use Rattle.paths.specs.Facts.{verifies_by};
 ghost use Rattle.live.specs.Graph.{holds as is_held, same};
 ghost use Rattle.world.specs.World.{Path as PathOf};
 ghost use Rattle.store.specs.Adds.{added_import};
@@ -12,7 +13,7 @@ ghost use Rattle.store.specs.Tests.{unless};
 ghost use Rattle.store_requests.specs.Tested.{Tested};
 ghost use Rattle.table_statements.specs.declared.failure.Failure.TheVariants.{Memory as memory};
 ghost use Rattle.store_requests.specs.declared.replies.Stop.TheVariants.{Failed as failed};
-ghost use Rattle.store_requests.specs.Arrived.{IsTold};
+ghost use Rattle.intake.specs.Told.{IsTold};
 ghost use Rattle.store_requests.specs.View.{delivered_view, import_view};
 
 use crate::arrivals::arrived;
@@ -20,7 +21,7 @@ use crate::references::are_others;
 use crate::replies::{Refusal, Stop};
 use crate::requests::Imported;
 use intake::Arrived;
-use paths::{Ca, StoreDir, StorePath, VerifyError};
+use paths::{Ca, Facts, StoreDir, StorePath, VerifyError};
 use std::alloc::Global;
 use table_statements::failure::Failure;
 
@@ -86,7 +87,7 @@ impl Delivered {
         requires { IsTold self.now.nar }
         ensures { Tested result (unless (same (sha256 (delivered_view self.now).nar) (delivered_view self.now).nar_hash) replied.nar_hash_mismatch) }
     {
-        if !is_same(&self.nar.facts.nar_hash, &self.nar_hash) {
+        if !is_same(&self.nar.nar_hash, &self.nar_hash) {
             return Err(Stop::Refused(Refusal::NarHashMismatch));
         }
         Ok(())
@@ -102,7 +103,8 @@ impl Delivered {
         are_others(&self.refs, &self.path)
     }
 
-    /// Tests that its content address verifies, if it has one.
+    /// Tests that its content address verifies, if it has one. The address of a source asks for the archive alone, so its
+    /// contents are hashed only where that didn't verify it.
     pub(crate) fn is_verified(&self, alloc: Global, dir: &StoreDir) -> Result<(), Stop>
         requires { IsTold self.now.nar }
         ensures { Tested result (unless (tests.is_verified dir.now (delivered_view self.now).path (added_import dir.now (delivered_view self.now)).object (delivered_view self.now).ca) replied.ca_mismatch) }
@@ -110,10 +112,35 @@ impl Delivered {
         let Some(ca) = &self.ca else {
             return Ok(());
         };
-        match ca.verify_facts(alloc, dir, &self.path, &self.refs, &self.nar.facts) {
-            Ok(()) => Ok(()),
+        if self.fits(alloc, dir, ca, &self.archive_facts())? {
+            return Ok(());
+        }
+        if !self.fits(alloc, dir, ca, &self.nar.facts())? {
+            return Err(Stop::Refused(Refusal::CaMismatch));
+        }
+        Ok(())
+    }
+
+    /// What is told of the archive, without its contents.
+    fn archive_facts(&self) -> Facts
+        ensures { result ≡ record { nar_hash = self.now.nar.nar_hash; nar_size = length self.now.nar.pieces; plain = None } }
+    {
+        Facts {
+            nar_hash: self.nar.nar_hash,
+            nar_size: self.nar.pieces.len() as u64,
+            plain: None,
+        }
+    }
+
+    /// Whether an address is that of the object, by what is told of its archive.
+    fn fits(&self, alloc: Global, dir: &StoreDir, ca: &Ca, facts: &Facts) -> Result<bool, Stop>
+        ensures fits { IfOk result (λ fits. fits ≡ verifies_by ca.now dir.now (delivered_view self.now).path (delivered_view self.now).refs facts.now) }
+        ensures failed { IfErr result (λ stop. stop ≡ failed memory) }
+    {
+        match ca.verify_facts(alloc, dir, &self.path, &self.refs, facts) {
+            Ok(()) => Ok(true),
+            Err(VerifyError::CaMismatch) => Ok(false),
             Err(VerifyError::Memory) => Err(Stop::Failed(Failure::Memory)),
-            Err(VerifyError::CaMismatch) => Err(Stop::Refused(Refusal::CaMismatch)),
         }
     }
 }

@@ -12,7 +12,7 @@ ghost use Rattle.store_requests.specs.Tested.{Gives};
 ghost use Rattle.store_requests.specs.Parts.{added_view, outputs_view};
 ghost use Rattle.table_statements.specs.declared.failure.Failure.TheVariants.{Memory as memory};
 ghost use Rattle.store_requests.specs.declared.replies.Stop.TheVariants.{Failed as failed};
-ghost use Rattle.store_requests.specs.Arrived.{IsTold};
+ghost use Rattle.intake.specs.Told.{IsTold};
 ghost use Rattle.store_requests.specs.View.{delivered_view, import_view};
 
 use crate::arrivals::is_archive;
@@ -78,7 +78,7 @@ pub fn prepare_import(
     } = import;
     let Arrived {
         fault: _fault,
-        facts: _facts,
+        nar_hash: _told,
         pieces,
     } = nar;
     let object = summary(alloc, pieces.len(), nar_hash, refs, deriver, ca, outputs)?;

@@ -12,7 +12,7 @@ ghost use Rattle.store.specs.Tests.{first_failing, source_tests};
 ghost use Rattle.intake.specs.Arriving.{bytes_in};
 ghost use Rattle.table_statements.specs.declared.failure.Failure.TheVariants.{Memory as memory};
 ghost use Rattle.store_requests.specs.declared.replies.Stop.TheVariants.{Failed as failed};
-ghost use Rattle.store_requests.specs.Arrived.{IsTold};
+ghost use Rattle.intake.specs.Told.{IsTold};
 ghost use Rattle.store_requests.specs.Tested.{Gives};
 ghost use Rattle.store_requests.specs.Parts.{added_view, outputs_view};
 
@@ -65,15 +65,15 @@ pub fn prepare_source(
     ensures spent { nar ≡ None → result ≡ Err (failed memory) }
 {
     let nar = arrived(nar)?;
-    let path = source_path_of(alloc, dir, name, &refs, &nar.facts.nar_hash)?;
+    let path = source_path_of(alloc, dir, name, &refs, &nar.nar_hash)?;
     let outputs = examine_source(alloc, dir, index, &path, &refs, &nar)?;
     let Arrived {
         fault: _fault,
-        facts,
+        nar_hash,
         pieces,
     } = nar;
-    let ca = Some(Ca::new(Method::Source, facts.nar_hash));
-    let object = summary(alloc, pieces.len(), facts.nar_hash, refs, None, ca, outputs)?;
+    let ca = Some(Ca::new(Method::Source, nar_hash));
+    let object = summary(alloc, pieces.len(), nar_hash, refs, None, ca, outputs)?;
     Ok(Added {
         path,
         nar: pieces,

@@ -16,7 +16,8 @@ pub fn pushed(alloc: Global, bytes: &[u8], size: usize) -> Result<Arrived, Alloc
     intake.finish()
 }
 
-/// Prints the nanoseconds of one digest and of pushing the bytes in pieces of such a size, a line for each round.
+/// Prints the nanoseconds of one digest, of pushing the bytes in pieces of such a size, and of that and what is told of
+/// their contents; a line for each round.
 pub fn run(
     rt: &(impl Print + Clock + AllocGlobal),
     size: usize,
@@ -29,9 +30,11 @@ pub fn run(
         let alone = start.elapsed(rt)?.as_nanos();
         let start = Instant::now(rt)?;
         let arrived = pushed(rt.alloc(), bytes, size)?;
+        let came = start.elapsed(rt)?.as_nanos();
+        let facts = arrived.facts();
         let all = start.elapsed(rt)?.as_nanos();
-        if arrived.facts.nar_hash == digest {
-            println!(rt; "{alone} {all}")?;
+        if facts.nar_hash == digest {
+            println!(rt; "{alone} {came} {all}")?;
         } else {
             println!(rt; "another digest")?;
         }

@@ -59,7 +59,7 @@ fn is_as(expected: &Expected, arrived: &Arrived) -> Result<bool, AllocError> {
     Ok(
         bytes == expected.archive
             && arrived.fault == expected.fault
-            && arrived.facts == expected.facts,
+            && arrived.facts() == expected.facts,
     )
 }
 

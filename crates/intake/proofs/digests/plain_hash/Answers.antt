@@ -4,8 +4,9 @@ use Rattle.intake.proofs.Plain.{told_hash, told_none}
 use Rattle.intake.proofs.digests.plain_hash.Goals as goal
 
 pub returns-in-Some : goal.returns-in-Some
-returns-in-Some c = λ all are told is held. sym (told_none (outcome_of all) _ (sym told ∙ c.in-Some.is))
+returns-in-Some c = λ are told. sym (told_none (outcome_of c.args.pieces.now) _ (sym told ∙ c.in-Some.is))
 
 pub returns-in-None : goal.returns-in-None
-returns-in-None c = λ all are told is held.
-    c.hash_if_plain.ensures all is held ∙ sym (told_hash all are (outcome_of all) refl (sym told ∙ c.in-None.is))
+returns-in-None c = λ are told.
+    let bytes = c.args.pieces.now in
+    c.hash_if_plain.ensures ∙ sym (told_hash bytes are (outcome_of bytes) refl (sym told ∙ c.in-None.is))

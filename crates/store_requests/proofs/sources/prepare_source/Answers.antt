@@ -1,7 +1,6 @@
 use Rattle.std.proofs.Common.{◌≡◌, ℕ, List, None, Some, sym, ap, subst, ◌∙◌}
 use Rattle.nar.specs.Tree.{IsBytes}
 use Rattle.sha2.specs.Sha256.{sha256}
-use Rattle.paths.specs.declared.facts.Facts.{Facts}
 use Rattle.paths.specs.Path.{source_path}
 use Rattle.paths.specs.ContentAddress.{ContentAddress}
 use Rattle.paths.specs.declared.content_address.Method.TheVariants.{Source}
@@ -21,7 +20,7 @@ returns-clause-told c w is =
     let refs = c.args.refs.items in
     let nar = c.in_ok-nar.nar.pieces in
     let added : Added = record { path = c.in_ok-path.path; object = with_archive nar c.in_ok-object.object } in
-    let hash : c.in_ok-nar.nar.facts.nar_hash ≡ sha256 nar = ap (λ (f : Facts). f.nar_hash) c.in_ok-nar.ensures.told.facts in
+    let hash : c.in_ok-nar.nar.nar_hash ≡ sha256 nar = c.in_ok-nar.ensures.told.hash in
     let examined = c.in_ok-outputs.ensures w is in
     let path_is : c.in_ok-path.path ≡ source_path dir name refs nar =
     c.in_ok-path.ensures.value nar hash ∙ ap (λ (r : List (List ℕ)). source_path dir name r nar) c.deref.ensures.value in
@@ -41,4 +40,4 @@ returns-clause-told c w is =
     )
 
 pub returns-clause-hash : goal.returns-clause-hash
-returns-clause-hash c = ap (λ (o : Outlined). o.hash) c.in_ok-object.ensures ∙ ap (λ (f : Facts). f.nar_hash) c.in_ok-nar.ensures.told.facts
+returns-clause-hash c = ap (λ (o : Outlined). o.hash) c.in_ok-object.ensures ∙ c.in_ok-nar.ensures.told.hash

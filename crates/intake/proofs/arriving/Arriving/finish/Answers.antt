@@ -1,20 +1,16 @@
-use Rattle.std.proofs.Common.{◌≡◌, ◌/◌, length, ap, subst, sym, ◌∙◌}
-use Rattle.nar.specs.Outcome.{outcome_of}
-use Rattle.paths.specs.Facts.{facts_of}
-use Rattle.pieces.specs.Cut.{count_of}
-use Rattle.intake.specs.Arriving.{fault_of}
-use Rattle.intake.specs.Digests.{HasHashed}
+use Rattle.std.proofs.Common.{◌*◌, ◌/◌, take, subst, sym}
+use Rattle.sha2.specs.Hashers.{Holds256}
+use Rattle.intake.proofs.Hashing.{all_pieces}
 use Rattle.intake.proofs.arriving.Arriving.finish.Goals as goal
 
-pub returns-clause-facts : goal.returns-clause-facts
-returns-clause-facts c =
+pub returns-clause-told : goal.returns-clause-told
+returns-clause-told c =
     let bytes = c.self.inside.pieces in
     let has = c.self.invariant in
-    let fault = c.fault_at_end-fault.ensures bytes has.fed has.sound in
-    let before = subst (λ n. HasHashed c.self.inside.digests (n / 65536) bytes) (sym c.len.ensures) has.hashed in
-    let hashed = subst (λ n. HasHashed c.hash.new.self n bytes) c.count.ensures (c.hash.ensures before) in
-    c.finish-facts.ensures hashed has.fed.are_bytes fault ∙ ap facts_of c.self.view_is
-
-pub returns-clause-fault : goal.returns-clause-fault
-returns-clause-fault c =
-    c.fault_at_end-fault.ensures c.self.inside.pieces c.self.invariant.fed c.self.invariant.sound ∙ ap (λ x. fault_of (outcome_of x)) c.self.view_is
+    let before = subst (λ n. Holds256 c.self.inside.hasher (take (65536 * (n / 65536)) bytes)) (sym c.len.ensures) has.hashed in
+    let hashed = subst (λ n. Holds256 c.hash_pieces.new.hasher (take (65536 * n) bytes)) c.count.ensures (c.hash_pieces.ensures before) in
+    record {
+      bytes = has.fed.are_bytes;
+      hash = c.finalize.ensures bytes (subst (Holds256 c.hash_pieces.new.hasher) (all_pieces bytes) hashed);
+      fault = c.fault_at_end.ensures bytes has.fed has.sound;
+    }

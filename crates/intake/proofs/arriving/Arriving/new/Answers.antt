@@ -1,9 +1,6 @@
-use Rattle.std.proofs.Common.{[]}
-use Rattle.intake.specs.Arriving.{HasTaken}
-use Rattle.intake.specs.Digests.{HasHashed}
 use Rattle.nar.specs.declared.error.NarError.TheVariants.{Memory}
 use Rattle.intake.proofs.arriving.Arriving.new.Goals as goal
 
 pub invariant_of-result : goal.invariant_of-result
 invariant_of-result c =
-    rw c.new-3.ensures (record { fed = c.new.ensures.fed; sound = c.new.ensures.sound Memory; hashed = c.new-2.ensures [] })
+    rw c.new-3.ensures (record { fed = c.new.ensures.fed; sound = c.new.ensures.sound Memory; hashed = c.new-2.ensures })

@@ -1,6 +1,4 @@
-use Rattle.std.proofs.Common.{◌≡◌, ℕ, List, sym, ap, ◌∙◌}
-use Rattle.sha2.specs.Sha256.{sha256}
-use Rattle.paths.specs.declared.facts.Facts.{Facts}
+use Rattle.std.proofs.Common.{ℕ, List, sym, ap, ◌∙◌}
 use Rattle.live.specs.Graph.{same}
 use Rattle.store.specs.Reply.{nar_hash_mismatch}
 use Rattle.store.specs.Tests.{unless}
@@ -9,11 +7,9 @@ use Rattle.store_requests.proofs.imported.Delivered.has_digest.Goals as goal
 pub returns-then-not-is_same : goal.returns-then-not-is_same
 returns-then-not-is_same c =
     let s = c.args.self.now in
-    let hash : s.nar.facts.nar_hash ≡ sha256 s.nar.pieces = ap (λ (f : Facts). f.nar_hash) c.requires.facts in
-    ap (λ b. unless b nar_hash_mismatch) (ap (λ (h : List ℕ). same h s.nar_hash) (sym hash) ∙ sym c.is_same.ensures ∙ c.if-not-is_same.true)
+    ap (λ b. unless b nar_hash_mismatch) (ap (λ (h : List ℕ). same h s.nar_hash) (sym c.requires.hash) ∙ sym c.is_same.ensures ∙ c.if-not-is_same.true)
 
 pub returns : goal.returns
 returns c =
     let s = c.args.self.now in
-    let hash : s.nar.facts.nar_hash ≡ sha256 s.nar.pieces = ap (λ (f : Facts). f.nar_hash) c.requires.facts in
-    ap (λ b. unless b nar_hash_mismatch) (ap (λ (h : List ℕ). same h s.nar_hash) (sym hash) ∙ sym c.is_same.ensures ∙ c.if-not-is_same.false)
+    ap (λ b. unless b nar_hash_mismatch) (ap (λ (h : List ℕ). same h s.nar_hash) (sym c.requires.hash) ∙ sym c.is_same.ensures ∙ c.if-not-is_same.false)
