@@ -1,5 +1,6 @@
 -- What the fields of `Pieces` say of its bytes.
-use Rattle.std.proofs.Common.{◌≡◌, ℕ, suc, ◌+◌, ◌*◌, ◌^◌, ◌<◌, ◌≤◌, List, [], ◌∷◌, ◌++◌, length, map, take, drop, get_or, Vec, Global, ap, sym, ◌∙◌, arith, append-nil}
+use Rattle.std.proofs.Common.{◌≡◌, Bool, true, false, ℕ, suc, ◌+◌, ◌*◌, ◌^◌, ◌<◌, ◌≤◌, List, [], ◌∷◌, ◌++◌, length, map, take, drop, get_or, Vec, Global, ap, sym, ◌∙◌, arith, length-append}
+use Rattle.std.specs.Bool.{if◌then◌else◌}
 use Rattle.std.specs.List.{concat}
 use Rattle.std.proofs.lemmas.List.{length-map, length-take, get_or-map, take-map, map-append, take_more}
 use Rattle.pieces.specs.declared.bytes.Pieces.TheInside.{Inside}
@@ -39,17 +40,28 @@ joined_more vs i v lt is =
     ∙ ap (λ w. concat (bytes_of (take i vs ++ w ∷ []))) is
     ∙ ap (λ ws. concat (bytes_of ws)) (sym (take_more vs i v lt))
 
--- a full last piece among the whole ones
-pub full_joined : (vs : List (Vec ℕ Global)) (v : Vec ℕ Global) (next : List ℕ) → next ≡ [] → concat (bytes_of (vs ++ v ∷ [])) ++ next ≡ concat (bytes_of vs) ++ v.items
-full_joined vs v next none = ap (λ t. concat (bytes_of (vs ++ v ∷ [])) ++ t) none ∙ append-nil (concat (bytes_of (vs ++ v ∷ []))) ∙ concat_more vs v
+-- a full last piece among the whole ones, and the next one behind it
+pub full_joined : (vs : List (Vec ℕ Global)) (v : Vec ℕ Global) (next : List ℕ) → concat (bytes_of (vs ++ v ∷ [])) ++ next ≡ (concat (bytes_of vs) ++ v.items) ++ next
+full_joined vs v next = ap (λ t. t ++ next) (concat_more vs v)
 
-pub full_cut : (vs : List (Vec ℕ Global)) (v : Vec ℕ Global) (next : List ℕ) → AreCut (bytes_of vs) v.items → 65536 ≤ length v.items → next ≡ [] → AreCut (bytes_of (vs ++ v ∷ [])) next
-full_cut vs v next cut full none =
+pub full_cut : (vs : List (Vec ℕ Global)) (v : Vec ℕ Global) (next : List ℕ) → AreCut (bytes_of vs) v.items → 65536 ≤ length v.items → length next ≤ 65536
+    → length (concat (bytes_of vs) ++ v.items) + length next < 2 ^ 64 → AreCut (bytes_of (vs ++ v ∷ [])) next
+full_cut vs v next cut full fits small =
     let split = map-append (λ w. w.items) vs (v ∷ []) in
     record {
       each = rw split (whole-push (bytes_of vs) v.items cut.each (omega (arith, cut.last_fits)));
-      last_fits = omega (arith, ap length none);
-      small = omega (arith, ap length (full_joined vs v next none), cut.small);
+      last_fits = fits;
+      small = omega (arith, ap length (full_joined vs v next), length-append (concat (bytes_of vs) ++ v.items) next, small);
+    }
+
+-- a last piece that grows or stays, and is short of a whole one in either case
+pub grown_cut : (grows : Bool) (vs : List (Vec ℕ Global)) (last more : List ℕ) → AreCut (bytes_of vs) last → length last + length more < 65536 → AreCut (bytes_of vs) (if grows then last ++ more else last)
+grown_cut false vs last more cut lt = cut
+grown_cut true vs last more cut lt =
+    record {
+      each = cut.each;
+      last_fits = omega (arith, length-append last more, lt);
+      small = omega (arith, counted (bytes_of vs) last cut.each, counted (bytes_of vs) (last ++ more) cut.each, length-append last more, lt, cut.small);
     }
 
 -- ---- a front

@@ -28,7 +28,28 @@ impl Model for Pieces {
     ghost invariant = { λ p. AreCut (map (λ v. v.items) p.whole.items) p.last.items };
 }
 
-/// Tells how much room the last piece has. Where it is full it becomes one of the whole ones, and the next begins.
+/// Puts the next piece behind the last one, which is full and becomes one of the whole ones.
+fn put_behind(whole: &mut Vec<Vec<u8>>, last: &mut Vec<u8>, next: Vec<u8>) -> Result<(), AllocError>
+    requires cut { AreCut (map (λ v. v.items) whole.old.items) last.old.items }
+    requires full { 65536 ≤ length last.old.items }
+    requires fits { length next.items ≤ 65536 }
+    requires small { length (concat (map (λ v. v.items) whole.old.items) ++ last.old.items) + length next.items < 2 ^ 64 }
+    ensures cut { AreCut (map (λ v. v.items) whole.new.items) last.new.items }
+    ensures ok { OnOk result (concat (map (λ v. v.items) whole.new.items) ++ last.new.items ≡ (concat (map (λ v. v.items) whole.old.items) ++ last.old.items) ++ next.items) }
+    ensures last { OnOk result (last.new.items ≡ next.items) }
+    ensures err { OnErr result (concat (map (λ v. v.items) whole.new.items) ++ last.new.items ≡ concat (map (λ v. v.items) whole.old.items) ++ last.old.items) }
+{
+    let full = mem::replace(last, next);
+    match whole.push(full) {
+        Ok(()) => Ok(()),
+        Err(AllocFailed { value }) => {
+            *last = value;
+            Err(AllocError)
+        }
+    }
+}
+
+/// Tells how much room the last piece has. Where it is full the next begins.
 fn make_room(
     alloc: Global,
     whole: &mut Vec<Vec<u8>>,
@@ -43,14 +64,8 @@ fn make_room(
         return Ok(SIZE - last.len());
     }
     let next = Vec::with_capacity(alloc, SIZE)?;
-    let full = mem::replace(last, next);
-    match whole.push(full) {
-        Ok(()) => Ok(SIZE),
-        Err(AllocFailed { value }) => {
-            *last = value;
-            Err(AllocError)
-        }
-    }
+    put_behind(whole, last, next)?;
+    Ok(SIZE)
 }
 
 impl Pieces {
@@ -100,6 +115,9 @@ impl Pieces {
         ensures ok { OnOk result (self.new ≡ self.old ++ bytes.now) }
         ensures err { OnErr result (self.new ≡ self.old) }
     {
+        if bytes.len() < SIZE - self.last.len() {
+            return self.last.extend_from_slice(bytes);
+        }
         let before = self.len();
         if bytes.len() > usize::MAX - before {
             return Err(AllocError);
@@ -115,6 +133,29 @@ impl Pieces {
             }
         }
         Ok(())
+    }
+
+    /// Appends bytes that are given away: where they fit a piece and the last one is full, or there is none, they become
+    /// the next piece as they are, and are copied otherwise. Where memory is refused the bytes stay as they were.
+    ///
+    /// # Errors
+    ///
+    /// Memory was refused.
+    pub fn append(&mut self, bytes: Vec<u8>) -> Result<(), AllocError>
+        ensures ok { OnOk result (self.new ≡ self.old ++ bytes.items) }
+        ensures err { OnErr result (self.new ≡ self.old) }
+    {
+        if bytes.len() > SIZE || bytes.len() > usize::MAX - self.len() {
+            return self.push(bytes.as_slice());
+        }
+        if self.last.is_empty() {
+            self.last = bytes;
+            return Ok(());
+        }
+        if self.last.len() == SIZE {
+            return put_behind(&mut self.whole, &mut self.last, bytes);
+        }
+        self.push(bytes.as_slice())
     }
 
     /// Takes as many of the bytes as the last piece has room for, and gives the rest.

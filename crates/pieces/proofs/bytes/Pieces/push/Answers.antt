@@ -1,6 +1,12 @@
 use Rattle.std.proofs.Common.{◌≤◌, length, take, ap, ◌∙◌, arith, length-append}
+use Rattle.std.specs.Result.{is_ok}
 use Rattle.pieces.proofs.Cutting.{front}
+use Rattle.pieces.proofs.Fields.{grown_cut}
 use Rattle.pieces.proofs.bytes.Pieces.push.Goals as goal
+
+pub invariant_of-self : goal.invariant_of-self
+invariant_of-self c =
+    rw c.extend_from_slice.ensures.items (grown_cut (is_ok c.extend_from_slice.result) c.self.inside.whole.items c.self.inside.last.items c.args.bytes.now c.self.invariant (omega (arith, c.if-bytes-len.true, c.len.ensures, c.self.inside.last.ok.0)))
 
 pub fill-requires-clause-small : goal.fill-requires-clause-small
 fill-requires-clause-small c =
