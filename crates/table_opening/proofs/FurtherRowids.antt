@@ -13,16 +13,20 @@ use Rattle.table_forms.specs.Standing.{IsKnown}
 use Rattle.table_statements.specs.Queries.{IsSelect}
 use Rattle.table_statements.proofs.Means.{ordered_by_two, ordered_by_three, plain_state}
 use Rattle.table_entries.proofs.Columns.{bounds_are, result_context, from_in, shown_in}
-use Rattle.table_opening.proofs.OwnRowids.{draft, whole, rowid_column, outputs_rowid, below}
+use Rattle.table_opening.specs.declared.our_table.OurTable.TheVariants.{Piece, TempRoot}
+use Rattle.table_opening.specs.Tables.{rowids_text}
+use Rattle.table_opening.proofs.Asking.{Asks}
+use Rattle.table_opening.proofs.OwnRowids.{query, scan, draft, whole, rowid_column, outputs_rowid, below}
 use Rattle.table_opening.proofs.RowidTexts.{names, by_two, by_three}
 use Rattle.table_statements.proofs.Statements.{Compiles}
+use Rattle.table_statements.proofs.ReadFailures.{standing_read_fails}
 
 -- ---- piece
 
-abbrev pub piece_text : List ℕ
-piece_text = codes "SELECT rowid FROM piece ORDER BY base, num"
+abbrev piece_text : List ℕ
+piece_text = rowids_text Piece
 
-pub piece_read : IsSelect piece_text
+piece_read : IsSelect piece_text
 unfolding everything
 piece_read = (_, _, _, _, _, refl)
 
@@ -30,7 +34,7 @@ piece_typed : (s : Schema) (at tree : ℕ) → IsKnown s (codes "piece") at (rec
 unfolding everything
 piece_typed s at tree known = rw (known.low, known.by_tree)
 
-pub piece_is : Compiles piece.name piece.columns piece.primary piece_text 0 (λ at tree. Select (whole by_two tree) names)
+piece_is : Compiles piece.name piece.columns piece.primary piece_text 0 (λ at tree. Select (whole by_two tree) names)
 unfolding everything
 piece_is s at tree known =
     let there = known.named.1 in
@@ -48,12 +52,21 @@ piece_is s at tree known =
       refl,
     )
 
+pub piece_rowids : Asks piece.name piece.columns piece.primary piece_text names (query by_two)
+unfolding everything
+piece_rowids = record {
+  scan = scan by_two;
+  is = piece_is;
+  reads = piece_read;
+  fails = λ old new stands. standing_read_fails piece.name piece.columns piece.primary old new stands piece_text [] names (query by_two) (scan by_two) piece_is piece_read (λ s at tree known. rw (known.low, known.by_tree) refl);
+}
+
 -- ---- temp_root
 
-abbrev pub temp_root_text : List ℕ
-temp_root_text = codes "SELECT rowid FROM temp_root ORDER BY owner, session, target"
+abbrev temp_root_text : List ℕ
+temp_root_text = rowids_text TempRoot
 
-pub temp_root_read : IsSelect temp_root_text
+temp_root_read : IsSelect temp_root_text
 unfolding everything
 temp_root_read = (_, _, _, _, _, refl)
 
@@ -61,7 +74,7 @@ temp_root_typed : (s : Schema) (at tree : ℕ) → IsKnown s (codes "temp_root")
 unfolding everything
 temp_root_typed s at tree known = rw (known.low, known.by_tree)
 
-pub temp_root_is : Compiles temp_root.name temp_root.columns temp_root.primary temp_root_text 0 (λ at tree. Select (whole by_three tree) names)
+temp_root_is : Compiles temp_root.name temp_root.columns temp_root.primary temp_root_text 0 (λ at tree. Select (whole by_three tree) names)
 unfolding everything
 temp_root_is s at tree known =
     let there = known.named.1 in
@@ -78,3 +91,12 @@ temp_root_is s at tree known =
       refl,
       refl,
     )
+
+pub temp_root_rowids : Asks temp_root.name temp_root.columns temp_root.primary temp_root_text names (query by_three)
+unfolding everything
+temp_root_rowids = record {
+  scan = scan by_three;
+  is = temp_root_is;
+  reads = temp_root_read;
+  fails = λ old new stands. standing_read_fails temp_root.name temp_root.columns temp_root.primary old new stands temp_root_text [] names (query by_three) (scan by_three) temp_root_is temp_root_read (λ s at tree known. rw (known.low, known.by_tree) refl);
+}

@@ -1,9 +1,10 @@
+pub mod Asking
 pub mod OwnRowids
 pub mod RowidTexts
 pub mod RowidFailures
 pub mod ReadableRows
-pub mod ReadableTexts
 pub mod FurtherRowids
-pub mod FurtherTests
+pub mod Tested
+pub mod Tests
 pub mod Opened
 pub mod OneAfterAnother

@@ -1,43 +1,103 @@
--- What tests that were passed one after another say of what the connection showed at first, and what the next may take for granted.
-use Rattle.std.proofs.Common.{◌≡◌, IsTrue, Result, Ok, Err, OnOk, sym, subst, ◌∙◌, arith}
+-- Tests of one table after another: what the next may take for granted, what those that were passed say of what the connection showed at first, and why one fails.
+use Rattle.std.proofs.Common.{◌≡◌, ◌↔◌, ◌⊎◌, inl, inr, ◌<◌, ◌+◌, ◌&&◌, ℕ, zero, suc, List, [], ◌∷◌, Bool, true, false, IsTrue, drop, get_or, length, refl, sym, ap, subst, ◌∙◌, arith}
 use Rattle.std.specs.List.{AllByRecursion}
+use Rattle.std.proofs.lemmas.Bool.{and_from}
+use Rattle.std.proofs.Math.Seq.{drop-length, drop-cons}
 use Rattle.sqlite.specs.Effect.{Database}
 use Rattle.sqlite.specs.State.{State, HasCleanDisk, IsUnchanged, Survives}
 use Rattle.sqlite.proofs.Callers.{unchanged_then}
-use Rattle.table_forms.specs.Forms.{our_tables, meta, object, refs, outs, permanent, user_root, profile, generation, runtime}
-use Rattle.table_statements.specs.Contents.{rows_named}
-use Rattle.table_statements.specs.Calls.{IsKeyed}
-
--- ---- rowids
-
--- three tests were passed, and nothing changed
-pub three_hold : {T E : Type 0} (A B D : Database → Type 0) (a b d e : State) (r : Result T E) → IsUnchanged a b × A a.now → IsUnchanged b d × B b.now → OnOk r (IsUnchanged d e × D d.now) → OnOk r (IsUnchanged a e × A a.now × B a.now × D a.now)
-three_hold A B D a b d e (Ok x) h k l =
-    let second : b.now ≡ a.now = h.0.0.now_is in
-    let third : d.now ≡ a.now = k.0.0.now_is ∙ second in
-    (unchanged_then a b e h.0 (unchanged_then b d e k.0 l.0), h.1, subst B second k.1, subst D third l.1)
-three_hold A B D a b d e (Err f) h k l = tt
-
--- all nine were tested
-pub nine_keyed : {T E : Type 0} (a b d e : State) (r : Result T E) → IsUnchanged a b × IsKeyed (rows_named a.now meta.name) × IsKeyed (rows_named a.now object.name) × IsKeyed (rows_named a.now refs.name)
-    → IsUnchanged b d × IsKeyed (rows_named b.now outs.name) × IsKeyed (rows_named b.now permanent.name) × IsKeyed (rows_named b.now user_root.name)
-    → OnOk r (IsUnchanged d e × IsKeyed (rows_named d.now profile.name) × IsKeyed (rows_named d.now generation.name) × IsKeyed (rows_named d.now runtime.name))
-    → OnOk r (IsUnchanged a e × AllByRecursion (λ t. IsKeyed (rows_named a.now t.name)) our_tables)
-nine_keyed a b d e (Ok x) h k l =
-    let second : b.now ≡ a.now = h.0.0.now_is in
-    let third : d.now ≡ a.now = k.0.0.now_is ∙ second in
-    let next = subst (λ (x : Database). IsKeyed (rows_named x outs.name) × IsKeyed (rows_named x permanent.name) × IsKeyed (rows_named x user_root.name)) second (k.1, k.2, k.3) in
-    let last = subst (λ (x : Database). IsKeyed (rows_named x profile.name) × IsKeyed (rows_named x generation.name) × IsKeyed (rows_named x runtime.name)) third (l.1, l.2, l.3) in
-    (unchanged_then a b e h.0 (unchanged_then b d e k.0 l.0), (h.1, (h.2, (h.3, (next.0, (next.1, (next.2, (last.0, (last.1, (last.2, tt))))))))))
-nine_keyed a b d e (Err f) h k l = tt
+use Rattle.table_statements.specs.Calls.{KeepsShown}
+use Rattle.table_statements.specs.Failures.{FailsToTest}
+use Rattle.table_statements.specs.declared.failure.Failure.{Failure}
+use Rattle.table_statements.specs.declared.failure.Failure.TheVariants.{Memory, Size, Disk}
+use Rattle.table_statements.proofs.RowByRow.{unchanged_before}
+use Rattle.table_statements.proofs.TestFailures.{fails_after}
+use Rattle.table_statements.proofs.Truths.{and_so}
 
 -- ---- what the next test may take for granted
 
-module _ (a b : State) (same : HasCleanDisk b → IsUnchanged a b) (survives : Survives a b (λ _. ⊥)) where
+module _ (a b : State) (same : HasCleanDisk b → KeepsShown a b) (survives : Survives a b (λ _. ⊥)) where
   -- what was so of the database that an open connection showed
   pub holds_still : (P : Database → Type 0) → (HasCleanDisk a → IsTrue a.is_open → P a.now) → HasCleanDisk b → IsTrue b.is_open → P b.now
-  holds_still P was clean is_open = subst P (sym (same clean).0.now_is) (was (omega (arith, survives.clean, clean)) (same clean).0.was_open)
+  holds_still P was clean is_open = let kept = same clean in subst P (sym (kept.now is_open)) (was (omega (arith, survives.clean, clean)) (kept.was_open is_open))
 
   -- that nothing is uncommitted
   pub settled_still : (HasCleanDisk a → IsTrue a.is_open → a.now ≡ a.committed) → HasCleanDisk b → IsTrue b.is_open → b.now ≡ b.committed
-  settled_still was clean is_open = (same clean).0.now_is ∙ was (omega (arith, survives.clean, clean)) (same clean).0.was_open ∙ sym (same clean).0.committed_is
+  settled_still was clean is_open = let kept = same clean in kept.now is_open ∙ was (omega (arith, survives.clean, clean)) (kept.was_open is_open) ∙ sym (kept.committed is_open)
+
+-- ---- what is left of a list
+
+pub left_over : {T : Type 0} (P : T → Type 0) (n : ℕ) (ts : List T) → AllByRecursion P ts → AllByRecursion P (drop n ts)
+left_over P zero ts all = all
+left_over P (suc n) [] all = all
+left_over P (suc n) (t ∷ ts) all = left_over P n ts all.1
+
+pub one_left : {T : Type 0} (ts : List T) (n : ℕ) (d : T) → n < length ts → drop n ts ≡ get_or ts n d ∷ drop (n + 1) ts
+one_left ts n d low = let next : suc n ≡ n + 1 = omega arith in drop-cons ts n d low ∙ ap (λ k. get_or ts n d ∷ drop k ts) next
+
+-- ---- the tests of a list of tables
+
+module _ {T : Type 0} (Keyed Readable : Database → T → Type 0) (ts : List T) (a : State) where
+  -- so many of them were tested: where the connection was open nothing changed, and of all that is so which is so of those that are left
+  pub record AreTested (n : ℕ) (b : State) (readable : Bool) : Type 0 where
+    pub begun : (n ≡ 0) ⊎ IsTrue a.is_open
+    pub rests : IsTrue a.is_open → IsUnchanged a b
+    pub kept : KeepsShown a b
+    pub keyed : AllByRecursion (Keyed a.now) (drop n ts) → AllByRecursion (Keyed a.now) ts
+    pub told : IsTrue readable × AllByRecursion (Readable a.now) (drop n ts) ↔ AllByRecursion (Readable a.now) ts
+
+  pub none_tested : AreTested 0 a true
+  none_tested = record {
+    begun = inl refl;
+    rests = λ up. (record { was_open = up; is_open = up; now_is = refl; committed_is = refl; mode = refl }, record { changes = refl; last_rowid = refl }, refl);
+    kept = record { was_open = λ up. up; now = λ up. refl; committed = λ up. refl };
+    keyed = λ all. all;
+    told = (λ both. both.1, λ all. (refl, all));
+  }
+
+  -- at the end
+  pub all_tested : (n : ℕ) (b : State) (readable : Bool) → n ≡ length ts → 0 < length ts → AreTested n b readable → IsUnchanged a b × AllByRecursion (Keyed a.now) ts × (IsTrue readable ↔ AllByRecursion (Readable a.now) ts)
+  all_tested n b readable end some it =
+      let none : drop n ts ≡ [] = ap (λ k. drop k ts) end ∙ drop-length ts in (
+        elim it.begun [
+          | inl at ↦ absurd (omega (arith, at, end, some))
+          | inr up ↦ it.rests up
+        ],
+        it.keyed (subst (AllByRecursion (Keyed a.now)) (sym none) tt),
+        (λ yes. it.told.0 (yes, subst (AllByRecursion (Readable a.now)) (sym none) tt), λ all. (it.told.1 all).0),
+      )
+
+  module _ (n : ℕ) (b d : State) (p : Bool) (t : T) (split : drop n ts ≡ t ∷ drop (n + 1) ts) (it : AreTested n b p) where
+    -- one more was tested
+    pub next_tested : (q : Bool) → IsUnchanged b d × Keyed b.now t × (IsTrue q ↔ Readable b.now t) → AreTested (n + 1) d (p && q)
+    next_tested q told =
+        let up : IsTrue a.is_open = it.kept.was_open told.0.0.was_open in
+        let same : IsUnchanged a d = unchanged_then a b d (it.rests up) told.0 in
+        let first : b.now ≡ a.now = it.kept.now told.0.0.was_open in
+        let keyed : Keyed a.now t = subst (λ (x : Database). Keyed x t) first told.1 in
+        let readable : IsTrue q ↔ Readable a.now t = subst (λ (x : Database). IsTrue q ↔ Readable x t) first told.2 in
+        record {
+          begun = inr up;
+          rests = λ _. same;
+          kept = unchanged_before a d same;
+          keyed = λ rest. it.keyed (subst (AllByRecursion (Keyed a.now)) (sym split) (keyed, rest));
+          told = (
+            λ both. let yes = and_so p q both.0 in it.told.0 (yes.0, subst (AllByRecursion (Readable a.now)) (sym split) (readable.0 yes.1, both.1)),
+            λ all.
+                let was = it.told.1 all in
+                let left = subst (AllByRecursion (Readable a.now)) split was.1 in
+                (and_from p q was.0 (readable.1 left.0), left.1),
+          );
+        }
+
+    -- its test failed
+    pub next_fails : Survives a b (λ _. ⊥) → Survives b d (λ _. ⊥) → HasCleanDisk d → (f : Failure) → FailsToTest b d (¬ Keyed b.now t) f → FailsToTest a d (¬ AllByRecursion (Keyed a.now) ts) f
+    next_fails before later clean f h = go f h a.is_open refl
+      where
+        go : (f : Failure) → FailsToTest b d (¬ Keyed b.now t) f → (up : Bool) → a.is_open ≡ up → FailsToTest a d (¬ AllByRecursion (Keyed a.now) ts) f
+        go f h true is =
+            let same = it.rests is in
+            fails_after a b d _ _ (λ _. same, before) later clean (λ _ none all. none (subst (λ (x : Database). Keyed x t) (sym same.0.now_is) (subst (AllByRecursion (Keyed a.now)) split (left_over (Keyed a.now) n ts all)).0)) f h
+        go Memory h false is = tt
+        go Size h false is = h
+        go Disk h false is = inl (inr is)

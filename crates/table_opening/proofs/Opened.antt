@@ -1,7 +1,6 @@
 -- By which schema a connection is ready, where the rowids and texts that it shows were tested; and what is told of files that weren't taken up.
-use Rattle.std.proofs.Common.{◌≡◌, ◌≢◌, ◌↔◌, ◌⊎◌, ◌&&◌, Bool, true, false, Option, Some, None, Result, Ok, Err, IfOk, IfSome, IsTrue, refl, sym, ap, subst, ◌∙◌}
+use Rattle.std.proofs.Common.{◌≡◌, ◌≢◌, ◌↔◌, ◌⊎◌, inl, inr, ◌<◌, ◌++◌, List, [], ◌∷◌, length, arith, Bool, true, false, Option, Some, None, Result, Ok, Err, IfOk, IfSome, IsTrue, refl, sym, ap, subst, ◌∙◌}
 use Rattle.std.specs.List.{AllByRecursion}
-use Rattle.std.proofs.lemmas.Bool.{and_from}
 use Rattle.sqlite_disk.specs.declared.Disk as disk
 use Rattle.sqlite_disk.specs.declared.calls.Calls as calls
 use Rattle.sqlite_disk.specs.declared.modelled.Modelled.{Modelled}
@@ -9,6 +8,8 @@ use Rattle.sqlite_disk.specs.declared.start.Start.{Ghosts}
 use Rattle.sqlite_std_file.specs.File.{IsFresh}
 use Rattle.sqlite_std_file.specs.declared.host.Host.{Host}
 use Rattle.sqlite_wal.specs.Recovery.{Image}
+use Rattle.sqlite_schema.specs.declared.schema.Schema.{Schema}
+use Rattle.sqlite_schema.specs.declared.schema.Table.{Table}
 use Rattle.sqlite.specs.Opening.{is_open_error}
 use Rattle.sqlite.specs.declared.file.Leftover.{Leftover}
 use Rattle.sqlite.specs.declared.error.Error.{Error}
@@ -19,43 +20,26 @@ use Rattle.sqlite.specs.Files.{AreFoundIn, IsCleanLeft, FailsToOpenFiles, Leaves
 use Rattle.sqlite.specs.Start.{FindsIn}
 use Rattle.table_forms.specs.declared.recognising.Recognised.{Recognised}
 use Rattle.table_forms.specs.declared.recognising.Recognised.TheVariants.{First, Second, Third, Nothing, Other}
-use Rattle.table_forms.specs.Standing.{HasTables, Stands}
-use Rattle.table_forms.specs.Finding.{HasFirst, HasSecond, HasThird}
+use Rattle.table_forms.specs.Standing.{Stands}
 use Rattle.table_statements.specs.Texts.{AreReadable, AreReadableRows, HasReadableRows}
+use Rattle.table_opening.specs.declared.our_table.OurTable.{OurTable}
+use Rattle.table_opening.specs.Tables.{schema_tables, form, HasOwnRowids, HasReadableTexts}
 use Rattle.table_opening.specs.Opened.{IsRecognised, IsBySchema, IsReadyBy, IsFound, HasUnkeyed, Refuses}
 use Rattle.sqlite.specs.Effect.{Database, IsDatabase}
 use Rattle.table_statements.specs.declared.failure.Failure.{Failure}
-use Rattle.table_forms.specs.Forms.{piece, temp_root, our_tables}
+use Rattle.table_forms.specs.Forms.{piece, temp_root, our_tables, further_tables}
 use Rattle.table_statements.specs.Contents.{contents_of, rows_named}
 use Rattle.table_statements.specs.Calls.{IsKeyed, IsOurs, IsWhole, HasFurther, IsReady}
 use Rattle.sqlite.proofs.Callers.{unchanged_then}
-use Rattle.table_statements.proofs.Truths.{and_so}
 use Rattle.table_entries.proofs.ReadableMaps.{readable_by_maps}
 use Rattle.table_entries.proofs.ReadableFurther.{pieces_by_maps, temp_roots_by_maps, no_pieces, no_temp_roots}
 
 -- ---- what the tests told
 
--- no two rows of any of the nine share a rowid
-abbrev pub AreKeyed : Database → Type 0
-AreKeyed d = AllByRecursion (λ t. IsKeyed (rows_named d t.name)) our_tables
-
 -- rowids were tested, and then it was told of the texts: of what the connection showed at first
 pub then_told : (K R : Database → Type 0) (a m n : State) (r : Result Bool Failure) → IsUnchanged a m × K a.now → IfOk r (λ b. IsUnchanged m n × (IsTrue b ↔ R m.now)) → IfOk r (λ b. IsUnchanged a n × K a.now × (IsTrue b ↔ R a.now))
 then_told K R a m n (Err e) keyed told = tt
 then_told K R a m n (Ok b) keyed told = (unchanged_then a m n keyed.0 told.0, keyed.1, subst (λ (d : Database). IsTrue b ↔ R d) keyed.0.0.now_is told.1)
-
--- one more test tells of what was shown at first
-abbrev Tested : (K R : Database → Type 0) → State → State → Bool → Type 0
-Tested K R a n b = IsUnchanged a n × K a.now × (IsTrue b ↔ R a.now)
-
-pub both_tested : (K L P Q : Database → Type 0) (a m n : State) (p q : Bool) → Tested K P a m p → Tested L Q m n q → Tested (λ d. K d × L d) (λ d. P d × Q d) a n (p && q)
-both_tested K L P Q a m n p q h k =
-    let same : m.now ≡ a.now = h.0.0.now_is in
-    let later : IsTrue q ↔ Q a.now = subst (λ (d : Database). IsTrue q ↔ Q d) same k.2 in (
-      unchanged_then a m n h.0 k.0,
-      (h.1, subst L same k.1),
-      (λ yes. let both = and_so p q yes in (h.2.0 both.0, later.0 both.1), λ all. and_from p q (h.2.1 all.0) (later.1 all.1)),
-    )
 
 -- ---- what is found then
 
@@ -117,74 +101,88 @@ found_none Other a n by same settled one two three = record {
 
 -- ---- by each schema
 
+parts : {T : Type 0} (P : T → Type 0) (xs ys : List T) → AllByRecursion P (xs ++ ys) → AllByRecursion P xs × AllByRecursion P ys
+parts P [] ys all = (tt, all)
+parts P (x ∷ xs) ys all = let rest = parts P xs ys all.1 in ((all.0, rest.0), rest.1)
+
+joined : {T : Type 0} (P : T → Type 0) (xs ys : List T) → AllByRecursion P xs → AllByRecursion P ys → AllByRecursion P (xs ++ ys)
+joined P [] ys here there = there
+joined P (x ∷ xs) ys here there = (here.0, joined P xs ys here.1 there)
+
+-- what the tests of these tables told
+abbrev pub Tested : List OurTable → State → State → Bool → Type 0
+Tested ts a n b = IsUnchanged a n × AllByRecursion (HasOwnRowids a.now) ts × (IsTrue b ↔ AllByRecursion (HasReadableTexts a.now) ts)
+
 module _ (a n : State) (b : Bool) (sound : IsDatabase a.now) (settled : a.now ≡ a.committed) where
+  abbrev Keyed : Table → Type 0
+  Keyed t = IsKeyed (rows_named a.now t.name)
+
+  abbrev Readable : Table → Type 0
+  Readable t = AreReadableRows t (rows_named a.now t.name)
+
   ready_by : IsUnchanged a n → IsOurs a.now → IsReady n
   ready_by same ours = record { ours = subst IsOurs (sym same.0.now_is) ours; settled = same.0.now_is ∙ settled ∙ sym same.0.committed_is }
 
-  pub first_found : IsRecognised First a.now.schema → Tested AreKeyed HasReadableRows a n b → (b ≡ true → IsFound First n) × (b ≡ false → IsFound Other n)
-  first_found by told =
+  pub found_by : (r : Recognised) → 0 < length (schema_tables r) → IsRecognised r a.now.schema → Tested (schema_tables r) a n b → (b ≡ true → IsFound r n) × (b ≡ false → IsFound Other n)
+  unfolding HasReadableRows
+  found_by First some by told =
       let has = by.first.0 refl in
       let maps = readable_by_maps a.now sound has.0 told.1 _ _ (no_pieces a.now has.1) (no_temp_roots a.now has.2) in
       found_if First a n by told.0 settled (HasReadableRows a.now) b told.2 (λ rows. maps.0 (rows, tt, tt), λ readable. (maps.1 readable).0)
       (λ rows. ready_by told.0 (record { sound = sound; has = has.0; keyed = told.1; readable = rows })) (λ is. absurd cc)
-
-  pub second_found : IsRecognised Second a.now.schema → Tested (λ d. AreKeyed d × IsKeyed (rows_named d piece.name)) (λ d. HasReadableRows d × AreReadableRows piece (rows_named d piece.name)) a n b → (b ≡ true → IsFound Second n) × (b ≡ false → IsFound Other n)
-  second_found by told =
+  found_by Second some by told =
       let has = by.second.0 refl in
-      let maps = readable_by_maps a.now sound has.0 told.1.0 _ _ (pieces_by_maps a.now sound has.1 told.1.1) (no_temp_roots a.now has.2) in
-      found_if Second a n by told.0 settled (HasReadableRows a.now × AreReadableRows piece (rows_named a.now piece.name)) b told.2 (λ rows. maps.0 (rows.0, rows.1, tt), λ readable. let all = maps.1 readable in (all.0, all.1))
-      (λ rows. (
-        ready_by told.0 (record { sound = sound; has = has.0; keyed = told.1.0; readable = rows.0 }),
-        subst (λ (d : Database). HasFurther d piece) (sym told.0.0.now_is) (record { stands = has.1; keyed = told.1.1; readable = rows.1 }),
-      )) (λ is. absurd cc)
-
-  pub third_found : IsRecognised Third a.now.schema
-      → Tested (λ d. (AreKeyed d × IsKeyed (rows_named d piece.name)) × IsKeyed (rows_named d temp_root.name)) (λ d. (HasReadableRows d × AreReadableRows piece (rows_named d piece.name)) × AreReadableRows temp_root (rows_named d temp_root.name)) a n b
-      → (b ≡ true → IsFound Third n) × (b ≡ false → IsFound Other n)
-  third_found by told =
-      let has = by.third.0 refl in
-      let maps = readable_by_maps a.now sound has.0 told.1.0.0 _ _ (pieces_by_maps a.now sound has.1 told.1.0.1) (temp_roots_by_maps a.now sound has.2 told.1.1) in
-      found_if Third a n by told.0 settled ((HasReadableRows a.now × AreReadableRows piece (rows_named a.now piece.name)) × AreReadableRows temp_root (rows_named a.now temp_root.name)) b told.2
-      (λ rows. maps.0 (rows.0.0, rows.0.1, rows.1), λ readable. let all = maps.1 readable in ((all.0, all.1), all.2))
+      let keyed = parts Keyed our_tables (piece ∷ []) told.1 in
+      let maps = readable_by_maps a.now sound has.0 keyed.0 _ _ (pieces_by_maps a.now sound has.1 keyed.1.0) (no_temp_roots a.now has.2) in
+      found_if Second a n by told.0 settled (AllByRecursion Readable (our_tables ++ piece ∷ [])) b told.2
+      (λ rows. let each = parts Readable our_tables (piece ∷ []) rows in maps.0 (each.0, each.1.0, tt), λ readable. let all = maps.1 readable in joined Readable our_tables (piece ∷ []) all.0 (all.1, tt))
       (λ rows.
-      let ours : IsOurs a.now = record { sound = sound; has = has.0; keyed = told.1.0.0; readable = rows.0.0 } in (
+      let each = parts Readable our_tables (piece ∷ []) rows in (
+        ready_by told.0 (record { sound = sound; has = has.0; keyed = keyed.0; readable = each.0 }),
+        subst (λ (d : Database). HasFurther d piece) (sym told.0.0.now_is) (record { stands = has.1; keyed = keyed.1.0; readable = each.1.0 }),
+      )) (λ is. absurd cc)
+  found_by Third some by told =
+      let has = by.third.0 refl in
+      let keyed = parts Keyed our_tables further_tables told.1 in
+      let maps = readable_by_maps a.now sound has.0 keyed.0 _ _ (pieces_by_maps a.now sound has.1 keyed.1.0) (temp_roots_by_maps a.now sound has.2 keyed.1.1.0) in
+      found_if Third a n by told.0 settled (AllByRecursion Readable (our_tables ++ further_tables)) b told.2
+      (λ rows. let each = parts Readable our_tables further_tables rows in maps.0 (each.0, each.1.0, each.1.1.0), λ readable. let all = maps.1 readable in joined Readable our_tables further_tables all.0 (all.1, (all.2, tt)))
+      (λ rows.
+      let each = parts Readable our_tables further_tables rows in
+      let ours : IsOurs a.now = record { sound = sound; has = has.0; keyed = keyed.0; readable = each.0 } in (
         ready_by told.0 ours,
         subst IsWhole (sym told.0.0.now_is) (record {
           ours = ours;
-          pieces = record { stands = has.1; keyed = told.1.0.1; readable = rows.0.1 };
-          temp_roots = record { stands = has.2; keyed = told.1.1; readable = rows.1 };
+          pieces = record { stands = has.1; keyed = keyed.1.0; readable = each.1.0 };
+          temp_roots = record { stands = has.2; keyed = keyed.1.1.0; readable = each.1.1.0 };
         }),
       )) (λ is. absurd cc)
+  found_by Nothing some by told = absurd (omega (arith, some))
+  found_by Other some by told = absurd (omega (arith, some))
 
--- ---- why it fails
+-- ---- which tables stand, and why it fails
 
-module _ (d : Database) (by : HasFirst d.schema ⊎ (HasSecond d.schema ⊎ HasThird d.schema)) where
-  pub unkeyed_nine : HasTables d.schema → ¬ AreKeyed d → HasUnkeyed d
-  unkeyed_nine has none = (
-    by,
-    λ all. none (
-      all.0 has.0,
-      (
-        all.1.0 has.1.0,
-        (
-          all.1.1.0 has.1.1.0,
-          (
-            all.1.1.1.0 has.1.1.1.0,
-            (
-              all.1.1.1.1.0 has.1.1.1.1.0,
-              (all.1.1.1.1.1.0 has.1.1.1.1.1.0, (all.1.1.1.1.1.1.0 has.1.1.1.1.1.1.0, (all.1.1.1.1.1.1.1.0 has.1.1.1.1.1.1.1.0, (all.1.1.1.1.1.1.1.1.0 has.1.1.1.1.1.1.1.1.0, tt)))),
-            ),
-          ),
-        ),
-      ),
-    ),
-  )
+pub stand_by : (r : Recognised) (s : Schema) → IsRecognised r s → AllByRecursion (λ t. Stands s (form t)) (schema_tables r)
+stand_by First s by = (by.first.0 refl).0
+stand_by Second s by = let has = by.second.0 refl in joined (Stands s) our_tables (piece ∷ []) has.0 (has.1, tt)
+stand_by Third s by = let has = by.third.0 refl in joined (Stands s) our_tables further_tables has.0 (has.1, (has.2, tt))
+stand_by Nothing s by = tt
+stand_by Other s by = tt
 
-  pub unkeyed_piece : Stands d.schema piece → ¬ IsKeyed (rows_named d piece.name) → HasUnkeyed d
-  unkeyed_piece stands none = (by, λ all. none (all.1.1.1.1.1.1.1.1.1.0 stands))
+-- in one of these tables, all of which stand, a rowid isn't its row's own
+unkeyed_in : (d : Database) (ts rest : List Table) → AllByRecursion (Stands d.schema) ts → AllByRecursion (λ t. Stands d.schema t → IsKeyed (rows_named d t.name)) (ts ++ rest) → AllByRecursion (λ t. IsKeyed (rows_named d t.name)) ts
+unkeyed_in d [] rest stand all = tt
+unkeyed_in d (t ∷ ts) rest stand all = (all.0 stand.0, unkeyed_in d ts rest stand.1 all.1)
 
-  pub unkeyed_temp_root : Stands d.schema temp_root → ¬ IsKeyed (rows_named d temp_root.name) → HasUnkeyed d
-  unkeyed_temp_root stands none = (by, λ all. none (all.1.1.1.1.1.1.1.1.1.1.0 stands))
+pub unkeyed_by : (r : Recognised) (d : Database) → 0 < length (schema_tables r) → IsRecognised r d.schema → ¬ AllByRecursion (HasOwnRowids d) (schema_tables r) → HasUnkeyed d
+unkeyed_by First d some by none = (inl (by.first.0 refl), λ all. none (unkeyed_in d our_tables further_tables (stand_by First d.schema by) all))
+unkeyed_by Second d some by none = (inr (inl (by.second.0 refl)), λ all. none (unkeyed_in d (our_tables ++ piece ∷ []) (temp_root ∷ []) (stand_by Second d.schema by) all))
+unkeyed_by Third d some by none = (inr (inr (by.third.0 refl)), λ all. none (unkeyed_in d (our_tables ++ further_tables) [] (stand_by Third d.schema by) all))
+unkeyed_by Nothing d some by none = absurd (omega (arith, some))
+unkeyed_by Other d some by none = absurd (omega (arith, some))
+
+pub some_tables : (r : Recognised) → 0 < length (schema_tables r) → r ≢ Nothing
+some_tables r some is = let none = subst (λ x. 0 < length (schema_tables x)) is some in absurd (omega (arith, none))
 
 -- what the file held is what the last commit still is
 pub held_still : (image : Image) (old new : State) → new.committed ≡ old.committed → FindsIn image old → FindsIn image new

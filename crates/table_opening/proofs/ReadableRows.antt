@@ -1,5 +1,5 @@
 -- That the texts of a table are UTF-8 exactly where those are that a query over all its rows shows.
-use Rattle.std.proofs.Common.{◌≡◌, ◌↔◌, ℕ, zero, suc, ◌+◌, ◌<◌, List, [], ◌∷◌, Bool, true, false, ◌&&◌, IsTrue, Result, Ok, Err, IfOk, length, refl, sym, ap, subst, ◌∙◌, arith}
+use Rattle.std.proofs.Common.{◌≡◌, ◌↔◌, ℕ, zero, suc, ◌+◌, ◌<◌, List, [], ◌∷◌, Bool, IsTrue, Result, Ok, Err, IfOk, length, refl, sym, ap, subst, ◌∙◌, arith}
 use Rattle.std.specs.List.{AllByRecursion}
 use Rattle.sqlite_value.specs.declared.value.Value.TheVariants.{Null}
 use Rattle.sqlite_value.specs.Order.{Row, column}
@@ -9,19 +9,17 @@ use Rattle.sqlite_sql.specs.Query.{Query, IsAnswer}
 use Rattle.sqlite_sql.specs.Program.{overlay}
 use Rattle.sqlite_schema.specs.declared.schema.Column.{Column}
 use Rattle.sqlite_schema.specs.declared.command.Command.TheVariants.{Select}
-use Rattle.sqlite.specs.Effect.{Database}
 use Rattle.sqlite.specs.State.{State, IsUnchanged}
 use Rattle.sqlite.proofs.Callers.{reads_as}
-use Rattle.table_forms.specs.Forms.{strict, meta, object, refs, outs, permanent, user_root, profile, generation, runtime}
+use Rattle.table_forms.specs.Forms.{strict}
 use Rattle.table_forms.specs.Standing.{Stands, tree_named}
 use Rattle.table_statements.specs.Contents.{rows_named}
-use Rattle.table_statements.specs.Texts.{IsReadable, IsReadableRow, AreReadableRows, HasReadableRows}
+use Rattle.table_statements.specs.Texts.{IsReadable, IsReadableRow, AreReadableRows}
 use Rattle.table_statements.specs.Queries.{IsAnswered}
 use Rattle.table_statements.proofs.Means.{means_command}
 use Rattle.table_statements.proofs.Scans.{IsScan, shows, scan_sound, scan_complete}
 use Rattle.table_statements.proofs.Statements.{Compiles}
 use Rattle.table_statements.proofs.Writes.{overlay_low}
-use Rattle.sqlite.proofs.Callers.{unchanged_then}
 
 -- so many columns of a row, from this one on
 abbrev pub cells : ℕ → ℕ → Row → Row
@@ -74,56 +72,7 @@ module _ (name : List ℕ) (columns : List Column) (key : List ℕ) (text : List
         ),
       )
 
--- ---- one table after another
-
+-- what is so of each answer
 pub if_ok : {T E : Type 0} (r : Result T E) (P Q : T → Type 0) → ((x : T) → P x → Q x) → IfOk r P → IfOk r Q
 if_ok (Ok x) P Q f h = f x h
 if_ok (Err e) P Q f h = tt
-
--- ---- three tables in a row
-
-rests_three : (a b d e : State) → IsUnchanged a b → IsUnchanged b d → IsUnchanged d e → IsUnchanged a e
-rests_three a b d e h k l = unchanged_then a b e h (unchanged_then b d e k l)
-
-both_true : (p q r : Bool) → IsTrue (p && q && r) → IsTrue p × IsTrue q × IsTrue r
-both_true true true true h = (refl, refl, refl)
-both_true true true false h = absurd cc
-both_true true false r h = absurd cc
-both_true false q r h = absurd cc
-
-true_both : (p q r : Bool) → IsTrue p × IsTrue q × IsTrue r → IsTrue (p && q && r)
-true_both true true true h = refl
-true_both true true false h = h.2
-true_both true false r h = let no = h.1 in absurd cc
-true_both false q r h = let no = h.0 in absurd cc
-
--- what three tests say, one after another, and nothing changes
-pub all_three : (A B D : Database → Type 0) (a b d e : State) (p q r : Bool) → IsUnchanged a b × (IsTrue p ↔ A a.now) → IsUnchanged b d × (IsTrue q ↔ B b.now) → IsUnchanged d e × (IsTrue r ↔ D d.now) → IsUnchanged a e × (IsTrue (p && q && r) ↔ A a.now × B a.now × D a.now)
-all_three A B D a b d e p q r h k l =
-    let second : b.now ≡ a.now = h.0.0.now_is in
-    let third : d.now ≡ a.now = k.0.0.now_is ∙ second in
-    let q_is = subst (λ (x : Database). IsTrue q ↔ B x) second k.1 in
-    let r_is = subst (λ (x : Database). IsTrue r ↔ D x) third l.1 in (
-      rests_three a b d e h.0 k.0 l.0,
-      (
-        λ yes. let each = both_true p q r yes in (h.1.0 each.0, q_is.0 each.1, r_is.0 each.2),
-        λ all. true_both p q r (h.1.1 all.0, q_is.1 all.1, r_is.1 all.2),
-      ),
-    )
-
--- what the tests of all nine say
-pub all_nine : (a b d e : State) (p q r : Bool) → IsUnchanged a b × (IsTrue p ↔ AreReadableRows meta (rows_named a.now meta.name) × AreReadableRows object (rows_named a.now object.name) × AreReadableRows refs (rows_named a.now refs.name))
-    → IsUnchanged b d × (IsTrue q ↔ AreReadableRows outs (rows_named b.now outs.name) × AreReadableRows permanent (rows_named b.now permanent.name) × AreReadableRows user_root (rows_named b.now user_root.name))
-    → IsUnchanged d e × (IsTrue r ↔ AreReadableRows profile (rows_named d.now profile.name) × AreReadableRows generation (rows_named d.now generation.name) × AreReadableRows runtime (rows_named d.now runtime.name))
-    → IsUnchanged a e × (IsTrue (p && q && r) ↔ HasReadableRows a.now)
-unfolding HasReadableRows
-all_nine a b d e p q r h k l =
-    let both = all_three (λ (x : Database). AreReadableRows meta (rows_named x meta.name) × AreReadableRows object (rows_named x object.name) × AreReadableRows refs (rows_named x refs.name))
-    (λ (x : Database). AreReadableRows outs (rows_named x outs.name) × AreReadableRows permanent (rows_named x permanent.name) × AreReadableRows user_root (rows_named x user_root.name))
-    (λ (x : Database). AreReadableRows profile (rows_named x profile.name) × AreReadableRows generation (rows_named x generation.name) × AreReadableRows runtime (rows_named x runtime.name)) a b d e p q r h k l in (
-      both.0,
-      (
-        λ yes. let each = both.1.0 yes in (each.0.0, (each.0.1, (each.0.2, (each.1.0, (each.1.1, (each.1.2, (each.2.0, (each.2.1, (each.2.2, tt))))))))),
-        λ all. both.1.1 ((all.0, all.1.0, all.1.1.0), (all.1.1.1.0, all.1.1.1.1.0, all.1.1.1.1.1.0), (all.1.1.1.1.1.1.0, all.1.1.1.1.1.1.1.0, all.1.1.1.1.1.1.1.1.0)),
-      ),
-    )

@@ -15,8 +15,12 @@ use Rattle.table_forms.specs.Standing.{IsKnown}
 use Rattle.table_statements.specs.Queries.{IsSelect}
 use Rattle.table_statements.proofs.Means.{ordered_by_one, ordered_by_two, ordered_by_three, plain_state}
 use Rattle.table_entries.proofs.Columns.{bounds_are, result_context, from_in, shown_in}
-use Rattle.table_opening.proofs.OwnRowids.{draft, whole, rowid_column, outputs_rowid, below}
+use Rattle.table_opening.specs.declared.our_table.OurTable.TheVariants.{Meta, Object, Refs, Outs, Permanent, UserRoot, Profile, Generation, Runtime}
+use Rattle.table_opening.specs.Tables.{rowids_text}
+use Rattle.table_opening.proofs.Asking.{Asks}
+use Rattle.table_opening.proofs.OwnRowids.{query, scan, draft, whole, rowid_column, outputs_rowid, below}
 use Rattle.table_statements.proofs.Statements.{Compiles}
+use Rattle.table_statements.proofs.ReadFailures.{standing_read_fails}
 
 abbrev pub names : List (List ℕ)
 names = codes "rowid" ∷ []
@@ -32,10 +36,10 @@ by_three = (col 1 1, ascending Binary) ∷ (col 1 2, ascending Binary) ∷ (col 
 
 -- ---- meta
 
-abbrev pub meta_text : List ℕ
-meta_text = codes "SELECT rowid FROM meta ORDER BY word"
+abbrev meta_text : List ℕ
+meta_text = rowids_text Meta
 
-pub meta_read : IsSelect meta_text
+meta_read : IsSelect meta_text
 unfolding everything
 meta_read = (_, _, _, _, _, refl)
 
@@ -43,7 +47,7 @@ meta_typed : (s : Schema) (at tree : ℕ) → IsKnown s (codes "meta") at (recor
 unfolding everything
 meta_typed s at tree known = rw (known.low, known.by_tree)
 
-pub meta_is : Compiles meta.name meta.columns meta.primary meta_text 0 (λ at tree. Select (whole by_one tree) names)
+meta_is : Compiles meta.name meta.columns meta.primary meta_text 0 (λ at tree. Select (whole by_one tree) names)
 unfolding everything
 meta_is s at tree known =
     let there = known.named.1 in
@@ -61,12 +65,21 @@ meta_is s at tree known =
       refl,
     )
 
+pub meta_rowids : Asks meta.name meta.columns meta.primary meta_text names (query by_one)
+unfolding everything
+meta_rowids = record {
+  scan = scan by_one;
+  is = meta_is;
+  reads = meta_read;
+  fails = λ old new stands. standing_read_fails meta.name meta.columns meta.primary old new stands meta_text [] names (query by_one) (scan by_one) meta_is meta_read (λ s at tree known. rw (known.low, known.by_tree) refl);
+}
+
 -- ---- object
 
-abbrev pub object_text : List ℕ
-object_text = codes "SELECT rowid FROM object ORDER BY base"
+abbrev object_text : List ℕ
+object_text = rowids_text Object
 
-pub object_read : IsSelect object_text
+object_read : IsSelect object_text
 unfolding everything
 object_read = (_, _, _, _, _, refl)
 
@@ -74,7 +87,7 @@ object_typed : (s : Schema) (at tree : ℕ) → IsKnown s (codes "object") at (r
 unfolding everything
 object_typed s at tree known = rw (known.low, known.by_tree)
 
-pub object_is : Compiles object.name object.columns object.primary object_text 0 (λ at tree. Select (whole by_one tree) names)
+object_is : Compiles object.name object.columns object.primary object_text 0 (λ at tree. Select (whole by_one tree) names)
 unfolding everything
 object_is s at tree known =
     let there = known.named.1 in
@@ -92,12 +105,21 @@ object_is s at tree known =
       refl,
     )
 
+pub object_rowids : Asks object.name object.columns object.primary object_text names (query by_one)
+unfolding everything
+object_rowids = record {
+  scan = scan by_one;
+  is = object_is;
+  reads = object_read;
+  fails = λ old new stands. standing_read_fails object.name object.columns object.primary old new stands object_text [] names (query by_one) (scan by_one) object_is object_read (λ s at tree known. rw (known.low, known.by_tree) refl);
+}
+
 -- ---- refs
 
-abbrev pub refs_text : List ℕ
-refs_text = codes "SELECT rowid FROM refs ORDER BY base, target"
+abbrev refs_text : List ℕ
+refs_text = rowids_text Refs
 
-pub refs_read : IsSelect refs_text
+refs_read : IsSelect refs_text
 unfolding everything
 refs_read = (_, _, _, _, _, refl)
 
@@ -105,7 +127,7 @@ refs_typed : (s : Schema) (at tree : ℕ) → IsKnown s (codes "refs") at (recor
 unfolding everything
 refs_typed s at tree known = rw (known.low, known.by_tree)
 
-pub refs_is : Compiles refs.name refs.columns refs.primary refs_text 0 (λ at tree. Select (whole by_two tree) names)
+refs_is : Compiles refs.name refs.columns refs.primary refs_text 0 (λ at tree. Select (whole by_two tree) names)
 unfolding everything
 refs_is s at tree known =
     let there = known.named.1 in
@@ -123,12 +145,21 @@ refs_is s at tree known =
       refl,
     )
 
+pub refs_rowids : Asks refs.name refs.columns refs.primary refs_text names (query by_two)
+unfolding everything
+refs_rowids = record {
+  scan = scan by_two;
+  is = refs_is;
+  reads = refs_read;
+  fails = λ old new stands. standing_read_fails refs.name refs.columns refs.primary old new stands refs_text [] names (query by_two) (scan by_two) refs_is refs_read (λ s at tree known. rw (known.low, known.by_tree) refl);
+}
+
 -- ---- outs
 
-abbrev pub outs_text : List ℕ
-outs_text = codes "SELECT rowid FROM outs ORDER BY base, name"
+abbrev outs_text : List ℕ
+outs_text = rowids_text Outs
 
-pub outs_read : IsSelect outs_text
+outs_read : IsSelect outs_text
 unfolding everything
 outs_read = (_, _, _, _, _, refl)
 
@@ -136,7 +167,7 @@ outs_typed : (s : Schema) (at tree : ℕ) → IsKnown s (codes "outs") at (recor
 unfolding everything
 outs_typed s at tree known = rw (known.low, known.by_tree)
 
-pub outs_is : Compiles outs.name outs.columns outs.primary outs_text 0 (λ at tree. Select (whole by_two tree) names)
+outs_is : Compiles outs.name outs.columns outs.primary outs_text 0 (λ at tree. Select (whole by_two tree) names)
 unfolding everything
 outs_is s at tree known =
     let there = known.named.1 in
@@ -154,12 +185,21 @@ outs_is s at tree known =
       refl,
     )
 
+pub outs_rowids : Asks outs.name outs.columns outs.primary outs_text names (query by_two)
+unfolding everything
+outs_rowids = record {
+  scan = scan by_two;
+  is = outs_is;
+  reads = outs_read;
+  fails = λ old new stands. standing_read_fails outs.name outs.columns outs.primary old new stands outs_text [] names (query by_two) (scan by_two) outs_is outs_read (λ s at tree known. rw (known.low, known.by_tree) refl);
+}
+
 -- ---- permanent
 
-abbrev pub permanent_text : List ℕ
-permanent_text = codes "SELECT rowid FROM permanent ORDER BY name"
+abbrev permanent_text : List ℕ
+permanent_text = rowids_text Permanent
 
-pub permanent_read : IsSelect permanent_text
+permanent_read : IsSelect permanent_text
 unfolding everything
 permanent_read = (_, _, _, _, _, refl)
 
@@ -167,7 +207,7 @@ permanent_typed : (s : Schema) (at tree : ℕ) → IsKnown s (codes "permanent")
 unfolding everything
 permanent_typed s at tree known = rw (known.low, known.by_tree)
 
-pub permanent_is : Compiles permanent.name permanent.columns permanent.primary permanent_text 0 (λ at tree. Select (whole by_one tree) names)
+permanent_is : Compiles permanent.name permanent.columns permanent.primary permanent_text 0 (λ at tree. Select (whole by_one tree) names)
 unfolding everything
 permanent_is s at tree known =
     let there = known.named.1 in
@@ -185,12 +225,21 @@ permanent_is s at tree known =
       refl,
     )
 
+pub permanent_rowids : Asks permanent.name permanent.columns permanent.primary permanent_text names (query by_one)
+unfolding everything
+permanent_rowids = record {
+  scan = scan by_one;
+  is = permanent_is;
+  reads = permanent_read;
+  fails = λ old new stands. standing_read_fails permanent.name permanent.columns permanent.primary old new stands permanent_text [] names (query by_one) (scan by_one) permanent_is permanent_read (λ s at tree known. rw (known.low, known.by_tree) refl);
+}
+
 -- ---- user_root
 
-abbrev pub user_root_text : List ℕ
-user_root_text = codes "SELECT rowid FROM user_root ORDER BY owner, name"
+abbrev user_root_text : List ℕ
+user_root_text = rowids_text UserRoot
 
-pub user_root_read : IsSelect user_root_text
+user_root_read : IsSelect user_root_text
 unfolding everything
 user_root_read = (_, _, _, _, _, refl)
 
@@ -198,7 +247,7 @@ user_root_typed : (s : Schema) (at tree : ℕ) → IsKnown s (codes "user_root")
 unfolding everything
 user_root_typed s at tree known = rw (known.low, known.by_tree)
 
-pub user_root_is : Compiles user_root.name user_root.columns user_root.primary user_root_text 0 (λ at tree. Select (whole by_two tree) names)
+user_root_is : Compiles user_root.name user_root.columns user_root.primary user_root_text 0 (λ at tree. Select (whole by_two tree) names)
 unfolding everything
 user_root_is s at tree known =
     let there = known.named.1 in
@@ -216,12 +265,21 @@ user_root_is s at tree known =
       refl,
     )
 
+pub user_root_rowids : Asks user_root.name user_root.columns user_root.primary user_root_text names (query by_two)
+unfolding everything
+user_root_rowids = record {
+  scan = scan by_two;
+  is = user_root_is;
+  reads = user_root_read;
+  fails = λ old new stands. standing_read_fails user_root.name user_root.columns user_root.primary old new stands user_root_text [] names (query by_two) (scan by_two) user_root_is user_root_read (λ s at tree known. rw (known.low, known.by_tree) refl);
+}
+
 -- ---- profile
 
-abbrev pub profile_text : List ℕ
-profile_text = codes "SELECT rowid FROM profile ORDER BY owner, name"
+abbrev profile_text : List ℕ
+profile_text = rowids_text Profile
 
-pub profile_read : IsSelect profile_text
+profile_read : IsSelect profile_text
 unfolding everything
 profile_read = (_, _, _, _, _, refl)
 
@@ -229,7 +287,7 @@ profile_typed : (s : Schema) (at tree : ℕ) → IsKnown s (codes "profile") at 
 unfolding everything
 profile_typed s at tree known = rw (known.low, known.by_tree)
 
-pub profile_is : Compiles profile.name profile.columns profile.primary profile_text 0 (λ at tree. Select (whole by_two tree) names)
+profile_is : Compiles profile.name profile.columns profile.primary profile_text 0 (λ at tree. Select (whole by_two tree) names)
 unfolding everything
 profile_is s at tree known =
     let there = known.named.1 in
@@ -247,12 +305,21 @@ profile_is s at tree known =
       refl,
     )
 
+pub profile_rowids : Asks profile.name profile.columns profile.primary profile_text names (query by_two)
+unfolding everything
+profile_rowids = record {
+  scan = scan by_two;
+  is = profile_is;
+  reads = profile_read;
+  fails = λ old new stands. standing_read_fails profile.name profile.columns profile.primary old new stands profile_text [] names (query by_two) (scan by_two) profile_is profile_read (λ s at tree known. rw (known.low, known.by_tree) refl);
+}
+
 -- ---- generation
 
-abbrev pub generation_text : List ℕ
-generation_text = codes "SELECT rowid FROM generation ORDER BY owner, name, num"
+abbrev generation_text : List ℕ
+generation_text = rowids_text Generation
 
-pub generation_read : IsSelect generation_text
+generation_read : IsSelect generation_text
 unfolding everything
 generation_read = (_, _, _, _, _, refl)
 
@@ -260,7 +327,7 @@ generation_typed : (s : Schema) (at tree : ℕ) → IsKnown s (codes "generation
 unfolding everything
 generation_typed s at tree known = rw (known.low, known.by_tree)
 
-pub generation_is : Compiles generation.name generation.columns generation.primary generation_text 0 (λ at tree. Select (whole by_three tree) names)
+generation_is : Compiles generation.name generation.columns generation.primary generation_text 0 (λ at tree. Select (whole by_three tree) names)
 unfolding everything
 generation_is s at tree known =
     let there = known.named.1 in
@@ -278,12 +345,21 @@ generation_is s at tree known =
       refl,
     )
 
+pub generation_rowids : Asks generation.name generation.columns generation.primary generation_text names (query by_three)
+unfolding everything
+generation_rowids = record {
+  scan = scan by_three;
+  is = generation_is;
+  reads = generation_read;
+  fails = λ old new stands. standing_read_fails generation.name generation.columns generation.primary old new stands generation_text [] names (query by_three) (scan by_three) generation_is generation_read (λ s at tree known. rw (known.low, known.by_tree) refl);
+}
+
 -- ---- runtime
 
-abbrev pub runtime_text : List ℕ
-runtime_text = codes "SELECT rowid FROM runtime ORDER BY label, target"
+abbrev runtime_text : List ℕ
+runtime_text = rowids_text Runtime
 
-pub runtime_read : IsSelect runtime_text
+runtime_read : IsSelect runtime_text
 unfolding everything
 runtime_read = (_, _, _, _, _, refl)
 
@@ -291,7 +367,7 @@ runtime_typed : (s : Schema) (at tree : ℕ) → IsKnown s (codes "runtime") at 
 unfolding everything
 runtime_typed s at tree known = rw (known.low, known.by_tree)
 
-pub runtime_is : Compiles runtime.name runtime.columns runtime.primary runtime_text 0 (λ at tree. Select (whole by_two tree) names)
+runtime_is : Compiles runtime.name runtime.columns runtime.primary runtime_text 0 (λ at tree. Select (whole by_two tree) names)
 unfolding everything
 runtime_is s at tree known =
     let there = known.named.1 in
@@ -308,3 +384,12 @@ runtime_is s at tree known =
       refl,
       refl,
     )
+
+pub runtime_rowids : Asks runtime.name runtime.columns runtime.primary runtime_text names (query by_two)
+unfolding everything
+runtime_rowids = record {
+  scan = scan by_two;
+  is = runtime_is;
+  reads = runtime_read;
+  fails = λ old new stands. standing_read_fails runtime.name runtime.columns runtime.primary old new stands runtime_text [] names (query by_two) (scan by_two) runtime_is runtime_read (λ s at tree known. rw (known.low, known.by_tree) refl);
+}

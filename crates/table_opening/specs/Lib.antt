@@ -6,4 +6,5 @@ pub use Rattle.table_statements.specs.Texts
 pub use Rattle.table_statements.specs.Frozen
 pub use Rattle.table_statements.specs.Calls
 pub use Rattle.table_statements.specs.Failures
+pub mod Tables
 pub mod Opened

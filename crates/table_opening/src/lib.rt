@@ -2,9 +2,8 @@
 #![tactic(auto)]
 
 pub mod file;
-mod further;
-mod keyed;
 pub mod opening;
-mod readable;
+mod our_table;
 mod rowids;
+mod testing;
 mod texts;

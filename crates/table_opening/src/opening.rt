@@ -1,49 +1,35 @@
 //! Taking up a connection: by which schema its database has our tables, and that their rows can be told apart and their texts read.
 
-ghost use Rattle.std.specs.Prelude.{◌≡◌, ◌≢◌, ◌↔◌, false, IsTrue, IfOk, IfErr, OnOk};
-ghost use Rattle.std.specs.List.{AllByRecursion};
+ghost use Rattle.std.specs.Prelude.{◌≡◌, ◌≢◌, ◌↔◌, ◌<◌, length, false, IsTrue, IfOk, IfErr, OnOk};
 ghost use Rattle.sqlite.specs.Effect.{IsDatabase};
 ghost use Rattle.sqlite.specs.State.{HasCleanDisk, IsLive, IsUnchanged, Survives};
 ghost use Rattle.sqlite.specs.Held.{state};
 ghost use Rattle.table_forms.specs.Finding.{HasNone, HasFirst, HasSecond, HasThird};
-ghost use Rattle.table_forms.specs.Forms.{our_tables};
-ghost use Rattle.table_statements.specs.Contents.{rows_named};
-ghost use Rattle.table_statements.specs.Texts.{HasReadableRows};
-ghost use Rattle.table_statements.specs.Calls.{HasSettledTables, KeepsShown, IsKeyed};
+ghost use Rattle.table_statements.specs.Calls.{KeepsShown};
+ghost use Rattle.table_opening.specs.Tables.{schema_tables};
 ghost use Rattle.table_opening.specs.Opened.{IsFound, IsRecognised, FailsToOpen};
 ghost use Rattle.table_statements.specs.Failures.{FailsToTest};
 ghost use Rattle.table_forms.specs.declared.recognising.Recognised.TheVariants.{First, Second, Third, Nothing};
 
-use crate::{further, keyed, readable};
+use crate::our_table::schema_tables;
+use crate::testing;
 use sqlite::{Alter, Connection};
 use std::alloc::Global;
 use table_forms::recognising::{self, Recognised};
 use table_statements::failure::Failure;
 
-/// Whether each text of the nine tables is UTF-8. Fails with `Disk` if two rows of a table share a rowid, or a rowid is no integer. Nothing changes.
-fn nine<S: Alter>(alloc: Global, conn: &mut Connection<S>) -> Result<bool, Failure>
-    requires alone { conn.old.in_transaction ≡ false }
-    requires settled { HasCleanDisk (state S.Store conn.old) → HasSettledTables (state S.Store conn.old) }
-    requires sound { HasCleanDisk (state S.Store conn.old) → IsTrue (state S.Store conn.old).is_open → IsDatabase (state S.Store conn.old).now }
-    ensures alone { conn.new.in_transaction ≡ false }
-    ensures told { HasCleanDisk (state S.Store conn.new) → IfOk result (λ all. IsUnchanged (state S.Store conn.old) (state S.Store conn.new)
-        × AllByRecursion (λ t. IsKeyed (rows_named (state S.Store conn.old).now t.name)) our_tables
-        × (IsTrue all ↔ HasReadableRows (state S.Store conn.old).now)) }
-    ensures cause { HasCleanDisk (state S.Store conn.new) → IfErr result (FailsToTest (state S.Store conn.old) (state S.Store conn.new)
-        (¬ AllByRecursion (λ t. IsKeyed (rows_named (state S.Store conn.old).now t.name)) our_tables)) }
-    ensures same { HasCleanDisk (state S.Store conn.new) → KeepsShown (state S.Store conn.old) (state S.Store conn.new) }
-    ensures survives { Survives (state S.Store conn.old) (state S.Store conn.new) (λ _. ⊥) }
-{
-    keyed::all(alloc, conn)?;
-    readable::all(conn)
-}
-
-/// The nine of the first schema.
-fn first<S: Alter>(alloc: Global, conn: &mut Connection<S>) -> Result<Recognised, Failure>
+/// The schema, whose tables stand, or `Other` where a text in one of them isn't UTF-8. Fails with `Disk` if two rows of a table share a
+/// rowid, or a rowid is no integer. Nothing changes.
+fn taken_up<S: Alter>(
+    alloc: Global,
+    conn: &mut Connection<S>,
+    schema: Recognised,
+) -> Result<Recognised, Failure>
+    requires some { 0 < length (schema_tables schema) }
     requires alone { conn.old.in_transaction ≡ false }
     requires settled { HasCleanDisk (state S.Store conn.old) → IsTrue (state S.Store conn.old).is_open → (state S.Store conn.old).now ≡ (state S.Store conn.old).committed }
     requires sound { HasCleanDisk (state S.Store conn.old) → IsTrue (state S.Store conn.old).is_open → IsDatabase (state S.Store conn.old).now }
-    requires recognised { IsRecognised First (state S.Store conn.old).now.schema }
+    requires recognised { IsRecognised schema (state S.Store conn.old).now.schema }
     ensures alone { conn.new.in_transaction ≡ false }
     ensures unchanged { HasCleanDisk (state S.Store conn.new) → OnOk result (IsUnchanged (state S.Store conn.old) (state S.Store conn.new)) }
     ensures found { HasCleanDisk (state S.Store conn.new) → IfOk result (λ r. IsFound r (state S.Store conn.new)) }
@@ -52,55 +38,8 @@ fn first<S: Alter>(alloc: Global, conn: &mut Connection<S>) -> Result<Recognised
     ensures same { HasCleanDisk (state S.Store conn.new) → KeepsShown (state S.Store conn.old) (state S.Store conn.new) }
     ensures survives { Survives (state S.Store conn.old) (state S.Store conn.new) (λ _. ⊥) }
 {
-    if nine(alloc, conn)? {
-        Ok(Recognised::First)
-    } else {
-        Ok(Recognised::Other)
-    }
-}
-
-/// Those of the second.
-fn second<S: Alter>(alloc: Global, conn: &mut Connection<S>) -> Result<Recognised, Failure>
-    requires alone { conn.old.in_transaction ≡ false }
-    requires settled { HasCleanDisk (state S.Store conn.old) → IsTrue (state S.Store conn.old).is_open → (state S.Store conn.old).now ≡ (state S.Store conn.old).committed }
-    requires sound { HasCleanDisk (state S.Store conn.old) → IsTrue (state S.Store conn.old).is_open → IsDatabase (state S.Store conn.old).now }
-    requires recognised { IsRecognised Second (state S.Store conn.old).now.schema }
-    ensures alone { conn.new.in_transaction ≡ false }
-    ensures unchanged { HasCleanDisk (state S.Store conn.new) → OnOk result (IsUnchanged (state S.Store conn.old) (state S.Store conn.new)) }
-    ensures found { HasCleanDisk (state S.Store conn.new) → IfOk result (λ r. IsFound r (state S.Store conn.new)) }
-    ensures some { IfOk result (λ r. r ≢ Nothing) }
-    ensures cause { HasCleanDisk (state S.Store conn.new) → IfErr result (FailsToOpen (state S.Store conn.old) (state S.Store conn.new)) }
-    ensures same { HasCleanDisk (state S.Store conn.new) → KeepsShown (state S.Store conn.old) (state S.Store conn.new) }
-    ensures survives { Survives (state S.Store conn.old) (state S.Store conn.new) (λ _. ⊥) }
-{
-    let nine = nine(alloc, conn)?;
-    let pieces = further::pieces(alloc, conn)?;
-    if nine & pieces {
-        Ok(Recognised::Second)
-    } else {
-        Ok(Recognised::Other)
-    }
-}
-
-/// Those of the third.
-fn third<S: Alter>(alloc: Global, conn: &mut Connection<S>) -> Result<Recognised, Failure>
-    requires alone { conn.old.in_transaction ≡ false }
-    requires settled { HasCleanDisk (state S.Store conn.old) → IsTrue (state S.Store conn.old).is_open → (state S.Store conn.old).now ≡ (state S.Store conn.old).committed }
-    requires sound { HasCleanDisk (state S.Store conn.old) → IsTrue (state S.Store conn.old).is_open → IsDatabase (state S.Store conn.old).now }
-    requires recognised { IsRecognised Third (state S.Store conn.old).now.schema }
-    ensures alone { conn.new.in_transaction ≡ false }
-    ensures unchanged { HasCleanDisk (state S.Store conn.new) → OnOk result (IsUnchanged (state S.Store conn.old) (state S.Store conn.new)) }
-    ensures found { HasCleanDisk (state S.Store conn.new) → IfOk result (λ r. IsFound r (state S.Store conn.new)) }
-    ensures some { IfOk result (λ r. r ≢ Nothing) }
-    ensures cause { HasCleanDisk (state S.Store conn.new) → IfErr result (FailsToOpen (state S.Store conn.old) (state S.Store conn.new)) }
-    ensures same { HasCleanDisk (state S.Store conn.new) → KeepsShown (state S.Store conn.old) (state S.Store conn.new) }
-    ensures survives { Survives (state S.Store conn.old) (state S.Store conn.new) (λ _. ⊥) }
-{
-    let nine = nine(alloc, conn)?;
-    let pieces = further::pieces(alloc, conn)?;
-    let temp_roots = further::temp_roots(alloc, conn)?;
-    if nine & pieces & temp_roots {
-        Ok(Recognised::Third)
+    if testing::all(alloc, conn, schema_tables(schema))? {
+        Ok(schema)
     } else {
         Ok(Recognised::Other)
     }
@@ -148,9 +87,9 @@ pub fn open<S: Alter>(alloc: Global, conn: &mut Connection<S>) -> Result<Recogni
     let settled = conn.is_autocommit();
     prove!(settled);
     match recognise(conn) {
-        Recognised::First => first(alloc, conn),
-        Recognised::Second => second(alloc, conn),
-        Recognised::Third => third(alloc, conn),
+        Recognised::First => taken_up(alloc, conn, Recognised::First),
+        Recognised::Second => taken_up(alloc, conn, Recognised::Second),
+        Recognised::Third => taken_up(alloc, conn, Recognised::Third),
         found => {
             probe(conn)?;
             Ok(found)

@@ -5,13 +5,13 @@ use Rattle.table_opening.proofs.ReadableRows.{if_ok}
 use Rattle.table_opening.proofs.opening.open.Goals as goal
 
 pub returns-in-First-clause-nothing : goal.returns-in-First-clause-nothing
-returns-in-First-clause-nothing g c = if_ok c.first.result _ _ (λ r some. (λ is. absurd (some is), λ none. absurd (let no = sym c.in-First.is ∙ c.recognise.ensures.nothing.1 none in cc))) c.first.ensures.some
+returns-in-First-clause-nothing g c = if_ok c.taken_up.result _ _ (λ r some. (λ is. absurd (some is), λ none. absurd (let no = sym c.in-First.is ∙ c.recognise.ensures.nothing.1 none in cc))) c.taken_up.ensures.some
 
 pub returns-in-Second-clause-nothing : goal.returns-in-Second-clause-nothing
-returns-in-Second-clause-nothing g c = if_ok c.second.result _ _ (λ r some. (λ is. absurd (some is), λ none. absurd (let no = sym c.in-Second.is ∙ c.recognise.ensures.nothing.1 none in cc))) c.second.ensures.some
+returns-in-Second-clause-nothing g c = if_ok c.taken_up-in-Second.result _ _ (λ r some. (λ is. absurd (some is), λ none. absurd (let no = sym c.in-Second.is ∙ c.recognise.ensures.nothing.1 none in cc))) c.taken_up-in-Second.ensures.some
 
 pub returns-in-Third-clause-nothing : goal.returns-in-Third-clause-nothing
-returns-in-Third-clause-nothing g c = if_ok c.third.result _ _ (λ r some. (λ is. absurd (some is), λ none. absurd (let no = sym c.in-Third.is ∙ c.recognise.ensures.nothing.1 none in cc))) c.third.ensures.some
+returns-in-Third-clause-nothing g c = if_ok c.taken_up-in-Third.result _ _ (λ r some. (λ is. absurd (some is), λ none. absurd (let no = sym c.in-Third.is ∙ c.recognise.ensures.nothing.1 none in cc))) c.taken_up-in-Third.ensures.some
 
 pub returns-in_ok-probe-in_default-clause-found : goal.returns-in_ok-probe-in_default-clause-found
 returns-in_ok-probe-in_default-clause-found g c clean =

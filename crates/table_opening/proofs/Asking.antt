@@ -1,0 +1,38 @@
+-- A query of all rows of a table, by its text, and why it fails.
+use Rattle.std.proofs.Common.{ℕ, List, [], Bool, IsTrue}
+use Rattle.std.specs.Prelude.{IsSome}
+use Rattle.sqlite_value.specs.Order.{Row}
+use Rattle.sqlite_sql.specs.Query.{Query}
+use Rattle.sqlite_schema.specs.declared.schema.Column.{Column}
+use Rattle.sqlite_schema.specs.declared.command.Command.TheVariants.{Select}
+use Rattle.sqlite.specs.declared.error.Error.{Error}
+use Rattle.sqlite.specs.State.{State, FailsToQuery}
+use Rattle.table_forms.specs.Forms.{strict}
+use Rattle.table_forms.specs.Standing.{Stands}
+use Rattle.table_statements.specs.Queries.{IsSelect}
+use Rattle.table_statements.specs.Failures.{failure_of, FailsWith}
+use Rattle.table_statements.proofs.Scans.{IsScan}
+use Rattle.table_statements.proofs.Statements.{Compiles}
+use Rattle.table_statements.proofs.ReadFailures.{standing_read_fails}
+use Rattle.table_entries.proofs.Description.{Description, Reading, Selection}
+
+-- an error of a query of this text is one of the disk, or of a limit on steps
+abbrev pub QueryFails : List ℕ → State → State → Type 0
+QueryFails text old new = (e : Error) → FailsToQuery text [] old new e → FailsWith old new ⊥ (IsSome old.step_limit) (failure_of e)
+
+-- in any schema in which the table stands, the text is this query
+pub record Asks (name : List ℕ) (columns : List Column) (key : List ℕ) (text : List ℕ) (names : List (List ℕ)) (query : ℕ → Query) : Type 1 where
+  pub scan : (tree : ℕ) → IsScan (query tree) tree
+  pub is : Compiles name columns key text 0 (λ at tree. Select (record { lets = []; body = query tree }) names)
+  pub reads : IsSelect text
+  pub fails : (old new : State) → (IsTrue old.is_open → Stands old.now.schema (strict name columns key)) → QueryFails text old new
+
+-- as the read of all its entries asks
+pub asks_all : {K X T : Type 0} (d : Description K X) {ShowsItem : Row → T → Type 0} {item : T → K × X} {IsLegible : Row → Type 0} (q : Reading d ShowsItem item IsLegible) {text : List ℕ} {test : K → Bool} (s : Selection d q text [] test)
+    → Compiles d.name d.columns d.key text 0 (λ at tree. Select (record { lets = []; body = q.query [] tree }) q.names) → Asks d.name d.columns d.key text q.names (q.query [])
+asks_all d q {text} s is = record {
+  scan = q.scan [];
+  is = is;
+  reads = s.reads;
+  fails = λ old new stands. standing_read_fails d.name d.columns d.key old new stands text [] q.names (q.query s.filter) (q.scan s.filter) s.is s.reads s.accepts;
+}

@@ -1,0 +1,94 @@
+-- That the texts of each table of ours ask for the rowids and the texts of its rows.
+use Rattle.std.proofs.Common.{zero, suc, [], ◌∷◌, arith, refl}
+use Rattle.sqlite_value.specs.Order.{Row, column}
+use Rattle.table_forms.specs.Forms.{meta, object, refs, outs, permanent, user_root, profile, generation, runtime, piece, temp_root}
+use Rattle.table_statements.specs.Texts.{IsReadable, IsReadableRow}
+use Rattle.table_statements.proofs.Truths.{and_so}
+use Rattle.table_statements.proofs.ReadFailures.{standing_read_fails}
+use Rattle.table_entries.proofs.SettingLemmas as settings
+use Rattle.table_entries.proofs.ListingLemmas as objects
+use Rattle.table_entries.proofs.ReferenceLemmas as references
+use Rattle.table_entries.proofs.OutputLemmas as outputs
+use Rattle.table_entries.proofs.PermanentRootLemmas as permanent_roots
+use Rattle.table_entries.proofs.UserRootLemmas as user_roots
+use Rattle.table_entries.proofs.ProfileLemmas as profiles
+use Rattle.table_entries.proofs.GenerationLemmas as generations
+use Rattle.table_entries.proofs.RuntimeRootLemmas as runtime_roots
+use Rattle.table_entries.proofs.PieceKeyLemmas as pieces
+use Rattle.table_entries.proofs.TempRootLemmas as temp_roots
+use Rattle.table_entries.proofs.Typed.{objects_typed, pieces_typed}
+use Rattle.table_entries.proofs.ReadableValues.{blob_readable}
+use Rattle.sqlite_tied.specs.Compute.{everything}
+use Rattle.table_opening.specs.declared.our_table.OurTable.{OurTable}
+use Rattle.table_opening.specs.declared.our_table.OurTable.TheVariants.{Meta, Object, Refs, Outs, Permanent, UserRoot, Profile, Generation, Runtime, Piece, TempRoot}
+use Rattle.table_opening.specs.Tables.{form, rowids_text, texts_text}
+use Rattle.table_opening.proofs.Asking.{Asks, asks_all}
+use Rattle.table_opening.proofs.ReadableRows.{AreOfUtf8, all_cells}
+use Rattle.table_opening.proofs.RowidTexts.{by_one, by_two, by_three, meta_rowids, object_rowids, refs_rowids, outs_rowids, permanent_rowids, user_root_rowids, profile_rowids, generation_rowids, runtime_rowids}
+use Rattle.table_opening.proofs.FurtherRowids.{piece_rowids, temp_root_rowids}
+use Rattle.table_opening.proofs.Tested.{AreTests, tests_by}
+
+-- ---- the objects, whose archives are not shown: they are no texts
+
+abbrev shown_of : Row → Row
+shown_of r = column r 1 ∷ column r 3 ∷ column r 4 ∷ column r 5 ∷ []
+
+all_columns : (r : Row) → IsReadable (column r 2) → IsReadableRow (shown_of r) → AreOfUtf8 5 r
+all_columns r second h zero low = h 0 (omega arith)
+all_columns r second h (suc zero) low = second
+all_columns r second h (suc (suc zero)) low = h 1 (omega arith)
+all_columns r second h (suc (suc (suc zero))) low = h 2 (omega arith)
+all_columns r second h (suc (suc (suc (suc zero)))) low = h 3 (omega arith)
+all_columns r second h (suc (suc (suc (suc (suc at))))) low = absurd (omega (arith, low))
+
+shown_columns : (r : Row) → AreOfUtf8 5 r → IsReadableRow (shown_of r)
+shown_columns r h zero low = h 0 (omega arith)
+shown_columns r h (suc zero) low = h 2 (omega arith)
+shown_columns r h (suc (suc zero)) low = h 3 (omega arith)
+shown_columns r h (suc (suc (suc zero))) low = h 4 (omega arith)
+shown_columns r h (suc (suc (suc (suc at)))) low = absurd (omega (arith, low))
+
+object_texts : Asks object.name object.columns object.primary objects.all_text objects.names objects.query
+unfolding everything
+object_texts = record {
+  scan = objects.scan;
+  is = objects.all_is;
+  reads = objects.all_read;
+  fails = λ old new stands. standing_read_fails object.name object.columns object.primary old new stands objects.all_text [] objects.names objects.query objects.scan objects.all_is objects.all_read (λ s at tree known. rw (known.low, known.by_tree) refl);
+}
+
+-- ---- the pieces, whose bytes are not shown
+
+abbrev key_of : Row → Row
+key_of r = column r 1 ∷ column r 2 ∷ []
+
+whole_piece : (r : Row) → IsReadable (column r 3) → IsReadableRow (key_of r) → AreOfUtf8 3 r
+whole_piece r third h zero low = h 0 (omega arith)
+whole_piece r third h (suc zero) low = h 1 (omega arith)
+whole_piece r third h (suc (suc zero)) low = third
+whole_piece r third h (suc (suc (suc at))) low = absurd (omega (arith, low))
+
+key_columns : (r : Row) → AreOfUtf8 3 r → IsReadableRow (key_of r)
+key_columns r h zero low = h 0 (omega arith)
+key_columns r h (suc zero) low = h 1 (omega arith)
+key_columns r h (suc (suc at)) low = absurd (omega (arith, low))
+
+piece_texts : Asks piece.name piece.columns piece.primary pieces.keys_text pieces.names pieces.keys_query
+piece_texts = record { scan = pieces.scan; is = pieces.keys_is; reads = pieces.keys_read; fails = pieces.standing_fails_keys }
+
+-- ---- each table
+
+pub tests_of : (t : OurTable) → AreTests (form t) (rowids_text t) (texts_text t)
+tests_of Meta = tests_by meta.name meta.columns meta.primary by_one meta_rowids (asks_all settings.table settings.reading settings.all settings.all_is) (λ tree. refl) (λ db sound stands tree r there. all_cells 2 r)
+tests_of Object = tests_by object.name object.columns object.primary by_one object_rowids object_texts (λ tree. refl)
+    (λ db sound stands tree r there. (all_columns r (blob_readable (column r 2) (and_so _ _ (and_so _ _ (and_so _ _ (and_so _ _ (objects_typed db sound stands r there)).0).0).0).1), shown_columns r))
+tests_of Refs = tests_by refs.name refs.columns refs.primary by_two refs_rowids (asks_all references.table references.reading references.all references.all_is) (λ tree. refl) (λ db sound stands tree r there. all_cells 2 r)
+tests_of Outs = tests_by outs.name outs.columns outs.primary by_two outs_rowids (asks_all outputs.table outputs.reading outputs.all outputs.all_is) (λ tree. refl) (λ db sound stands tree r there. all_cells 3 r)
+tests_of Permanent = tests_by permanent.name permanent.columns permanent.primary by_one permanent_rowids (asks_all permanent_roots.table permanent_roots.reading permanent_roots.all permanent_roots.all_is) (λ tree. refl) (λ db sound stands tree r there. all_cells 2 r)
+tests_of UserRoot = tests_by user_root.name user_root.columns user_root.primary by_two user_root_rowids (asks_all user_roots.table user_roots.reading user_roots.all user_roots.all_is) (λ tree. refl) (λ db sound stands tree r there. all_cells 3 r)
+tests_of Profile = tests_by profile.name profile.columns profile.primary by_two profile_rowids (asks_all profiles.table profiles.reading profiles.all profiles.all_is) (λ tree. refl) (λ db sound stands tree r there. all_cells 3 r)
+tests_of Generation = tests_by generation.name generation.columns generation.primary by_three generation_rowids (asks_all generations.table generations.reading generations.all generations.all_is) (λ tree. refl) (λ db sound stands tree r there. all_cells 4 r)
+tests_of Runtime = tests_by runtime.name runtime.columns runtime.primary by_two runtime_rowids (asks_all runtime_roots.table runtime_roots.reading runtime_roots.all runtime_roots.all_is) (λ tree. refl) (λ db sound stands tree r there. all_cells 2 r)
+tests_of Piece = tests_by piece.name piece.columns piece.primary by_two piece_rowids piece_texts (λ tree. refl)
+    (λ db sound stands tree r there. (whole_piece r (blob_readable (column r 3) (and_so _ _ (pieces_typed db sound stands r there)).1), key_columns r))
+tests_of TempRoot = tests_by temp_root.name temp_root.columns temp_root.primary by_three temp_root_rowids (asks_all temp_roots.table temp_roots.reading temp_roots.all temp_roots.all_is) (λ tree. refl) (λ db sound stands tree r there. all_cells 3 r)
