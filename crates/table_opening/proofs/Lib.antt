@@ -1,9 +1,11 @@
 pub mod Asking
 pub mod OwnRowids
-pub mod RowidTexts
+pub mod RowidQueries
+pub mod RowidsByOne
+pub mod RowidsByTwo
+pub mod RowidsByThree
 pub mod RowidFailures
 pub mod ReadableRows
-pub mod FurtherRowids
 pub mod Tested
 pub mod Tests
 pub mod Opened

@@ -37,7 +37,7 @@ use Rattle.table_statements.proofs.RowByRow.{whole as all_rows}
 use Rattle.table_statements.proofs.TestFailures.{test_fails}
 use Rattle.table_opening.proofs.Asking.{Asks}
 use Rattle.table_opening.proofs.OwnRowids.{query, whole, scan, first, same_rowids, front}
-use Rattle.table_opening.proofs.RowidTexts.{names}
+use Rattle.table_opening.proofs.RowidQueries.{names}
 
 -- ---- what is shown of rowids that differ
 

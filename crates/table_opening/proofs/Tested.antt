@@ -24,7 +24,7 @@ use Rattle.table_opening.proofs.Asking.{Asks}
 use Rattle.table_opening.proofs.OwnRowids.{query, keyed_if, ShowsApart}
 use Rattle.table_opening.proofs.ReadableRows.{Tells, AreOfUtf8, told_if}
 use Rattle.table_opening.proofs.RowidFailures.{FailsToCheck, check_fails}
-use Rattle.table_opening.proofs.RowidTexts.{names}
+use Rattle.table_opening.proofs.RowidQueries.{names}
 
 -- the query of the texts failed, or memory did
 abbrev pub FailsOfTexts : List ℕ → State → State → Failure → Type 0
