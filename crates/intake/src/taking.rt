@@ -26,6 +26,15 @@ impl Model for Intake {
     ghost view = { λ i. i.so_far };
 }
 
+/// Lets go what has come. It stands apart from `push`, which would else clear room for it at each call.
+#[cold]
+#[inline(never)]
+fn spend(so_far: &mut Option<Arriving>)
+    ensures { so_far.new ≡ None }
+{
+    *so_far = None;
+}
+
 impl Intake {
     /// No bytes yet. It takes no memory.
     pub fn new(alloc: Global) -> Intake
@@ -62,7 +71,7 @@ impl Intake {
             return Err(AllocError);
         };
         if let Err(refused) = arriving.push(piece) {
-            self.so_far = None;
+            spend(&mut self.so_far);
             return Err(refused);
         }
         Ok(())
