@@ -24,8 +24,8 @@ use Rattle.store.specs.Liveness.{links_of, graph_of, keep_of, lives, goes_with}
 use Rattle.store.specs.Verdict.{operation_of, verdict}
 use Rattle.store.specs.Adds.{Added, added_text, added_source, added_import}
 use Rattle.store.specs.Effects.{with_object, effect}
-use Rattle.store.specs.Step.{Step}
-use Rattle.store.specs.Laws.{Pins, PinsOverRuns}
+use Rattle.store.specs.Step.{Step, Run}
+use Rattle.store.specs.Laws.{Pins, PinsOverRuns, PinsThroughout, RootStands, StandsThroughout}
 use Rattle.store.proofs.Worlds.{get-graph, live_of, live_has, kept_if}
 use Rattle.store.proofs.Limited.{leaves, live_left}
 
@@ -133,3 +133,23 @@ pins_over_runs s w new r (call ∷ calls) (reply ∷ replies) h p reach =
     (rest.0, rest.1 ∙ first.1)
 pins_over_runs s w new r [] (reply ∷ replies) h p reach = absurd h
 pins_over_runs s w new r (call ∷ calls) [] h p reach = absurd h
+
+-- a run with a root that stands wherever it leads
+stands_along : (s : Settings) (w new : World) (r : Root) (calls : List (Caller × Request)) (replies : List Reply)
+    → Run s w calls replies new → StandsThroughout s w r calls replies → RootStands s w r calls replies new
+stands_along s w new r [] [] run stands = run
+stands_along s w new r (call ∷ calls) (reply ∷ replies) run stands = (
+  stands [] calls call [] (reply ∷ replies) w refl refl refl,
+  (
+    run.0,
+    run.1,
+    stands_along s run.0 new r calls replies run.2
+        (λ made left next told untold mid of_calls of_replies so_far.
+        stands (call ∷ made) left next (reply ∷ told) untold mid (ap (◌∷◌ call) of_calls) (ap (◌∷◌ reply) of_replies) (run.0, run.1, so_far)),
+  ),
+)
+stands_along s w new r [] (reply ∷ replies) run stands = absurd run
+stands_along s w new r (call ∷ calls) [] run stands = absurd run
+
+pub pins_throughout : PinsThroughout
+pins_throughout s w new r calls replies run stands = pins_over_runs s w new r calls replies (stands_along s w new r calls replies run stands)

@@ -181,3 +181,13 @@ RootStands s w r (call ∷ calls) [] new = ⊥
 abbrev pub PinsOverRuns : Type 0
 PinsOverRuns = (s : Settings) (w new : World) (r : Root) (calls : List (Caller × Request)) (replies : List Reply)
     → RootStands s w r calls replies new → Stands s r w new
+
+-- the root stands wherever the calls of a run have led before one of them
+abbrev pub StandsThroughout : Settings → World → Root → List (Caller × Request) → List Reply → Type 0
+StandsThroughout s w r calls replies = (made left : List (Caller × Request)) (next : Caller × Request) (told untold : List Reply) (mid : World)
+    → made ++ next ∷ left ≡ calls → told ++ untold ≡ replies → Run s w made told mid → Contains (roots_of mid) r
+
+-- over any run such a root keeps what it reached at the start
+abbrev pub PinsThroughout : Type 0
+PinsThroughout = (s : Settings) (w new : World) (r : Root) (calls : List (Caller × Request)) (replies : List Reply)
+    → Run s w calls replies new → StandsThroughout s w r calls replies → Stands s r w new

@@ -5,7 +5,7 @@ ghost use Rattle.policy.specs.Settings.{Settings};
 ghost use Rattle.policy.specs.declared.kinds.Class.{Class};
 ghost use Rattle.world.specs.World.{Path, World, all_paths};
 ghost use Rattle.store.specs.Liveness.{dead_paths, live_paths, usage_of};
-ghost use Rattle.store.specs.Laws.{Collects, CollectsUpToALimit, DenialsNameTheLiving, FailsPastTheRules, FirstIsShownFirst, HasEachRoot, IsAnswered, IsFunctional, LeavesNoReference, LeavesUnlessDone, LivesAsSaid, Pins, PinsOverRuns, RunsEndAlike, TargetsLive, UsageAddsUp};
+ghost use Rattle.store.specs.Laws.{Collects, CollectsUpToALimit, DenialsNameTheLiving, FailsPastTheRules, FirstIsShownFirst, HasEachRoot, IsAnswered, IsFunctional, LeavesNoReference, LeavesUnlessDone, LivesAsSaid, Pins, PinsOverRuns, PinsThroughout, RunsEndAlike, TargetsLive, UsageAddsUp};
 ghost use Rattle.store.specs.Reliance.{NobodyPlants, NothingIsReplaced, RootsAreTheirOwners, StrangersAreDenied};
 ghost use Rattle.store.specs.Labels.{MirrorsRuns, MirrorsSteps, RunsLookAlike};
 ghost use Rattle.store.specs.Soundness.{KeepsSound, RunsKeepSound};
@@ -109,10 +109,11 @@ pub fn deletion_leaves_no_reference()
     ensures { LeavesNoReference }
 {}
 
-/// A root keeps what it reaches, over a step and over a run.
+/// A root keeps what it reaches, over a step and over a run through which it stands.
 pub fn a_root_pins_what_it_reaches()
     ensures step { Pins }
     ensures run { PinsOverRuns }
+    ensures throughout { PinsThroughout }
 {}
 
 /// No call of a caller that isn't trusted tells two worlds apart that differ in runtime labels alone.
