@@ -98,7 +98,8 @@ def told(what, theirs, ours, most, whose="C SQLite", is_indented=False):
 
 
 def held(what, mib, most):
-    print(f"  memory of {what}: {mib:.1f} MiB at most (bar: at most {most}) {bar(mib <= most)}", flush=True)
+    wanted = f"(bar: at most {most}) {bar(mib <= most)}" if most else "(no bar)"
+    print(f"  memory of {what}: {mib:.1f} MiB at most {wanted}", flush=True)
 
 
 def done():

@@ -77,6 +77,11 @@ class Serving:
         with open(f"/proc/{self.started.pid}/schedstat") as file:
             return int(file.read().split()[0]) / 1e9
 
+    def forget(self):
+        """Lets `memory` tell from now on alone, over what it holds now."""
+        with open(f"/proc/{self.started.pid}/clear_refs", "w") as file:
+            file.write("5")
+
     def memory(self):
         """The most memory in MiB that it held."""
         with open(f"/proc/{self.started.pid}/status") as file:
