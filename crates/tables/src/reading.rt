@@ -24,15 +24,15 @@ use sqlite::{Alter, Connection};
 use std::alloc::{AllocError, Global};
 use table_statements::failure::Failure;
 
-/// What a row holds of an archive, and its further pieces in their order. Each is freed once it is copied.
+/// What a row holds of an archive, and its further pieces in their order. They are moved: none is copied where each but the
+/// last has 65,536 bytes.
 fn joined(alloc: Global, row: Vec<u8>, further: Vec<Piece>) -> Result<Pieces, AllocError>
     ensures { IfOk result (λ nar. nar ≡ row.items ++ flat_map (λ p. p.bytes.items) further.items) }
 {
     let mut nar = Pieces::new(alloc);
-    nar.push(&row)?;
-    drop(row);
+    nar.append(row)?;
     'further: for piece in further {
-        nar.push(&piece.bytes)?;
+        nar.append(piece.bytes)?;
     }
     Ok(nar)
 }
