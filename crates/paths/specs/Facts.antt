@@ -1,5 +1,5 @@
 -- What is told of an archive, and the test of a content address by it.
-use Rattle.std.specs.Prelude.{ℕ, Bool, false, List, length, codes, Option, Some, None}
+use Rattle.std.specs.Prelude.{◌≡◌, ℕ, Bool, false, List, length, codes, Option, Some, None}
 use Rattle.sha2.specs.Sha256.{sha256}
 use Rattle.nar.specs.Outcome.{outcome_of}
 use Rattle.paths.specs.declared.content_address.Method.{Method}
@@ -15,6 +15,12 @@ hash_of (Some contents) = Some (sha256 contents)
 -- what is told of an archive, or of any other bytes
 abbrev pub facts_of : List ℕ → Facts
 facts_of nar = record { nar_hash = sha256 nar; nar_size = length nar; plain = hash_of (plain_contents (outcome_of nar)) }
+
+-- What an address of this method asks for is told of an archive: of a text's the digest of the contents, of a source's
+-- that of the archive.
+abbrev pub TellsFor : Method → List ℕ → Facts → Type 0
+TellsFor Text nar facts = facts.plain ≡ hash_of (plain_contents (outcome_of nar))
+TellsFor Source nar facts = facts.nar_hash ≡ sha256 nar
 
 abbrev pub text_verifies_by : List ℕ → List ℕ → List ℕ → List (List ℕ) → Option (List ℕ) → Bool
 text_verifies_by digest dir path refs None = false

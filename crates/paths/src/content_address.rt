@@ -6,7 +6,7 @@ ghost use Rattle.nar.specs.View.{tree_of};
 ghost use Rattle.nar.specs.Outcome.{outcome_of};
 ghost use Rattle.paths.specs.Base32 as spec;
 ghost use Rattle.paths.specs.ContentAddress.{ContentAddress, address_front, address_text, address_of, with_method, text_address, source_address, plain, plain_contents, is_made_of, method_verifies, verifies};
-ghost use Rattle.paths.specs.Facts.{facts_of, verifies_by};
+ghost use Rattle.paths.specs.Facts.{facts_of, verifies_by, TellsFor};
 
 use crate::computed_path::path_of;
 use crate::digits::{Base32Error, base32, unbase32};
@@ -138,6 +138,13 @@ impl Ca {
         Ca { method, digest }
     }
 
+    /// What the path is made of.
+    pub fn method(&self) -> Method
+        ensures { result ≡ self.now.method }
+    {
+        self.method
+    }
+
     /// Its text, which is read as this address.
     ///
     /// # Errors
@@ -181,7 +188,8 @@ impl Ca {
         }
     }
 
-    /// The same test as `verify`, by what is told of the archive.
+    /// The same test as `verify`, by what is told of the archive. For the address of a source that need not say anything
+    /// of its contents.
     ///
     /// # Errors
     ///
@@ -198,6 +206,8 @@ impl Ca {
         ensures bad { IfErr result (λ e. (e ≡ VerifyError.Memory) ⊎ ((e ≡ VerifyError.CaMismatch) × (verifies_by self.now dir.now path.now refs.now facts.now ≡ false))) }
         // It is the test of the archive of which this is told.
         ensures same { (nar : List ℕ) → facts.now ≡ facts_of nar → verifies_by self.now dir.now path.now refs.now facts.now ≡ verifies self.now dir.now path.now refs.now nar }
+        // The same where no more is told than an address of this method asks for.
+        ensures enough { (nar : List ℕ) → TellsFor self.now.method nar facts.now → verifies_by self.now dir.now path.now refs.now facts.now ≡ verifies self.now dir.now path.now refs.now nar }
     {
         match self.method {
             Method::Text => {
