@@ -7,11 +7,11 @@ ghost use Rattle.sha2.specs.Sha256.{sha256};
 ghost use Rattle.nar.specs.Outcome.{outcome_of};
 ghost use Rattle.nar.specs.View.{tree_of};
 ghost use Rattle.paths.specs.ContentAddress.{plain};
-ghost use Rattle.paths.specs.Facts.{hash_of, facts_of};
+ghost use Rattle.paths.specs.Facts.{hash_of, TellsFor};
 ghost use Rattle.opening_objects.specs.Tested as tested;
 
 use nar::Node;
-use paths::{Ca, Facts, StoreDir, StorePath, VerifyError};
+use paths::{Ca, Facts, Method, StoreDir, StorePath, VerifyError};
 use sha2::{Digest, Sha256};
 use std::alloc::{AllocError, Global};
 
@@ -40,18 +40,20 @@ fn plain_hash(node: &Node<'_>) -> Option<[u8; 32]>
     }
 }
 
-/// What is told of an archive, by its digest and what was read of it.
-fn facts(nar: &[u8], hash: &[u8; 32], node: &Node<'_>) -> Facts
+/// What an address of such a method asks for of an archive, by its digest and what was read of it: contents are hashed
+/// for that of a text alone.
+fn facts(method: Method, nar: &[u8], hash: &[u8; 32], node: &Node<'_>) -> Facts
     requires hash { hash.now ≡ sha256 nar.now }
     requires node { outcome_of nar.now ≡ Ok (tree_of node.now) }
-    ensures { result ≡ facts_of nar.now }
+    ensures { TellsFor method nar.now result }
 {
-    let nar_hash = *hash;
-    let nar_size = nar.len() as u64;
-    let plain = plain_hash(node);
+    let plain = match method {
+        Method::Text => plain_hash(node),
+        Method::Source => None,
+    };
     Facts {
-        nar_hash,
-        nar_size,
+        nar_hash: *hash,
+        nar_size: nar.len() as u64,
         plain,
     }
 }
@@ -77,7 +79,8 @@ pub(crate) fn fits_address(
     if refers_to(refs, path) {
         return Ok(false);
     }
-    match ca.verify_facts(alloc, dir, path, refs, &facts(nar, hash, node)) {
+    let facts = facts(ca.method(), nar, hash, node);
+    match ca.verify_facts(alloc, dir, path, refs, &facts) {
         Ok(()) => Ok(true),
         Err(VerifyError::Memory) => Err(AllocError),
         Err(VerifyError::CaMismatch) => Ok(false),
