@@ -30,8 +30,9 @@ use Rattle.store_requests.specs.declared.replies.Stop.{Stop}
 use Rattle.store_requests.specs.declared.replies.Stop.TheVariants.{Refused, Failed}
 use Rattle.store_calls.specs.Meets.{MeetsOver, IsMet}
 use Rattle.store_calls.specs.Adding.{Adds, IsAdded}
+use Rattle.store_calls.specs.Leaving.{LeavesPassed}
 use Rattle.store_requests.proofs.Outlined.{has_outlined}
-use Rattle.store_calls.proofs.Untouched.{survives_still, lasts_still}
+use Rattle.store_calls.proofs.Untouched.{survives_as, survives_still, lasts_still}
 
 module _ {S : Type 0} (g : Ghosts S) (path : Path) (o : Outlined) (k : Kept S) where
   abbrev it : List ℕ → Added
@@ -98,7 +99,9 @@ met_by_adding g s c q r k new a asked gives effect_is answer_is added = record {
   world = λ w t. by w t r (added.world w t);
   still = λ h. absurd (added.unrefused h);
   lasts = added.lasts;
-  survives = λ w t. subst (λ (v : World). Survives (state g k.connection) (state g new.connection) (λ db. LeavesWorld k.dir (state g k.connection).now db v)) (becomes w t) (added.survives w t);
+  survives = λ w t.
+      survives_as (state g k.connection) (state g new.connection) (λ db. LeavesWorld k.dir (state g k.connection).now db (with_object w a)) (λ db. LeavesPassed k.dir (state g k.connection).now db s w q)
+      (λ db rows. ((gives w t.outline).0, subst (λ (v : World). LeavesWorld k.dir (state g k.connection).now db v) (becomes w t) rows)) (added.survives w t);
 }
   where
     becomes : (w : World) → Tells g k w → with_object w a ≡ effect s w q

@@ -1,8 +1,8 @@
 -- The step of a call.
 use Rattle.std.specs.List.{list_any}
-use Rattle.std.proofs.Common.{◌≡◌, true, false, Some, None, Result, Ok, Err, refl, sym, subst}
+use Rattle.std.proofs.Common.{◌≡◌, true, Some, None, Result, Ok, Err, refl, sym, subst}
 use Rattle.sqlite_trees.specs.declared.store.Store.{Ghosts}
-use Rattle.sqlite.specs.State.{HasCleanDisk}
+use Rattle.sqlite.specs.State.{HasCleanDisk, Survives}
 use Rattle.sqlite.specs.Held.{state}
 use Rattle.policy.specs.Settings.{Settings}
 use Rattle.policy.specs.Caller.{Caller}
@@ -16,6 +16,7 @@ use Rattle.store.specs.Liveness.{lives}
 use Rattle.store.specs.Reply.{Failure, Reply, done, denied, refused, failed}
 use Rattle.store.specs.Verdict.{operation_of, named_in, shown, verdict}
 use Rattle.store.specs.Step.{IsNoneOrLive}
+use Rattle.store.specs.Effects.{effect}
 use Rattle.tables.specs.Kept.{Kept, Tells}
 use Rattle.store_requests.specs.declared.replies.Answer.{Answer}
 use Rattle.store_requests.specs.declared.replies.Stop.{Stop}
@@ -23,7 +24,9 @@ use Rattle.store_requests.specs.declared.replies.Stop.TheVariants.{Refused, Fail
 use Rattle.store_calls.specs.Standing.{IsDone, IsStill}
 use Rattle.store_calls.specs.Disk.{StepOver}
 use Rattle.store_calls.specs.Forbidden.{IsForbidden}
+use Rattle.store_calls.specs.Leaving.{LeavesDone, LeavesPassed}
 use Rattle.store_calls.specs.Meets.{MeetsOver, IsMet, IsAnswered, IsRefused, reply_to}
+use Rattle.store_calls.proofs.Untouched.{survives_as}
 use Rattle.store_calls.proofs.Verdicts.{denied_by, denied_live, none_or_live, permitted}
 
 -- where no rule forbids it, what becomes of a request is a step
@@ -79,3 +82,11 @@ module _ {S : Type 0} (g : Ghosts S) (s : Settings) (c : Caller) (q : Request) w
       let m = met.world w t in
       let is_clean = HasCleanDisk (state g new.connection) in
       (m.0, subst (λ (x : Reply). StepOver is_clean s w c q x m.0) (sym is) (step_of is_clean s w c q r m.0 (permitted s w c q a.0 a.1) m.1), m.2)
+
+  -- a crash leaves what is done of what no rule forbids
+  pub survives_met : (r : Result Answer Stop) (old new : Kept S) → ((w : World) → Tells g old w → IsForbidden s w c q None) → IsMet g s c q r old new
+      → (w : World) → Tells g old w → Survives (state g old.connection) (state g new.connection) (λ db. LeavesDone old.dir (state g old.connection).now db s w c q)
+  survives_met r old new allowed met w t =
+      let a = allowed w t in
+      survives_as (state g old.connection) (state g new.connection) (λ db. LeavesPassed old.dir (state g old.connection).now db s w q) (λ db. LeavesDone old.dir (state g old.connection).now db s w c q)
+      (λ db left. record { next = effect s w q; step = (permitted s w c q a.0 a.1, left.0, refl, refl); rows = left.1 }) (met.survives w t)

@@ -26,6 +26,17 @@ survives_still s P =
     let none = survives_none s in
     record { clean = none.clean; shield = none.shield; counts = none.counts; limit = none.limit; closes = none.closes; crash = λ clean db left. inl left }
 
+-- the same of a crash, with less said of what it may leave
+pub survives_as : (s t : State) (P Q : Trees → Type 0) → ((db : Trees) → P db → Q db) → Survives s t P → Survives s t Q
+survives_as s t P Q less h = record {
+  clean = h.clean;
+  shield = h.shield;
+  counts = h.counts;
+  limit = h.limit;
+  closes = h.closes;
+  crash = λ clean db left. elim (h.crash clean db left) [ inl was ↦ inl was | inr is ↦ inr (less db is) ];
+}
+
 pub lasts_still : (s : State) → Lasts s s
 lasts_still s clean is_open = inr (refl, λ h. h)
 

@@ -21,8 +21,9 @@ use Rattle.store_requests.specs.declared.replies.Stop.{Stop}
 use Rattle.store_requests.specs.View.{answer_view}
 use Rattle.store_requests.specs.Tested.{Stops}
 use Rattle.store_calls.specs.Writing.{answered}
+use Rattle.store_calls.specs.Leaving.{LeavesPassed}
 use Rattle.store_calls.specs.Meets.{IsMet}
-use Rattle.store_calls.proofs.Untouched.{met_by_reading, reads_stopped}
+use Rattle.store_calls.proofs.Untouched.{met_by_reading, reads_stopped, survives_as}
 
 module _ {S : Type 0} (g : Ghosts S) (k : Kept S) where
   -- a world that is sound by one name is so by another
@@ -41,8 +42,10 @@ module _ {S : Type 0} (g : Ghosts S) (s : Settings) (c : Caller) (q : Request) (
       (dir : new.dir ≡ k.dir)
       (left : (w : World) → Tells g k w → Survives (state g k.connection) (state g new.connection) (λ db. LeavesWorld k.dir (state g k.connection).now db (F w)))
     where
-      left_so : (w : World) → Tells g k w → Survives (state g k.connection) (state g new.connection) (λ db. LeavesWorld k.dir (state g k.connection).now db (effect s w q))
-      left_so w t = subst (λ (v : World). Survives (state g k.connection) (state g new.connection) (λ db. LeavesWorld k.dir (state g k.connection).now db v)) (becomes w t.outline) (left w t)
+      left_so : (w : World) → Tells g k w → Survives (state g k.connection) (state g new.connection) (λ db. LeavesPassed k.dir (state g k.connection).now db s w q)
+      left_so w t =
+          survives_as (state g k.connection) (state g new.connection) (λ db. LeavesWorld k.dir (state g k.connection).now db (F w)) (λ db. LeavesPassed k.dir (state g k.connection).now db s w q)
+          (λ db rows. (passes w t.outline, subst (λ (v : World). LeavesWorld k.dir (state g k.connection).now db v) (becomes w t.outline) rows)) (left w t)
 
       -- the write makes of each world what the request does
       pub met_by_writing : (r : Result (Unit {0}) Failure)

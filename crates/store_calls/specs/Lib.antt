@@ -1,5 +1,6 @@
 pub mod Standing
 pub mod Lasting
+pub mod Leaving
 pub mod Disk
 pub mod Meets
 pub mod Forbidden

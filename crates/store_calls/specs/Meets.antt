@@ -11,12 +11,13 @@ use Rattle.store.specs.Reply as replied
 use Rattle.store.specs.Tests.{refusal}
 use Rattle.store.specs.Effects.{effect}
 use Rattle.store.specs.Answers.{answer}
-use Rattle.tables.specs.Kept.{Kept, Tells, LeavesWorld}
+use Rattle.tables.specs.Kept.{Kept, Tells}
 use Rattle.store_requests.specs.declared.replies.Answer.{Answer}
 use Rattle.store_requests.specs.declared.replies.Stop.{Stop}
 use Rattle.store_requests.specs.declared.replies.Stop.TheVariants.{Refused, Failed}
 use Rattle.store_requests.specs.View.{answer_view, refusal_view, failure_view}
 use Rattle.store_calls.specs.Lasting.{Lasts}
+use Rattle.store_calls.specs.Leaving.{LeavesPassed}
 use Rattle.store_calls.specs.Disk.{reads_disk}
 use Rattle.store_requests.specs.Meets.{Meets}
 
@@ -49,8 +50,9 @@ module _ {S : Type 0} (g : Ghosts S) where
     pub still : IsRefused r → new ≡ old
     -- what is done outlives a crash
     pub lasts : IsAnswered r → Lasts (state g old.connection) (state g new.connection)
+    -- a crash leaves what it could leave before, or what is done where no test fails
     pub survives : (w : World) → Tells g old w → Survives (state g old.connection) (state g new.connection)
-        (λ db. LeavesWorld old.dir (state g old.connection).now db (effect s w q))
+        (λ db. LeavesPassed old.dir (state g old.connection).now db s w q)
 
   -- something is read of the disk: the tables tell what they told
   pub record OnlyReads (old new : Kept S) : Type 0 where

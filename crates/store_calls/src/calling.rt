@@ -5,13 +5,13 @@ ghost use Rattle.std.specs.List.{list_any};
 ghost use Rattle.sqlite.specs.State.{HasCleanDisk, Survives};
 ghost use Rattle.sqlite.specs.Held.{state};
 ghost use Rattle.world.specs.World.{World};
-ghost use Rattle.store.specs.Effects.{effect};
 ghost use Rattle.store.specs.Liveness.{lives};
 ghost use Rattle.store.specs.Verdict.{named_in};
-ghost use Rattle.tables.specs.Kept.{Tells, LeavesWorld};
+ghost use Rattle.tables.specs.Kept.{Tells};
 ghost use Rattle.store_calls.specs.Disk.{StepOver};
 ghost use Rattle.store_calls.specs.Forbidden.{IsForbidden};
 ghost use Rattle.store_calls.specs.Lasting.{Lasts};
+ghost use Rattle.store_calls.specs.Leaving.{LeavesDone};
 ghost use Rattle.store_calls.specs.Meets.{IsMet};
 ghost use Rattle.store_requests.specs.View.{request_view, reply_view};
 ghost use Rattle.store_calls.specs.Standing.{IsDone, IsStill};
@@ -127,9 +127,10 @@ impl<S: Alter> Store<S> {
             → (next : World) × StepOver (HasCleanDisk (state S.Store self.new.tables.connection)) self.old.settings w caller.now (request_view request) (reply_view result) next × Tells S.Store self.new.tables next }
         ensures still { IsStill (reply_view result) → self.new ≡ self.old }
         ensures lasts { IsDone (reply_view result) → Lasts (state S.Store self.old.tables.connection) (state S.Store self.new.tables.connection) }
-        // At any exit a crash leaves what it could leave before, or the tables of the request that is done.
+        // At any exit a crash leaves what it could leave before, or the tables of the done case; where a rule denies the request
+        // or a test of it fails there is none.
         ensures survives { (w : World) → Tells S.Store self.old.tables w → Survives (state S.Store self.old.tables.connection) (state S.Store self.new.tables.connection)
-            (λ db. LeavesWorld self.old.tables.dir (state S.Store self.old.tables.connection).now db (effect self.old.settings w (request_view request))) }
+            (λ db. LeavesDone self.old.tables.dir (state S.Store self.old.tables.connection).now db self.old.settings w caller.now (request_view request)) }
     {
         match self.forbidden(caller, &request) {
             Some(forbidden) => forbidden,

@@ -7,10 +7,10 @@ use Rattle.policy.specs.Caller.{Caller}
 use Rattle.world.specs.World.{World}
 use Rattle.store.specs.Request.{Request}
 use Rattle.store.specs.Reply.{Reply}
-use Rattle.store.specs.Effects.{effect}
-use Rattle.tables.specs.Kept.{Tells, LeavesWorld}
+use Rattle.tables.specs.Kept.{Tells}
 use Rattle.store_calls.specs.Disk.{StepOver}
 use Rattle.store_calls.specs.Lasting.{Lasts}
+use Rattle.store_calls.specs.Leaving.{LeavesDone}
 use Rattle.store_calls.specs.Standing.{Standing, IsDone, IsStill}
 
 module _ {S : Type 0} (g : Ghosts S) where
@@ -23,6 +23,6 @@ module _ {S : Type 0} (g : Ghosts S) where
     pub still : IsStill reply → new ≡ old
     -- what is done outlives a crash
     pub lasts : IsDone reply → Lasts (state g old.tables.connection) (state g new.tables.connection)
-    -- at any exit a crash leaves what it could leave before, or the tables of the request that is done
+    -- at any exit a crash leaves what it could leave before, or the tables of the done case, if there is one
     pub survives : (w : World) → Tells g old.tables w → Survives (state g old.tables.connection) (state g new.tables.connection)
-        (λ db. LeavesWorld old.tables.dir (state g old.tables.connection).now db (effect old.settings w q))
+        (λ db. LeavesDone old.tables.dir (state g old.tables.connection).now db old.settings w c q)

@@ -1,5 +1,5 @@
 use Rattle.store_requests.specs.View.{request_view, reply_view}
-use Rattle.store_calls.proofs.Replied.{step_forbidden, step_met}
+use Rattle.store_calls.proofs.Replied.{step_forbidden, step_met, survives_met}
 use Rattle.store_calls.proofs.calling.Store.call.Goals as goal
 
 pub act-requires : goal.act-requires
@@ -15,4 +15,5 @@ returns-in-None-clause-step g c =
     c.in-None.ensures c.reply.ensures c.act.ensures.met
 
 pub returns-in-None-clause-survives : goal.returns-in-None-clause-survives
-returns-in-None-clause-survives g c = c.act.ensures.met.survives
+returns-in-None-clause-survives g c =
+    survives_met g.S.Store c.args.self.now.settings c.args.caller.now (request_view c.args.request) c.act.result c.args.self.now.tables c.act.new.self.tables c.in-None.ensures c.act.ensures.met
