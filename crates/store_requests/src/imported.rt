@@ -1,9 +1,10 @@
 //! Tests of what is handed in with an object.
 
-ghost use Rattle.std.specs.Prelude.{◌≡◌, ◌||◌, Some, None, IfOk, IfErr, IsTrue, not, is_none, length};
+ghost use Rattle.std.specs.Prelude.{◌≡◌, ◌||◌, Some, None, IfOk, IfErr, IsTrue, not, is_none};
 ghost use Rattle.sha2.specs.Sha256.{sha256};
 ghost use Rattle.paths.specs.StorePath.{is_base_name};
-ghost use Rattle.paths.specs.Facts.{verifies_by};
+ghost use Rattle.paths.specs.ContentAddress.{verifies};
+ghost use Rattle.paths.specs.Facts.{TellsFor};
 ghost use Rattle.live.specs.Graph.{holds as is_held, same};
 ghost use Rattle.world.specs.World.{Path as PathOf};
 ghost use Rattle.store.specs.Adds.{added_import};
@@ -21,7 +22,7 @@ use crate::references::are_others;
 use crate::replies::{Refusal, Stop};
 use crate::requests::Imported;
 use intake::Arrived;
-use paths::{Ca, Facts, StoreDir, StorePath, VerifyError};
+use paths::{Ca, Facts, Method, StoreDir, StorePath, VerifyError};
 use std::alloc::Global;
 use table_statements::failure::Failure;
 
@@ -103,8 +104,7 @@ impl Delivered {
         are_others(&self.refs, &self.path)
     }
 
-    /// Tests that its content address verifies, if it has one. The address of a source asks for the archive alone, so its
-    /// contents are hashed only where that didn't verify it.
+    /// Tests that its content address verifies, if it has one.
     pub(crate) fn is_verified(&self, alloc: Global, dir: &StoreDir) -> Result<(), Stop>
         requires { IsTold self.now.nar }
         ensures { Tested result (unless (tests.is_verified dir.now (delivered_view self.now).path (added_import dir.now (delivered_view self.now)).object (delivered_view self.now).ca) replied.ca_mismatch) }
@@ -112,32 +112,35 @@ impl Delivered {
         let Some(ca) = &self.ca else {
             return Ok(());
         };
-        if self.fits(alloc, dir, ca, &self.archive_facts())? {
-            return Ok(());
-        }
-        if !self.fits(alloc, dir, ca, &self.nar.facts())? {
+        if !self.fits(alloc, dir, ca)? {
             return Err(Stop::Refused(Refusal::CaMismatch));
         }
         Ok(())
     }
 
-    /// What is told of the archive, without its contents.
-    fn archive_facts(&self) -> Facts
-        ensures { result ≡ record { nar_hash = self.now.nar.nar_hash; nar_size = length self.now.nar.pieces; plain = None } }
+    /// What an address of such a method asks for of the archive: contents are hashed for that of a text alone.
+    fn facts(&self, method: Method) -> Facts
+        requires { IsTold self.now.nar }
+        ensures { TellsFor method self.now.nar.pieces result }
     {
-        Facts {
-            nar_hash: self.nar.nar_hash,
-            nar_size: self.nar.pieces.len() as u64,
-            plain: None,
+        match method {
+            Method::Text => self.nar.facts(),
+            Method::Source => Facts {
+                nar_hash: self.nar.nar_hash,
+                nar_size: self.nar.pieces.len() as u64,
+                plain: None,
+            },
         }
     }
 
-    /// Whether an address is that of the object, by what is told of its archive.
-    fn fits(&self, alloc: Global, dir: &StoreDir, ca: &Ca, facts: &Facts) -> Result<bool, Stop>
-        ensures fits { IfOk result (λ fits. fits ≡ verifies_by ca.now dir.now (delivered_view self.now).path (delivered_view self.now).refs facts.now) }
+    /// Whether an address is that of the object.
+    fn fits(&self, alloc: Global, dir: &StoreDir, ca: &Ca) -> Result<bool, Stop>
+        requires { IsTold self.now.nar }
+        ensures fits { IfOk result (λ fits. fits ≡ verifies ca.now dir.now (delivered_view self.now).path (delivered_view self.now).refs (delivered_view self.now).nar) }
         ensures failed { IfErr result (λ stop. stop ≡ failed memory) }
     {
-        match ca.verify_facts(alloc, dir, &self.path, &self.refs, facts) {
+        let facts = self.facts(ca.method());
+        match ca.verify_facts(alloc, dir, &self.path, &self.refs, &facts) {
             Ok(()) => Ok(true),
             Err(VerifyError::CaMismatch) => Ok(false),
             Err(VerifyError::Memory) => Err(Stop::Failed(Failure::Memory)),
