@@ -1,4 +1,4 @@
-//! What a schema holds of ours: all nine tables, nothing at all, or anything else.
+//! What a schema holds of ours: the nine tables that each schema has, nothing at all, or anything else.
 
 ghost use Rattle.std.specs.Prelude.{◌≡◌, ◌↔◌, not, IsTrue, codes};
 ghost use Rattle.std.specs.List.{list_all, list_any, AllByRecursion};
