@@ -18,27 +18,20 @@ fn read_on<R: Read, S: Sink>(
     requires { 0 < length window.old }
     ensures { ReadsOn (length window.old) (R.remaining input.old) (R.remaining input.new) (S.taken sink.old) (S.taken sink.new) result }
 {
-    match input.read(window) {
-        Ok(count) => {
-            if count == 0 {
-                return Ok(None);
-            }
-            sink.take(&window[..count])?;
-            Ok(Some(count))
-        }
-        Err(fault) => match fault.kind() {
-            ErrorKind::Interrupted => Ok(Some(0)),
-            _ => Err(fault),
-        },
+    let count = input.read(window)?;
+    if count == 0 {
+        return Ok(None);
     }
+    sink.take(&window[..count])?;
+    Ok(Some(count))
 }
 
 /// Reads an input to its end, but no more than `most` bytes, hands each piece on as it arrives, and tells how many
-/// bytes came. An interrupted read is tried again.
+/// bytes came.
 ///
 /// # Errors
 ///
-/// The fault of the input, or `OutOfMemory` where the sink was refused memory. The sink has then taken
+/// The fault of the input, that of an interrupted read too, or `OutOfMemory` where the sink was refused memory. The sink has then taken
 /// what came before.
 pub fn receive_at_most<R: Read, S: Sink>(
     input: &mut R,

@@ -64,7 +64,7 @@ impl Sink for Held {
     }
 }
 
-/// The bytes of an input, of which no more than `most` are read. An interrupted read is tried again.
+/// The bytes of an input, of which no more than `most` are read.
 ///
 /// # Errors
 ///

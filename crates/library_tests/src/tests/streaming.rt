@@ -1,27 +1,24 @@
-//! Readers and writers that move one byte a call and fail at each call in turn, and readers that are interrupted.
+//! Readers and writers that move one byte a call and fail, or are interrupted, at each call in turn.
 use messages::{ReceiveError, Received, receive_body, receive_head};
 use std::alloc::Global;
 use std::io;
 use std::io::{ErrorKind, Read, Write};
 use streams::{Held, read_at_most, send_bytes};
 
-/// A reader that gives one byte a call, and fails once `calls` are used up; every other call of one that halts is interrupted.
+/// A reader that gives one byte a call, and has this fault once `calls` are used up.
 #[derive(Drop)]
 struct Drip<'a> {
     rest: &'a [u8],
     calls: usize,
-    does_halt: bool,
+    fault: ErrorKind,
 }
 
 impl Read for Drip<'_> {
     fn read(&mut self, buf: &mut [u8]) -> io::Result<usize> {
         if self.calls == 0 {
-            return Err(io::Error::from(ErrorKind::Other));
+            return Err(io::Error::from(self.fault));
         }
         self.calls -= 1;
-        if self.does_halt && self.calls % 2 == 1 {
-            return Err(io::Error::from(ErrorKind::Interrupted));
-        }
         let [first, rest @ ..] = self.rest else {
             return Ok(0);
         };
@@ -61,16 +58,19 @@ impl Write for Narrow {
 
 const BYTES: &[u8] = b"mycontent\n";
 
-// Ten bytes and the end take eleven calls, each behind an interrupted one but perhaps the first; where no more than four
-// bytes are wanted, four calls are enough.
+// Ten bytes and the end take eleven calls; where no more than four bytes are wanted, four are enough.
 #[test]
 fn readers_that_fail(rt: HostRuntime) {
-    for (most, needed) in [(100, 21), (4, 7)] {
-        for calls in 0..24usize {
+    for (most, needed, fault) in [
+        (100, 11, ErrorKind::Other),
+        (4, 4, ErrorKind::Interrupted),
+        (100, 11, ErrorKind::Interrupted),
+    ] {
+        for calls in 0..14usize {
             let mut input = Drip {
                 rest: BYTES,
                 calls,
-                does_halt: true,
+                fault,
             };
             let found = read_at_most(rt.alloc(), &mut input, most);
             let is_whole = found.is_ok_and(|bytes| BYTES.starts_with(&bytes)
@@ -117,7 +117,7 @@ fn messages_of_readers_that_fail(rt: HostRuntime) {
         let mut input = Drip {
             rest: message,
             calls,
-            does_halt: false,
+            fault: ErrorKind::Other,
         };
         let found = gives_message(rt.alloc(), &mut input);
         assert!(rt; matches!(&found, Err(ReceiveError::Read)), "{calls}");
