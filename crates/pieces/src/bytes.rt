@@ -12,7 +12,7 @@ use std::mem;
 const SIZE: usize = 65_536;
 
 /// Bytes in pieces of 65,536, of which the last has 1 to 65,536; no bytes have no piece. So growing asks for no more
-/// than a piece at once, and moves no byte that is there. Contracts see the bytes.
+/// than two pieces at once, and moves no byte of a whole one. Contracts see the bytes.
 #[derive(Drop)]
 pub struct Pieces {
     alloc: Global,
