@@ -10,8 +10,7 @@ use Rattle.messages.specs.Heads.{HasNoHead, Holds}
 use Rattle.messages.specs.Fields.{fields_of, fields_at, body_length, length_by, values, stated, is_number, max_body}
 use Rattle.messages.specs.declared.error.Fault.TheVariants.{BadHead, BadLength, TooLarge}
 use Rattle.std.specs.Str.Parse.{digits_value}
-use Rattle.messages.specs.declared.error.ReceiveError.{ReceiveError}
-use Rattle.messages.specs.Messages.{FaultOfHead, EndsInside, IsFault, Receives}
+use Rattle.messages.specs.Messages.{FaultOfHead, EndsInside, IsFault}
 use Rattle.messages.proofs.Longer.{head-append}
 
 -- what was taken and what one more read took

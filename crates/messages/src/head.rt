@@ -1,7 +1,7 @@
 //! The head of a message at the front of a buffer.
 ghost use Rattle.std.specs.Prelude.{◌≡◌, ◌≤◌, ◌<◌, take, length};
 ghost use Rattle.httparse.specs.Grammar.{HasNoRequest};
-ghost use Rattle.messages.specs.Heads.{Tells};
+ghost use Rattle.messages.specs.Heads.{Tells, has_space_in};
 
 use httparse::Status;
 use httparse::spans::{EMPTY_HEADER_SPAN, HeaderSpan, RequestSpans, parse_request};
@@ -48,6 +48,30 @@ pub fn look_for_head(buf: &[u8], seen: usize) -> Look
         }
         Ok(Status::Partial) => without_head(buf),
         Err(_) => Look::Faulty,
+    }
+}
+
+/// Whether a space is among the bytes, of which it is known for the first `seen`.
+pub(crate) fn has_space(buf: &[u8], seen: usize, before: bool) -> bool
+    requires within { seen ≤ length buf.now }
+    requires before { before ≡ has_space_in (take seen buf.now) }
+    ensures { result ≡ has_space_in buf.now }
+{
+    before || buf[seen..].contains(&b' ')
+}
+
+/// Looks for a head where it is known whether a space is among the bytes. Each head has one, so empty lines that come one after
+/// another aren't read again for each of them.
+pub(crate) fn look_again(buf: &[u8], seen: usize, has_space: bool) -> Look
+    requires within { seen ≤ length buf.now }
+    requires none { HasNoRequest (take seen buf.now) }
+    requires space { has_space ≡ has_space_in buf.now }
+    ensures { Tells buf.now result }
+{
+    if has_space {
+        look_for_head(buf, seen)
+    } else {
+        without_head(buf)
     }
 }
 

@@ -1,4 +1,4 @@
-use Rattle.std.proofs.Common.{rules, sym, append-nil, arith}
+use Rattle.std.proofs.Common.{rules, refl, sym, append-nil, arith}
 use Rattle.std.proofs.KnownBytes.{Consumes-nil, Consumes-trans}
 use Rattle.messages.proofs.Heads.{none_in_nothing}
 use Rattle.messages.proofs.receive.find_head.Goals as goal
@@ -8,6 +8,7 @@ pub head-init : goal.head-init
 head-init g c = record {
   took = record { bytes = _; taken = Consumes-nil _; kept = sym (append-nil _) };
   none = none_in_nothing;
+  space = refl;
   within = omega arith;
   some = search rules;
   window = search rules;
