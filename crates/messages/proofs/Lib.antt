@@ -4,4 +4,4 @@ pub mod Longer
 pub mod Reading
 pub mod Once
 pub mod Whole
-pub mod Spaces
+pub mod Beginnings

@@ -1,5 +1,5 @@
 -- The head of a message at the front of an input.
-use Rattle.std.specs.Prelude.{ℕ, Bool, ◌≤◌, ◌<◌, ◌==◌, ◌++◌, List, length, drop}
+use Rattle.std.specs.Prelude.{ℕ, Bool, not, ◌||◌, ◌≤◌, ◌<◌, ◌==◌, ◌++◌, List, length, drop}
 use Rattle.std.specs.List.{list_any}
 use Rattle.httparse.specs.Grammar.{RequestHead, print_request, ReadsRequest, HasNoRequest}
 use Rattle.httparse.specs.Spans.{IsRequestAt, IsRequestWithin}
@@ -24,9 +24,9 @@ pub record IsHead (input : List ℕ) (h : RequestHead) (rest : List ℕ) : Type 
 abbrev pub HasNoHead : List ℕ → Type 0
 HasNoHead input = (h : RequestHead) (rest : List ℕ) → ¬ (IsHead input h rest)
 
--- a space (32) is among the bytes
-abbrev pub has_space_in : List ℕ → Bool
-has_space_in bytes = list_any (λ b. b == 32) bytes
+-- a byte other than those of line ends (13 and 10) is among the bytes
+abbrev pub has_begun_in : List ℕ → Bool
+has_begun_in bytes = list_any (λ b. not (b == 13 || b == 10)) bytes
 
 -- the parts of the head h stand in a buffer at these places, and a rest follows
 pub record Holds (buf : List ℕ) (head : Head) (h : RequestHead) : Type 0 where

@@ -1,7 +1,7 @@
 //! The head of a message at the front of a buffer.
 ghost use Rattle.std.specs.Prelude.{◌≡◌, ◌≤◌, ◌<◌, take, length};
 ghost use Rattle.httparse.specs.Grammar.{HasNoRequest};
-ghost use Rattle.messages.specs.Heads.{Tells, has_space_in};
+ghost use Rattle.messages.specs.Heads.{Tells, has_begun_in};
 
 use httparse::Status;
 use httparse::spans::{EMPTY_HEADER_SPAN, HeaderSpan, RequestSpans, parse_request};
@@ -51,24 +51,31 @@ pub fn look_for_head(buf: &[u8], seen: usize) -> Look
     }
 }
 
-/// Whether a space is among the bytes, of which it is known for the first `seen`.
-pub(crate) fn has_space(buf: &[u8], seen: usize, before: bool) -> bool
-    requires within { seen ≤ length buf.now }
-    requires before { before ≡ has_space_in (take seen buf.now) }
-    ensures { result ≡ has_space_in buf.now }
+/// Whether a byte other than those of line ends is among the bytes.
+fn is_begun(bytes: &[u8]) -> bool
+    ensures { result ≡ has_begun_in bytes.now }
 {
-    before || buf[seen..].contains(&b' ')
+    bytes.iter().any(|b| !(*b == b'\r' || *b == b'\n'))
 }
 
-/// Looks for a head where it is known whether a space is among the bytes. Each head has one, so empty lines that come one after
-/// another aren't read again for each of them.
-pub(crate) fn look_again(buf: &[u8], seen: usize, has_space: bool) -> Look
+/// The same, where it is known for the first `seen`.
+pub(crate) fn has_begun(buf: &[u8], seen: usize, before: bool) -> bool
+    requires within { seen ≤ length buf.now }
+    requires before { before ≡ has_begun_in (take seen buf.now) }
+    ensures { result ≡ has_begun_in buf.now }
+{
+    before || is_begun(&buf[seen..])
+}
+
+/// Looks for a head where it is known whether anything but line ends came. Line ends alone are none, so empty lines that come one
+/// after another aren't read again for each of them.
+pub(crate) fn look_again(buf: &[u8], seen: usize, has_begun: bool) -> Look
     requires within { seen ≤ length buf.now }
     requires none { HasNoRequest (take seen buf.now) }
-    requires space { has_space ≡ has_space_in buf.now }
+    requires begun { has_begun ≡ has_begun_in buf.now }
     ensures { Tells buf.now result }
 {
-    if has_space {
+    if has_begun {
         look_for_head(buf, seen)
     } else {
         without_head(buf)

@@ -4,7 +4,7 @@ ghost use Rattle.messages.specs.Messages.{ReadsMore, Receives, Starts, Announces
 
 use crate::error::{Fault, ReceiveError};
 use crate::fields::length_of_body;
-use crate::head::{Head, Look, has_space, look_again};
+use crate::head::{Head, Look, has_begun, look_again};
 use std::io::{ErrorKind, Read};
 use streams::{Sink, receive_at_most};
 
@@ -56,10 +56,10 @@ fn find_head<R: Read>(
     ensures { Receives Starts (R.remaining input.old) (R.remaining input.new) buffer.old.items buffer.new.items result }
 {
     let mut seen = 0;
-    let mut spaced = false;
+    let mut begun = false;
     'head: loop {
-        spaced = has_space(buffer, seen, spaced);
-        match look_again(buffer, seen, spaced) {
+        begun = has_begun(buffer, seen, begun);
+        match look_again(buffer, seen, begun) {
             Look::Whole(head) => return Ok(Start::Begun(head)),
             Look::Faulty => return Ok(Start::NoHead),
             Look::Unfinished => {}

@@ -8,7 +8,7 @@ pub head-init : goal.head-init
 head-init g c = record {
   took = record { bytes = _; taken = Consumes-nil _; kept = sym (append-nil _) };
   none = none_in_nothing;
-  space = refl;
+  begun = refl;
   within = omega arith;
   some = search rules;
   window = search rules;

@@ -1,7 +1,7 @@
--- The bytes that were seen have no head, it is known whether they have a space, and what is held is what was there and what was taken.
+-- The bytes that were seen have no head, it is known whether they are line ends alone, and what is held is what was there and what was taken.
 use Rattle.std.proofs.Common.{◌≡◌, ◌<◌, ◌≤◌, ◌-◌, length, take}
 use Rattle.httparse.specs.Grammar.{HasNoRequest}
-use Rattle.messages.specs.Heads.{has_space_in}
+use Rattle.messages.specs.Heads.{has_begun_in}
 use Rattle.messages.proofs.Reading.{Took}
 use Rattle.messages.proofs.receive.find_head.Given as goal
 
@@ -9,7 +9,7 @@ abbrev pub invariant-head : goal.invariant-head
 invariant-head g l = record {
   took : Took (g.R.Read.remaining l.fn.input) (g.R.Read.remaining l.input) l.fn.buffer.items l.buffer.items;
   none : HasNoRequest (take l.seen l.buffer.items);
-  space : l.spaced ≡ has_space_in (take l.seen l.buffer.items);
+  begun : l.begun ≡ has_begun_in (take l.seen l.buffer.items);
   within : l.seen ≤ length l.buffer.items;
   some : 0 < length l.buffer.items;
   window : 0 < length l.window;
