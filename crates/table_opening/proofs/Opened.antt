@@ -1,22 +1,11 @@
 -- By which schema a connection is ready, where the rowids and texts that it shows were tested; and what is told of files that weren't taken up.
-use Rattle.std.proofs.Common.{◌≡◌, ◌≢◌, ◌↔◌, ◌⊎◌, inl, inr, ◌<◌, ◌++◌, List, [], ◌∷◌, length, arith, Bool, true, false, Option, Some, None, Result, Ok, Err, IfOk, IfSome, IsTrue, refl, sym, ap, subst, ◌∙◌}
+use Rattle.std.proofs.Common.{◌≡◌, ◌≢◌, ◌↔◌, inl, inr, ◌<◌, ◌++◌, List, [], ◌∷◌, length, arith, Bool, true, false, Result, Ok, Err, IfOk, IsTrue, refl, sym, ap, subst, ◌∙◌}
 use Rattle.std.specs.List.{AllByRecursion}
-use Rattle.sqlite_disk.specs.declared.Disk as disk
-use Rattle.sqlite_disk.specs.declared.calls.Calls as calls
-use Rattle.sqlite_disk.specs.declared.modelled.Modelled.{Modelled}
-use Rattle.sqlite_disk.specs.declared.start.Start.{Ghosts}
-use Rattle.sqlite_std_file.specs.File.{IsFresh}
-use Rattle.sqlite_std_file.specs.declared.host.Host.{Host}
 use Rattle.sqlite_wal.specs.Recovery.{Image}
 use Rattle.sqlite_schema.specs.declared.schema.Schema.{Schema}
 use Rattle.sqlite_schema.specs.declared.schema.Table.{Table}
-use Rattle.sqlite.specs.Opening.{is_open_error}
-use Rattle.sqlite.specs.declared.file.Leftover.{Leftover}
-use Rattle.sqlite.specs.declared.error.Error.{Error}
-use Rattle.sqlite.specs.declared.error.Error.TheVariants.{SqliteFailure}
-use Rattle.sqlite.specs.declared.error.ErrorCode.TheVariants.{CannotOpen, OutOfMemory, DatabaseBusy}
 use Rattle.sqlite.specs.State.{State, IsUnchanged}
-use Rattle.sqlite.specs.Files.{AreFoundIn, IsCleanLeft, FailsToOpenFiles, LeavesFiles}
+use Rattle.sqlite.specs.Files.{AreFoundIn}
 use Rattle.sqlite.specs.Start.{FindsIn}
 use Rattle.table_forms.specs.declared.recognising.Recognised.{Recognised}
 use Rattle.table_forms.specs.declared.recognising.Recognised.TheVariants.{First, Second, Third, Nothing, Other}
@@ -24,7 +13,7 @@ use Rattle.table_forms.specs.Standing.{Stands}
 use Rattle.table_statements.specs.Texts.{AreReadable, AreReadableRows, HasReadableRows}
 use Rattle.table_opening.specs.declared.our_table.OurTable.{OurTable}
 use Rattle.table_opening.specs.Tables.{schema_tables, form, HasOwnRowids, HasReadableTexts}
-use Rattle.table_opening.specs.Opened.{IsRecognised, IsBySchema, IsReadyBy, IsFound, HasUnkeyed, Refuses}
+use Rattle.table_opening.specs.Opened.{IsRecognised, IsBySchema, IsReadyBy, IsFound, HasUnkeyed}
 use Rattle.sqlite.specs.Effect.{Database, IsDatabase}
 use Rattle.table_statements.specs.declared.failure.Failure.{Failure}
 use Rattle.table_forms.specs.Forms.{piece, temp_root, our_tables, further_tables}
@@ -187,11 +176,3 @@ some_tables r some is = let none = subst (λ x. 0 < length (schema_tables x)) is
 -- what the file held is what the last commit still is
 pub held_still : (image : Image) (old new : State) → new.committed ≡ old.committed → FindsIn image old → FindsIn image new
 held_still image old new same h = record { holds = λ db held. ap (λ (d : Database). d.trees) same ∙ h.holds db held; reads = subst (λ (d : Database). AreFoundIn image d.trees) (sym same) h.reads }
-
--- what is said of an error of an open, with nothing left of the files or something
-module _ {S : Type 0} {c : calls.Ghosts Host} {start : Ghosts S} {g : disk.Ghosts (Modelled Host S c start)} where
-  pub refuses : (e : Error) (left : Option (Leftover (Modelled Host S c start) g)) → IsTrue (is_open_error e)
-      → (left ≡ None → (e ≡ SqliteFailure CannotOpen) ⊎ ((e ≡ SqliteFailure OutOfMemory) ⊎ (e ≡ SqliteFailure DatabaseBusy)))
-      → IfSome left (λ left. (files : _) × IsFresh true files.log × IsFresh false files.db × (IsCleanLeft left → FailsToOpenFiles files left e × LeavesFiles files left)) → Refuses e left
-  refuses e None named unopened cause = unopened refl
-  refuses e (Some left) named unopened cause = (named, cause)

@@ -10,6 +10,7 @@ ghost use Rattle.table_statements.specs.Failures.{opening_failure};
 ghost use Rattle.table_opening.specs.Opened.{IsFound, FailsToOpen, IsAsOpened, FailsToOpenFile};
 ghost use Rattle.table_statements.specs.Calls.{KeepsShown};
 
+use crate::connecting::connect;
 use crate::opening;
 use sqlite::{Alter, Connection, Error, ErrorCode, FileFrom, FileStore, Leftover, Start};
 use sqlite_disk::Disk;
@@ -95,8 +96,7 @@ pub fn open<S: Start>(
     ensures guarded { IfOk result (λ it. HasCleanDisk (file_state it.conn) → (file_state it.conn).IsShielded) }
     ensures cause { IfErr result (FailsToOpenFile (image_at S.Start)) }
 {
-    let new_has_sums = false;
-    match Connection::open_from(rt, path, new_has_sums, start) {
+    match connect(rt, path, start) {
         Ok(conn) => match take_up(rt.alloc(), conn) {
             Ok(opened) => Ok(opened),
             Err(untold) => Err(Unopened::Untold(untold)),

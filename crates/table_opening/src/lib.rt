@@ -1,8 +1,10 @@
 //! Taking up a file or a connection: what it holds of our tables, and whether their rows can be told apart and read.
 #![tactic(auto)]
 
+mod connecting;
 pub mod file;
 pub mod opening;
+mod options;
 mod our_table;
 mod rowids;
 mod testing;

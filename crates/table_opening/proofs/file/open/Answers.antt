@@ -1,32 +1,28 @@
 use Rattle.std.proofs.Common.{arith}
 use Rattle.sqlite_wal.specs.Files.{image_at}
 use Rattle.sqlite.specs.Files.{file_state}
-use Rattle.table_opening.proofs.Opened.{held_still, refuses}
+use Rattle.table_opening.proofs.Opened.{held_still}
 use Rattle.table_opening.proofs.file.open.Goals as goal
 
 pub returns-in-Ok-take_up-clause-opened : goal.returns-in-Ok-take_up-clause-opened
 returns-in-Ok-take_up-clause-opened g c =
-    let here = c.in-Ok.ensures in
     let now = c.in-Ok-take_up.ensures in
-    (c.in-Ok.conn, record { opened = record { fresh = here.fresh; opened = here.opened; found = here.found; sums = here.sums; guarded = here.guarded }; alone = now.alone; same = now.same; survives = now.survives })
+    (c.in-Ok.conn, record { opened = c.in-Ok.ensures.opened; alone = now.alone; same = now.same; survives = now.survives })
 
 pub returns-in-Ok-take_up-clause-held : goal.returns-in-Ok-take_up-clause-held
 returns-in-Ok-take_up-clause-held g c clean =
     let now = c.in-Ok-take_up.ensures in
-    held_still (image_at g.S.Start) (file_state c.in-Ok.conn) (file_state c.in-Ok-take_up.opened.conn) (now.unchanged clean).0.committed_is (c.in-Ok.ensures.found (omega (arith, now.survives.clean)))
+    held_still (image_at g.S.Start) (file_state c.in-Ok.conn) (file_state c.in-Ok-take_up.opened.conn) (now.unchanged clean).0.committed_is (c.in-Ok.ensures.opened.found (omega (arith, now.survives.clean)))
 
 pub returns-in-Ok-take_up-clause-guarded : goal.returns-in-Ok-take_up-clause-guarded
 returns-in-Ok-take_up-clause-guarded g c clean =
     let now = c.in-Ok-take_up.ensures in
-    now.survives.shield (c.in-Ok.ensures.guarded (omega (arith, now.survives.clean)))
+    now.survives.shield (c.in-Ok.ensures.opened.guarded (omega (arith, now.survives.clean)))
 
 pub returns-in-Err-take_up-clause-cause : goal.returns-in-Err-take_up-clause-cause
 returns-in-Err-take_up-clause-cause g c =
-    let here = c.in-Ok.ensures in
     let now = c.in-Err-take_up.ensures in
-    (c.in-Ok.conn, record { opened = record { fresh = here.fresh; opened = here.opened; found = here.found; sums = here.sums; guarded = here.guarded }; alone = now.alone; same = now.same; survives = now.survives }, now.cause)
+    (c.in-Ok.conn, record { opened = c.in-Ok.ensures.opened; alone = now.alone; same = now.same; survives = now.survives }, now.cause)
 
 pub returns-in-Err-clause-cause : goal.returns-in-Err-clause-cause
-returns-in-Err-clause-cause g c =
-    let here = c.in-Err.ensures in
-    (c.in-Err.error, c.opening_failure.ensures, refuses c.in-Err.error c.in-Err.left here.named here.unopened here.cause)
+returns-in-Err-clause-cause g c = (c.in-Err.error, c.opening_failure.ensures, c.in-Err.ensures.cause)
