@@ -42,6 +42,7 @@ pub(crate) fn commit<S: Alter, C: Change>(
     ensures done { HasCleanDisk (state S.Store conn.new) → OnOk result (IsWritten (state S.Store conn.old) (state S.Store conn.new) (C.change change.now)) }
     ensures failed { HasCleanDisk (state S.Store conn.new) → OnErr result (KeepsShown (state S.Store conn.old) (state S.Store conn.new)) }
     ensures durable { OnOk result (IsTrue (state S.Store conn.new).is_open → IsDurable (state S.Store conn.new)) }
+    ensures was_open { HasCleanDisk (state S.Store conn.new) → OnOk result (IsTrue (state S.Store conn.old).is_open × IsTrue (state S.Store conn.new).is_open) }
     ensures survives { Survives (state S.Store conn.old) (state S.Store conn.new) (λ db. IsTrue (state S.Store conn.old).is_open × Leaves (state S.Store conn.old).now db (C.change change.now (contents_of (state S.Store conn.old).now))) }
 {
     let mut tx = transaction::begin(conn);

@@ -3,7 +3,7 @@
 
 ghost use Rattle.std.specs.Prelude.{◌≡◌, IsTrue, None, OnOk, OnErr};
 ghost use Rattle.std.specs.FinMap as finite;
-ghost use Rattle.sqlite.specs.State.{Survives};
+ghost use Rattle.sqlite.specs.State.{HasCleanDisk, Survives};
 ghost use Rattle.sqlite.specs.Held.{state};
 ghost use Rattle.rows.specs.Calls.{IsDurable};
 ghost use Rattle.world.specs.World.{World};
@@ -35,6 +35,7 @@ impl<S: Alter> Tables<S> {
         ensures done { OnOk result ((w : World) → Tells S.Store self.old w → Tells S.Store self.new (record w { profiles = finite.insert w.profiles (owner.now, name.now) (put_at (profile_at w (owner.now, name.now)) number target.now) })) }
         ensures failed { OnErr result ((w : World) → Tells S.Store self.old w → Tells S.Store self.new w) }
         ensures durable { OnOk result (IsTrue (state S.Store self.new.connection).is_open → IsDurable (state S.Store self.new.connection)) }
+        ensures was_open { HasCleanDisk (state S.Store self.new.connection) → OnOk result (IsTrue (state S.Store self.old.connection).is_open × IsTrue (state S.Store self.new.connection).is_open) }
         ensures survives { (w : World) → Tells S.Store self.old w → Survives (state S.Store self.old.connection) (state S.Store self.new.connection)
             (λ db. LeavesWorld self.old.dir (state S.Store self.old.connection).now db (record w { profiles = finite.insert w.profiles (owner.now, name.now) (put_at (profile_at w (owner.now, name.now)) number target.now) })) }
     {
@@ -72,6 +73,7 @@ impl<S: Alter> Tables<S> {
         ensures done { OnOk result ((w : World) → Tells S.Store self.old w → Tells S.Store self.new (record w { profiles = finite.insert w.profiles (owner.now, name.now) (set_to (profile_at w (owner.now, name.now)) target.now) })) }
         ensures failed { OnErr result ((w : World) → Tells S.Store self.old w → Tells S.Store self.new w) }
         ensures durable { OnOk result (IsTrue (state S.Store self.new.connection).is_open → IsDurable (state S.Store self.new.connection)) }
+        ensures was_open { HasCleanDisk (state S.Store self.new.connection) → OnOk result (IsTrue (state S.Store self.old.connection).is_open × IsTrue (state S.Store self.new.connection).is_open) }
         ensures survives { (w : World) → Tells S.Store self.old w → Survives (state S.Store self.old.connection) (state S.Store self.new.connection)
             (λ db. LeavesWorld self.old.dir (state S.Store self.old.connection).now db (record w { profiles = finite.insert w.profiles (owner.now, name.now) (set_to (profile_at w (owner.now, name.now)) target.now) })) }
     {
@@ -91,6 +93,7 @@ impl<S: Alter> Tables<S> {
         ensures done { OnOk result ((w : World) → Tells S.Store self.old w → Tells S.Store self.new (record w { profiles = finite.insert w.profiles (owner.now, name.now) (switched (profile_at w (owner.now, name.now)) number) })) }
         ensures failed { OnErr result ((w : World) → Tells S.Store self.old w → Tells S.Store self.new w) }
         ensures durable { OnOk result (IsTrue (state S.Store self.new.connection).is_open → IsDurable (state S.Store self.new.connection)) }
+        ensures was_open { HasCleanDisk (state S.Store self.new.connection) → OnOk result (IsTrue (state S.Store self.old.connection).is_open × IsTrue (state S.Store self.new.connection).is_open) }
         ensures survives { (w : World) → Tells S.Store self.old w → Survives (state S.Store self.old.connection) (state S.Store self.new.connection)
             (λ db. LeavesWorld self.old.dir (state S.Store self.old.connection).now db (record w { profiles = finite.insert w.profiles (owner.now, name.now) (switched (profile_at w (owner.now, name.now)) number) })) }
     {
@@ -117,6 +120,7 @@ impl<S: Alter> Tables<S> {
         ensures done { OnOk result ((w : World) → Tells S.Store self.old w → Tells S.Store self.new (record w { profiles = finite.insert w.profiles (owner.now, name.now) (without_generation (profile_at w (owner.now, name.now)) number) })) }
         ensures failed { OnErr result ((w : World) → Tells S.Store self.old w → Tells S.Store self.new w) }
         ensures durable { OnOk result (IsTrue (state S.Store self.new.connection).is_open → IsDurable (state S.Store self.new.connection)) }
+        ensures was_open { HasCleanDisk (state S.Store self.new.connection) → OnOk result (IsTrue (state S.Store self.old.connection).is_open × IsTrue (state S.Store self.new.connection).is_open) }
         ensures survives { (w : World) → Tells S.Store self.old w → Survives (state S.Store self.old.connection) (state S.Store self.new.connection)
             (λ db. LeavesWorld self.old.dir (state S.Store self.old.connection).now db (record w { profiles = finite.insert w.profiles (owner.now, name.now) (without_generation (profile_at w (owner.now, name.now)) number) })) }
     {

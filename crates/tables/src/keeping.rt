@@ -2,7 +2,7 @@
 
 ghost use Rattle.std.specs.Prelude.{◌≡◌, false, IsTrue, None, OnOk, OnErr, length};
 ghost use Rattle.std.specs.FinMap as finite;
-ghost use Rattle.sqlite.specs.State.{Survives};
+ghost use Rattle.sqlite.specs.State.{HasCleanDisk, Survives};
 ghost use Rattle.sqlite.specs.Held.{state};
 ghost use Rattle.rows.specs.Calls.{IsDurable};
 ghost use Rattle.world.specs.World.{World};
@@ -83,6 +83,7 @@ impl<S: Alter> Tables<S> {
         ensures done { OnOk result ((w : World) → Tells S.Store self.old w → Tells S.Store self.new (record w { objects = finite.insert w.objects path.now (with_archive nar.now object) })) }
         ensures failed { OnErr result ((w : World) → Tells S.Store self.old w → Tells S.Store self.new w) }
         ensures durable { OnOk result (IsTrue (state S.Store self.new.connection).is_open → IsDurable (state S.Store self.new.connection)) }
+        ensures was_open { HasCleanDisk (state S.Store self.new.connection) → OnOk result (IsTrue (state S.Store self.old.connection).is_open × IsTrue (state S.Store self.new.connection).is_open) }
         ensures survives { (w : World) → Tells S.Store self.old w → Survives (state S.Store self.old.connection) (state S.Store self.new.connection)
             (λ db. LeavesWorld self.old.dir (state S.Store self.old.connection).now db (record w { objects = finite.insert w.objects path.now (with_archive nar.now object) })) }
     {

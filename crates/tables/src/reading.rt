@@ -1,6 +1,6 @@
 //! Archives, read when they are asked for.
 
-ghost use Rattle.std.specs.Prelude.{◌≡◌, ◌++◌, false, IfOk, IsTrue, Some, length, option_map};
+ghost use Rattle.std.specs.Prelude.{◌≡◌, ◌++◌, false, is_some, IfOk, IsTrue, Some, length, option_map};
 ghost use Rattle.std.specs.List.{flat_map};
 ghost use Rattle.std.specs.FinMap as finite;
 ghost use Rattle.sqlite.specs.State.{HasCleanDisk, Survives, IsUnchanged};
@@ -77,6 +77,7 @@ impl<S: Alter> Tables<S> {
         ensures dir { self.new.dir ≡ self.old.dir }
         ensures found { HasCleanDisk (state S.Store self.new.connection) → IfOk result (λ nar. (w : World) → Tells S.Store self.old w → nar ≡ option_map (λ o. o.nar) (finite.get w.objects path.now)) }
         ensures same { (w : World) → Tells S.Store self.old w → Tells S.Store self.new w }
+        ensures was_open { HasCleanDisk (state S.Store self.new.connection) → IfOk result (λ nar. IsTrue (is_some nar) → IsTrue (state S.Store self.old.connection).is_open × IsTrue (state S.Store self.new.connection).is_open) }
         ensures shown { HasCleanDisk (state S.Store self.new.connection) → KeepsShown (state S.Store self.old.connection) (state S.Store self.new.connection) }
         ensures survives { Survives (state S.Store self.old.connection) (state S.Store self.new.connection) (λ _. ⊥) }
     {

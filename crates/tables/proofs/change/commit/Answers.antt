@@ -31,6 +31,15 @@ returns-clause-done g c =
     subst (λ h. HasCleanDisk (state g.S.Store h) → OnOk c.commit.result (IsWritten old (state g.S.Store h) f)) same
     (λ clean. on_ok c.commit.result _ _ (λ k. written g.S.Store c.args.conn.now c.begin-tx.result.conn.now wrote (state g.S.Store c.commit.new.tx.0) f _ c.begin-tx.ensures.begun c.in_ok-write.ensures.done c.write.ensures.survives c.commit.ensures.survives c.requires.whole clean k) (c.commit.ensures.done clean))
 
+pub returns-clause-was_open : goal.returns-clause-was_open
+returns-clause-was_open g c =
+    let f = g.C.Change.change c.args.change.now in
+    let old = state g.S.Store c.args.conn.now in
+    let wrote = state g.S.Store c.write.new.tx.conn.now in
+    let same : c.commit.new.tx.0 ≡ c.conn-2-1.given.0 = search rules in
+    subst (λ h. HasCleanDisk (state g.S.Store h) → OnOk c.commit.result (IsTrue old.is_open × IsTrue (state g.S.Store h).is_open)) same
+    (λ clean. on_ok c.commit.result _ _ (λ k. let it = written g.S.Store c.args.conn.now c.begin-tx.result.conn.now wrote (state g.S.Store c.commit.new.tx.0) f _ c.begin-tx.ensures.begun c.in_ok-write.ensures.done c.write.ensures.survives c.commit.ensures.survives c.requires.whole clean k in (it.was_open, it.is_open)) (c.commit.ensures.done clean))
+
 pub returns-clause-survives : goal.returns-clause-survives
 returns-clause-survives g c =
     let f = g.C.Change.change c.args.change.now in

@@ -1,5 +1,6 @@
-use Rattle.std.proofs.Common.{refl}
+use Rattle.std.proofs.Common.{refl, subst, IsTrue}
 use Rattle.sqlite.specs.Held.{state}
+use Rattle.tables.specs.Kept.{Kept}
 use Rattle.tables.proofs.Kept.{told_failed, clean_before}
 use Rattle.tables.proofs.ReadArchives.{archive_told, archive_size, none_kept}
 use Rattle.tables.proofs.keeping.Tables.archive.Goals as goal
@@ -9,6 +10,11 @@ returns-clause-found g c clean =
     let read = c.in_ok-found.ensures.reads clean in
     archive_told g.S.Store _ c.args.self.now c.self.view_is c.as_str.result.now c.args.path.now _ c.as_str.ensures.value
     (clean_before (state g.S.Store c.self.inside.connection) (state g.S.Store c.read_archive.new.conn) _ c.read_archive.ensures.survives clean) read.0.0.was_open read.1
+
+pub returns-clause-was_open : goal.returns-clause-was_open
+returns-clause-was_open g c clean some =
+    let read = c.in_ok-found.ensures.reads clean in
+    (subst (λ (n : Kept _). IsTrue (state g.S.Store n.connection).is_open) c.self.view_is read.0.0.was_open, read.0.0.is_open)
 
 pub returns-clause-same : goal.returns-clause-same
 returns-clause-same g c =
