@@ -1,16 +1,16 @@
 -- A table that is described once: its form, where it stands among ours, and the map or set that its rows make. What its statements do, and why they fail, is proved over the description. Of one of the nine, that all nine stand says enough; of a further table it has to be known beside.
-use Rattle.std.proofs.Common.{◌≡◌, ◌⊎◌, inl, inr, ◌/◌, ◌+◌, ◌<◌, ℕ, ℤ, List, [], ◌∷◌, true, false, not, Bool, Some, None, Option, Ok, Err, Result, IfOk, Vec, Global, map, length, drop, refl, sym, ap, subst, ◌∙◌, IsTrue}
+use Rattle.std.proofs.Common.{◌≡◌, ◌⊎◌, inl, inr, ◌/◌, ◌+◌, ◌<◌, ℕ, zero, suc, ℤ, List, [], ◌∷◌, true, false, not, Bool, Some, None, Option, Ok, Err, Result, IfOk, Vec, Global, map, length, drop, take, refl, sym, ap, subst, ◌∙◌, IsTrue}
 use Rattle.std.specs.declared.cmp.Ordering.{Ordering}
 use Rattle.std.specs.Prelude.{IsSome}
 use Rattle.std.specs.Cmp.{IsTotalOrder}
 use Rattle.std.specs.Ordering.{is_lt}
 use Rattle.std.specs.List.{AllByRecursion, AllAdjacentBelow, list_all}
 use Rattle.std.specs.FinMap as finite
-use Rattle.sqlite_value.specs.declared.value.Value.TheVariants.{Int}
+use Rattle.sqlite_value.specs.declared.value.Value.TheVariants.{Null, Int}
 use Rattle.sqlite_value.specs.Order.{Row, column}
 use Rattle.sqlite_trees.specs.Tree.{put_row}
-use Rattle.sqlite_sql.specs.Term.{Term, holds}
-use Rattle.sqlite_sql.specs.Query.{Query, output, output_cmp}
+use Rattle.sqlite_sql.specs.Term.{Term, lit, col, holds}
+use Rattle.sqlite_sql.specs.Query.{output, output_cmp}
 use Rattle.sqlite_schema.specs.declared.schema.Schema.{Schema}
 use Rattle.sqlite_schema.specs.declared.schema.Column.{Column}
 use Rattle.sqlite_schema.specs.declared.schema.Table.{Table}
@@ -41,13 +41,14 @@ use Rattle.table_statements.proofs.Writes.{SetsRows, inserts_in, rowids_where}
 use Rattle.table_statements.proofs.Members.{keyed_put}
 use Rattle.table_statements.proofs.Entries.{put_map}
 use Rattle.table_statements.proofs.ReadableWrites.{put_readable}
-use Rattle.table_statements.proofs.Scans.{IsScan, shows}
+use Rattle.table_statements.proofs.Scans.{shows}
 use Rattle.table_statements.proofs.Statements.{Compiles, Selects, reads_part, deletes_part, whole_map}
 use Rattle.table_statements.proofs.ReadFailures.{standing_read_fails}
 use Rattle.table_statements.proofs.Rising.{AreKept, shown_well}
 use Rattle.table_statements.proofs.Additions.{IsNewKey, insert_fails}
 use Rattle.table_statements.proofs.Removals.{delete_fails}
 use Rattle.table_entries.proofs.Places.{changed, own_rows, ours_kept}
+use Rattle.table_entries.proofs.Ordered.{Place, outputs_of, query_on, names_on, scan_of, whole}
 use Rattle.table_entries.proofs.MappedRows.{HasOneRowEach}
 use Rattle.table_entries.proofs.NewEntries.{was_none}
 
@@ -85,15 +86,24 @@ form d = strict d.name d.columns d.key
 
 -- ---- one entry more
 
+-- so many parameters, from this one on
+abbrev pub parameters : ℕ → ℕ → List Term
+parameters at zero = []
+parameters at (suc n) = col 0 at ∷ parameters (at + 1) n
+
+-- what is put: a new rowid, and a parameter for each column
+abbrev pub terms_of : {K X : Type 0} → Description K X → List Term
+terms_of d = lit Null ∷ parameters 0 (length d.columns)
+
+-- in any schema that has the table, the text puts so
+abbrev pub Inserts : {K X : Type 0} → Description K X → List ℕ → ℕ → Type 0
+Inserts d text count = (s : Schema) (at tree : ℕ) → IsNamed s d.name at (record (form d) { tree = tree }) → IsMeant s text count (Insert at (Values (terms_of d) (length (terms_of d))))
+
 -- a text, with what it is given, that puts a row of these values, which is this entry
 pub record Addition {K X : Type 0} (d : Description K X) (text : List ℕ) (params values : Row) (k : K) (x : X) : Type 0 where
-  pub count : ℕ
-  pub terms : List Term
-  pub width : ℕ
-  pub given : length params ≡ count
-  pub is : (s : Schema) (at tree : ℕ) → IsNamed s d.name at (record (form d) { tree = tree }) → IsMeant s text count (Insert at (Values terms width))
-  pub accepts : accepts_terms terms (stamped (form d) params) ≡ true
-  pub made : (rows : List Row) → numbered Chosen rows (map (λ s. cast_row (form d) (drop 0 s)) (value_rows (stamped (form d) params) width (length terms / width) terms)) ≡ (Int (next_rowid rows) ∷ values) ∷ []
+  pub is : Inserts d text (length params)
+  pub accepts : accepts_terms (terms_of d) (stamped (form d) params) ≡ true
+  pub made : (rows : List Row) → numbered Chosen rows (map (λ s. cast_row (form d) (drop 0 s)) (value_rows (stamped (form d) params) (length (terms_of d)) (length (terms_of d) / length (terms_of d)) (terms_of d))) ≡ (Int (next_rowid rows) ∷ values) ∷ []
   pub typed : are_typed None 0 d.columns values ≡ true
   pub present : (id : ℤ) → are_present None 0 d.columns (Int id ∷ values) ≡ true
   pub kind : (id : ℤ) → d.kind (Int id ∷ values) ≡ true
@@ -118,9 +128,9 @@ module _ {K X : Type 0} (d : Description K X) (old new : State) (under : IsUnder
       let tree = tree_named old.now.schema d.name in
       let own : Table = record (form d) { tree = tree } in
       let m = means_command old.now.schema text _ (a.is old.now.schema stands.at tree stands.known.named) in
-      let it = inserts_in d.name d.columns d.key tree stands.at a.width a.terms text params old new count under.mode stands.known.named.1 m.0 m.1 h.0 in
+      let it = inserts_in d.name d.columns d.key tree stands.at (length (terms_of d)) (terms_of d) text params old new count under.mode stands.known.named.1 m.0 m.1 h.0 in
       let addition : Edit = record { table = own; gone = []; news = row ∷ [] } in
-      let same : edit_of old.now.trees own [] Chosen 0 (value_rows (stamped own params) a.width (length a.terms / a.width) a.terms) ≡ addition = ap (λ (all : List Row). let e : Edit = record { table = own; gone = []; news = all } in e) (a.made rows) in
+      let same : edit_of old.now.trees own [] Chosen 0 (value_rows (stamped own params) (length (terms_of d)) (length (terms_of d) / length (terms_of d)) (terms_of d)) ≡ addition = ap (λ (all : List Row). let e : Edit = record { table = own; gone = []; news = all } in e) (a.made rows) in
       let applies : Applies old.now.schema Enforced old.now.trees addition new.now.trees = subst (λ e. Applies old.now.schema Enforced old.now.trees e new.now.trees) same it.0 in
       let sets : SetsRows old new tree (put_row row rows) = subst (λ e. SetsRows old new tree (edited old.now.trees e)) same it.1 in
       (free_of _ _ applies.fresh, sets)
@@ -153,7 +163,7 @@ module _ {K X : Type 0} (d : Description K X) (old new : State) (under : IsUnder
   pub adds_not : (e : Error) → ExecutesInside 0 text params old new (Err e)
       → FailsWith old new (IsTooLarge old.now (form d) values ⊎ (old.is_open ≡ false)) (IsSome old.step_limit ⊎ (HasNoRowidLeft old.now (form d) ⊎ IsSome (finite.get (d.of (contents_of old.now)) k))) (failure_of e)
   adds_not e h =
-      insert_fails d.name d.columns d.key old new under (λ up. d.stands old.now.schema (in_schema d old new under own up)) text a.count params a.terms a.width values a.given (λ s at tree known. a.is s at tree known.named) a.accepts a.made a.typed a.present
+      insert_fails d.name d.columns d.key old new under (λ up. d.stands old.now.schema (in_schema d old new under own up)) text (length params) params (terms_of d) (length (terms_of d)) values refl (λ s at tree known. a.is s at tree known.named) a.accepts a.made a.typed a.present
       (IsSome (finite.get (d.of (contents_of old.now)) k)) (λ up. free (under.ours up) (own up) (finite.get (d.of (contents_of old.now)) k) refl) e h
     where
       free : IsOurs old.now → d.IsOwn old.now → (o : Option X) → finite.get (d.of (contents_of old.now)) k ≡ o → IsNewKey d.name d.key old.now values ⊎ IsSome (finite.get (d.of (contents_of old.now)) k)
@@ -164,10 +174,8 @@ module _ {K X : Type 0} (d : Description K X) (old new : State) (under : IsUnder
 
 -- a text, with what it is given, that removes the rows whose keys pass the test
 pub record Removal {K X : Type 0} (d : Description K X) (text : List ℕ) (params : Row) (test : K → Bool) : Type 0 where
-  pub count : ℕ
   pub filter : List Term
-  pub given : length params ≡ count
-  pub is : Compiles d.name d.columns d.key text count (λ at tree. Delete at (record { lets = []; body = rowids_where tree filter }))
+  pub is : Compiles d.name d.columns d.key text (length params) (λ at tree. Delete at (record { lets = []; body = rowids_where tree filter }))
   pub said : (r : Row) → d.kind r ≡ true → list_all (holds (params ∷ r ∷ [])) filter ≡ test (d.entry r).0
   pub accepts : (s : Schema) (at tree : ℕ) → IsKnown s d.name at (record (form d) { tree = tree }) → accepts_program s [] (rowids_where tree filter) params ≡ true
 
@@ -182,28 +190,26 @@ module _ {K X : Type 0} (d : Description K X) (old new : State) (under : IsUnder
       changed (form d) old new it.0 stands it.1 _ ours it.2 it.3 d.named (d.written old new it.0 ours.has here it.1 _ (it.4 ∙ ap (λ m. finite.retain_keys m (λ k. not (test k))) (sym (d.held old.now here))))
 
   pub removes_not : (e : Error) → ExecutesInside 0 text params old new (Err e) → FailsWith old new (old.is_open ≡ false) (IsSome old.step_limit) (failure_of e)
-  removes_not e h = delete_fails d.name d.columns d.key old new under (λ up. d.stands old.now.schema (in_schema d old new under own up)) text r.count params r.filter r.given r.is r.accepts e h
+  removes_not e h = delete_fails d.name d.columns d.key old new under (λ up. d.stands old.now.schema (in_schema d old new under own up)) text (length params) params r.filter refl r.is r.accepts e h
 
 -- ---- reading
 
--- how a query shows an entry, and which of its rows can be read as one
+-- how a query shows an entry, by which columns and in the order of how many of them, and which of its rows can be read as one
 pub record Reading {K X T : Type 0} (d : Description K X) (ShowsItem : Row → T → Type 0) (item : T → K × X) (IsLegible : Row → Type 0) : Type 0 where
-  pub names : List (List ℕ)
-  pub query : List Term → ℕ → Query
-  pub filters : (filter : List Term) (tree : ℕ) → (query filter tree).filter ≡ filter
-  pub scan : (filter : List Term) (tree : ℕ) → IsScan (query filter tree) tree
-  pub fits : (params : Row) (filter : List Term) (tree : ℕ) (r : Row) (t : T) → ShowsItem (shows (query filter tree) params r) t → (d.kind r ≡ true) × (d.entry r ≡ item t)
-  pub legible : (params : Row) (filter : List Term) (tree : ℕ) (r : Row) → d.kind r ≡ true → ((at : ℕ) → at < length d.columns → IsReadable (column r (at + 1))) → IsLegible (shows (query filter tree) params r)
+  pub shown : List Place
+  pub by : ℕ
+  pub fits : (params : Row) (filter : List Term) (tree : ℕ) (r : Row) (t : T) → ShowsItem (shows (query_on shown by filter tree) params r) t → (d.kind r ≡ true) × (d.entry r ≡ item t)
+  pub legible : (params : Row) (filter : List Term) (tree : ℕ) (r : Row) → d.kind r ≡ true → ((at : ℕ) → at < length d.columns → IsReadable (column r (at + 1))) → IsLegible (shows (query_on shown by filter tree) params r)
   pub orders : (params : Row) (filter : List Term) (tree : ℕ) (a b : Row) → d.kind a ≡ true → d.kind b ≡ true
-      → output_cmp (query filter tree) (output (query filter tree) (params ∷ a ∷ [])) (output (query filter tree) (params ∷ b ∷ [])) ≡ d.order (d.entry a).0 (d.entry b).0
+      → (let query = query_on shown by filter tree in output_cmp query (output query (params ∷ a ∷ [])) (output query (params ∷ b ∷ []))) ≡ d.order (d.entry a).0 (d.entry b).0
 
 -- a text, with what it is given, that shows the rows whose keys pass the test
 pub record Selection {K X T : Type 0} (d : Description K X) {ShowsItem : Row → T → Type 0} {item : T → K × X} {IsLegible : Row → Type 0} (q : Reading d ShowsItem item IsLegible) (text : List ℕ) (params : Row) (test : K → Bool) : Type 0 where
   pub filter : List Term
-  pub is : Compiles d.name d.columns d.key text (length params) (λ at tree. Select (record { lets = []; body = q.query filter tree }) q.names)
+  pub is : Compiles d.name d.columns d.key text (length params) (λ at tree. Select (whole (query_on q.shown q.by filter) tree) (names_on q.shown))
   pub said : (r : Row) → d.kind r ≡ true → list_all (holds (params ∷ r ∷ [])) filter ≡ test (d.entry r).0
   pub reads : IsSelect text
-  pub accepts : (s : Schema) (at tree : ℕ) → IsKnown s d.name at (record (form d) { tree = tree }) → accepts_program s [] (q.query filter tree) params ≡ true
+  pub accepts : (s : Schema) (at tree : ℕ) → IsKnown s d.name at (record (form d) { tree = tree }) → accepts_program s [] (query_on q.shown q.by filter tree) params ≡ true
 
 module _ {K X T : Type 0} (d : Description K X) {ShowsItem : Row → T → Type 0} {item : T → K × X} {IsLegible : Row → Type 0} (q : Reading d ShowsItem item IsLegible) (old new : State) {text : List ℕ} {params : Row} {test : K → Bool} (s : Selection d q text params test) where
   -- the entries of this part of the keys, in order
@@ -214,18 +220,18 @@ module _ {K X T : Type 0} (d : Description K X) {ShowsItem : Row → T → Type 
       let is_open = got.1.1.1.0.was_open in
       let here = d.within old.now (ready is_open).ours (own is_open) in
       subst (λ m. IsUnchanged old new × (map item all.items ≡ finite.entries (finite.retain_keys m test))) (sym (d.held old.now here))
-      (reads_part d.name d.columns d.key d.total d.same d.kind d.entry old new (λ _. d.stands old.now.schema here) ready text params q.names (q.query s.filter) (q.scan s.filter) test
-      (λ tree row is. ap (list_all (holds (params ∷ row ∷ []))) (q.filters s.filter tree) ∙ s.said row is) ShowsItem item (q.fits params s.filter) s.is (Ok all) got up)
+      (reads_part d.name d.columns d.key d.total d.same d.kind d.entry old new (λ _. d.stands old.now.schema here) ready text params (names_on q.shown) (query_on q.shown q.by s.filter) (scan_of (outputs_of q.shown) (take q.by q.shown) s.filter) test
+      (λ tree row is. s.said row is) ShowsItem item (q.fits params s.filter) s.is (Ok all) got up)
 
   -- why they aren't read
   pub selects_not : (IsTrue old.is_open → d.IsIn old.now.schema) → (e : Error) → FailsToQuery text params old new e → FailsWith old new ⊥ (IsSome old.step_limit) (failure_of e)
-  selects_not here = standing_read_fails d.name d.columns d.key old new (λ up. d.stands old.now.schema (here up)) text params q.names (q.query s.filter) (q.scan s.filter) s.is s.reads s.accepts
+  selects_not here = standing_read_fails d.name d.columns d.key old new (λ up. d.stands old.now.schema (here up)) text params (names_on q.shown) (query_on q.shown q.by s.filter) (scan_of (outputs_of q.shown) (take q.by q.shown) s.filter) s.is s.reads s.accepts
 
   -- what is shown can be read, and rises
   pub never_amiss : (IsTrue old.is_open → IsReady old) → (IsTrue old.is_open → d.IsOwn old.now) → (rows : List Row) → HasBegunWith text params old new rows → ¬ IsAmiss IsLegible ShowsItem (λ x y. is_lt (d.order (item x).0 (item y).0)) rows
   never_amiss ready own rows begun =
       let mine = own begun.1.0.was_open in
-      shown_well d.name d.columns d.key d.same d.kind (λ r. (d.entry r).0) (length d.columns) old new ready (λ _. d.stands old.now.schema (d.within old.now (ready begun.1.0.was_open).ours mine)) (λ ours. d.kept old.now ours mine) text params q.names (q.query s.filter) (q.scan s.filter) s.is (q.orders params s.filter)
+      shown_well d.name d.columns d.key d.same d.kind (λ r. (d.entry r).0) (length d.columns) old new ready (λ _. d.stands old.now.schema (d.within old.now (ready begun.1.0.was_open).ours mine)) (λ ours. d.kept old.now ours mine) text params (names_on q.shown) (query_on q.shown q.by s.filter) (scan_of (outputs_of q.shown) (take q.by q.shown) s.filter) s.is (q.orders params s.filter)
       ShowsItem (λ t. (item t).0) (λ tree row t h. ap (λ e. e.0) (q.fits params s.filter tree row t h).1) IsLegible (q.legible params s.filter) rows begun
 
 module _ {K X T : Type 0} (d : Description K X) {ShowsItem : Row → T → Type 0} {item : T → K × X} {IsLegible : Row → Type 0} (q : Reading d ShowsItem item IsLegible) (old new : State) {text : List ℕ} {params : Row} (s : Selection d q text params (λ _. true)) where

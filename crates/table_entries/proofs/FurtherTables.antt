@@ -9,10 +9,10 @@ use Rattle.sqlite_schema.specs.declared.schema.Table.{Table}
 use Rattle.sqlite_schema.specs.Names.{same_name, table_named}
 use Rattle.sqlite.specs.Effect.{Database, IsDatabase}
 use Rattle.sqlite.specs.State.{State}
-use Rattle.table_forms.specs.Forms.{meta, object, refs, outs, permanent, user_root, profile, generation, runtime, piece, temp_root}
+use Rattle.table_forms.specs.Forms.{piece, temp_root}
 use Rattle.table_forms.specs.Standing.{Stands, HasTables, tree_named}
 use Rattle.table_forms.specs.Finding.{IsFree}
-use Rattle.table_statements.specs.Contents.{Bytes, contents_of, rows_named, rows_if_any, map_of, texts_cmp, pair_cmp, triple_cmp, numbered_cmp, kept_cmp, is_text, is_pair, pair_of, member_of, is_triple, target_of, is_object, object_of, is_profile, profile_of, is_generation, generation_of, is_piece, piece_of, is_kept, kept_of}
+use Rattle.table_statements.specs.Contents.{Bytes, contents_of, rows_named, rows_if_any, map_of, numbered_cmp, kept_cmp, is_text, is_piece, piece_of, is_kept, kept_of}
 use Rattle.table_statements.specs.Calls.{IsKeyed, IsOurs, HasFurther}
 use Rattle.table_statements.proofs.Finds.{found_by_place}
 use Rattle.table_statements.proofs.Orders.{numbered_total, numbered_antisymmetric, kept_total, kept_antisymmetric}
@@ -20,7 +20,8 @@ use Rattle.table_statements.proofs.Rising.{AreKept}
 use Rattle.table_statements.proofs.Truths.{and_so}
 use Rattle.table_statements.proofs.Writes.{SetsRows}
 use Rattle.table_entries.proofs.MappedRows.{HasOneRowEach}
-use Rattle.table_entries.proofs.Places.{own_rows, others_kept, if_any_kept}
+use Rattle.table_entries.proofs.ContentsLemmas.{after_write}
+use Rattle.table_entries.proofs.Places.{own_rows, if_any_kept}
 use Rattle.table_entries.proofs.Typed.{pieces_typed, temp_roots_typed}
 use Rattle.table_entries.proofs.UniqueKeys.{texts_equal, ints_equal, agree_two, agree_three, one_key}
 
@@ -78,32 +79,8 @@ own_if_any a old new rows stands sets = if_any_named new.now a (subst (λ (s : S
 module _ (old new : State) (has : HasTables old.now.schema) (rows : List Row) where
   pub pieces_set : (stands : Stands old.now.schema piece) → SetsRows old new (tree_named old.now.schema piece.name) rows → (m : finite.FinMap numbered_cmp Bytes) → map_of numbered_cmp is_piece piece_of rows ≡ m → contents_of new.now ≡ record (contents_of old.now) { pieces = m }
   unfolding same_name
-  pieces_set stands sets m is = λ i. record {
-    meta = map_of texts_cmp is_pair pair_of (others_kept piece old new rows stands sets meta has.0 refl i);
-    objects = map_of texts_cmp is_object object_of (others_kept piece old new rows stands sets object has.1.0 refl i);
-    refs = map_of pair_cmp is_pair member_of (others_kept piece old new rows stands sets refs has.1.1.0 refl i);
-    outs = map_of pair_cmp is_triple target_of (others_kept piece old new rows stands sets outs has.1.1.1.0 refl i);
-    permanent = map_of texts_cmp is_pair pair_of (others_kept piece old new rows stands sets permanent has.1.1.1.1.0 refl i);
-    user_roots = map_of pair_cmp is_triple target_of (others_kept piece old new rows stands sets user_root has.1.1.1.1.1.0 refl i);
-    profiles = map_of pair_cmp is_profile profile_of (others_kept piece old new rows stands sets profile has.1.1.1.1.1.1.0 refl i);
-    generations = map_of triple_cmp is_generation generation_of (others_kept piece old new rows stands sets generation has.1.1.1.1.1.1.1.0 refl i);
-    runtime = map_of pair_cmp is_pair member_of (others_kept piece old new rows stands sets runtime has.1.1.1.1.1.1.1.1.0 refl i);
-    pieces = (ap (map_of numbered_cmp is_piece piece_of) (own_if_any piece old new rows stands sets) ∙ is) i;
-    temp_roots = map_of kept_cmp is_kept kept_of (if_any_kept piece old new rows stands sets temp_root.name refl i);
-  }
+  pieces_set stands sets m is = after_write old new has rows piece stands sets rows (rows_if_any old.now temp_root.name) (own_if_any piece old new rows stands sets) (if_any_kept piece old new rows stands sets temp_root.name refl) ∙ ap (λ x. record (contents_of old.now) { pieces = x }) is
 
   pub temp_roots_set : (stands : Stands old.now.schema temp_root) → SetsRows old new (tree_named old.now.schema temp_root.name) rows → (m : finite.FinMap kept_cmp (Unit {0})) → map_of kept_cmp is_kept kept_of rows ≡ m → contents_of new.now ≡ record (contents_of old.now) { temp_roots = m }
   unfolding same_name
-  temp_roots_set stands sets m is = λ i. record {
-    meta = map_of texts_cmp is_pair pair_of (others_kept temp_root old new rows stands sets meta has.0 refl i);
-    objects = map_of texts_cmp is_object object_of (others_kept temp_root old new rows stands sets object has.1.0 refl i);
-    refs = map_of pair_cmp is_pair member_of (others_kept temp_root old new rows stands sets refs has.1.1.0 refl i);
-    outs = map_of pair_cmp is_triple target_of (others_kept temp_root old new rows stands sets outs has.1.1.1.0 refl i);
-    permanent = map_of texts_cmp is_pair pair_of (others_kept temp_root old new rows stands sets permanent has.1.1.1.1.0 refl i);
-    user_roots = map_of pair_cmp is_triple target_of (others_kept temp_root old new rows stands sets user_root has.1.1.1.1.1.0 refl i);
-    profiles = map_of pair_cmp is_profile profile_of (others_kept temp_root old new rows stands sets profile has.1.1.1.1.1.1.0 refl i);
-    generations = map_of triple_cmp is_generation generation_of (others_kept temp_root old new rows stands sets generation has.1.1.1.1.1.1.1.0 refl i);
-    runtime = map_of pair_cmp is_pair member_of (others_kept temp_root old new rows stands sets runtime has.1.1.1.1.1.1.1.1.0 refl i);
-    pieces = map_of numbered_cmp is_piece piece_of (if_any_kept temp_root old new rows stands sets piece.name refl i);
-    temp_roots = (ap (map_of kept_cmp is_kept kept_of) (own_if_any temp_root old new rows stands sets) ∙ is) i;
-  }
+  temp_roots_set stands sets m is = after_write old new has rows temp_root stands sets (rows_if_any old.now piece.name) rows (if_any_kept temp_root old new rows stands sets piece.name refl) (own_if_any temp_root old new rows stands sets) ∙ ap (λ x. record (contents_of old.now) { temp_roots = x }) is

@@ -13,7 +13,7 @@ pub mod PieceLemmas
 pub mod PieceKeyLemmas
 pub mod TempRootLemmas
 pub mod Alike
-pub mod Columns
+pub mod Ordered
 pub mod Conditions
 pub mod ContentsLemmas
 pub mod One

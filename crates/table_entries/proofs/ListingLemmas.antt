@@ -1,30 +1,18 @@
 -- What the statement that lists the objects without their archives means and reads.
-use Rattle.std.proofs.Common.{◌≡◌, ℕ, pos, negsuc, List, [], ◌∷◌, codes, Bool, true, false, ◌&&◌, Some, None, Ok, Result, Err, IfOk, Vec, Global, map, length, refl, ◌∙◌, IsTrue}
+use Rattle.std.proofs.Common.{◌≡◌, ℕ, List, [], ◌∷◌, codes, Bool, true, ◌&&◌, Some, Ok, Result, Err, IfOk, Vec, Global, map, length, refl, ◌∙◌, IsTrue}
 use Rattle.std.specs.Ordering.{is_lt}
-use Rattle.std.specs.List.{AllAdjacentBelow}
+use Rattle.std.specs.List.{AllByRecursion, AllAdjacentBelow}
 use Rattle.std.specs.FinMap as finite
-use Rattle.sqlite_value.specs.declared.value.Value.TheVariants.{Int}
 use Rattle.sqlite_value.specs.declared.keys.Collation.TheVariants.{Binary}
-use Rattle.sqlite_value.specs.Keys.{ascending}
 use Rattle.sqlite_value.specs.Order.{Row, column, bytes}
-use Rattle.sqlite_sql.specs.Term.{lit, col}
-use Rattle.sqlite_sql.specs.Query.{Query, inner, end}
-use Rattle.sqlite_schema.specs.declared.schema.Schema.{Schema}
-use Rattle.sqlite_schema.specs.declared.program.Program.{Program}
+use Rattle.sqlite_sql.specs.Query.{Query}
 use Rattle.sqlite_schema.specs.declared.command.Command.TheVariants.{Select}
-use Rattle.sqlite_draft.specs.declared.query.Draft.{Draft}
-use Rattle.sqlite_draft.specs.declared.join.Step.TheVariants.{Inner}
-use Rattle.sqlite_draft.specs.Join.{chain}
-use Rattle.sqlite_resolve.specs.declared.scope.Output.{Output as Out}
-use Rattle.sqlite_resolve.specs.Lowering.{max_budget}
-use Rattle.sqlite_resolve.specs.Program.{program}
 use Rattle.sqlite_tied.specs.Compute.{everything}
 use Rattle.sqlite.specs.declared.error.Error.{Error}
 use Rattle.sqlite.specs.State.{State, FailsToQuery, IsUnchanged}
 use Rattle.table_statements.specs.declared.failure.Failure.{Failure}
 use Rattle.table_entries.specs.declared.objects.Listed.{Listed}
 use Rattle.table_forms.specs.Forms.{object}
-use Rattle.table_forms.specs.Standing.{IsKnown}
 use Rattle.table_statements.specs.Contents.{Bytes, Stored, Described, without_archive, map_of, rows_named, contents_of, texts_cmp, is_text, is_blob, is_text_or_null, text_if_any, is_object, object_of}
 use Rattle.table_statements.specs.Queries.{IsSelect}
 use Rattle.table_statements.specs.Calls.{IsReady, HasSettledTables, IsOurs}
@@ -32,8 +20,7 @@ use Rattle.table_entries.specs.Entries.{listed_of, ShowsListed}
 use Rattle.table_statements.proofs.Orders.{texts_total, texts_antisymmetric}
 use Rattle.table_statements.proofs.Truths.{and_so}
 use Rattle.table_entries.proofs.Optional.{option_fits}
-use Rattle.table_statements.proofs.Means.{ordered_by_one, plain_state, shown_column}
-use Rattle.table_entries.proofs.Columns.{bounds_are, outputs_four_at, result_context, from_in, shown_in}
+use Rattle.table_entries.proofs.Ordered.{Place, IsColumn, query_on, names_on, whole, selects}
 use Rattle.table_statements.proofs.Scans.{IsScan, shows}
 use Rattle.table_statements.specs.Failures.{failure_of, FailsWith}
 use Rattle.table_statements.proofs.ReadFailures.{read_fails}
@@ -44,53 +31,31 @@ use Rattle.table_entries.proofs.Alike.{map_made}
 
 -- ---- what the text means
 
+abbrev pub places : List Place
+places = (codes "base", 0) ∷ (codes "hash", 2) ∷ (codes "deriver", 3) ∷ (codes "ca", 4) ∷ []
+
+pub places_are : AllByRecursion (IsColumn object.name object.columns object.primary) places
+unfolding everything
+places_are = ((refl, (_, refl, refl, refl)), ((refl, (_, refl, refl, refl)), ((refl, (_, refl, refl, refl)), ((refl, (_, refl, refl, refl)), tt))))
+
 abbrev pub query : ℕ → Query
-query tree = record {
-  from = inner tree end;
-  filter = [];
-  group = None;
-  project = col 1 1 ∷ col 1 3 ∷ col 1 4 ∷ col 1 5 ∷ [];
-  distinct = false;
-  collations = [];
-  order = (col 1 1, ascending Binary) ∷ [];
-  limit = lit (Int (negsuc 0));
-  offset = lit (Int (pos 0));
-}
-
-abbrev whole : ℕ → Program
-whole tree = record { lets = []; body = query tree }
-
-abbrev draft : ℕ → Draft
-draft tree = record { from = chain (Inner tree ∷ []); filter = []; group = None; project = col 1 1 ∷ col 1 3 ∷ col 1 4 ∷ col 1 5 ∷ []; distinct = false; collations = []; order = (col 1 1, ascending Binary) ∷ []; limit = lit (Int (negsuc 0)); offset = lit (Int (pos 0)) }
-
-abbrev outputs : List Out
-outputs = shown_column (codes "base") 1 ∷ shown_column (codes "hash") 3 ∷ shown_column (codes "deriver") 4 ∷ shown_column (codes "ca") 5 ∷ []
+query = query_on places 1 []
 
 abbrev pub names : List (List ℕ)
-names = codes "base" ∷ codes "hash" ∷ codes "deriver" ∷ codes "ca" ∷ []
+names = names_on places
 
 abbrev pub all_text : List ℕ
 all_text = codes "SELECT base, hash, deriver, ca FROM object ORDER BY base"
 
-all_typed : (s : Schema) (at tree : ℕ) → IsKnown s (codes "object") at (record object { tree = tree }) → program s [] (draft tree) ≡ Ok (whole tree)
+pub all_read : IsSelect all_text
 unfolding everything
-all_typed s at tree known = rw (known.low, known.by_tree)
+all_read = (_, _, _, _, _, refl)
 
-pub all_is : Compiles object.name object.columns object.primary all_text 0 (λ at tree. Select (whole tree) names)
-unfolding everything
-all_is s at tree known =
-    let there = known.named.1 in (
-      _,
-      ordered_by_one all_text refl refl refl s (codes "object") at (record object { tree = tree }) outputs [] (codes "base") 0 (col 1 1) (Some Binary) (Some Binary) (lit (Int (negsuc 0)), lit (Int (pos 0)))
-          (plain_state 100000 None) (plain_state 99996 (Some Binary)) 99996 (whole tree)
-          known.named refl refl refl refl refl refl refl refl refl refl (bounds_are s (from_in all_text) refl (codes "object") at refl refl refl known.named.0) (outputs_four_at (result_context s (codes "object") at) (record { name = codes "object"; table = at; slot = 1; shared = [] } ∷ []) (shown_in all_text) refl refl refl refl refl at 0 2 3 4 (codes "base") (codes "hash") (codes "deriver") (codes "ca") (record { names = refl; found = rw there; term = rw there; heading = rw there }) (record { names = refl; found = rw there; term = rw there; heading = rw there }) (record { names = refl; found = rw there; term = rw there; heading = rw there }) (record { names = refl; found = rw there; term = rw there; heading = rw there }) None max_budget (refl, (refl, (refl, (refl, tt))))) refl
-          (refl, refl, refl, refl) refl refl (rw there) (rw there) refl (all_typed s at tree known),
-      refl,
-      refl,
-      refl,
-      refl,
-      refl,
-    )
+pub all_is : Compiles object.name object.columns object.primary all_text 0 (λ at tree. Select (whole query tree) names)
+unfolding everything all_read
+all_is =
+    selects object.name object.columns object.primary all_text places 1 places_are all_read (refl, refl, refl, refl, refl, refl, refl, refl, refl, refl, refl, refl, refl, λ s. refl) ((_, _, refl, refl), ((_, _, refl, refl), ((_, _, refl, refl), ((_, _, refl, refl), tt)))) (((refl, refl, refl, refl), refl, refl), tt) [] (Some Binary) 99996 (refl, (refl, (refl, (refl, tt)))) (refl, tt)
+    (λ s at tree known. refl) (λ s at tree known. rw (known.low, known.by_tree)) refl refl
 
 -- ---- what it lists
 
@@ -131,10 +96,6 @@ reads_all old new (Ok all) ready selects up =
 
 pub scan : (tree : ℕ) → IsScan (query tree) tree
 scan tree = record { from = refl; group = refl; distinct = refl; whole = λ params rows. refl }
-
-pub all_read : IsSelect all_text
-unfolding everything
-all_read = (_, _, _, _, _, refl)
 
 pub fails_all : (old new : State) → HasSettledTables old → (e : Error) → FailsToQuery all_text [] old new e → FailsWith old new ⊥ (IsSome old.step_limit) (failure_of e)
 unfolding everything

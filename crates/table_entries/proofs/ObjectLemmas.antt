@@ -1,5 +1,5 @@
 -- The table of objects, described once, and what the texts of its statements mean.
-use Rattle.std.proofs.Common.{◌≡◌, ℕ, pos, negsuc, List, [], ◌∷◌, ◌++◌, inl, arith, vec_len, codes, Bool, true, false, ◌&&◌, Some, None, Option, Ok, Result, Err, IfOk, Vec, Global, String, map, length, refl, sym, ap, subst, ◌∙◌, IsTrue}
+use Rattle.std.proofs.Common.{◌≡◌, ℕ, List, [], ◌∷◌, ◌++◌, inl, arith, vec_len, codes, Bool, true, ◌&&◌, Some, None, Option, Ok, Result, Err, IfOk, Vec, Global, String, map, length, refl, sym, ap, subst, ◌∙◌, IsTrue}
 use Rattle.std.specs.Prelude.{string_bytes, ◌<◌, ◌↔◌, IsSome, IsUtf8, is_some}
 use Rattle.std.specs.Option.{option_to_list}
 use Rattle.sqlite_rules.proofs.ListLemmas.{has_right}
@@ -11,20 +11,11 @@ use Rattle.std.specs.FinMap as finite
 use Rattle.sqlite_value.specs.declared.value.Value.{Value}
 use Rattle.sqlite_value.specs.declared.value.Value.TheVariants.{Null, Int, Real, Text, Blob}
 use Rattle.sqlite_value.specs.declared.keys.Collation.TheVariants.{Binary}
-use Rattle.sqlite_value.specs.Keys.{ascending}
 use Rattle.sqlite_value.specs.Order.{Row, column, bytes}
-use Rattle.sqlite_sql.specs.Term.{Term, lit, col, holds}
-use Rattle.sqlite_sql.specs.Query.{Query, inner, end}
-use Rattle.sqlite_schema.specs.declared.schema.Schema.{Schema}
-use Rattle.sqlite_schema.specs.declared.program.Program.{Program}
-use Rattle.sqlite_schema.specs.declared.command.Source.TheVariants.{Values}
-use Rattle.sqlite_schema.specs.declared.command.Command.TheVariants.{Insert, Delete, Select}
-use Rattle.sqlite_draft.specs.declared.query.Draft.{Draft}
-use Rattle.sqlite_draft.specs.declared.join.Step.TheVariants.{Inner}
-use Rattle.sqlite_draft.specs.Join.{chain}
-use Rattle.sqlite_resolve.specs.declared.scope.Output.{Output as Out}
+use Rattle.sqlite_sql.specs.Term.{Term, col, holds}
+use Rattle.sqlite_sql.specs.Query.{Query}
+use Rattle.sqlite_schema.specs.declared.command.Command.TheVariants.{Delete, Select}
 use Rattle.sqlite_resolve.specs.Lowering.{max_budget}
-use Rattle.sqlite_resolve.specs.Program.{program}
 use Rattle.sqlite_resolve.specs.Write.{over}
 use Rattle.sqlite_rules.specs.Edit.{next_rowid}
 use Rattle.sqlite_tied.specs.Compute.{everything}
@@ -33,7 +24,7 @@ use Rattle.sqlite.specs.State.{State, FailsToQuery, IsUnchanged}
 use Rattle.table_statements.specs.declared.failure.Failure.{Failure}
 use Rattle.table_entries.specs.declared.objects.Object.{Object}
 use Rattle.table_forms.specs.Forms.{object}
-use Rattle.table_forms.specs.Standing.{IsNamed, IsKnown, HasTables}
+use Rattle.table_forms.specs.Standing.{HasTables}
 use Rattle.table_statements.specs.Contents.{Bytes, Stored, map_of, rows_named, contents_of, texts_cmp, is_text, is_blob, is_object, object_of, text_if_any, is_text_or_null}
 use Rattle.table_statements.specs.Queries.{IsSelect}
 use Rattle.table_statements.specs.Calls.{IsReady, HasSettledTables, IsOurs}
@@ -42,9 +33,9 @@ use Rattle.table_statements.specs.Reading.{ShowsText}
 use Rattle.table_statements.proofs.Orders.{texts_total, texts_antisymmetric}
 use Rattle.table_statements.proofs.Truths.{cast_null, and_so, and_one, text_test}
 use Rattle.table_entries.proofs.Optional.{IsKept, given, kept_given, bound_given, read_given, option_fits}
-use Rattle.table_statements.proofs.Means.{IsMeant, insert_means, delete_means, ordered_by_one, plain_state, shown_column}
+use Rattle.table_statements.proofs.Means.{insert_means, delete_means, plain_state}
 use Rattle.table_entries.proofs.Conditions.{where_one, equals, select_context, filter_in}
-use Rattle.table_entries.proofs.Columns.{bounds_are, outputs_one, outputs_five, result_context, from_in, shown_in}
+use Rattle.table_entries.proofs.Ordered.{Place, IsColumn, outputs_of, query_on, names_on, whole, selects}
 use Rattle.table_statements.proofs.Writes.{rowids_where}
 use Rattle.table_statements.proofs.Scans.{IsScan, shows}
 use Rattle.table_statements.proofs.Entries.{map-map}
@@ -60,7 +51,7 @@ use Rattle.table_entries.proofs.KeyOrders.{by_text}
 use Rattle.table_entries.proofs.Legible.{object_row}
 use Rattle.table_entries.proofs.FreeKeys.{free_one}
 use Rattle.table_entries.proofs.Kept.{object_kept}
-use Rattle.table_entries.proofs.Description.{Description, Addition, Removal, Reading, Selection}
+use Rattle.table_entries.proofs.Description.{Description, Inserts, Addition, Removal, Reading, Selection}
 use Rattle.table_statements.specs.Texts.{IsReadable}
 use Rattle.sqlite_schema.specs.declared.schema.Kind.TheVariants as kind
 use Rattle.sqlite_schema.specs.Rules.{is_of}
@@ -97,10 +88,7 @@ table = record {
 abbrev pub insert_text : List ℕ
 insert_text = codes "INSERT INTO object (base, nar, hash, deriver, ca) VALUES (?1, ?2, ?3, ?4, ?5)"
 
-abbrev pub terms : List Term
-terms = lit Null ∷ col 0 0 ∷ col 0 1 ∷ col 0 2 ∷ col 0 3 ∷ col 0 4 ∷ []
-
-pub insert_is : (s : Schema) (at tree : ℕ) → IsNamed s (codes "object") at (record object { tree = tree }) → IsMeant s insert_text 5 (Insert at (Values terms 6))
+pub insert_is : Inserts table insert_text 5
 unfolding everything
 insert_is s at tree found = (_, insert_means insert_text refl s at (codes "object") object.columns object.primary tree _ found refl, refl, refl, refl, refl, refl)
 
@@ -121,10 +109,6 @@ is_a_text (Blob b) h = absurd (let e = h in cc)
 
 addition_kept : (base nar hash : List ℕ) (deriver ca : Value) → IsKept deriver → IsKept ca → Addition table insert_text (Text base ∷ Blob nar ∷ Blob hash ∷ deriver ∷ ca ∷ []) (Text base ∷ Blob nar ∷ Blob hash ∷ deriver ∷ ca ∷ []) base (record { nar = nar; hash = hash; deriver = text_if_any deriver; ca = text_if_any ca })
 addition_kept base nar hash deriver ca d c = record {
-  count = 5;
-  terms = terms;
-  width = 6;
-  given = refl;
   is = insert_is;
   accepts = rw (has_class deriver d.kind, has_class ca c.kind) refl;
   made = λ rows. rw (cast_null, d.cast_is, c.cast_is) refl;
@@ -163,9 +147,7 @@ delete_is s at tree known =
 
 pub removal : (base : List ℕ) → Removal table delete_text (Text base ∷ []) (λ k. eq_by_cmp texts_cmp k base)
 removal base = record {
-  count = 1;
   filter = of_one;
-  given = refl;
   is = delete_is;
   said = said_one base;
   accepts = λ s at tree known. rw (known.low, known.by_tree) refl;
@@ -173,37 +155,17 @@ removal base = record {
 
 -- ---- reading them
 
-abbrev pub query : List Term → ℕ → Query
-query filter tree = record {
-  from = inner tree end;
-  filter = filter;
-  group = None;
-  project = col 1 1 ∷ col 1 2 ∷ col 1 3 ∷ col 1 4 ∷ col 1 5 ∷ [];
-  distinct = false;
-  collations = [];
-  order = (col 1 1, ascending Binary) ∷ [];
-  limit = lit (Int (negsuc 0));
-  offset = lit (Int (pos 0));
-}
+abbrev pub places : List Place
+places = (codes "base", 0) ∷ (codes "nar", 1) ∷ (codes "hash", 2) ∷ (codes "deriver", 3) ∷ (codes "ca", 4) ∷ []
 
-abbrev whole : List Term → ℕ → Program
-whole filter tree = record { lets = []; body = query filter tree }
-
-abbrev draft : List Term → ℕ → Draft
-draft filter tree = record { from = chain (Inner tree ∷ []); filter = filter; group = None; project = col 1 1 ∷ col 1 2 ∷ col 1 3 ∷ col 1 4 ∷ col 1 5 ∷ []; distinct = false; collations = []; order = (col 1 1, ascending Binary) ∷ []; limit = lit (Int (negsuc 0)); offset = lit (Int (pos 0)) }
-
-abbrev outputs : List Out
-outputs = shown_column (codes "base") 1 ∷ shown_column (codes "nar") 2 ∷ shown_column (codes "hash") 3 ∷ shown_column (codes "deriver") 4 ∷ shown_column (codes "ca") 5 ∷ []
-
-abbrev pub names : List (List ℕ)
-names = codes "base" ∷ codes "nar" ∷ codes "hash" ∷ codes "deriver" ∷ codes "ca" ∷ []
+pub places_are : AllByRecursion (IsColumn object.name object.columns object.primary) places
+unfolding everything
+places_are = ((refl, (_, refl, refl, refl)), ((refl, (_, refl, refl, refl)), ((refl, (_, refl, refl, refl)), ((refl, (_, refl, refl, refl)), ((refl, (_, refl, refl, refl)), tt)))))
 
 abbrev pub reading : Reading table ShowsObject stored_of IsObjectRow
 reading = record {
-  names = names;
-  query = query;
-  filters = λ filter tree. refl;
-  scan = λ filter tree. record { from = refl; group = refl; distinct = refl; whole = λ params rows. refl };
+  shown = places;
+  by = 1;
   fits = λ params filter tree r t h. (λ i. is_text (h.0 i) && is_blob (h.1 i) && is_blob (h.2 i) && (option_fits _ _ h.3).0 i && (option_fits _ _ h.4).0 i, λ i. (bytes (h.0 i), record { nar = bytes (h.1 i); hash = bytes (h.2 i); deriver = (option_fits _ _ h.3).1 i; ca = (option_fits _ _ h.4).1 i }));
   legible = λ params filter tree. object_row;
   orders = λ params filter tree a b h k. by_text a b (base_is a h) (base_is b k);
@@ -212,76 +174,43 @@ reading = record {
 abbrev pub of_text : List ℕ
 of_text = codes "SELECT base, nar, hash, deriver, ca FROM object WHERE base = ?1 ORDER BY base"
 
-of_typed : (s : Schema) (at tree : ℕ) → IsKnown s (codes "object") at (record object { tree = tree }) → program s [] (draft of_one tree) ≡ Ok (whole of_one tree)
-unfolding everything
-of_typed s at tree known = rw (known.low, known.by_tree)
-
-pub of_is : Compiles object.name object.columns object.primary of_text 1 (λ at tree. Select (whole of_one tree) names)
-unfolding everything
-of_is s at tree known =
-    let there = known.named.1 in (
-      _,
-      ordered_by_one of_text refl refl refl s (codes "object") at (record object { tree = tree }) outputs of_one (codes "base") 0 (col 1 1) None (Some Binary) (lit (Int (negsuc 0)), lit (Int (pos 0)))
-          (plain_state 100000 None) (plain_state 99995 (Some Binary)) 99992 (whole of_one tree)
-          known.named refl refl refl refl refl refl refl refl refl refl (bounds_are s (from_in of_text) refl (codes "object") at refl refl refl known.named.0) (outputs_five (result_context s (codes "object") at) (record { name = codes "object"; table = at; slot = 1; shared = [] } ∷ []) (shown_in of_text) refl refl refl refl refl refl at (codes "base") (codes "nar") (codes "hash") (codes "deriver") (codes "ca") (record { names = refl; found = rw there; term = rw there; heading = rw there }) (record { names = refl; found = rw there; term = rw there; heading = rw there }) (record { names = refl; found = rw there; term = rw there; heading = rw there }) (record { names = refl; found = rw there; term = rw there; heading = rw there }) (record { names = refl; found = rw there; term = rw there; heading = rw there }) None max_budget (refl, (refl, (refl, (refl, (refl, tt)))))) (where_one (select_context s (codes "object") at outputs) (filter_in of_text) refl refl (codes "base") at 0 1 (col 1 1) (equals (col 1 1) (col 0 0)) (Some Binary) 99995 (record { left_is = refl; right_is = refl; found = rw there; column = rw there; compare = rw there }) refl refl refl)
-          (refl, refl, refl, refl) refl refl (rw there) (rw there) refl (of_typed s at tree known),
-      refl,
-      refl,
-      refl,
-      refl,
-      refl,
-    )
-
 pub of_read : IsSelect of_text
 unfolding everything
 of_read = (_, _, _, _, _, refl)
+
+pub of_is : Compiles object.name object.columns object.primary of_text 1 (λ at tree. Select (whole (query_on places 1 of_one) tree) (names_on places))
+unfolding everything of_read
+of_is =
+    selects object.name object.columns object.primary of_text places 1 places_are of_read (refl, refl, refl, refl, refl, refl, refl, refl, refl, refl, refl, refl, refl, λ s. refl) ((_, _, refl, refl), ((_, _, refl, refl), ((_, _, refl, refl), ((_, _, refl, refl), ((_, _, refl, refl), tt))))) (((refl, refl, refl, refl), refl, refl), tt) of_one None 99992 (refl, (refl, (refl, (refl, (refl, tt))))) (refl, tt)
+    (λ s at tree known. let there = known.named.1 in where_one (select_context s object.name at (outputs_of places)) (filter_in of_text) refl refl (codes "base") at 0 1 (col 1 1) (equals (col 1 1) (col 0 0)) (Some Binary) 99995 (record { left_is = refl; right_is = refl; found = rw there; column = rw there; compare = rw there }) refl refl refl) (λ s at tree known. rw (known.low, known.by_tree)) refl refl
 
 pub of : (base : List ℕ) → Selection table reading of_text (Text base ∷ []) (λ k. eq_by_cmp texts_cmp k base)
 of base = record { filter = of_one; is = of_is; said = said_one base; reads = of_read; accepts = λ s at tree known. rw (known.low, known.by_tree) refl }
 
 -- ---- reading their keys alone
 
+abbrev pub key_places : List Place
+key_places = (codes "base", 0) ∷ []
+
+pub key_places_are : AllByRecursion (IsColumn object.name object.columns object.primary) key_places
+unfolding everything
+key_places_are = ((refl, (_, refl, refl, refl)), tt)
+
 abbrev pub keys_query : ℕ → Query
-keys_query tree = record {
-  from = inner tree end;
-  filter = [];
-  group = None;
-  project = col 1 1 ∷ [];
-  distinct = false;
-  collations = [];
-  order = (col 1 1, ascending Binary) ∷ [];
-  limit = lit (Int (negsuc 0));
-  offset = lit (Int (pos 0));
-}
-
-abbrev keys_whole : ℕ → Program
-keys_whole tree = record { lets = []; body = keys_query tree }
-
-abbrev keys_draft : ℕ → Draft
-keys_draft tree = record { from = chain (Inner tree ∷ []); filter = []; group = None; project = col 1 1 ∷ []; distinct = false; collations = []; order = (col 1 1, ascending Binary) ∷ []; limit = lit (Int (negsuc 0)); offset = lit (Int (pos 0)) }
+keys_query = query_on key_places 1 []
 
 abbrev pub keys_text : List ℕ
 keys_text = codes "SELECT base FROM object ORDER BY base"
 
-keys_typed : (s : Schema) (at tree : ℕ) → IsKnown s (codes "object") at (record object { tree = tree }) → program s [] (keys_draft tree) ≡ Ok (keys_whole tree)
+pub keys_read : IsSelect keys_text
 unfolding everything
-keys_typed s at tree known = rw (known.low, known.by_tree)
+keys_read = (_, _, _, _, _, refl)
 
-pub keys_is : Compiles object.name object.columns object.primary keys_text 0 (λ at tree. Select (keys_whole tree) (codes "base" ∷ []))
-unfolding everything
-keys_is s at tree known =
-    let there = known.named.1 in (
-      _,
-      ordered_by_one keys_text refl refl refl s (codes "object") at (record object { tree = tree }) (shown_column (codes "base") 1 ∷ []) [] (codes "base") 0 (col 1 1) (Some Binary) (Some Binary) (lit (Int (negsuc 0)), lit (Int (pos 0)))
-          (plain_state 100000 None) (plain_state 99999 (Some Binary)) 99999 (keys_whole tree)
-          known.named refl refl refl refl refl refl refl refl refl refl (bounds_are s (from_in keys_text) refl (codes "object") at refl refl refl known.named.0) (outputs_one (result_context s (codes "object") at) (record { name = codes "object"; table = at; slot = 1; shared = [] } ∷ []) (shown_in keys_text) refl refl at (codes "base") (record { names = refl; found = rw there; term = rw there; heading = rw there }) None max_budget (refl, tt)) refl
-          (refl, refl, refl, refl) refl refl (rw there) (rw there) refl (keys_typed s at tree known),
-      refl,
-      refl,
-      refl,
-      refl,
-      refl,
-    )
+pub keys_is : Compiles object.name object.columns object.primary keys_text 0 (λ at tree. Select (whole keys_query tree) (names_on key_places))
+unfolding everything keys_read
+keys_is =
+    selects object.name object.columns object.primary keys_text key_places 1 key_places_are keys_read (refl, refl, refl, refl, refl, refl, refl, refl, refl, refl, refl, refl, refl, λ s. refl) ((_, _, refl, refl), tt) (((refl, refl, refl, refl), refl, refl), tt) [] (Some Binary) 99999 (refl, tt) (refl, tt)
+    (λ s at tree known. refl) (λ s at tree known. rw (known.low, known.by_tree)) refl refl
 
 abbrev has_key : Row → Bool
 has_key row = is_text (column row 1)
@@ -329,10 +258,6 @@ last_is objects base all rest None read is some = none_of objects base all.items
 
 pub keys_scan : (tree : ℕ) → IsScan (keys_query tree) tree
 keys_scan tree = record { from = refl; group = refl; distinct = refl; whole = λ params rows. refl }
-
-pub keys_read : IsSelect keys_text
-unfolding everything
-keys_read = (_, _, _, _, _, refl)
 
 pub fails_keys : (old new : State) → HasSettledTables old → (e : Error) → FailsToQuery keys_text [] old new e → FailsWith old new ⊥ (IsSome old.step_limit) (failure_of e)
 unfolding everything

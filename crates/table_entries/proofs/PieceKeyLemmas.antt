@@ -1,31 +1,20 @@
 -- What the text means that reads which pieces there are, without their bytes.
-use Rattle.std.proofs.Common.{◌≡◌, ℕ, pos, negsuc, List, [], ◌∷◌, codes, true, false, ◌&&◌, Bool, Some, None, Ok, Err, Result, IfOk, IsTrue, Vec, Global, map, length, refl, sym, ap, ◌∙◌}
+use Rattle.std.proofs.Common.{◌≡◌, ℕ, List, [], ◌∷◌, codes, true, ◌&&◌, Bool, Some, Ok, Err, Result, IfOk, IsTrue, Vec, Global, map, length, refl, sym, ap, ◌∙◌}
 use Rattle.std.specs.Prelude.{IsSome}
 use Rattle.std.specs.Ordering.{is_lt}
-use Rattle.std.specs.List.{AllAdjacentBelow}
+use Rattle.std.specs.List.{AllByRecursion, AllAdjacentBelow}
 use Rattle.std.specs.FinMap as finite
-use Rattle.sqlite_value.specs.declared.value.Value.TheVariants.{Int}
 use Rattle.sqlite_value.specs.declared.keys.Collation.TheVariants.{Binary}
-use Rattle.sqlite_value.specs.Keys.{ascending}
 use Rattle.sqlite_value.specs.Order.{Row, column, bytes}
 use Rattle.sqlite_trees.specs.View.{is_int}
-use Rattle.sqlite_sql.specs.Term.{lit, col}
-use Rattle.sqlite_sql.specs.Query.{Query, inner, end}
-use Rattle.sqlite_schema.specs.declared.schema.Schema.{Schema}
-use Rattle.sqlite_schema.specs.declared.program.Program.{Program}
+use Rattle.sqlite_sql.specs.Query.{Query}
 use Rattle.sqlite_schema.specs.declared.command.Command.TheVariants.{Select}
-use Rattle.sqlite_draft.specs.declared.query.Draft.{Draft}
-use Rattle.sqlite_draft.specs.declared.join.Step.TheVariants.{Inner}
-use Rattle.sqlite_draft.specs.Join.{chain}
-use Rattle.sqlite_resolve.specs.declared.scope.Output.{Output as Out}
-use Rattle.sqlite_resolve.specs.Lowering.{max_budget}
-use Rattle.sqlite_resolve.specs.Program.{program}
 use Rattle.sqlite_rules.specs.Edit.{id_in}
 use Rattle.sqlite_tied.specs.Compute.{everything}
 use Rattle.sqlite.specs.declared.error.Error.{Error}
 use Rattle.sqlite.specs.State.{State, FailsToQuery, IsUnchanged}
 use Rattle.table_forms.specs.Forms.{piece}
-use Rattle.table_forms.specs.Standing.{Stands, IsKnown}
+use Rattle.table_forms.specs.Standing.{Stands}
 use Rattle.table_statements.specs.Contents.{Bytes, Numbered, numbered_cmp, map_of, rows_named, contents_of, is_text, is_piece, piece_of}
 use Rattle.table_statements.specs.Queries.{IsSelect, HasBegunWith}
 use Rattle.table_statements.specs.Calls.{IsReady, IsOurs, HasFurther}
@@ -35,7 +24,6 @@ use Rattle.table_statements.specs.declared.failure.Failure.{Failure}
 use Rattle.table_entries.specs.Entries.{numbered_in, ShowsPieceKey, IsPieceKeyRow}
 use Rattle.table_entries.specs.declared.pieces.PieceKey.{PieceKey}
 use Rattle.table_statements.proofs.Entries.{map-map}
-use Rattle.table_statements.proofs.Means.{ordered_by_two, plain_state, shown_column}
 use Rattle.table_statements.proofs.Orders.{numbered_total, numbered_antisymmetric}
 use Rattle.table_statements.proofs.ReadFailures.{standing_read_fails}
 use Rattle.table_statements.proofs.Rising.{shown_well}
@@ -43,62 +31,36 @@ use Rattle.table_statements.proofs.Scans.{IsScan, shows}
 use Rattle.table_statements.proofs.Statements.{Compiles, Selects, reads_part, whole_map}
 use Rattle.table_statements.proofs.Truths.{and_so}
 use Rattle.table_entries.proofs.Alike.{map_made}
-use Rattle.table_entries.proofs.Columns.{bounds_are, outputs_two, result_context, from_in, shown_in}
+use Rattle.table_entries.proofs.Ordered.{Place, IsColumn, query_on, names_on, whole, selects}
 use Rattle.table_entries.proofs.FurtherTables.{piece_kept, pieces_held}
 use Rattle.table_entries.proofs.KeyOrders.{by_numbered}
 use Rattle.table_entries.proofs.Legible.{piece_key_row}
 
+abbrev pub places : List Place
+places = (codes "base", 0) ∷ (codes "num", 1) ∷ []
+
+pub places_are : AllByRecursion (IsColumn piece.name piece.columns piece.primary) places
+unfolding everything
+places_are = ((refl, (_, refl, refl, refl)), ((refl, (_, refl, refl, refl)), tt))
+
 abbrev pub keys_query : ℕ → Query
-keys_query tree = record {
-  from = inner tree end;
-  filter = [];
-  group = None;
-  project = col 1 1 ∷ col 1 2 ∷ [];
-  distinct = false;
-  collations = [];
-  order = (col 1 1, ascending Binary) ∷ (col 1 2, ascending Binary) ∷ [];
-  limit = lit (Int (negsuc 0));
-  offset = lit (Int (pos 0));
-}
-
-abbrev whole : ℕ → Program
-whole tree = record { lets = []; body = keys_query tree }
-
-abbrev draft : ℕ → Draft
-draft tree = record { from = chain (Inner tree ∷ []); filter = []; group = None; project = col 1 1 ∷ col 1 2 ∷ []; distinct = false; collations = []; order = (col 1 1, ascending Binary) ∷ (col 1 2, ascending Binary) ∷ []; limit = lit (Int (negsuc 0)); offset = lit (Int (pos 0)) }
-
-abbrev outputs : List Out
-outputs = shown_column (codes "base") 1 ∷ shown_column (codes "num") 2 ∷ []
+keys_query = query_on places 2 []
 
 abbrev pub names : List (List ℕ)
-names = codes "base" ∷ codes "num" ∷ []
+names = names_on places
 
 abbrev pub keys_text : List ℕ
 keys_text = codes "SELECT base, num FROM piece ORDER BY base, num"
 
-keys_typed : (s : Schema) (at tree : ℕ) → IsKnown s (codes "piece") at (record piece { tree = tree }) → program s [] (draft tree) ≡ Ok (whole tree)
-unfolding everything
-keys_typed s at tree known = rw (known.low, known.by_tree)
-
-pub keys_is : Compiles piece.name piece.columns piece.primary keys_text 0 (λ at tree. Select (whole tree) names)
-unfolding everything
-keys_is s at tree known =
-    let there = known.named.1 in (
-      _,
-      ordered_by_two keys_text refl refl refl s (codes "piece") at (record piece { tree = tree }) outputs [] (codes "base") (codes "num") 0 1 (col 1 1) (col 1 2) (Some Binary) (Some Binary) (Some Binary) (lit (Int (negsuc 0)), lit (Int (pos 0)))
-          (plain_state 100000 None) (plain_state 99998 (Some Binary)) 99998 (whole tree)
-          known.named refl refl refl refl refl refl refl refl refl refl (bounds_are s (from_in keys_text) refl (codes "piece") at refl refl refl known.named.0) (outputs_two (result_context s (codes "piece") at) (record { name = codes "piece"; table = at; slot = 1; shared = [] } ∷ []) (shown_in keys_text) refl refl refl at (codes "base") (codes "num") (record { names = refl; found = rw there; term = rw there; heading = rw there }) (record { names = refl; found = rw there; term = rw there; heading = rw there }) None max_budget (refl, (refl, tt))) refl
-          (refl, refl, refl, refl) (refl, refl, refl, refl) refl refl refl refl (rw there) (rw there) (rw there) (rw there) refl refl (keys_typed s at tree known),
-      refl,
-      refl,
-      refl,
-      refl,
-      refl,
-    )
-
 pub keys_read : IsSelect keys_text
 unfolding everything
 keys_read = (_, _, _, _, _, refl)
+
+pub keys_is : Compiles piece.name piece.columns piece.primary keys_text 0 (λ at tree. Select (whole keys_query tree) names)
+unfolding everything keys_read
+keys_is =
+    selects piece.name piece.columns piece.primary keys_text places 2 places_are keys_read (refl, refl, refl, refl, refl, refl, refl, refl, refl, refl, refl, refl, refl, λ s. refl) ((_, _, refl, refl), ((_, _, refl, refl), tt)) (((refl, refl, refl, refl), refl, refl), (((refl, refl, refl, refl), refl, refl), tt)) [] (Some Binary) 99998 (refl, (refl, tt)) (refl, (refl, tt))
+    (λ s at tree known. refl) (λ s at tree known. rw (known.low, known.by_tree)) refl refl
 
 pub scan : (tree : ℕ) → IsScan (keys_query tree) tree
 scan tree = record { from = refl; group = refl; distinct = refl; whole = λ params rows. refl }

@@ -1,5 +1,5 @@
 -- The same of the further tables, where they stand or not, and of all eleven.
-use Rattle.std.proofs.Common.{◌≡◌, ◌↔◌, ℕ, ℤ, zero, suc, ◌+◌, ◌<◌, List, [], true, ◌&&◌, None, Some, sym, ap, subst, ◌∙◌, arith}
+use Rattle.std.proofs.Common.{◌≡◌, ◌↔◌, ℕ, zero, suc, ◌+◌, ◌<◌, List, [], true, ◌&&◌, sym, ap, subst, ◌∙◌, arith}
 use Rattle.std.specs.Prelude.{⊤, IsUtf8}
 use Rattle.std.specs.FinMap as finite
 use Rattle.sqlite_value.specs.Order.{Row, column, bytes}

@@ -1,39 +1,29 @@
 -- The table of temporary roots, described once, and what the texts of its statements mean.
-use Rattle.std.proofs.Common.{◌≡◌, ℕ, ℤ, pos, negsuc, List, [], ◌∷◌, codes, true, false, ◌&&◌, Some, None, Ok, refl, subst}
+use Rattle.std.proofs.Common.{◌≡◌, ℕ, ℤ, List, [], ◌∷◌, codes, true, ◌&&◌, Some, None, refl, subst}
 use Rattle.std.specs.Ordering.{eq_by_cmp, int_cmp}
-use Rattle.std.specs.List.{list_all}
+use Rattle.std.specs.List.{AllByRecursion, list_all}
 use Rattle.std.specs.FinMap as finite
-use Rattle.sqlite_value.specs.declared.value.Value.TheVariants.{Null, Int, Text}
+use Rattle.sqlite_value.specs.declared.value.Value.TheVariants.{Int, Text}
 use Rattle.sqlite_value.specs.declared.keys.Collation.TheVariants.{Binary}
-use Rattle.sqlite_value.specs.Keys.{ascending}
 use Rattle.sqlite_value.specs.Order.{Row, column, bytes}
 use Rattle.sqlite_trees.specs.View.{is_int}
-use Rattle.sqlite_sql.specs.Term.{Term, lit, col, holds}
-use Rattle.sqlite_sql.specs.Query.{Query, inner, end}
-use Rattle.sqlite_schema.specs.declared.schema.Schema.{Schema}
-use Rattle.sqlite_schema.specs.declared.program.Program.{Program}
-use Rattle.sqlite_schema.specs.declared.command.Source.TheVariants.{Values}
-use Rattle.sqlite_schema.specs.declared.command.Command.TheVariants.{Insert, Delete, Select}
-use Rattle.sqlite_draft.specs.declared.query.Draft.{Draft}
-use Rattle.sqlite_draft.specs.declared.join.Step.TheVariants.{Inner}
-use Rattle.sqlite_draft.specs.Join.{chain}
-use Rattle.sqlite_resolve.specs.declared.scope.Output.{Output as Out}
+use Rattle.sqlite_sql.specs.Term.{Term, col, holds}
+use Rattle.sqlite_schema.specs.declared.command.Command.TheVariants.{Delete, Select}
 use Rattle.sqlite_resolve.specs.Lowering.{max_budget}
-use Rattle.sqlite_resolve.specs.Program.{program}
 use Rattle.sqlite_resolve.specs.Write.{over}
 use Rattle.sqlite_rules.specs.Edit.{next_rowid, id_in}
 use Rattle.sqlite_tied.specs.Compute.{everything}
 use Rattle.table_forms.specs.Forms.{temp_root}
-use Rattle.table_forms.specs.Standing.{IsNamed, IsKnown, Stands}
+use Rattle.table_forms.specs.Standing.{Stands}
 use Rattle.table_statements.specs.Contents.{Kept, texts_cmp, kept_cmp, is_text, is_kept, kept_of, rows_named}
 use Rattle.table_statements.specs.Calls.{HasFurther}
 use Rattle.table_statements.specs.Queries.{IsSelect}
 use Rattle.table_entries.specs.Entries.{temp_root_of, ShowsTempRoot, IsTempRootRow}
 use Rattle.table_statements.proofs.Orders.{kept_total, kept_antisymmetric}
 use Rattle.table_statements.proofs.Truths.{cast_null, cast_int, and_so, text_test, int_test, both_tests, all_tests}
-use Rattle.table_statements.proofs.Means.{IsMeant, insert_means, delete_means, ordered_by_three, plain_state, shown_column}
+use Rattle.table_statements.proofs.Means.{insert_means, delete_means, plain_state}
 use Rattle.table_entries.proofs.Conditions.{where_two, where_three, equals, select_context, filter_in}
-use Rattle.table_entries.proofs.Columns.{bounds_are, outputs_three, result_context, from_in, shown_in}
+use Rattle.table_entries.proofs.Ordered.{Place, IsColumn, outputs_of, query_on, names_on, whole, selects}
 use Rattle.table_statements.proofs.Writes.{rowids_where}
 use Rattle.table_entries.proofs.FurtherTables.{temp_root_kept, temp_roots_held, temp_roots_set}
 use Rattle.table_statements.proofs.Statements.{Compiles}
@@ -41,7 +31,7 @@ use Rattle.table_entries.proofs.KeyOrders.{by_kept}
 use Rattle.table_entries.proofs.Legible.{temp_root_row}
 use Rattle.table_entries.proofs.FreeKeys.{free_kept}
 use Rattle.table_entries.proofs.Places.{further_kept}
-use Rattle.table_entries.proofs.Description.{Description, Addition, Removal, Reading, Selection}
+use Rattle.table_entries.proofs.Description.{Description, Inserts, Addition, Removal, Reading, Selection}
 
 -- ---- the table
 
@@ -74,19 +64,12 @@ table = record {
 abbrev pub insert_text : List ℕ
 insert_text = codes "INSERT INTO temp_root (owner, session, target) VALUES (?1, ?2, ?3)"
 
-abbrev pub terms : List Term
-terms = lit Null ∷ col 0 0 ∷ col 0 1 ∷ col 0 2 ∷ []
-
-pub insert_is : (s : Schema) (at tree : ℕ) → IsNamed s (codes "temp_root") at (record temp_root { tree = tree }) → IsMeant s insert_text 3 (Insert at (Values terms 4))
+pub insert_is : Inserts table insert_text 3
 unfolding everything
 insert_is s at tree found = (_, insert_means insert_text refl s at (codes "temp_root") temp_root.columns temp_root.primary tree _ found refl, refl, refl, refl, refl, refl)
 
 pub addition : (owner : List ℕ) (session : ℤ) (target : List ℕ) → Addition table insert_text (Text owner ∷ Int session ∷ Text target ∷ []) (Text owner ∷ Int session ∷ Text target ∷ []) (owner, session, target) tt
 addition owner session target = record {
-  count = 3;
-  terms = terms;
-  width = 4;
-  given = refl;
   is = insert_is;
   accepts = refl;
   made = λ rows. rw (cast_null, cast_int session) refl;
@@ -118,9 +101,7 @@ delete_of_is s at tree known =
 
 pub removal : (owner : List ℕ) (session : ℤ) → Removal table delete_of_text (Text owner ∷ Int session ∷ []) (λ k. eq_by_cmp texts_cmp k.0 owner && eq_by_cmp int_cmp k.1 session)
 removal owner session = record {
-  count = 2;
   filter = of_two;
-  given = refl;
   is = delete_of_is;
   said = said_two owner session;
   accepts = λ s at tree known. rw (known.low, known.by_tree) refl;
@@ -146,9 +127,7 @@ delete_is s at tree known =
 
 pub removal_one : (owner : List ℕ) (session : ℤ) (target : List ℕ) → Removal table delete_text (Text owner ∷ Int session ∷ Text target ∷ []) (λ k. eq_by_cmp texts_cmp k.0 owner && (eq_by_cmp int_cmp k.1 session && eq_by_cmp texts_cmp k.2 target))
 removal_one owner session target = record {
-  count = 3;
   filter = of_three;
-  given = refl;
   is = delete_is;
   said = said_three owner session target;
   accepts = λ s at tree known. rw (known.low, known.by_tree) refl;
@@ -156,37 +135,17 @@ removal_one owner session target = record {
 
 -- ---- reading them
 
-abbrev pub query : List Term → ℕ → Query
-query filter tree = record {
-  from = inner tree end;
-  filter = filter;
-  group = None;
-  project = col 1 1 ∷ col 1 2 ∷ col 1 3 ∷ [];
-  distinct = false;
-  collations = [];
-  order = (col 1 1, ascending Binary) ∷ (col 1 2, ascending Binary) ∷ (col 1 3, ascending Binary) ∷ [];
-  limit = lit (Int (negsuc 0));
-  offset = lit (Int (pos 0));
-}
+abbrev pub places : List Place
+places = (codes "owner", 0) ∷ (codes "session", 1) ∷ (codes "target", 2) ∷ []
 
-abbrev whole : List Term → ℕ → Program
-whole filter tree = record { lets = []; body = query filter tree }
-
-abbrev draft : List Term → ℕ → Draft
-draft filter tree = record { from = chain (Inner tree ∷ []); filter = filter; group = None; project = col 1 1 ∷ col 1 2 ∷ col 1 3 ∷ []; distinct = false; collations = []; order = (col 1 1, ascending Binary) ∷ (col 1 2, ascending Binary) ∷ (col 1 3, ascending Binary) ∷ []; limit = lit (Int (negsuc 0)); offset = lit (Int (pos 0)) }
-
-abbrev outputs : List Out
-outputs = shown_column (codes "owner") 1 ∷ shown_column (codes "session") 2 ∷ shown_column (codes "target") 3 ∷ []
-
-abbrev pub names : List (List ℕ)
-names = codes "owner" ∷ codes "session" ∷ codes "target" ∷ []
+pub places_are : AllByRecursion (IsColumn temp_root.name temp_root.columns temp_root.primary) places
+unfolding everything
+places_are = ((refl, (_, refl, refl, refl)), ((refl, (_, refl, refl, refl)), ((refl, (_, refl, refl, refl)), tt)))
 
 abbrev pub reading : Reading table ShowsTempRoot temp_root_of IsTempRootRow
 reading = record {
-  names = names;
-  query = query;
-  filters = λ filter tree. refl;
-  scan = λ filter tree. record { from = refl; group = refl; distinct = refl; whole = λ params rows. refl };
+  shown = places;
+  by = 3;
   fits = λ params filter tree r t h. (λ i. is_text (h.0 i) && is_int (h.1 i) && is_text (h.2 i), λ i. ((bytes (h.0 i), id_in (h.1 i), bytes (h.2 i)), tt));
   legible = λ params filter tree. temp_root_row;
   orders = λ params filter tree. by_kept;
@@ -195,29 +154,15 @@ reading = record {
 abbrev pub all_text : List ℕ
 all_text = codes "SELECT owner, session, target FROM temp_root ORDER BY owner, session, target"
 
-all_typed : (s : Schema) (at tree : ℕ) → IsKnown s (codes "temp_root") at (record temp_root { tree = tree }) → program s [] (draft [] tree) ≡ Ok (whole [] tree)
-unfolding everything
-all_typed s at tree known = rw (known.low, known.by_tree)
-
-pub all_is : Compiles temp_root.name temp_root.columns temp_root.primary all_text 0 (λ at tree. Select (whole [] tree) names)
-unfolding everything
-all_is s at tree known =
-    let there = known.named.1 in (
-      _,
-      ordered_by_three all_text refl refl refl s (codes "temp_root") at (record temp_root { tree = tree }) outputs [] (codes "owner") (codes "session") (codes "target") 0 1 2 (col 1 1) (col 1 2) (col 1 3) (Some Binary) (Some Binary) (Some Binary) (Some Binary) (lit (Int (negsuc 0)), lit (Int (pos 0)))
-          (plain_state 100000 None) (plain_state 99997 (Some Binary)) 99997 (whole [] tree)
-          known.named refl refl refl refl refl refl refl refl refl refl (bounds_are s (from_in all_text) refl (codes "temp_root") at refl refl refl known.named.0) (outputs_three (result_context s (codes "temp_root") at) (record { name = codes "temp_root"; table = at; slot = 1; shared = [] } ∷ []) (shown_in all_text) refl refl refl refl at (codes "owner") (codes "session") (codes "target") (record { names = refl; found = rw there; term = rw there; heading = rw there }) (record { names = refl; found = rw there; term = rw there; heading = rw there }) (record { names = refl; found = rw there; term = rw there; heading = rw there }) None max_budget (refl, (refl, (refl, tt)))) refl
-          (refl, refl, refl, refl) (refl, refl, refl, refl) (refl, refl, refl, refl) refl refl refl refl refl refl (rw there) (rw there) (rw there) (rw there) (rw there) (rw there) refl refl refl (all_typed s at tree known),
-      refl,
-      refl,
-      refl,
-      refl,
-      refl,
-    )
-
 pub all_read : IsSelect all_text
 unfolding everything
 all_read = (_, _, _, _, _, refl)
+
+pub all_is : Compiles temp_root.name temp_root.columns temp_root.primary all_text 0 (λ at tree. Select (whole (query_on places 3 []) tree) (names_on places))
+unfolding everything all_read
+all_is =
+    selects temp_root.name temp_root.columns temp_root.primary all_text places 3 places_are all_read (refl, refl, refl, refl, refl, refl, refl, refl, refl, refl, refl, refl, refl, λ s. refl) ((_, _, refl, refl), ((_, _, refl, refl), ((_, _, refl, refl), tt))) (((refl, refl, refl, refl), refl, refl), (((refl, refl, refl, refl), refl, refl), (((refl, refl, refl, refl), refl, refl), tt))) [] (Some Binary) 99997 (refl, (refl, (refl, tt))) (refl, (refl, (refl, tt)))
+    (λ s at tree known. refl) (λ s at tree known. rw (known.low, known.by_tree)) refl refl
 
 pub all : Selection table reading all_text [] (λ _. true)
 all = record { filter = []; is = all_is; said = λ r kind. refl; reads = all_read; accepts = λ s at tree known. rw (known.low, known.by_tree) refl }
@@ -225,29 +170,15 @@ all = record { filter = []; is = all_is; said = λ r kind. refl; reads = all_rea
 abbrev pub of_text : List ℕ
 of_text = codes "SELECT owner, session, target FROM temp_root WHERE owner = ?1 AND session = ?2 ORDER BY owner, session, target"
 
-of_typed : (s : Schema) (at tree : ℕ) → IsKnown s (codes "temp_root") at (record temp_root { tree = tree }) → program s [] (draft of_two tree) ≡ Ok (whole of_two tree)
-unfolding everything
-of_typed s at tree known = rw (known.low, known.by_tree)
-
-pub of_is : Compiles temp_root.name temp_root.columns temp_root.primary of_text 2 (λ at tree. Select (whole of_two tree) names)
-unfolding everything
-of_is s at tree known =
-    let there = known.named.1 in (
-      _,
-      ordered_by_three of_text refl refl refl s (codes "temp_root") at (record temp_root { tree = tree }) outputs of_two (codes "owner") (codes "session") (codes "target") 0 1 2 (col 1 1) (col 1 2) (col 1 3) None (Some Binary) (Some Binary) (Some Binary) (lit (Int (negsuc 0)), lit (Int (pos 0)))
-          (plain_state 100000 None) (plain_state 99997 (Some Binary)) 99990 (whole of_two tree)
-          known.named refl refl refl refl refl refl refl refl refl refl (bounds_are s (from_in of_text) refl (codes "temp_root") at refl refl refl known.named.0) (outputs_three (result_context s (codes "temp_root") at) (record { name = codes "temp_root"; table = at; slot = 1; shared = [] } ∷ []) (shown_in of_text) refl refl refl refl at (codes "owner") (codes "session") (codes "target") (record { names = refl; found = rw there; term = rw there; heading = rw there }) (record { names = refl; found = rw there; term = rw there; heading = rw there }) (record { names = refl; found = rw there; term = rw there; heading = rw there }) None max_budget (refl, (refl, (refl, tt)))) (where_two (select_context s (codes "temp_root") at outputs) (filter_in of_text) refl refl refl refl (codes "owner") (codes "session") at 0 1 (col 1 1) (col 1 2) (equals (col 1 1) (col 0 0)) (equals (col 1 2) (col 0 1)) (Some Binary) 99997 (record { left_is = refl; right_is = refl; found = rw there; column = rw there; compare = rw there }) (record { left_is = refl; right_is = refl; found = rw there; column = rw there; compare = rw there }) (refl, (refl, (refl, (refl, (refl, (refl, (refl, tt))))))))
-          (refl, refl, refl, refl) (refl, refl, refl, refl) (refl, refl, refl, refl) refl refl refl refl refl refl (rw there) (rw there) (rw there) (rw there) (rw there) (rw there) refl refl refl (of_typed s at tree known),
-      refl,
-      refl,
-      refl,
-      refl,
-      refl,
-    )
-
 pub of_read : IsSelect of_text
 unfolding everything
 of_read = (_, _, _, _, _, refl)
+
+pub of_is : Compiles temp_root.name temp_root.columns temp_root.primary of_text 2 (λ at tree. Select (whole (query_on places 3 of_two) tree) (names_on places))
+unfolding everything of_read
+of_is =
+    selects temp_root.name temp_root.columns temp_root.primary of_text places 3 places_are of_read (refl, refl, refl, refl, refl, refl, refl, refl, refl, refl, refl, refl, refl, λ s. refl) ((_, _, refl, refl), ((_, _, refl, refl), ((_, _, refl, refl), tt))) (((refl, refl, refl, refl), refl, refl), (((refl, refl, refl, refl), refl, refl), (((refl, refl, refl, refl), refl, refl), tt))) of_two None 99990 (refl, (refl, (refl, tt))) (refl, (refl, (refl, tt)))
+    (λ s at tree known. let there = known.named.1 in where_two (select_context s temp_root.name at (outputs_of places)) (filter_in of_text) refl refl refl refl (codes "owner") (codes "session") at 0 1 (col 1 1) (col 1 2) (equals (col 1 1) (col 0 0)) (equals (col 1 2) (col 0 1)) (Some Binary) 99997 (record { left_is = refl; right_is = refl; found = rw there; column = rw there; compare = rw there }) (record { left_is = refl; right_is = refl; found = rw there; column = rw there; compare = rw there }) (refl, (refl, (refl, (refl, (refl, (refl, (refl, tt)))))))) (λ s at tree known. rw (known.low, known.by_tree)) refl refl
 
 pub of : (owner : List ℕ) (session : ℤ) → Selection table reading of_text (Text owner ∷ Int session ∷ []) (λ k. eq_by_cmp texts_cmp k.0 owner && eq_by_cmp int_cmp k.1 session)
 of owner session = record { filter = of_two; is = of_is; said = said_two owner session; reads = of_read; accepts = λ s at tree known. rw (known.low, known.by_tree) refl }

@@ -1,36 +1,26 @@
 -- The table of roots of users, described once, and what the texts of its statements mean.
-use Rattle.std.proofs.Common.{◌≡◌, ℕ, pos, negsuc, List, [], ◌∷◌, codes, true, false, ◌&&◌, Some, None, Ok, refl, ◌∙◌}
+use Rattle.std.proofs.Common.{◌≡◌, ℕ, List, [], ◌∷◌, codes, true, ◌&&◌, Some, None, refl, ◌∙◌}
 use Rattle.std.specs.Ordering.{eq_by_cmp}
-use Rattle.std.specs.List.{list_all}
-use Rattle.sqlite_value.specs.declared.value.Value.TheVariants.{Null, Int, Text}
+use Rattle.std.specs.List.{AllByRecursion, list_all}
+use Rattle.sqlite_value.specs.declared.value.Value.TheVariants.{Int, Text}
 use Rattle.sqlite_value.specs.declared.keys.Collation.TheVariants.{Binary}
-use Rattle.sqlite_value.specs.Keys.{ascending}
 use Rattle.sqlite_value.specs.Order.{Row, column, bytes}
-use Rattle.sqlite_sql.specs.Term.{Term, lit, col, holds}
-use Rattle.sqlite_sql.specs.Query.{Query, inner, end}
-use Rattle.sqlite_schema.specs.declared.schema.Schema.{Schema}
-use Rattle.sqlite_schema.specs.declared.program.Program.{Program}
-use Rattle.sqlite_schema.specs.declared.command.Source.TheVariants.{Values}
-use Rattle.sqlite_schema.specs.declared.command.Command.TheVariants.{Insert, Delete, Select}
-use Rattle.sqlite_draft.specs.declared.query.Draft.{Draft}
-use Rattle.sqlite_draft.specs.declared.join.Step.TheVariants.{Inner}
-use Rattle.sqlite_draft.specs.Join.{chain}
-use Rattle.sqlite_resolve.specs.declared.scope.Output.{Output as Out}
+use Rattle.sqlite_sql.specs.Term.{Term, col, holds}
+use Rattle.sqlite_schema.specs.declared.command.Command.TheVariants.{Delete, Select}
 use Rattle.sqlite_resolve.specs.Lowering.{max_budget}
-use Rattle.sqlite_resolve.specs.Program.{program}
 use Rattle.sqlite_resolve.specs.Write.{over}
 use Rattle.sqlite_rules.specs.Edit.{next_rowid}
 use Rattle.sqlite_tied.specs.Compute.{everything}
 use Rattle.table_forms.specs.Forms.{user_root}
-use Rattle.table_forms.specs.Standing.{IsNamed, IsKnown, HasTables}
+use Rattle.table_forms.specs.Standing.{HasTables}
 use Rattle.table_statements.specs.Contents.{texts_cmp, pair_cmp, is_text, is_triple, target_of, Bytes, Pair, rows_named}
 use Rattle.table_statements.specs.Queries.{IsSelect}
 use Rattle.table_entries.specs.Entries.{user_root_of, ShowsUserRoot, IsTripleRow}
 use Rattle.table_statements.proofs.Orders.{pair_total, pair_antisymmetric}
 use Rattle.table_statements.proofs.Truths.{cast_null, and_so, and_one, text_test, both_tests}
-use Rattle.table_statements.proofs.Means.{IsMeant, insert_means, delete_means, ordered_by_two, plain_state, shown_column}
+use Rattle.table_statements.proofs.Means.{insert_means, delete_means, plain_state}
 use Rattle.table_entries.proofs.Conditions.{where_one, where_two, equals, select_context, filter_in}
-use Rattle.table_entries.proofs.Columns.{bounds_are, outputs_three, result_context, from_in, shown_in}
+use Rattle.table_entries.proofs.Ordered.{Place, IsColumn, outputs_of, query_on, names_on, whole, selects}
 use Rattle.table_statements.proofs.Writes.{rowids_where}
 use Rattle.table_entries.proofs.ContentsLemmas.{user_root_set}
 use Rattle.table_statements.proofs.Statements.{Compiles}
@@ -38,7 +28,7 @@ use Rattle.table_entries.proofs.KeyOrders.{by_pair}
 use Rattle.table_entries.proofs.Legible.{triple_row}
 use Rattle.table_entries.proofs.FreeKeys.{free_two}
 use Rattle.table_entries.proofs.Kept.{user_root_kept}
-use Rattle.table_entries.proofs.Description.{Description, Addition, Removal, Reading, Selection}
+use Rattle.table_entries.proofs.Description.{Description, Inserts, Addition, Removal, Reading, Selection}
 
 -- ---- the table
 
@@ -71,19 +61,12 @@ table = record {
 abbrev pub insert_text : List ℕ
 insert_text = codes "INSERT INTO user_root (owner, name, target) VALUES (?1, ?2, ?3)"
 
-abbrev pub terms : List Term
-terms = lit Null ∷ col 0 0 ∷ col 0 1 ∷ col 0 2 ∷ []
-
-pub insert_is : (s : Schema) (at tree : ℕ) → IsNamed s (codes "user_root") at (record user_root { tree = tree }) → IsMeant s insert_text 3 (Insert at (Values terms 4))
+pub insert_is : Inserts table insert_text 3
 unfolding everything
 insert_is s at tree found = (_, insert_means insert_text refl s at (codes "user_root") user_root.columns user_root.primary tree _ found refl, refl, refl, refl, refl, refl)
 
 pub addition : (owner : List ℕ) (name : List ℕ) (target : List ℕ) → Addition table insert_text (Text owner ∷ Text name ∷ Text target ∷ []) (Text owner ∷ Text name ∷ Text target ∷ []) (owner, name) target
 addition owner name target = record {
-  count = 3;
-  terms = terms;
-  width = 4;
-  given = refl;
   is = insert_is;
   accepts = refl;
   made = λ rows. rw cast_null refl;
@@ -123,9 +106,7 @@ delete_is s at tree known =
 
 pub removal : (owner : List ℕ) (name : List ℕ) → Removal table delete_text (Text owner ∷ Text name ∷ []) (λ k. eq_by_cmp texts_cmp k.0 owner && eq_by_cmp texts_cmp k.1 name)
 removal owner name = record {
-  count = 2;
   filter = of_two;
-  given = refl;
   is = delete_is;
   said = said_two owner name;
   accepts = λ s at tree known. rw (known.low, known.by_tree) refl;
@@ -133,37 +114,17 @@ removal owner name = record {
 
 -- ---- reading them
 
-abbrev pub query : List Term → ℕ → Query
-query filter tree = record {
-  from = inner tree end;
-  filter = filter;
-  group = None;
-  project = col 1 1 ∷ col 1 2 ∷ col 1 3 ∷ [];
-  distinct = false;
-  collations = [];
-  order = (col 1 1, ascending Binary) ∷ (col 1 2, ascending Binary) ∷ [];
-  limit = lit (Int (negsuc 0));
-  offset = lit (Int (pos 0));
-}
+abbrev pub places : List Place
+places = (codes "owner", 0) ∷ (codes "name", 1) ∷ (codes "target", 2) ∷ []
 
-abbrev whole : List Term → ℕ → Program
-whole filter tree = record { lets = []; body = query filter tree }
-
-abbrev draft : List Term → ℕ → Draft
-draft filter tree = record { from = chain (Inner tree ∷ []); filter = filter; group = None; project = col 1 1 ∷ col 1 2 ∷ col 1 3 ∷ []; distinct = false; collations = []; order = (col 1 1, ascending Binary) ∷ (col 1 2, ascending Binary) ∷ []; limit = lit (Int (negsuc 0)); offset = lit (Int (pos 0)) }
-
-abbrev outputs : List Out
-outputs = shown_column (codes "owner") 1 ∷ shown_column (codes "name") 2 ∷ shown_column (codes "target") 3 ∷ []
-
-abbrev pub names : List (List ℕ)
-names = codes "owner" ∷ codes "name" ∷ codes "target" ∷ []
+pub places_are : AllByRecursion (IsColumn user_root.name user_root.columns user_root.primary) places
+unfolding everything
+places_are = ((refl, (_, refl, refl, refl)), ((refl, (_, refl, refl, refl)), ((refl, (_, refl, refl, refl)), tt)))
 
 abbrev pub reading : Reading table ShowsUserRoot user_root_of IsTripleRow
 reading = record {
-  names = names;
-  query = query;
-  filters = λ filter tree. refl;
-  scan = λ filter tree. record { from = refl; group = refl; distinct = refl; whole = λ params rows. refl };
+  shown = places;
+  by = 2;
   fits = λ params filter tree r t h. (λ i. is_text (h.0 i) && is_text (h.1 i) && is_text (h.2 i), λ i. ((bytes (h.0 i), bytes (h.1 i)), bytes (h.2 i)));
   legible = λ params filter tree. triple_row;
   orders = λ params filter tree a b h k. by_pair a b (and_so _ _ h).0 (and_so _ _ k).0;
@@ -172,29 +133,15 @@ reading = record {
 abbrev pub all_text : List ℕ
 all_text = codes "SELECT owner, name, target FROM user_root ORDER BY owner, name"
 
-all_typed : (s : Schema) (at tree : ℕ) → IsKnown s (codes "user_root") at (record user_root { tree = tree }) → program s [] (draft [] tree) ≡ Ok (whole [] tree)
-unfolding everything
-all_typed s at tree known = rw (known.low, known.by_tree)
-
-pub all_is : Compiles user_root.name user_root.columns user_root.primary all_text 0 (λ at tree. Select (whole [] tree) names)
-unfolding everything
-all_is s at tree known =
-    let there = known.named.1 in (
-      _,
-      ordered_by_two all_text refl refl refl s (codes "user_root") at (record user_root { tree = tree }) outputs [] (codes "owner") (codes "name") 0 1 (col 1 1) (col 1 2) (Some Binary) (Some Binary) (Some Binary) (lit (Int (negsuc 0)), lit (Int (pos 0)))
-          (plain_state 100000 None) (plain_state 99997 (Some Binary)) 99997 (whole [] tree)
-          known.named refl refl refl refl refl refl refl refl refl refl (bounds_are s (from_in all_text) refl (codes "user_root") at refl refl refl known.named.0) (outputs_three (result_context s (codes "user_root") at) (record { name = codes "user_root"; table = at; slot = 1; shared = [] } ∷ []) (shown_in all_text) refl refl refl refl at (codes "owner") (codes "name") (codes "target") (record { names = refl; found = rw there; term = rw there; heading = rw there }) (record { names = refl; found = rw there; term = rw there; heading = rw there }) (record { names = refl; found = rw there; term = rw there; heading = rw there }) None max_budget (refl, (refl, (refl, tt)))) refl
-          (refl, refl, refl, refl) (refl, refl, refl, refl) refl refl refl refl (rw there) (rw there) (rw there) (rw there) refl refl (all_typed s at tree known),
-      refl,
-      refl,
-      refl,
-      refl,
-      refl,
-    )
-
 pub all_read : IsSelect all_text
 unfolding everything
 all_read = (_, _, _, _, _, refl)
+
+pub all_is : Compiles user_root.name user_root.columns user_root.primary all_text 0 (λ at tree. Select (whole (query_on places 2 []) tree) (names_on places))
+unfolding everything all_read
+all_is =
+    selects user_root.name user_root.columns user_root.primary all_text places 2 places_are all_read (refl, refl, refl, refl, refl, refl, refl, refl, refl, refl, refl, refl, refl, λ s. refl) ((_, _, refl, refl), ((_, _, refl, refl), ((_, _, refl, refl), tt))) (((refl, refl, refl, refl), refl, refl), (((refl, refl, refl, refl), refl, refl), tt)) [] (Some Binary) 99997 (refl, (refl, (refl, tt))) (refl, (refl, tt))
+    (λ s at tree known. refl) (λ s at tree known. rw (known.low, known.by_tree)) refl refl
 
 pub all : Selection table reading all_text [] (λ _. true)
 all = record { filter = []; is = all_is; said = λ r kind. refl; reads = all_read; accepts = λ s at tree known. rw (known.low, known.by_tree) refl }
@@ -202,29 +149,15 @@ all = record { filter = []; is = all_is; said = λ r kind. refl; reads = all_rea
 abbrev pub of_text : List ℕ
 of_text = codes "SELECT owner, name, target FROM user_root WHERE owner = ?1 ORDER BY owner, name"
 
-of_typed : (s : Schema) (at tree : ℕ) → IsKnown s (codes "user_root") at (record user_root { tree = tree }) → program s [] (draft of_one tree) ≡ Ok (whole of_one tree)
-unfolding everything
-of_typed s at tree known = rw (known.low, known.by_tree)
-
-pub of_is : Compiles user_root.name user_root.columns user_root.primary of_text 1 (λ at tree. Select (whole of_one tree) names)
-unfolding everything
-of_is s at tree known =
-    let there = known.named.1 in (
-      _,
-      ordered_by_two of_text refl refl refl s (codes "user_root") at (record user_root { tree = tree }) outputs of_one (codes "owner") (codes "name") 0 1 (col 1 1) (col 1 2) None (Some Binary) (Some Binary) (lit (Int (negsuc 0)), lit (Int (pos 0)))
-          (plain_state 100000 None) (plain_state 99997 (Some Binary)) 99994 (whole of_one tree)
-          known.named refl refl refl refl refl refl refl refl refl refl (bounds_are s (from_in of_text) refl (codes "user_root") at refl refl refl known.named.0) (outputs_three (result_context s (codes "user_root") at) (record { name = codes "user_root"; table = at; slot = 1; shared = [] } ∷ []) (shown_in of_text) refl refl refl refl at (codes "owner") (codes "name") (codes "target") (record { names = refl; found = rw there; term = rw there; heading = rw there }) (record { names = refl; found = rw there; term = rw there; heading = rw there }) (record { names = refl; found = rw there; term = rw there; heading = rw there }) None max_budget (refl, (refl, (refl, tt)))) (where_one (select_context s (codes "user_root") at outputs) (filter_in of_text) refl refl (codes "owner") at 0 1 (col 1 1) (equals (col 1 1) (col 0 0)) (Some Binary) 99997 (record { left_is = refl; right_is = refl; found = rw there; column = rw there; compare = rw there }) refl refl refl)
-          (refl, refl, refl, refl) (refl, refl, refl, refl) refl refl refl refl (rw there) (rw there) (rw there) (rw there) refl refl (of_typed s at tree known),
-      refl,
-      refl,
-      refl,
-      refl,
-      refl,
-    )
-
 pub of_read : IsSelect of_text
 unfolding everything
 of_read = (_, _, _, _, _, refl)
+
+pub of_is : Compiles user_root.name user_root.columns user_root.primary of_text 1 (λ at tree. Select (whole (query_on places 2 of_one) tree) (names_on places))
+unfolding everything of_read
+of_is =
+    selects user_root.name user_root.columns user_root.primary of_text places 2 places_are of_read (refl, refl, refl, refl, refl, refl, refl, refl, refl, refl, refl, refl, refl, λ s. refl) ((_, _, refl, refl), ((_, _, refl, refl), ((_, _, refl, refl), tt))) (((refl, refl, refl, refl), refl, refl), (((refl, refl, refl, refl), refl, refl), tt)) of_one None 99994 (refl, (refl, (refl, tt))) (refl, (refl, tt))
+    (λ s at tree known. let there = known.named.1 in where_one (select_context s user_root.name at (outputs_of places)) (filter_in of_text) refl refl (codes "owner") at 0 1 (col 1 1) (equals (col 1 1) (col 0 0)) (Some Binary) 99997 (record { left_is = refl; right_is = refl; found = rw there; column = rw there; compare = rw there }) refl refl refl) (λ s at tree known. rw (known.low, known.by_tree)) refl refl
 
 pub of : (owner : List ℕ) → Selection table reading of_text (Text owner ∷ []) (λ k. eq_by_cmp texts_cmp k.0 owner)
 of owner = record { filter = of_one; is = of_is; said = said_one owner; reads = of_read; accepts = λ s at tree known. rw (known.low, known.by_tree) refl }
@@ -232,29 +165,15 @@ of owner = record { filter = of_one; is = of_is; said = said_one owner; reads = 
 abbrev pub at_text : List ℕ
 at_text = codes "SELECT owner, name, target FROM user_root WHERE owner = ?1 AND name = ?2 ORDER BY owner, name"
 
-at_typed : (s : Schema) (at tree : ℕ) → IsKnown s (codes "user_root") at (record user_root { tree = tree }) → program s [] (draft of_two tree) ≡ Ok (whole of_two tree)
-unfolding everything
-at_typed s at tree known = rw (known.low, known.by_tree)
-
-pub at_is : Compiles user_root.name user_root.columns user_root.primary at_text 2 (λ at tree. Select (whole of_two tree) names)
-unfolding everything
-at_is s at tree known =
-    let there = known.named.1 in (
-      _,
-      ordered_by_two at_text refl refl refl s (codes "user_root") at (record user_root { tree = tree }) outputs of_two (codes "owner") (codes "name") 0 1 (col 1 1) (col 1 2) None (Some Binary) (Some Binary) (lit (Int (negsuc 0)), lit (Int (pos 0)))
-          (plain_state 100000 None) (plain_state 99997 (Some Binary)) 99990 (whole of_two tree)
-          known.named refl refl refl refl refl refl refl refl refl refl (bounds_are s (from_in at_text) refl (codes "user_root") at refl refl refl known.named.0) (outputs_three (result_context s (codes "user_root") at) (record { name = codes "user_root"; table = at; slot = 1; shared = [] } ∷ []) (shown_in at_text) refl refl refl refl at (codes "owner") (codes "name") (codes "target") (record { names = refl; found = rw there; term = rw there; heading = rw there }) (record { names = refl; found = rw there; term = rw there; heading = rw there }) (record { names = refl; found = rw there; term = rw there; heading = rw there }) None max_budget (refl, (refl, (refl, tt)))) (where_two (select_context s (codes "user_root") at outputs) (filter_in at_text) refl refl refl refl (codes "owner") (codes "name") at 0 1 (col 1 1) (col 1 2) (equals (col 1 1) (col 0 0)) (equals (col 1 2) (col 0 1)) (Some Binary) 99997 (record { left_is = refl; right_is = refl; found = rw there; column = rw there; compare = rw there }) (record { left_is = refl; right_is = refl; found = rw there; column = rw there; compare = rw there }) (refl, (refl, (refl, (refl, (refl, (refl, (refl, tt))))))))
-          (refl, refl, refl, refl) (refl, refl, refl, refl) refl refl refl refl (rw there) (rw there) (rw there) (rw there) refl refl (at_typed s at tree known),
-      refl,
-      refl,
-      refl,
-      refl,
-      refl,
-    )
-
 pub at_read : IsSelect at_text
 unfolding everything
 at_read = (_, _, _, _, _, refl)
+
+pub at_is : Compiles user_root.name user_root.columns user_root.primary at_text 2 (λ at tree. Select (whole (query_on places 2 of_two) tree) (names_on places))
+unfolding everything at_read
+at_is =
+    selects user_root.name user_root.columns user_root.primary at_text places 2 places_are at_read (refl, refl, refl, refl, refl, refl, refl, refl, refl, refl, refl, refl, refl, λ s. refl) ((_, _, refl, refl), ((_, _, refl, refl), ((_, _, refl, refl), tt))) (((refl, refl, refl, refl), refl, refl), (((refl, refl, refl, refl), refl, refl), tt)) of_two None 99990 (refl, (refl, (refl, tt))) (refl, (refl, tt))
+    (λ s at tree known. let there = known.named.1 in where_two (select_context s user_root.name at (outputs_of places)) (filter_in at_text) refl refl refl refl (codes "owner") (codes "name") at 0 1 (col 1 1) (col 1 2) (equals (col 1 1) (col 0 0)) (equals (col 1 2) (col 0 1)) (Some Binary) 99997 (record { left_is = refl; right_is = refl; found = rw there; column = rw there; compare = rw there }) (record { left_is = refl; right_is = refl; found = rw there; column = rw there; compare = rw there }) (refl, (refl, (refl, (refl, (refl, (refl, (refl, tt)))))))) (λ s at tree known. rw (known.low, known.by_tree)) refl refl
 
 pub at : (owner : List ℕ) (name : List ℕ) → Selection table reading at_text (Text owner ∷ Text name ∷ []) (λ k. eq_by_cmp texts_cmp k.0 owner && eq_by_cmp texts_cmp k.1 name)
 at owner name = record { filter = of_two; is = at_is; said = said_two owner name; reads = at_read; accepts = λ s at tree known. rw (known.low, known.by_tree) refl }

@@ -34,7 +34,8 @@ use Rattle.table_statements.specs.Contents.{Bytes, rows_named}
 use Rattle.table_statements.specs.Failures.{FailsWith, IsWriteFailure, IsTooLarge, HasNoRowidLeft}
 use Rattle.table_making.specs.Making.{Makes, Puts, placed, IsTooLong, LacksNumbers, LacksNames, FailsToMakeThese}
 use Rattle.table_statements.proofs.Truths.{cast_null}
-use Rattle.table_entries.proofs.SettingLemmas.{insert_text, insert_is, terms}
+use Rattle.table_entries.proofs.Description.{terms_of}
+use Rattle.table_entries.proofs.SettingLemmas.{insert_text, insert_is, table as settings}
 use Rattle.table_statements.proofs.WriteFailures as write
 use Rattle.table_statements.proofs.Additions.{IsNewKey, insert_stops}
 use Rattle.table_making.proofs.Settles.{meta_tree}
@@ -136,8 +137,8 @@ module _ (a : State) (free : IsFree a.now.schema (codes "meta")) (sound : IsData
       let tree : tree_named b.now.schema meta.name ≡ next_tree a.now.schema = ap (λ (s : Schema). tree_named s meta.name) made ∙ meta_tree a.now.schema (free.table, free.index, free.view) in
       let own = subst (λ n. HasOwnIndex b.now.schema n) (sym tree) (subst (λ s. HasOwnIndex s (next_tree a.now.schema)) (sym made) (own_index a.now.schema (are_low a.now sound))) in
       let Refused = IsSome b.step_limit ⊎ (HasNoRowidLeft b.now meta ⊎ ⊥) in
-      let it = write.write_fails b c insert_text values (Insert stands.at (Values terms 3)) refl (IsTooLarge b.now meta values) Refused (λ up. write.is_write b insert_text values _ refl (insert_is b.now.schema stands.at _ stands.known.named))
-      (λ up st its. insert_stops meta.name meta.columns meta.primary b.now sound_b stands values refl refl ⊥ (inl (new_key b.now rows word value has new)) b.step_limit values terms 3 refl (rw cast_null refl) st) h.0 h.2 in
+      let it = write.write_fails b c insert_text values (Insert stands.at (Values (terms_of settings) 3)) refl (IsTooLarge b.now meta values) Refused (λ up. write.is_write b insert_text values _ refl (insert_is b.now.schema stands.at _ stands.known.named))
+      (λ up st its. insert_stops meta.name meta.columns meta.primary b.now sound_b stands values refl refl ⊥ (inl (new_key b.now rows word value has new)) b.step_limit values (terms_of settings) 3 refl (rw cast_null refl) st) h.0 h.2 in
       let Lacks = LacksNumbers b.now.schema [] ⊎ LacksNames b.now.schema [] in
       let big : write.OrShut b (IsTooLarge b.now meta values) → large = λ x. elim x [ inl long ↦ grows (too_long b.now word value own short long) | inr shut ↦ absurd (both_ways _ shut is_open) ] in
       let why : Refused → IsSome a.step_limit ⊎ Lacks = λ x. elim x [ inl limited ↦ inl (subst IsSome limit limited) | inr more ↦ elim more [ inl full ↦ absurd (no_rowid_lacks b.now rows word value has new full) | inr none ↦ absurd none ] ] in

@@ -28,7 +28,8 @@ use Rattle.table_statements.proofs.Writes.{SetsRows, inserts_in}
 use Rattle.table_statements.proofs.Entries.{put_map}
 use Rattle.table_statements.proofs.Members.{keyed_put}
 use Rattle.table_statements.proofs.ReadableWrites.{put_readable}
-use Rattle.table_entries.proofs.SettingLemmas.{insert_text, insert_is, terms}
+use Rattle.table_entries.proofs.Description.{terms_of}
+use Rattle.table_entries.proofs.SettingLemmas.{insert_text, insert_is, table as settings}
 use Rattle.table_statements.proofs.Lists.{one_list, rises, all_below}
 use Rattle.table_statements.proofs.Frozen.{frozen_of}
 use Rattle.table_making.proofs.FrozenThen.{frozen_then}
@@ -89,7 +90,7 @@ puts old new word value count has h =
     let found = has.named h.1.was_open in
     let tree = tree_named old.now.schema (codes "meta") in
     let m = means_command old.now.schema insert_text _ (insert_is old.now.schema found.0 tree found.1) in
-    let it = inserts_in meta.name meta.columns meta.primary tree found.0 3 terms insert_text (Text word ∷ Text value ∷ []) old new count has.mode found.1.1 m.0 m.1 h.0 in
+    let it = inserts_in meta.name meta.columns meta.primary tree found.0 3 (terms_of settings) insert_text (Text word ∷ Text value ∷ []) old new count has.mode found.1.1 m.0 m.1 h.0 in
     let rows = old.now.trees tree in
     let row : Row = Int (next_rowid rows) ∷ Text word ∷ Text value ∷ [] in
     let fresh : (not (is_taken rows row) && true) ≡ true = rw cast_null at it.0.fresh in

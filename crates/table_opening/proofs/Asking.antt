@@ -1,5 +1,5 @@
 -- A query of all rows of a table, by its text, and why it fails.
-use Rattle.std.proofs.Common.{ℕ, List, [], Bool, IsTrue}
+use Rattle.std.proofs.Common.{ℕ, List, [], Bool, IsTrue, take}
 use Rattle.std.specs.Prelude.{IsSome}
 use Rattle.sqlite_value.specs.Order.{Row}
 use Rattle.sqlite_sql.specs.Query.{Query}
@@ -14,6 +14,7 @@ use Rattle.table_statements.specs.Failures.{failure_of, FailsWith}
 use Rattle.table_statements.proofs.Scans.{IsScan}
 use Rattle.table_statements.proofs.Statements.{Compiles}
 use Rattle.table_statements.proofs.ReadFailures.{standing_read_fails}
+use Rattle.table_entries.proofs.Ordered.{outputs_of, query_on, names_on, scan_of}
 use Rattle.table_entries.proofs.Description.{Description, Reading, Selection}
 
 -- an error of a query of this text is one of the disk, or of a limit on steps
@@ -29,10 +30,10 @@ pub record Asks (name : List ℕ) (columns : List Column) (key : List ℕ) (text
 
 -- as the read of all its entries asks
 pub asks_all : {K X T : Type 0} (d : Description K X) {ShowsItem : Row → T → Type 0} {item : T → K × X} {IsLegible : Row → Type 0} (q : Reading d ShowsItem item IsLegible) {text : List ℕ} {test : K → Bool} (s : Selection d q text [] test)
-    → Compiles d.name d.columns d.key text 0 (λ at tree. Select (record { lets = []; body = q.query [] tree }) q.names) → Asks d.name d.columns d.key text q.names (q.query [])
+    → Compiles d.name d.columns d.key text 0 (λ at tree. Select (record { lets = []; body = query_on q.shown q.by [] tree }) (names_on q.shown)) → Asks d.name d.columns d.key text (names_on q.shown) (query_on q.shown q.by [])
 asks_all d q {text} s is = record {
-  scan = q.scan [];
+  scan = scan_of (outputs_of q.shown) (take q.by q.shown) [];
   is = is;
   reads = s.reads;
-  fails = λ old new stands. standing_read_fails d.name d.columns d.key old new stands text [] q.names (q.query s.filter) (q.scan s.filter) s.is s.reads s.accepts;
+  fails = λ old new stands. standing_read_fails d.name d.columns d.key old new stands text [] (names_on q.shown) (query_on q.shown q.by s.filter) (scan_of (outputs_of q.shown) (take q.by q.shown) s.filter) s.is s.reads s.accepts;
 }

@@ -1,9 +1,7 @@
 pub mod Asking
 pub mod OwnRowids
 pub mod RowidQueries
-pub mod RowidsByOne
-pub mod RowidsByTwo
-pub mod RowidsByThree
+pub mod OurRowids
 pub mod RowidFailures
 pub mod ReadableRows
 pub mod Tested

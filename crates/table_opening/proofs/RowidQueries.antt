@@ -1,24 +1,37 @@
 -- A query of all rowids of a table, in the order of its key.
-use Rattle.std.proofs.Common.{◌≡◌, ℕ, length, true, List, [], ◌∷◌, codes, None}
-use Rattle.std.specs.Prelude.{nat_le}
+use Rattle.std.proofs.Common.{◌≡◌, ℕ, length, true, false, List, [], ◌∷◌, map, codes, None, Option, Ok, Some, refl, take, slice_get}
+use Rattle.std.specs.Prelude.{nat_lt, nat_le, ◌^◌}
+use Rattle.std.specs.List.{AllByRecursion}
+use Rattle.sqlite_value.specs.declared.keys.Collation.{Collation}
 use Rattle.sqlite_value.specs.declared.keys.Collation.TheVariants.{Binary}
 use Rattle.sqlite_value.specs.declared.keys.Key.{Key}
 use Rattle.sqlite_value.specs.Keys.{ascending}
+use Rattle.sqlite_ast.specs.declared.Core.{out-Core}
+use Rattle.sqlite_ast.specs.declared.Expr.{Expr, out-Expr}
+use Rattle.sqlite_ast.specs.declared.Expr.TheOpen.{Expr-F, Shown-F}
+use Rattle.sqlite_ast.specs.declared.Select.{out-Select}
+use Rattle.sqlite_ast.specs.declared.Shown.{Shown, out-Shown}
+use Rattle.sqlite_ast.specs.declared.Source.{Source}
 use Rattle.sqlite_sql.specs.Term.{Term, col}
 use Rattle.sqlite_typing.specs.Types.{accepts_program}
 use Rattle.sqlite_schema.specs.declared.schema.Column.{Column}
 use Rattle.sqlite_schema.specs.declared.schema.Schema.{Schema}
-use Rattle.sqlite_schema.specs.declared.command.Command.{Command}
-use Rattle.sqlite_schema.specs.declared.command.Command.TheVariants.{Select}
-use Rattle.sqlite_resolve.specs.declared.compiled.Compiled.{Compiled}
+use Rattle.sqlite_schema.specs.Names.{column_named}
+use Rattle.sqlite_resolve.specs.declared.scope.Found.TheVariants as found_as
+use Rattle.sqlite_resolve.specs.Body.{declared, tests}
+use Rattle.sqlite_resolve.specs.Expr.{lower}
+use Rattle.sqlite_resolve.specs.Lowering.{max_budget}
+use Rattle.sqlite_resolve.specs.Program.{program}
+use Rattle.sqlite_resolve.specs.Scope.{Name, find as found_in, in_level, only, hit, column_in, is_among, is_rowid, rowid_in}
+use Rattle.sqlite_tied.specs.Compute.{everything}
 use Rattle.table_forms.specs.Forms.{strict}
 use Rattle.table_forms.specs.Standing.{IsKnown}
 use Rattle.table_statements.specs.Queries.{IsSelect}
-use Rattle.table_statements.proofs.Means.{Means, IsMeant}
-use Rattle.table_opening.proofs.Asking.{Asks}
-use Rattle.table_opening.proofs.OwnRowids.{query, scan, whole}
-use Rattle.table_statements.proofs.Statements.{Compiles}
+use Rattle.table_statements.proofs.Means.{plain_state}
 use Rattle.table_statements.proofs.ReadFailures.{standing_read_fails}
+use Rattle.table_entries.proofs.Ordered.{Place, IsColumn, IsOfOne, AreSorts, AreAbove, key_of, context, fronts, selects_by}
+use Rattle.table_opening.proofs.Asking.{Asks}
+use Rattle.table_opening.proofs.OwnRowids.{query, scan, draft, whole, rowid_column, outputs_rowid, below, IsRowid}
 
 abbrev pub names : List (List ℕ)
 names = codes "rowid" ∷ []
@@ -32,16 +45,38 @@ by_two = (col 1 1, ascending Binary) ∷ (col 1 2, ascending Binary) ∷ []
 abbrev pub by_three : List (Term × Key)
 by_three = (col 1 1, ascending Binary) ∷ (col 1 2, ascending Binary) ∷ (col 1 3, ascending Binary) ∷ []
 
--- a text means what it compiles to
-pub meant : (s : Schema) (text : List ℕ) {c : Compiled} {count : ℕ} {command : Command} → Means s text c → c.command ≡ command → c.returning ≡ None → c.formats ≡ [] → nat_le (length text) c.tail ≡ true → length c.names ≡ count → IsMeant s text count command
-meant s text {c} means command returning formats alone given = (c, means, command, returning, formats, alone, given)
+-- the text shows the rowid alone
+abbrev pub ShowsRowid : List Shown → Type 0
+ShowsRowid all = (x : Shown) × (e : Expr) × (text : Name) × (all ≡ x ∷ []) × (out-Shown x ≡ Shown-F.One e None text) × (out-Expr e ≡ Expr-F.Column None (codes "rowid"))
 
--- in any schema in which the table stands, the text shows its rowids
-pub asks : {name : List ℕ} {columns : List Column} {key : List ℕ} {text : List ℕ} (order : List (Term × Key)) → Compiles name columns key text 0 (λ at tree. Select (whole order tree) names) → IsSelect text
-    → ((s : Schema) (at tree : ℕ) → IsKnown s name at (record (strict name columns key) { tree = tree }) → accepts_program s [] (query order tree) [] ≡ true) → Asks name columns key text names (query order)
-asks {name} {columns} {key} {text} order is reads accepts = record {
-  scan = scan order;
-  is = is;
-  reads = reads;
-  fails = λ old new stands. standing_read_fails name columns key old new stands text [] names (query order) (scan order) is reads accepts;
-}
+named : is_rowid (codes "rowid") ≡ true
+unfolding everything
+named = refl
+
+module _ (name : Name) (columns : List Column) (key : List ℕ) (bare : column_named (strict name columns key) (codes "rowid") ≡ None) where
+  module _ (s : Schema) (at tree : ℕ) (there : slice_get s.tables at ≡ Some (record (strict name columns key) { tree = tree })) (low : nat_lt tree (2 ^ 31) ≡ true) where
+    rowid_is : (e : Expr) → out-Expr e ≡ Expr-F.Column None (codes "rowid") → IsRowid (context name columns key s at [] true) e at
+    unfolding found_in in_level only hit column_in is_among rowid_in declared
+    rowid_is e names = record { names = names; found = rw (there, bare, named, low); heading = rw there }
+
+  unfiltered : (s : Schema) (at : ℕ) {filter : Option Expr} → filter ≡ None → tests lower (context name columns key s at (rowid_column ∷ []) false) [] filter (plain_state 99999 None) ≡ Ok ([], plain_state 99999 None)
+  unfolding tests
+  unfiltered s at every = rw every
+
+  -- in any schema in which the table stands, the text shows its rowids, in the order of the first of these columns
+  pub asks : (text : List ℕ) (places : List Place) (n : ℕ) → AllByRecursion (IsColumn name columns key) places → (reads : IsSelect text) {source : Source} → IsOfOne name reads.4 source → ShowsRowid (out-Core (out-Select reads.4).first).shown
+      → AreSorts (rowid_column ∷ []) (out-Select reads.4).order (take n places) → AreAbove (length (take n places)) 99999 → (out-Core (out-Select reads.4).first).filter ≡ None
+      → ((s : Schema) (at tree : ℕ) → IsKnown s name at (record (strict name columns key) { tree = tree }) → program s [] (draft (map key_of (take n places)) tree) ≡ Ok (whole (map key_of (take n places)) tree))
+      → nat_le (length text) reads.3 ≡ true → length reads.0 ≡ 0
+      → ((s : Schema) (at tree : ℕ) → IsKnown s name at (record (strict name columns key) { tree = tree }) → accepts_program s [] (query (map key_of (take n places)) tree) [] ≡ true) → Asks name columns key text names (query (map key_of (take n places)))
+  asks text places n are reads one alone sorted enough every typed ends given accepts =
+      let order = map key_of (take n places) in
+      let is = selects_by name columns key text (rowid_column ∷ []) (take n places) (fronts (IsColumn name columns key) n places are) reads one sorted None None 99999 99999
+      (λ s at tree known. outputs_rowid (context name columns key s at [] true) (record { name = name; table = at; slot = 1; shared = [] } ∷ []) (out-Core (out-Select reads.4).first).shown alone.3 alone.4 at (rowid_is s at tree known.named.1 (below tree known.low) alone.1 alone.5) None max_budget refl)
+      [] enough (λ s at tree known. unfiltered s at every) typed ends given in
+      record {
+        scan = scan order;
+        is = is;
+        reads = reads;
+        fails = λ old new stands. standing_read_fails name columns key old new stands text [] names (query order) (scan order) is reads accepts;
+      }

@@ -25,9 +25,7 @@ use Rattle.table_opening.specs.Tables.{form, rowids_text, texts_text}
 use Rattle.table_opening.proofs.Asking.{Asks, asks_all}
 use Rattle.table_opening.proofs.ReadableRows.{AreOfUtf8, all_cells}
 use Rattle.table_opening.proofs.RowidQueries.{by_one, by_two, by_three}
-use Rattle.table_opening.proofs.RowidsByOne.{meta_rowids, object_rowids, permanent_rowids}
-use Rattle.table_opening.proofs.RowidsByTwo.{refs_rowids, outs_rowids, user_root_rowids, profile_rowids, runtime_rowids, piece_rowids}
-use Rattle.table_opening.proofs.RowidsByThree.{generation_rowids, temp_root_rowids}
+use Rattle.table_opening.proofs.OurRowids.{meta_rowids, object_rowids, refs_rowids, outs_rowids, permanent_rowids, user_root_rowids, profile_rowids, generation_rowids, runtime_rowids, piece_rowids, temp_root_rowids}
 use Rattle.table_opening.proofs.Tested.{AreTests, tests_by}
 
 -- ---- the objects, whose archives are not shown: they are no texts
