@@ -40,6 +40,28 @@ pub fn keys<S: Alter>(alloc: Global, conn: &mut Connection<S>) -> Result<Vec<Pie
     )
 }
 
+/// All pieces with their bytes, in the order of their bases and then of their numbers.
+pub fn all<S: Alter>(alloc: Global, conn: &mut Connection<S>) -> Result<Vec<Piece>, Failure>
+    requires alone { conn.old.in_transaction ≡ false }
+    requires ready { HasCleanDisk (state S.Store conn.old) → IsTrue (state S.Store conn.old).is_open → IsReady (state S.Store conn.old) }
+    requires stands { HasCleanDisk (state S.Store conn.old) → IsTrue (state S.Store conn.old).is_open → HasFurther (state S.Store conn.old).now piece }
+    ensures alone { conn.new.in_transaction ≡ false }
+    ensures reads { HasCleanDisk (state S.Store conn.new) → IfOk result (λ all. IsUnchanged (state S.Store conn.old) (state S.Store conn.new)
+        × (map piece_in all.items ≡ finite.entries (contents_of (state S.Store conn.old).now).pieces)) }
+    ensures cause { HasCleanDisk (state S.Store conn.new) → IfErr result (FailsFor (state S.Store conn.old) (state S.Store conn.new)) }
+    ensures same { HasCleanDisk (state S.Store conn.new) → KeepsShown (state S.Store conn.old) (state S.Store conn.new) }
+    ensures ready { HasCleanDisk (state S.Store conn.new) → IsTrue (state S.Store conn.new).is_open → IsReady (state S.Store conn.new) }
+    ensures stands { HasCleanDisk (state S.Store conn.new) → IsTrue (state S.Store conn.new).is_open → HasFurther (state S.Store conn.new).now piece }
+    ensures survives { Survives (state S.Store conn.old) (state S.Store conn.new) (λ _. ⊥) }
+{
+    reading::select(
+        alloc,
+        conn,
+        "SELECT base, num, bytes FROM piece ORDER BY base, num",
+        &[],
+    )
+}
+
 /// The pieces of this base, in the order of their numbers.
 pub fn of<S: Alter>(
     alloc: Global,

@@ -1,31 +1,14 @@
--- insert
-use Rattle.std.proofs.Common.{arith, subst, pos}
+use Rattle.std.proofs.Common.{subst, pos}
 use Rattle.std.specs.Prelude.{IsUtf8}
-use Rattle.sqlite.specs.State.{HasCleanDisk}
-use Rattle.sqlite.specs.Held.{state}
-use Rattle.table_statements.proofs.Scans.{on_ok}
-use Rattle.table_statements.proofs.Sizes.{addition_failed}
-use Rattle.table_entries.proofs.Description.{adds, adds_not}
 use Rattle.table_entries.proofs.PieceLemmas.{table, addition}
+use Rattle.rows.proofs.Clauses.{puts, puts_new, fails_to_put}
 use Rattle.rows.proofs.pieces.insert.Goals as goal
 
 pub returns-clause-done : goal.returns-clause-done
-returns-clause-done g c clean =
-    let old = state g.S.Store c.args.tx.now.conn.now in
-    let new = state g.S.Store c.add.new.tx.conn.now in
-    let early : HasCleanDisk old = omega (arith, c.add.ensures.survives.clean) in
-    on_ok c.add.result _ _ (λ ran. (adds table old new (c.requires.under early) (c.requires.stands early) (addition c.args.base.now (pos c.args.number) c.args.bytes.now) ran.0 (subst IsUtf8 c.as_bytes-base.ensures.value c.as_bytes-base.ensures.utf8, (tt, (tt, tt))) (rw (c.params-to_sql.ensures, c.params-to_sql-2.ensures, c.params-to_sql-3.ensures) at ran.1)).1) (c.add.ensures.ran clean)
+returns-clause-done g c clean = puts table (addition c.args.base.now (pos c.args.number) c.args.bytes.now) c.add.ensures.survives c.requires.under c.requires.stands clean c.add.result (subst IsUtf8 c.as_bytes-base.ensures.value c.as_bytes-base.ensures.utf8, (tt, (tt, tt))) (rw (c.params-to_sql.ensures, c.params-to_sql-2.ensures, c.params-to_sql-3.ensures) at (c.add.ensures.ran clean))
 
 pub returns-clause-new : goal.returns-clause-new
-returns-clause-new g c clean =
-    let old = state g.S.Store c.args.tx.now.conn.now in
-    let new = state g.S.Store c.add.new.tx.conn.now in
-    let early : HasCleanDisk old = omega (arith, c.add.ensures.survives.clean) in
-    on_ok c.add.result _ _ (λ ran. (adds table old new (c.requires.under early) (c.requires.stands early) (addition c.args.base.now (pos c.args.number) c.args.bytes.now) ran.0 (subst IsUtf8 c.as_bytes-base.ensures.value c.as_bytes-base.ensures.utf8, (tt, (tt, tt))) (rw (c.params-to_sql.ensures, c.params-to_sql-2.ensures, c.params-to_sql-3.ensures) at ran.1)).0) (c.add.ensures.ran clean)
+returns-clause-new g c clean = puts_new table (addition c.args.base.now (pos c.args.number) c.args.bytes.now) c.add.ensures.survives c.requires.under c.requires.stands clean c.add.result (subst IsUtf8 c.as_bytes-base.ensures.value c.as_bytes-base.ensures.utf8, (tt, (tt, tt))) (rw (c.params-to_sql.ensures, c.params-to_sql-2.ensures, c.params-to_sql-3.ensures) at (c.add.ensures.ran clean))
 
 pub returns-clause-cause : goal.returns-clause-cause
-returns-clause-cause g c clean =
-    let old = state g.S.Store c.args.tx.now.conn.now in
-    let new = state g.S.Store c.add.new.tx.conn.now in
-    let early : HasCleanDisk old = omega (arith, c.add.ensures.survives.clean) in
-    addition_failed c.add.result old new _ _ _ _ (c.add.ensures.cause clean) (λ e h. adds_not table old new (c.requires.under early) (c.requires.stands early) (addition c.args.base.now (pos c.args.number) c.args.bytes.now) e (rw (c.params-to_sql.ensures, c.params-to_sql-2.ensures, c.params-to_sql-3.ensures) at h))
+returns-clause-cause g c clean = fails_to_put table (addition c.args.base.now (pos c.args.number) c.args.bytes.now) c.add.ensures.survives c.requires.under c.requires.stands clean c.add.result (rw (c.params-to_sql.ensures, c.params-to_sql-2.ensures, c.params-to_sql-3.ensures) at (c.add.ensures.cause clean))

@@ -1,22 +1,9 @@
-use Rattle.std.proofs.Common.{arith}
-use Rattle.sqlite.specs.State.{HasCleanDisk}
-use Rattle.sqlite.specs.Held.{state}
-use Rattle.table_statements.proofs.Scans.{on_ok}
-use Rattle.table_statements.proofs.WriteFailures.{removal_failed}
-use Rattle.table_entries.proofs.Description.{removes, removes_not}
 use Rattle.table_entries.proofs.RuntimeRootLemmas.{table, removal}
+use Rattle.rows.proofs.Clauses.{takes, fails_to_take}
 use Rattle.rows.proofs.runtime.delete_of.Goals as goal
 
 pub returns-clause-done : goal.returns-clause-done
-returns-clause-done g c clean =
-    let old = state g.S.Store c.args.tx.now.conn.now in
-    let new = state g.S.Store c.remove.new.tx.conn.now in
-    let early : HasCleanDisk old = omega (arith, c.remove.ensures.survives.clean) in
-    on_ok c.remove.result _ _ (λ ran. removes table old new (c.requires early) (λ up. tt) (removal c.args.label.now) ran.0 (rw c.params-to_sql.ensures at ran.1)) (c.remove.ensures.ran clean)
+returns-clause-done g c clean = takes table (removal c.args.label.now) c.remove.ensures.survives c.requires (λ early up. tt) clean c.remove.result (rw c.params-to_sql.ensures at (c.remove.ensures.ran clean))
 
 pub returns-clause-cause : goal.returns-clause-cause
-returns-clause-cause g c clean =
-    let old = state g.S.Store c.args.tx.now.conn.now in
-    let new = state g.S.Store c.remove.new.tx.conn.now in
-    let early : HasCleanDisk old = omega (arith, c.remove.ensures.survives.clean) in
-    removal_failed c.remove.result old new _ _ (c.remove.ensures.cause clean) (λ e h. removes_not table old new (c.requires early) (λ up. tt) (removal c.args.label.now) e (rw c.params-to_sql.ensures at h))
+returns-clause-cause g c clean = fails_to_take table (removal c.args.label.now) c.remove.ensures.survives c.requires (λ early up. tt) clean c.remove.result (rw c.params-to_sql.ensures at (c.remove.ensures.cause clean))

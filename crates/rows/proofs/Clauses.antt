@@ -1,0 +1,87 @@
+-- What a call on a described table promises, by what its one statement gave. The disk is clean after the call, and so it was before.
+use Rattle.std.proofs.Common.{◌≡◌, ℕ, ◌+◌, List, Bool, IsTrue, true, ◌⊎◌, Ok, Err, Result, IfOk, Vec, Global, map, length, None, arith, not, sym, subst}
+use Rattle.std.specs.Prelude.{IfErr, OnOk, IsSome}
+use Rattle.std.specs.Ordering.{is_lt}
+use Rattle.std.specs.FinMap as finite
+use Rattle.std.specs.List.{AllByRecursion, AllAdjacentBelow}
+use Rattle.sqlite_value.specs.Order.{Row}
+use Rattle.sqlite_schema.specs.declared.schema.Table.{Table}
+use Rattle.sqlite.specs.Effect.{Database}
+use Rattle.sqlite.specs.State.{State, HasCleanDisk, Survives, ExecutesInside, IsUnchanged}
+use Rattle.table_statements.specs.declared.failure.Failure.{Failure}
+use Rattle.table_statements.specs.declared.failure.Failure.TheVariants.{Memory, Disk}
+use Rattle.table_statements.specs.Calls.{IsReady, IsUnderWay, Changes, KeepsShown, HasFurther}
+use Rattle.table_statements.specs.Contents.{contents_of}
+use Rattle.table_statements.specs.Texts.{IsReadable}
+use Rattle.table_statements.specs.Failures.{FailsFor, FailsToInsert, IsQueryFailure, IsWriteFailure, IsAdditionFailure, without_size}
+use Rattle.table_statements.specs.Queries.{HasBegunWith}
+use Rattle.table_statements.specs.Reading.{IsAmiss}
+use Rattle.table_statements.proofs.Rising.{select_fails}
+use Rattle.table_statements.proofs.Scans.{on_ok}
+use Rattle.table_statements.proofs.Sizes.{addition_failed}
+use Rattle.table_statements.proofs.Statements.{Selects}
+use Rattle.table_statements.proofs.Steps.{ready_after}
+use Rattle.table_statements.proofs.WriteFailures.{removal_failed}
+use Rattle.table_entries.proofs.Description.{Description, Addition, Removal, Reading, Selection, form, adds, adds_not, removes, removes_not, selects, selects_all, selects_not, never_amiss}
+
+pub early : {old new : State} → Survives old new (λ _. ⊥) → HasCleanDisk new → HasCleanDisk old
+early {old} {new} survives clean = omega (arith, survives.clean, clean)
+
+-- ---- reading
+
+module _ {K X T : Type 0} (d : Description K X) {ShowsItem : Row → T → Type 0} {item : T → K × X} {IsLegible : Row → Type 0} (q : Reading d ShowsItem item IsLegible) {old new : State} {text : List ℕ} {params : Row} {test : K → Bool} (s : Selection d q text params test)
+    (survives : Survives old new (λ _. ⊥)) (ready : HasCleanDisk old → IsTrue old.is_open → IsReady old) (own : HasCleanDisk old → IsTrue old.is_open → d.IsOwn old.now) (clean : HasCleanDisk new) where
+  abbrev before : HasCleanDisk old
+  before = early survives clean
+
+  pub reads : (r : Result (Vec T Global) Failure) → Selects ShowsItem old new text params r → IfOk r (λ all. AllAdjacentBelow (λ x y. true ≡ is_lt (d.order (item x).0 (item y).0)) all.items (length all.items))
+      → IfOk r (λ all. IsUnchanged old new × (map item all.items ≡ finite.entries (finite.retain_keys (d.of (contents_of old.now)) test)))
+  reads = selects d q old new s (ready before) (own before)
+
+  pub fails_to_read : (r : Result (Vec T Global) Failure)
+      → IfErr r (λ f. IsQueryFailure text params old new f ⊎ ((rows : List Row) × HasBegunWith text params old new rows × ((f ≡ Memory) ⊎ ((f ≡ Disk) × IsAmiss IsLegible ShowsItem (λ x y. is_lt (d.order (item x).0 (item y).0)) rows))))
+      → IfErr r (FailsFor old new)
+  fails_to_read r = select_fails r old new text params _ (selects_not d q old new s (λ up. d.within old.now (ready before up).ours (own before up))) (never_amiss d q old new s (ready before) (own before))
+
+module _ {K X T : Type 0} (d : Description K X) {ShowsItem : Row → T → Type 0} {item : T → K × X} {IsLegible : Row → Type 0} (q : Reading d ShowsItem item IsLegible) {old new : State} {text : List ℕ} {params : Row} (s : Selection d q text params (λ _. true))
+    (survives : Survives old new (λ _. ⊥)) (ready : HasCleanDisk old → IsTrue old.is_open → IsReady old) (own : HasCleanDisk old → IsTrue old.is_open → d.IsOwn old.now) (clean : HasCleanDisk new) where
+  pub reads_all : (r : Result (Vec T Global) Failure) → Selects ShowsItem old new text params r → IfOk r (λ all. AllAdjacentBelow (λ x y. true ≡ is_lt (d.order (item x).0 (item y).0)) all.items (length all.items))
+      → IfOk r (λ all. IsUnchanged old new × (map item all.items ≡ finite.entries (d.of (contents_of old.now))))
+  reads_all = selects_all d q old new s (ready (early survives clean)) (own (early survives clean))
+
+-- what a connection shows stays, so it is ready as before
+module _ {old new : State} (survives : Survives old new (λ _. ⊥)) (ready : HasCleanDisk old → IsTrue old.is_open → IsReady old) (same : HasCleanDisk new → (IsTrue old.is_open → old.now ≡ old.committed) → KeepsShown old new) (clean : HasCleanDisk new) where
+  pub shows_same : KeepsShown old new
+  shows_same = same clean (λ up. (ready (early survives clean) up).settled)
+
+  pub still_ready : IsTrue new.is_open → IsReady new
+  still_ready = ready_after old new (ready (early survives clean)) shows_same
+
+  pub still_stands : (t : Table) → (HasCleanDisk old → IsTrue old.is_open → HasFurther old.now t) → IsTrue new.is_open → HasFurther new.now t
+  still_stands t stands up = subst (λ (db : Database). HasFurther db t) (sym (shows_same.now up)) (stands (early survives clean) (shows_same.was_open up))
+
+-- ---- one entry more
+
+module _ {K X : Type 0} (d : Description K X) {old new : State} {text : List ℕ} {params values : Row} {k : K} {x : X} (a : Addition d text params values k x)
+    (survives : Survives old new (λ _. ⊥)) (under : HasCleanDisk old → IsUnderWay old) (own : HasCleanDisk old → IsTrue old.is_open → d.IsOwn old.now) (clean : HasCleanDisk new) where
+  abbrev Ran : Result (Unit {0}) Failure → Type 0
+  Ran r = OnOk r ((count : ℕ) × ExecutesInside 0 text params old new (Ok count))
+
+  pub puts : (r : Result (Unit {0}) Failure) → AllByRecursion IsReadable values → Ran r → OnOk r (Changes old new (λ c. d.put c (finite.insert (d.of c) k x)))
+  puts r texts = on_ok r _ _ (λ ran. (adds d old new (under (early survives clean)) (own (early survives clean)) a ran.0 texts ran.1).1)
+
+  pub puts_new : (r : Result (Unit {0}) Failure) → AllByRecursion IsReadable values → Ran r → OnOk r (finite.get (d.of (contents_of old.now)) k ≡ None)
+  puts_new r texts = on_ok r _ _ (λ ran. (adds d old new (under (early survives clean)) (own (early survives clean)) a ran.0 texts ran.1).0)
+
+  pub fails_to_put : (r : Result (Unit {0}) Failure) → IfErr r (IsAdditionFailure text params old new) → IfErr r (FailsToInsert (form d) values (IsSome (finite.get (d.of (contents_of old.now)) k)) old new)
+  fails_to_put r cause = addition_failed r old new _ _ _ _ cause (λ e h. adds_not d old new (under (early survives clean)) (own (early survives clean)) a e h)
+
+-- ---- those of a part of the keys gone
+
+module _ {K X : Type 0} (d : Description K X) {old new : State} {text : List ℕ} {params : Row} {test : K → Bool} (r : Removal d text params test)
+    (survives : Survives old new (λ _. ⊥)) (under : HasCleanDisk old → IsUnderWay old) (own : HasCleanDisk old → IsTrue old.is_open → d.IsOwn old.now) (clean : HasCleanDisk new) where
+  pub takes : (result : Result (Unit {0}) Failure) → OnOk result ((count : ℕ) × ExecutesInside 0 text params old new (Ok count)) → OnOk result (Changes old new (λ c. d.put c (finite.retain_keys (d.of c) (λ k. not (test k)))))
+  takes result = on_ok result _ _ (λ ran. removes d old new (under (early survives clean)) (own (early survives clean)) r ran.0 ran.1)
+
+  pub fails_to_take : (result : Result (Unit {0}) Failure) → IfErr result (λ f. (g : Failure) × (f ≡ without_size g) × IsWriteFailure text params old new g) → IfErr result (FailsFor old new)
+  fails_to_take result cause = removal_failed result old new _ _ cause (λ e h. removes_not d old new (under (early survives clean)) (own (early survives clean)) r e h)

@@ -1,0 +1,22 @@
+use Rattle.table_forms.specs.Forms.{piece}
+use Rattle.table_entries.proofs.PieceLemmas.{table, reading, all_read, all}
+use Rattle.rows.proofs.Clauses.{reads_all, fails_to_read, shows_same, still_ready, still_stands}
+use Rattle.rows.proofs.pieces.all.Goals as goal
+
+pub returns-clause-reads : goal.returns-clause-reads
+returns-clause-reads g c clean = reads_all table reading all c.select.ensures.survives c.requires.ready c.requires.stands clean c.select.result (c.select.ensures.shown clean) (c.select.ensures.rises clean)
+
+pub returns-clause-cause : goal.returns-clause-cause
+returns-clause-cause g c clean = fails_to_read table reading all c.select.ensures.survives c.requires.ready c.requires.stands clean c.select.result (c.select.ensures.cause clean)
+
+pub select-requires : goal.select-requires
+select-requires g c = all_read
+
+pub returns-clause-same : goal.returns-clause-same
+returns-clause-same g c = shows_same c.select.ensures.survives c.requires.ready c.select.ensures.same
+
+pub returns-clause-ready : goal.returns-clause-ready
+returns-clause-ready g c = still_ready c.select.ensures.survives c.requires.ready c.select.ensures.same
+
+pub returns-clause-stands : goal.returns-clause-stands
+returns-clause-stands g c clean = still_stands c.select.ensures.survives c.requires.ready c.select.ensures.same clean piece c.requires.stands
