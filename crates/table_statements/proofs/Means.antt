@@ -174,39 +174,6 @@ sort_is cx shown done s t s0 s1 c bare numeral unwritten nulls high lowered how 
 abbrev pub IsBare : List Output → Sort → Type 0
 IsBare shown s = (alias_in shown (peeled (out-Sort s).key) ≡ None) × (is_numeral (peeled (out-Sort s).key) ≡ false) × (written_on (out-Sort s).key ≡ None) × ((out-Sort s).nulls_first ≡ None)
 
--- ORDER BY one column
-sorts_one : (cx : Context) (shown : List Output) (by : List Sort) {x : Sort} (a0 : List (Term × Key)) (s0 s1 : State) → by ≡ x ∷ [] → sort lower cx shown [] x s0 ≡ Ok (a0, s1) → sorts lower cx shown by s0 ≡ Ok (a0, s1)
-unfolding sorts
-sorts_one cx shown by a0 s0 s1 is h0 = rw (is, h0)
-
-order_by_one : (by : List Sort) {x : Sort} → by ≡ x ∷ [] → (cx : Context) (shown : List Output) (t : Term) (s0 s1 : State) (c : Collation) → IsBare shown x → reads_below 1 t ≡ false
-    → lower cx (peeled (out-Sort x).key) s0 ≡ Ok (t, s1) → alone s1.last ≡ c
-    → sorts lower cx shown by s0 ≡ Ok ((t, record { collation = c; descending = (out-Sort x).descending }) ∷ [], s1)
-order_by_one by is cx shown t s0 s1 c b0 r0 l0 w0 =
-    sorts_one cx shown by _ s0 s1 is (sort_is cx shown [] _ t s0 s1 c b0.0 b0.1 b0.2 b0.3 r0 l0 w0)
-
--- ORDER BY two columns
-sorts_two : (cx : Context) (shown : List Output) (by : List Sort) {x y : Sort} (a0 a1 : List (Term × Key)) (s0 s1 s2 : State) → by ≡ x ∷ y ∷ [] → sort lower cx shown [] x s0 ≡ Ok (a0, s1) → sort lower cx shown a0 y s1 ≡ Ok (a1, s2) → sorts lower cx shown by s0 ≡ Ok (a1, s2)
-unfolding sorts
-sorts_two cx shown by a0 a1 s0 s1 s2 is h0 h1 = rw (is, h0, h1)
-
-order_by_two : (by : List Sort) {x y : Sort} → by ≡ x ∷ y ∷ [] → (cx : Context) (shown : List Output) (t u : Term) (s0 s1 s2 : State) (c d : Collation) → IsBare shown x → IsBare shown y → reads_below 1 t ≡ false → reads_below 1 u ≡ false
-    → lower cx (peeled (out-Sort x).key) s0 ≡ Ok (t, s1) → lower cx (peeled (out-Sort y).key) s1 ≡ Ok (u, s2) → alone s1.last ≡ c → alone s2.last ≡ d
-    → sorts lower cx shown by s0 ≡ Ok ((t, record { collation = c; descending = (out-Sort x).descending }) ∷ (u, record { collation = d; descending = (out-Sort y).descending }) ∷ [], s2)
-order_by_two by is cx shown t u s0 s1 s2 c d b0 b1 r0 r1 l0 l1 w0 w1 =
-    sorts_two cx shown by _ _ s0 s1 s2 is (sort_is cx shown [] _ t s0 s1 c b0.0 b0.1 b0.2 b0.3 r0 l0 w0) (sort_is cx shown _ _ u s1 s2 d b1.0 b1.1 b1.2 b1.3 r1 l1 w1)
-
--- ORDER BY three columns
-sorts_three : (cx : Context) (shown : List Output) (by : List Sort) {x y z : Sort} (a0 a1 a2 : List (Term × Key)) (s0 s1 s2 s3 : State) → by ≡ x ∷ y ∷ z ∷ [] → sort lower cx shown [] x s0 ≡ Ok (a0, s1) → sort lower cx shown a0 y s1 ≡ Ok (a1, s2) → sort lower cx shown a1 z s2 ≡ Ok (a2, s3) → sorts lower cx shown by s0 ≡ Ok (a2, s3)
-unfolding sorts
-sorts_three cx shown by a0 a1 a2 s0 s1 s2 s3 is h0 h1 h2 = rw (is, h0, h1, h2)
-
-order_by_three : (by : List Sort) {x y z : Sort} → by ≡ x ∷ y ∷ z ∷ [] → (cx : Context) (shown : List Output) (t u v : Term) (s0 s1 s2 s3 : State) (c d e : Collation) → IsBare shown x → IsBare shown y → IsBare shown z → reads_below 1 t ≡ false → reads_below 1 u ≡ false → reads_below 1 v ≡ false
-    → lower cx (peeled (out-Sort x).key) s0 ≡ Ok (t, s1) → lower cx (peeled (out-Sort y).key) s1 ≡ Ok (u, s2) → lower cx (peeled (out-Sort z).key) s2 ≡ Ok (v, s3) → alone s1.last ≡ c → alone s2.last ≡ d → alone s3.last ≡ e
-    → sorts lower cx shown by s0 ≡ Ok ((t, record { collation = c; descending = (out-Sort x).descending }) ∷ (u, record { collation = d; descending = (out-Sort y).descending }) ∷ (v, record { collation = e; descending = (out-Sort z).descending }) ∷ [], s3)
-order_by_three by is cx shown t u v s0 s1 s2 s3 c d e b0 b1 b2 r0 r1 r2 l0 l1 l2 w0 w1 w2 =
-    sorts_three cx shown by _ _ _ s0 s1 s2 s3 is (sort_is cx shown [] _ t s0 s1 c b0.0 b0.1 b0.2 b0.3 r0 l0 w0) (sort_is cx shown _ _ u s1 s2 d b1.0 b1.1 b1.2 b1.3 r1 l1 w1) (sort_is cx shown _ _ v s2 s3 e b2.0 b2.1 b2.2 b2.3 r2 l2 w2)
-
 abbrev pub plain_state : ℕ → Option Collation → State
 plain_state budget last = record { next = 2; steps = []; aggregates = []; budget = budget; written = None; last = record { collation = last; is_written = false } }
 
@@ -221,82 +188,6 @@ lower_to_column n cx e name at place t c last budget is known reads enough = rw 
 pub lower_column : (cx : Context) (e : Expr) (name : Name) (at place : ℕ) (t : Term) (c last : Option Collation) (budget : ℕ) → out-Expr e ≡ Expr-F.Column None name → found_in cx None name ≡ Ok (found_as.Column 1 at place) → column_at cx.schema 1 at place ≡ Ok (t, record { collation = c; is_written = false })
     → nat_lt 1 budget ≡ true → lower cx e (plain_state budget last) ≡ Ok (t, plain_state (budget - 1) c)
 lower_column = lower_to_column 699
-
-alone_is : (c : Option Collation) → alone (record { collation = c; is_written = false }) ≡ unwrap_or c Binary
-unfolding alone
-alone_is c = refl
-
--- SELECT of some columns of one table, ORDER BY one column
-pub ordered_by_one : (text : List ℕ) {names : List Name} {start end tail : ℕ} {sel : written_select.Select} → first text ≡ Ok (record { statement = written.Select sel; names = names; formats = []; start = start; end = end; tail = tail })
-    → {x : Sort} → (out-Select sel).order ≡ x ∷ [] → {source : From} → (out-Core (out-Select sel).first).from ≡ source ∷ []
-    → (s : Schema) (name : Name) (at : ℕ) (table : Table) (columns : List Output) (filter : List Term) (name0 : Name) (i : ℕ) (t : Term) (b c : Option Collation) (page : Term × Term) (s1 s2 : State) (budget : ℕ) (q : Program)
-    → IsNamed s name at table
-    → (out-Select sel).with ≡ [] → (out-Select sel).others ≡ [] → paging s sel ≡ Ok page → sources (query_to 15) s (out-Core (out-Select sel).first).from [] ≡ Ok (s, [])
-    → (out-Core (out-Select sel).first).group ≡ [] → (out-Core (out-Select sel).first).having ≡ None → (out-Core (out-Select sel).first).distinct ≡ false
-    → (out-Source source).is_left ≡ false → (out-Source source).on ≡ None → (out-Source source).using ≡ []
-    → bounds s (out-Core (out-Select sel).first).from (fresh 1 max_budget) ≡ Ok (record { name = name; table = at; slot = 1; shared = [] } ∷ [], s1)
-    → result lower (outermost s) (record { tables = record { name = name; table = at; slot = 1; shared = [] } ∷ []; shown = [] }) (out-Select sel).first s1 ≡ Ok (columns, s2)
-    → tests lower (within (outermost s) (record { tables = record { name = name; table = at; slot = 1; shared = [] } ∷ []; shown = columns }) false) [] (out-Core (out-Select sel).first).filter s2 ≡ Ok (filter, plain_state budget b)
-    → IsBare columns x → reads_below 1 t ≡ false
-    → out-Expr (peeled (out-Sort x).key) ≡ Expr-F.Column None name0
-    → found_in (inside s (record { tables = record { name = name; table = at; slot = 1; shared = [] } ∷ []; shown = columns }) false) None name0 ≡ Ok (found_as.Column 1 at i)
-    → column_at s 1 at i ≡ Ok (t, record { collation = c; is_written = false })
-    → nat_lt 1 (budget) ≡ true
-    → program s [] (record { from = chain (Inner table.tree ∷ []); filter = filter; group = None; project = map (λ o. o.term) columns; distinct = false; collations = []; order = (t, record { collation = unwrap_or c Binary; descending = (out-Sort x).descending }) ∷ []; limit = page.0; offset = page.1 }) ≡ Ok q
-    → Means s text (record { command = Select q (map (λ o. o.name) columns); returning = None; names = names; formats = []; start = start; end = end; tail = tail })
-ordered_by_one text {sel = sel} one by {source} from s name at table columns filter name0 i t b c page s1 s2 budget q known bare only paged plain no_keys every all_rows not_left on using bound shown tested bare0 low0 is0 find0 read0 enough0 typed =
-    scan_means text one s _ columns (record { steps = Inner table.tree ∷ []; filter = filter }) _ page s1 s2 (plain_state budget b) (plain_state (budget - 1) c) q bare only paged plain no_keys every all_rows bound shown
-    (matching_is (outermost s) name at 1 columns (out-Select sel).first source table filter s2 (plain_state budget b) from not_left on using known.1 tested)
-    (order_by_one (out-Select sel).order by (inside s (record { tables = record { name = name; table = at; slot = 1; shared = [] } ∷ []; shown = columns }) false) columns t (plain_state (budget) b) (plain_state (budget - 1) c) (unwrap_or c Binary) bare0 low0
-    (lower_column (inside s (record { tables = record { name = name; table = at; slot = 1; shared = [] } ∷ []; shown = columns }) false) _ name0 at i t c b (budget) is0 find0 read0 enough0) (alone_is c)) typed
-
--- SELECT of some columns of one table, ORDER BY two columns
-pub ordered_by_two : (text : List ℕ) {names : List Name} {start end tail : ℕ} {sel : written_select.Select} → first text ≡ Ok (record { statement = written.Select sel; names = names; formats = []; start = start; end = end; tail = tail })
-    → {x y : Sort} → (out-Select sel).order ≡ x ∷ y ∷ [] → {source : From} → (out-Core (out-Select sel).first).from ≡ source ∷ []
-    → (s : Schema) (name : Name) (at : ℕ) (table : Table) (columns : List Output) (filter : List Term) (name0 name1 : Name) (i j : ℕ) (t u : Term) (b c d : Option Collation) (page : Term × Term) (s1 s2 : State) (budget : ℕ) (q : Program)
-    → IsNamed s name at table
-    → (out-Select sel).with ≡ [] → (out-Select sel).others ≡ [] → paging s sel ≡ Ok page → sources (query_to 15) s (out-Core (out-Select sel).first).from [] ≡ Ok (s, [])
-    → (out-Core (out-Select sel).first).group ≡ [] → (out-Core (out-Select sel).first).having ≡ None → (out-Core (out-Select sel).first).distinct ≡ false
-    → (out-Source source).is_left ≡ false → (out-Source source).on ≡ None → (out-Source source).using ≡ []
-    → bounds s (out-Core (out-Select sel).first).from (fresh 1 max_budget) ≡ Ok (record { name = name; table = at; slot = 1; shared = [] } ∷ [], s1)
-    → result lower (outermost s) (record { tables = record { name = name; table = at; slot = 1; shared = [] } ∷ []; shown = [] }) (out-Select sel).first s1 ≡ Ok (columns, s2)
-    → tests lower (within (outermost s) (record { tables = record { name = name; table = at; slot = 1; shared = [] } ∷ []; shown = columns }) false) [] (out-Core (out-Select sel).first).filter s2 ≡ Ok (filter, plain_state budget b)
-    → IsBare columns x → IsBare columns y → reads_below 1 t ≡ false → reads_below 1 u ≡ false
-    → out-Expr (peeled (out-Sort x).key) ≡ Expr-F.Column None name0 → out-Expr (peeled (out-Sort y).key) ≡ Expr-F.Column None name1
-    → found_in (inside s (record { tables = record { name = name; table = at; slot = 1; shared = [] } ∷ []; shown = columns }) false) None name0 ≡ Ok (found_as.Column 1 at i) → found_in (inside s (record { tables = record { name = name; table = at; slot = 1; shared = [] } ∷ []; shown = columns }) false) None name1 ≡ Ok (found_as.Column 1 at j)
-    → column_at s 1 at i ≡ Ok (t, record { collation = c; is_written = false }) → column_at s 1 at j ≡ Ok (u, record { collation = d; is_written = false })
-    → nat_lt 1 (budget) ≡ true → nat_lt 1 (budget - 1) ≡ true
-    → program s [] (record { from = chain (Inner table.tree ∷ []); filter = filter; group = None; project = map (λ o. o.term) columns; distinct = false; collations = []; order = (t, record { collation = unwrap_or c Binary; descending = (out-Sort x).descending }) ∷ (u, record { collation = unwrap_or d Binary; descending = (out-Sort y).descending }) ∷ []; limit = page.0; offset = page.1 }) ≡ Ok q
-    → Means s text (record { command = Select q (map (λ o. o.name) columns); returning = None; names = names; formats = []; start = start; end = end; tail = tail })
-ordered_by_two text {sel = sel} one by {source} from s name at table columns filter name0 name1 i j t u b c d page s1 s2 budget q known bare only paged plain no_keys every all_rows not_left on using bound shown tested bare0 bare1 low0 low1 is0 is1 find0 find1 read0 read1 enough0 enough1 typed =
-    scan_means text one s _ columns (record { steps = Inner table.tree ∷ []; filter = filter }) _ page s1 s2 (plain_state budget b) (plain_state (budget - 1 - 1) d) q bare only paged plain no_keys every all_rows bound shown
-    (matching_is (outermost s) name at 1 columns (out-Select sel).first source table filter s2 (plain_state budget b) from not_left on using known.1 tested)
-    (order_by_two (out-Select sel).order by (inside s (record { tables = record { name = name; table = at; slot = 1; shared = [] } ∷ []; shown = columns }) false) columns t u (plain_state (budget) b) (plain_state (budget - 1) c) (plain_state (budget - 1 - 1) d) (unwrap_or c Binary) (unwrap_or d Binary) bare0 bare1 low0 low1
-    (lower_column (inside s (record { tables = record { name = name; table = at; slot = 1; shared = [] } ∷ []; shown = columns }) false) _ name0 at i t c b (budget) is0 find0 read0 enough0) (lower_column (inside s (record { tables = record { name = name; table = at; slot = 1; shared = [] } ∷ []; shown = columns }) false) _ name1 at j u d c (budget - 1) is1 find1 read1 enough1) (alone_is c) (alone_is d)) typed
-
--- SELECT of some columns of one table, ORDER BY three columns
-pub ordered_by_three : (text : List ℕ) {names : List Name} {start end tail : ℕ} {sel : written_select.Select} → first text ≡ Ok (record { statement = written.Select sel; names = names; formats = []; start = start; end = end; tail = tail })
-    → {x y z : Sort} → (out-Select sel).order ≡ x ∷ y ∷ z ∷ [] → {source : From} → (out-Core (out-Select sel).first).from ≡ source ∷ []
-    → (s : Schema) (name : Name) (at : ℕ) (table : Table) (columns : List Output) (filter : List Term) (name0 name1 name2 : Name) (i j k : ℕ) (t u v : Term) (b c d e : Option Collation) (page : Term × Term) (s1 s2 : State) (budget : ℕ) (q : Program)
-    → IsNamed s name at table
-    → (out-Select sel).with ≡ [] → (out-Select sel).others ≡ [] → paging s sel ≡ Ok page → sources (query_to 15) s (out-Core (out-Select sel).first).from [] ≡ Ok (s, [])
-    → (out-Core (out-Select sel).first).group ≡ [] → (out-Core (out-Select sel).first).having ≡ None → (out-Core (out-Select sel).first).distinct ≡ false
-    → (out-Source source).is_left ≡ false → (out-Source source).on ≡ None → (out-Source source).using ≡ []
-    → bounds s (out-Core (out-Select sel).first).from (fresh 1 max_budget) ≡ Ok (record { name = name; table = at; slot = 1; shared = [] } ∷ [], s1)
-    → result lower (outermost s) (record { tables = record { name = name; table = at; slot = 1; shared = [] } ∷ []; shown = [] }) (out-Select sel).first s1 ≡ Ok (columns, s2)
-    → tests lower (within (outermost s) (record { tables = record { name = name; table = at; slot = 1; shared = [] } ∷ []; shown = columns }) false) [] (out-Core (out-Select sel).first).filter s2 ≡ Ok (filter, plain_state budget b)
-    → IsBare columns x → IsBare columns y → IsBare columns z → reads_below 1 t ≡ false → reads_below 1 u ≡ false → reads_below 1 v ≡ false
-    → out-Expr (peeled (out-Sort x).key) ≡ Expr-F.Column None name0 → out-Expr (peeled (out-Sort y).key) ≡ Expr-F.Column None name1 → out-Expr (peeled (out-Sort z).key) ≡ Expr-F.Column None name2
-    → found_in (inside s (record { tables = record { name = name; table = at; slot = 1; shared = [] } ∷ []; shown = columns }) false) None name0 ≡ Ok (found_as.Column 1 at i) → found_in (inside s (record { tables = record { name = name; table = at; slot = 1; shared = [] } ∷ []; shown = columns }) false) None name1 ≡ Ok (found_as.Column 1 at j) → found_in (inside s (record { tables = record { name = name; table = at; slot = 1; shared = [] } ∷ []; shown = columns }) false) None name2 ≡ Ok (found_as.Column 1 at k)
-    → column_at s 1 at i ≡ Ok (t, record { collation = c; is_written = false }) → column_at s 1 at j ≡ Ok (u, record { collation = d; is_written = false }) → column_at s 1 at k ≡ Ok (v, record { collation = e; is_written = false })
-    → nat_lt 1 (budget) ≡ true → nat_lt 1 (budget - 1) ≡ true → nat_lt 1 (budget - 1 - 1) ≡ true
-    → program s [] (record { from = chain (Inner table.tree ∷ []); filter = filter; group = None; project = map (λ o. o.term) columns; distinct = false; collations = []; order = (t, record { collation = unwrap_or c Binary; descending = (out-Sort x).descending }) ∷ (u, record { collation = unwrap_or d Binary; descending = (out-Sort y).descending }) ∷ (v, record { collation = unwrap_or e Binary; descending = (out-Sort z).descending }) ∷ []; limit = page.0; offset = page.1 }) ≡ Ok q
-    → Means s text (record { command = Select q (map (λ o. o.name) columns); returning = None; names = names; formats = []; start = start; end = end; tail = tail })
-ordered_by_three text {sel = sel} one by {source} from s name at table columns filter name0 name1 name2 i j k t u v b c d e page s1 s2 budget q known bare only paged plain no_keys every all_rows not_left on using bound shown tested bare0 bare1 bare2 low0 low1 low2 is0 is1 is2 find0 find1 find2 read0 read1 read2 enough0 enough1 enough2 typed =
-    scan_means text one s _ columns (record { steps = Inner table.tree ∷ []; filter = filter }) _ page s1 s2 (plain_state budget b) (plain_state (budget - 1 - 1 - 1) e) q bare only paged plain no_keys every all_rows bound shown
-    (matching_is (outermost s) name at 1 columns (out-Select sel).first source table filter s2 (plain_state budget b) from not_left on using known.1 tested)
-    (order_by_three (out-Select sel).order by (inside s (record { tables = record { name = name; table = at; slot = 1; shared = [] } ∷ []; shown = columns }) false) columns t u v (plain_state (budget) b) (plain_state (budget - 1) c) (plain_state (budget - 1 - 1) d) (plain_state (budget - 1 - 1 - 1) e) (unwrap_or c Binary) (unwrap_or d Binary) (unwrap_or e Binary) bare0 bare1 bare2 low0 low1 low2
-    (lower_column (inside s (record { tables = record { name = name; table = at; slot = 1; shared = [] } ∷ []; shown = columns }) false) _ name0 at i t c b (budget) is0 find0 read0 enough0) (lower_column (inside s (record { tables = record { name = name; table = at; slot = 1; shared = [] } ∷ []; shown = columns }) false) _ name1 at j u d c (budget - 1) is1 find1 read1 enough1) (lower_column (inside s (record { tables = record { name = name; table = at; slot = 1; shared = [] } ∷ []; shown = columns }) false) _ name2 at k v e d (budget - 1 - 1) is2 find2 read2 enough2) (alone_is c) (alone_is d) (alone_is e)) typed
 
 -- in this schema the text is this command, alone in its text, with so many parameters
 abbrev pub IsMeant : Schema → List ℕ → ℕ → Command → Type 0
