@@ -1,5 +1,5 @@
 -- What an intake knows of the bytes that it has taken, and what it tells of them.
-use Rattle.std.specs.Prelude.{List, ℕ, [], ◌++◌, ◌*◌, ◌/◌, length, take, Option, Some, None, Result, Ok, Err}
+use Rattle.std.specs.Prelude.{List, ℕ, [], ◌++◌, ◌*◌, ◌/◌, length, take, Option, Some, None, Result, Ok, Err, ⊤}
 use Rattle.sha2.specs.declared.Sha256.{Sha256}
 use Rattle.sha2.specs.Hashers.{Holds256}
 use Rattle.nar.specs.declared.error.NarError.{NarError}
@@ -7,12 +7,20 @@ use Rattle.nar.specs.declared.error.NarError.TheVariants.{Memory}
 use Rattle.nar.specs.declared.checking.Checker.{Checker}
 use Rattle.nar.specs.Checking.{HasBeenFed, HasFailed}
 use Rattle.nar.specs.Tree.{Tree}
+use Rattle.intake.specs.Contents.{contents_so_far}
 
--- The checker has taken these bytes, and wanted no memory. Of them each whole piece is hashed.
-pub record HasTaken (checker : Checker) (hasher : Sha256) (bytes : List ℕ) : Type 0 where
+-- a running digest holds these bytes, if there is one
+abbrev pub MayHold : Option Sha256 → List ℕ → Type 0
+MayHold None bytes = ⊤
+MayHold (Some hasher) bytes = Holds256 hasher bytes
+
+-- The checker has taken these bytes, and wanted no memory. Of them each whole piece is hashed, and what it has of a file's
+-- contents, where they are asked for.
+pub record HasTaken (checker : Checker) (hasher : Sha256) (contents : Option Sha256) (bytes : List ℕ) : Type 0 where
   pub fed : HasBeenFed checker bytes
   pub sound : ¬ HasFailed checker Memory
   pub hashed : Holds256 hasher (take (65536 * (length bytes / 65536)) bytes)
+  pub contents_hashed : MayHold contents (contents_so_far (take (65536 * (length bytes / 65536)) bytes))
 
 -- the bytes and a piece behind them; nothing where the intake is spent
 abbrev pub appended : Option (List ℕ) → List ℕ → Option (List ℕ)

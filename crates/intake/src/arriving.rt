@@ -9,7 +9,7 @@ ghost use Rattle.paths.specs.Facts.{facts_of};
 ghost use Rattle.intake.specs.Arriving.{HasTaken, fault_of};
 ghost use Rattle.intake.specs.Told.{IsTold};
 
-use crate::digests::{SIZE, hash_pieces, plain_hash};
+use crate::digests::{SIZE, contents_up_to, finalized, hash_asked, hash_pieces, plain_hash};
 use nar::{Checker, NarError, Pieces};
 use paths::Facts;
 use sha2::{Digest, Sha256};
@@ -23,30 +23,34 @@ pub struct Arrived {
     pub fault: Option<NarError>,
     /// Their SHA-256 digest.
     pub nar_hash: [u8; 32],
+    /// That of the contents which they begin with as the archive of a file that isn't executable, where it was asked for.
+    pub contents_hash: Option<[u8; 32]>,
     /// The bytes themselves.
     pub pieces: Pieces,
 }
 
 impl Arrived {
-    /// What is told of the bytes for a content address. Where they are the archive of a file that isn't executable, its
-    /// contents are hashed here: only the address of a text asks for them.
+    /// What is told of the bytes for a content address. Where they are the archive of a file that isn't executable, and
+    /// the digest of its contents wasn't asked for, these are hashed here.
     pub fn facts(&self) -> Facts
         ensures { IsTold self.now → result ≡ facts_of self.now.pieces }
     {
         Facts {
             nar_hash: self.nar_hash,
             nar_size: self.pieces.len() as u64,
-            plain: plain_hash(self.fault, &self.pieces),
+            plain: plain_hash(self.fault, self.contents_hash, &self.pieces),
         }
     }
 }
 
-/// The bytes so far; contracts see them. Each is checked as it comes, hashed with its piece, and then only kept.
+/// The bytes so far; contracts see them. Each is checked as it comes, hashed with its piece, and then only kept. The
+/// contents of a file are hashed too where that is asked for.
 #[derive(Drop)]
 pub struct Arriving {
     alloc: Global,
     checker: Checker,
     hasher: Sha256,
+    contents: Option<Sha256>,
     pieces: Pieces,
 }
 
@@ -58,7 +62,7 @@ impl Model for Arriving {
 
     ghost view = { λ a. a.pieces };
 
-    ghost invariant = { λ a. HasTaken a.checker a.hasher a.pieces };
+    ghost invariant = { λ a. HasTaken a.checker a.hasher a.contents a.pieces };
 }
 
 /// Feeds a checker, of which only want of memory is told: it remembers a fault by itself.
@@ -87,16 +91,19 @@ fn fault_at_end(checker: Checker) -> Option<NarError>
 fn take_in(
     checker: &mut Checker,
     hasher: &mut Sha256,
+    contents: &mut Option<Sha256>,
     pieces: &mut Pieces,
     piece: &[u8],
 ) -> Result<(), AllocError>
     ensures pieces { OnOk result (pieces.new ≡ pieces.old ++ piece.now) }
-    ensures taken { OnOk result (HasTaken checker.old hasher.old pieces.old → HasTaken checker.new hasher.new pieces.new) }
+    ensures taken { OnOk result (HasTaken checker.old hasher.old contents.old pieces.old → HasTaken checker.new hasher.new contents.new pieces.new) }
 {
     let whole = pieces.len() / SIZE;
     pieces.push(piece)?;
     feed(checker, piece)?;
-    hash_pieces(hasher, pieces, whole, pieces.len() / SIZE);
+    let now = pieces.len() / SIZE;
+    hash_pieces(hasher, pieces, whole, now);
+    hash_asked(contents, pieces, whole, now);
     Ok(())
 }
 
@@ -109,6 +116,7 @@ impl Arriving {
             alloc,
             checker: Checker::new(alloc),
             hasher: Sha256::new(),
+            contents: None,
             pieces: Pieces::new(alloc),
         }
     }
@@ -117,12 +125,28 @@ impl Arriving {
     pub fn push(&mut self, piece: &[u8]) -> Result<(), AllocError>
         ensures { OnOk result (self.new ≡ self.old ++ piece.now) }
     {
-        match take_in(&mut self.checker, &mut self.hasher, &mut self.pieces, piece) {
+        match take_in(
+            &mut self.checker,
+            &mut self.hasher,
+            &mut self.contents,
+            &mut self.pieces,
+            piece,
+        ) {
             Ok(()) => Ok(()),
             Err(refused) => {
                 *self = Arriving::new(self.alloc);
                 Err(refused)
             }
+        }
+    }
+
+    /// From now on the contents of a file that isn't executable are hashed as they come. What has come of them is hashed
+    /// here.
+    pub fn hash_contents(&mut self)
+        ensures { self.new ≡ self.old }
+    {
+        if self.contents.is_none() {
+            self.contents = Some(contents_up_to(&self.pieces, self.pieces.len() / SIZE));
         }
     }
 
@@ -141,13 +165,17 @@ impl Arriving {
         let Arriving {
             checker,
             mut hasher,
+            mut contents,
             pieces,
             ..
         } = self;
-        hash_pieces(&mut hasher, &pieces, pieces.len() / SIZE, pieces.count());
+        let whole = pieces.len() / SIZE;
+        hash_pieces(&mut hasher, &pieces, whole, pieces.count());
+        hash_asked(&mut contents, &pieces, whole, pieces.count());
         Arrived {
             fault: fault_at_end(checker),
             nar_hash: hasher.finalize(),
+            contents_hash: finalized(contents),
             pieces,
         }
     }

@@ -1,6 +1,7 @@
 //! The digests of an archive that is held in pieces, and of the contents of its file.
 
-ghost use Rattle.std.specs.Prelude.{◌≡◌, ◌<◌, ◌≤◌, ◌*◌, ◌^◌, length, take};
+ghost use Rattle.std.specs.Prelude.{◌≡◌, ◌<◌, ◌≤◌, ◌*◌, ◌^◌, List, ℕ, IfSome, length, take};
+ghost use Rattle.sha2.specs.Sha256.{sha256};
 ghost use Rattle.nar.specs.Outcome.{outcome_of};
 ghost use Rattle.nar.specs.Tree.{IsBytes};
 ghost use Rattle.sha2.specs.Hashers.{Holds256};
@@ -8,7 +9,7 @@ ghost use Rattle.paths.specs.ContentAddress.{plain_contents};
 ghost use Rattle.paths.specs.Facts.{hash_of};
 ghost use Rattle.pieces.specs.Cut.{count_of};
 ghost use Rattle.intake.specs.Contents.{contents_so_far, hash_so_far};
-ghost use Rattle.intake.specs.Arriving.{fault_of};
+ghost use Rattle.intake.specs.Arriving.{MayHold, fault_of};
 
 use crate::contents::{begins_plain, contents_in};
 use nar::{NarError, Pieces};
@@ -40,36 +41,85 @@ fn first_of(pieces: &Pieces) -> &[u8]
     pieces.piece(0)
 }
 
-/// The running digest of the contents, once all of them are hashed.
-fn hash_contents(pieces: &Pieces) -> Sha256
+/// Hashes what the pieces from one place up to another have of the contents.
+fn hash_contents(hasher: &mut Sha256, pieces: &Pieces, from: usize, to: usize)
+    requires order { from ≤ to }
+    requires within { to ≤ count_of pieces.now }
     requires small { length pieces.now < 2 ^ 64 }
-    ensures { Holds256 result (contents_so_far pieces.now) }
+    ensures { Holds256 hasher.old (contents_so_far (take (65536 * from) pieces.now)) → Holds256 hasher.new (contents_so_far (take (65536 * to) pieces.now)) }
 {
-    let mut hasher = Sha256::new();
-    'pieces: for i in 0..pieces.count() {
+    'parts: for i in from..to {
         hasher.update(contents_in(pieces.piece(0), SIZE * i, pieces.piece(i)));
     }
+}
+
+/// The same, where contents are asked for.
+pub fn hash_asked(contents: &mut Option<Sha256>, pieces: &Pieces, from: usize, to: usize)
+    requires order { from ≤ to }
+    requires within { to ≤ count_of pieces.now }
+    requires small { length pieces.now < 2 ^ 64 }
+    ensures { MayHold contents.old (contents_so_far (take (65536 * from) pieces.now)) → MayHold contents.new (contents_so_far (take (65536 * to) pieces.now)) }
+{
+    if let Some(hasher) = contents {
+        hash_contents(hasher, pieces, from, to);
+    }
+}
+
+/// The running digest of the contents in the pieces up to a place.
+pub fn contents_up_to(pieces: &Pieces, to: usize) -> Sha256
+    requires within { to ≤ count_of pieces.now }
+    requires small { length pieces.now < 2 ^ 64 }
+    ensures { Holds256 result (contents_so_far (take (65536 * to) pieces.now)) }
+{
+    let mut hasher = Sha256::new();
+    hash_contents(&mut hasher, pieces, 0, to);
     hasher
 }
 
-/// The digest of the contents, where the bytes begin as the archive of a file that isn't executable.
-fn hash_if_plain(pieces: &Pieces) -> Option<[u8; 32]>
+/// What a running digest comes to, if there is one.
+pub fn finalized(contents: Option<Sha256>) -> Option<[u8; 32]>
+    ensures { (bytes : List ℕ) → MayHold contents bytes → IfSome result (λ h. h ≡ sha256 bytes) }
+{
+    match contents {
+        Some(hasher) => Some(hasher.finalize()),
+        None => None,
+    }
+}
+
+/// The digest of the contents, which may be known.
+fn contents_hash(known: Option<[u8; 32]>, pieces: &Pieces) -> [u8; 32]
     requires small { length pieces.now < 2 ^ 64 }
-    ensures { result ≡ hash_so_far pieces.now }
+    ensures { IfSome known (λ h. h ≡ sha256 (contents_so_far pieces.now)) → result ≡ sha256 (contents_so_far pieces.now) }
+{
+    match known {
+        Some(hash) => hash,
+        None => contents_up_to(pieces, pieces.count()).finalize(),
+    }
+}
+
+/// The same, where the bytes begin as the archive of a file that isn't executable.
+fn hash_if_plain(known: Option<[u8; 32]>, pieces: &Pieces) -> Option<[u8; 32]>
+    requires small { length pieces.now < 2 ^ 64 }
+    ensures { IfSome known (λ h. h ≡ sha256 (contents_so_far pieces.now)) → result ≡ hash_so_far pieces.now }
 {
     if !begins_plain(first_of(pieces)) {
         return None;
     }
-    Some(hash_contents(pieces).finalize())
+    Some(contents_hash(known, pieces))
 }
 
-/// The digest of the contents, where the bytes, whose fault is known, are the archive of a file that isn't executable.
-pub fn plain_hash(fault: Option<NarError>, pieces: &Pieces) -> Option<[u8; 32]>
+/// The digest of the contents, which may be known, where the bytes, whose fault is known, are the archive of a file that
+/// isn't executable.
+pub fn plain_hash(
+    fault: Option<NarError>,
+    known: Option<[u8; 32]>,
+    pieces: &Pieces,
+) -> Option<[u8; 32]>
     requires small { length pieces.now < 2 ^ 64 }
-    ensures { IsBytes pieces.now → fault ≡ fault_of (outcome_of pieces.now) → result ≡ hash_of (plain_contents (outcome_of pieces.now)) }
+    ensures { IsBytes pieces.now → fault ≡ fault_of (outcome_of pieces.now) → IfSome known (λ h. h ≡ sha256 (contents_so_far pieces.now)) → result ≡ hash_of (plain_contents (outcome_of pieces.now)) }
 {
     match fault {
         Some(_) => None,
-        None => hash_if_plain(pieces),
+        None => hash_if_plain(known, pieces),
     }
 }

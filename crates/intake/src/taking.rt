@@ -77,6 +77,16 @@ impl Intake {
         Ok(())
     }
 
+    /// From now on the contents of a file that isn't executable are hashed as they come, for who knows that the address
+    /// of a text will ask for them. So `Arrived::facts` looks at no byte again.
+    pub fn hash_contents(&mut self)
+        ensures { self.new ≡ self.old }
+    {
+        if let Some(arriving) = &mut self.so_far {
+            arriving.hash_contents();
+        }
+    }
+
     /// What has come are bytes: a law, that does nothing.
     pub fn are_bytes(&self)
         ensures { IsBytes (bytes_in self.now) }

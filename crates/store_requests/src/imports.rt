@@ -76,11 +76,7 @@ pub fn prepare_import(
         ca,
         nar,
     } = import;
-    let Arrived {
-        fault: _fault,
-        nar_hash: _told,
-        pieces,
-    } = nar;
+    let Arrived { pieces, .. } = nar;
     let object = summary(alloc, pieces.len(), nar_hash, refs, deriver, ca, outputs)?;
     Ok(Added {
         path,

@@ -1,27 +1,25 @@
-use Rattle.std.proofs.Common.{◌≡◌, ◌++◌, ◌*◌, ◌/◌, length, length-append, take, ap, subst, sym, ◌∙◌, arith}
+use Rattle.std.proofs.Common.{◌≡◌, ◌++◌, length, length-append, ap, arith}
 use Rattle.sha2.specs.Hashers.{Holds256}
-use Rattle.intake.proofs.Hashing.{with_more}
+use Rattle.intake.specs.Arriving.{MayHold}
+use Rattle.intake.specs.Contents.{contents_so_far}
+use Rattle.intake.proofs.Hashing.{with_more, renamed}
 use Rattle.intake.proofs.arriving.take_in.Goals as goal
 
 pub hash_pieces-requires-clause-order : goal.hash_pieces-requires-clause-order
 hash_pieces-requires-clause-order c =
-    omega (arith, c.len.ensures, c.len-whole.ensures, ap length c.in_ok-push.ensures.ok, length-append c.args.pieces.now c.args.piece.now)
+    omega (arith, c.len-now.ensures, c.len-whole.ensures, ap length c.in_ok-push.ensures.ok, length-append c.args.pieces.now c.args.piece.now)
 
 pub returns-clause-taken : goal.returns-clause-taken
 returns-clause-taken c = λ has.
     let bytes = c.args.pieces.now in
-    let all = bytes ++ c.args.piece.now in
-    let is : c.push.new.self ≡ all = c.in_ok-push.ensures.ok in
-    let whole : c.len-whole.result / 65536 ≡ length bytes / 65536 = ap (λ n. n / 65536) c.len-whole.ensures in
-    let count : c.len.result / 65536 ≡ length all / 65536 = ap (λ n. n / 65536) (c.len.ensures ∙ ap length is) in
-    let before : Holds256 c.args.hasher.now (take (65536 * (c.len-whole.result / 65536)) c.push.new.self) =
-    subst (λ b. Holds256 c.args.hasher.now (take (65536 * (c.len-whole.result / 65536)) b)) (sym is)
-    (subst (λ n. Holds256 c.args.hasher.now (take (65536 * n) all)) (sym whole) (with_more c.args.hasher.now (length bytes / 65536) bytes c.args.piece.now (omega arith) has.hashed)) in
-    let hashed : Holds256 c.hash_pieces.new.hasher (take (65536 * (length all / 65536)) all) =
-    subst (λ n. Holds256 c.hash_pieces.new.hasher (take (65536 * n) all)) count
-    (subst (λ b. Holds256 c.hash_pieces.new.hasher (take (65536 * (c.len.result / 65536)) b)) is (c.hash_pieces.ensures before)) in
+    let piece = c.args.piece.now in
+    let all = c.push.new.self in
+    let is : all ≡ bytes ++ piece = c.in_ok-push.ensures.ok in
+    let before = with_more (Holds256 c.args.hasher.now) bytes piece all c.len-whole.result is c.len-whole.ensures has.hashed in
+    let contents_before = with_more (λ b. MayHold c.args.contents.now (contents_so_far b)) bytes piece all c.len-whole.result is c.len-whole.ensures has.contents_hashed in
     rw is (record {
       fed = c.feed.ensures.fed bytes has.fed;
       sound = c.in_ok-feed.ensures.sound;
-      hashed = hashed;
+      hashed = renamed (Holds256 c.hash_pieces.new.hasher) (bytes ++ piece) all c.len-now.result is c.len-now.ensures (c.hash_pieces.ensures before);
+      contents_hashed = renamed (λ b. MayHold c.hash_asked.new.contents (contents_so_far b)) (bytes ++ piece) all c.len-now.result is c.len-now.ensures (c.hash_asked.ensures contents_before);
     })

@@ -4,5 +4,5 @@ use Rattle.intake.specs.Contents.{contents_so_far}
 use Rattle.intake.proofs.digests.hash_contents.Given as goal
 
 -- the contents in the pieces before this one are hashed
-abbrev pub invariant-pieces : goal.invariant-pieces
-invariant-pieces l = Holds256 l.hasher (contents_so_far (take (65536 * l.i) l.pieces))
+abbrev pub invariant-parts : goal.invariant-parts
+invariant-parts l = Holds256 l.fn.hasher (contents_so_far (take (65536 * l.from) l.pieces)) → Holds256 l.hasher (contents_so_far (take (65536 * l.i) l.pieces))
