@@ -7,12 +7,14 @@ use bodies::Front;
 use intake::Intake;
 use std::alloc::{AllocError, Global};
 use std::marker::Model;
+use std::str;
 
 /// The front of a body, and the archive behind it, which is checked and hashed as it comes. Contracts see all bytes.
 #[derive(Drop)]
 pub(crate) struct Parted {
     front: Front,
     archive: Intake,
+    has_begun: bool,
 }
 
 impl Model for Parted {
@@ -27,6 +29,29 @@ impl Model for Parted {
     ghost invariant = { λ parted. front_of (parted.front ++ bytes_in parted.archive) ≡ parted.front };
 }
 
+/// Whether a front names the address of a text, which asks for the contents of the archive. No answer hangs on it: where
+/// it isn't seen here, they are hashed once that address is tested.
+fn names_text_address(front: &[u8]) -> bool {
+    match str::from_utf8(front) {
+        Ok(text) => text.starts_with("ca: text:") || text.contains("\nca: text:"),
+        Err(_) => false,
+    }
+}
+
+/// Before the first bytes of the archive come: contents that will be asked for are hashed as they come. Gives whether
+/// the archive has begun.
+fn begin(has_begun: bool, front: &[u8], rest: &[u8], archive: &mut Intake) -> bool
+    ensures { archive.new ≡ archive.old }
+{
+    if has_begun || rest.is_empty() {
+        return has_begun;
+    }
+    if names_text_address(front) {
+        archive.hash_contents();
+    }
+    true
+}
+
 impl Parted {
     /// No bytes yet. It takes no memory.
     pub(crate) fn new(alloc: Global) -> Parted
@@ -35,6 +60,7 @@ impl Parted {
         Parted {
             front: Front::new(alloc),
             archive: Intake::new(alloc),
+            has_begun: false,
         }
     }
 
@@ -43,6 +69,7 @@ impl Parted {
         ensures { OnOk result (self.new ≡ self.old ++ piece.now) }
     {
         let rest = self.front.take(piece)?;
+        self.has_begun = begin(self.has_begun, self.front.bytes(), rest, &mut self.archive);
         self.archive.push(rest)?;
         Ok(())
     }

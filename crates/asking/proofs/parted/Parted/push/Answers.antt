@@ -1,4 +1,5 @@
-use Rattle.std.proofs.Common.{◌++◌, ap, ◌∙◌}
+use Rattle.std.proofs.Common.{◌≡◌, ◌++◌, IsSome, subst, ap, ◌∙◌}
+use Rattle.intake.specs.Arriving.{appended}
 use Rattle.asking.proofs.Parting.{more_parted, more_bytes, spent_parted}
 use Rattle.asking.proofs.parted.Parted.push.Goals as goal
 
@@ -9,12 +10,16 @@ invariant_of-self-in_err-push c =
 pub invariant_of-self-2 : goal.invariant_of-self-2
 invariant_of-self-2 c =
     let old = c.self.inside in
-    more_parted old.front c.args.piece.now c.take.new.self c.in_ok-rest.rest.now old.archive c.push.new.self
-    c.self.invariant c.in_ok-rest.ensures.front c.in_ok-rest.ensures.rest c.in_ok-push.ensures.ok.0 c.in_ok-push.ensures.ok.1
+    let rest = c.in_ok-rest.rest.now in
+    let sent = subst (λ i. (c.push.new.self ≡ appended i rest) × IsSome i) c.begin-self-inside.ensures c.in_ok-push.ensures.ok in
+    more_parted old.front c.args.piece.now c.take.new.self rest old.archive c.push.new.self
+    c.self.invariant c.in_ok-rest.ensures.front c.in_ok-rest.ensures.rest sent.0 sent.1
 
 pub returns : goal.returns
 returns c =
     let old = c.self.inside in
-    more_bytes old.front c.args.piece.now c.take.new.self c.in_ok-rest.rest.now old.archive c.push.new.self
-    c.self.invariant c.in_ok-rest.ensures.front c.in_ok-rest.ensures.rest c.in_ok-push.ensures.ok.0 c.in_ok-push.ensures.ok.1
+    let rest = c.in_ok-rest.rest.now in
+    let sent = subst (λ i. (c.push.new.self ≡ appended i rest) × IsSome i) c.begin-self-inside.ensures c.in_ok-push.ensures.ok in
+    more_bytes old.front c.args.piece.now c.take.new.self rest old.archive c.push.new.self
+    c.self.invariant c.in_ok-rest.ensures.front c.in_ok-rest.ensures.rest sent.0 sent.1
     ∙ ap (λ t. t ++ c.args.piece.now) c.self.view_is
