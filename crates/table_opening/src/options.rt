@@ -18,8 +18,8 @@ const PAGE_SIZE: u64 = 4096;
 /// How many pages are kept in any case: 8 MiB.
 const LEAST_PAGES: u64 = 2000;
 
-/// How many pages are kept at most: 32 MiB.
-const MOST_PAGES: u64 = 8192;
+/// How many pages are kept at most: 64 MiB.
+const MOST_PAGES: u64 = 16384;
 
 /// How many pages a file may grow by before two of them share a place.
 const ROOM: u64 = 256;
@@ -30,8 +30,8 @@ const CHECKPOINT_FRAMES: usize = 1000;
 /// How many pages of a file of this length are kept: all of them where that is within the bounds.
 fn kept_pages(len: u64) -> usize
     ensures least { 2000 ≤ result }
-    ensures most { result ≤ 8192 }
-    ensures all { len / 4096 + 256 ≤ 8192 → len / 4096 + 256 ≤ result }
+    ensures most { result ≤ 16384 }
+    ensures all { len / 4096 + 256 ≤ 16384 → len / 4096 + 256 ≤ result }
 {
     let pages = len / PAGE_SIZE + ROOM;
     let kept = if pages <= MOST_PAGES {
@@ -57,7 +57,7 @@ fn length_of(rt: &HostRuntime, path: &str) -> u64 {
 /// The system gives no random number.
 pub fn options(rt: &HostRuntime, path: &str) -> Result<Options, Error>
     ensures least { IfOk result (λ it. 2000 ≤ it.cache_pages) }
-    ensures most { IfOk result (λ it. it.cache_pages ≤ 8192) }
+    ensures most { IfOk result (λ it. it.cache_pages ≤ 16384) }
     ensures log { IfOk result (λ it. it.checkpoint_frames ≡ 1000) }
     ensures cause { IfErr result (λ e. e ≡ Error.SqliteFailure ErrorCode.CannotOpen) }
 {
