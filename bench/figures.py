@@ -55,6 +55,13 @@ def opened(path):
     return conn
 
 
+def drop_pages(path):
+    """Has the kernel drop its copies of a file's pages, as nixkeep does of its own file whenever it opens it."""
+    with open(path, "rb") as file:
+        os.fsync(file.fileno())
+        os.posix_fadvise(file.fileno(), 0, 0, os.POSIX_FADV_DONTNEED)
+
+
 def insert(conn, name, nar, digest):
     """Puts an object: the first part of its archive in its row, the rest in pieces."""
     conn.execute("INSERT INTO object (base, nar, hash) VALUES (?1, ?2, ?3)", (name, nar[:PART], digest))
