@@ -51,7 +51,7 @@ module _ {S : Type 0} (g : Ghosts S) (path : Path) (o : Outlined) (k : Kept S) w
     dir = refl;
     world = λ w t. (refl, subst (λ (v : World). Tells g k v) (sym (ap (λ b. if b then w else put nar w) (valid_told true e w t))) t);
     unrefused = λ h. h;
-    lasts = λ _. lasts_still (state g k.connection);
+    lasts = λ _. lasts_still g k;
     survives = λ w t. survives_still (state g k.connection) _;
   }
 
@@ -70,12 +70,13 @@ module _ {S : Type 0} (g : Ghosts S) (path : Path) (o : Outlined) (k : Kept S) w
             subst (λ (v : World). Survives (state g k.connection) (state g new.connection) (λ db. LeavesWorld k.dir (state g k.connection).now db v)) (sym (grown w t)) (left w t)
 
         -- it was put
-        pub added_new : ((w : World) → Tells g k w → Tells g new (put read w)) → (IsTrue (state g new.connection).is_open → IsDurable (state g new.connection)) → IsAdded g (it nar) (Ok (Placed path)) k new
-        added_new told durable = record {
+        pub added_new : ((w : World) → Tells g k w → Tells g new (put read w)) → (IsTrue (state g new.connection).is_open → IsDurable (state g new.connection))
+            → (HasCleanDisk (state g new.connection) → IsTrue (state g k.connection).is_open × IsTrue (state g new.connection).is_open) → IsAdded g (it nar) (Ok (Placed path)) k new
+        added_new told durable was_open = record {
           dir = dir;
           world = λ w t. (refl, subst (λ (v : World). Tells g new v) (sym (grown w t)) (told w t));
           unrefused = λ h. h;
-          lasts = λ _ clean is_open. inl (durable is_open);
+          lasts = λ _ clean. let is_open = (was_open clean).1 in inl (is_open, durable is_open);
           survives = survives_put;
         }
 

@@ -5,7 +5,7 @@ use Rattle.std.specs.Cmp.Lexicographic.{nat_list_cmp_total}
 use Rattle.std.specs.FinMap as finite
 use Rattle.std.proofs.lemmas.Bool.{false≢true}
 use Rattle.sqlite_trees.specs.declared.store.Store.{Ghosts}
-use Rattle.sqlite.specs.State.{Survives}
+use Rattle.sqlite.specs.State.{HasCleanDisk, Survives}
 use Rattle.sqlite.specs.Held.{state}
 use Rattle.table_statements.specs.Calls.{IsDurable}
 use Rattle.table_statements.specs.declared.failure.Failure.{Failure}
@@ -46,7 +46,7 @@ module _ {S : Type 0} (g : Ghosts S) (s : Settings) (c : Caller) (q : Request) (
         let r = removes w t.outline in
         (w, (r.passes, λ _. seen ∙ r.answers, sym (ap (λ (m : Objects). record w { objects = m }) (none_gone w.objects)) ∙ ap (without w) (sym none) ∙ r.becomes), t);
     still = λ h. absurd h;
-    lasts = λ _. lasts_still (state g k.connection);
+    lasts = λ _. lasts_still g k;
     survives = λ w t. survives_still (state g k.connection) _;
   }
 
@@ -57,6 +57,7 @@ module _ {S : Type 0} (g : Ghosts S) (s : Settings) (c : Caller) (q : Request) (
       → OnOk r ((w : World) → Tells g k w → Tells g new (without w handed))
       → OnErr r ((w : World) → Tells g k w → Tells g new w)
       → OnOk r (IsTrue (state g new.connection).is_open → IsDurable (state g new.connection))
+      → (HasCleanDisk (state g new.connection) → OnOk r (IsTrue (state g k.connection).is_open × IsTrue (state g new.connection).is_open))
       → IsMet g s c q (answered r a) k new
   met_by_removing new handed same dir left =
       met_by_writing g s c q k new (λ w. without w handed) a (λ w is. (removes w is).passes) (λ w is. seen ∙ (removes w is).answers) (λ w is. ap (without w) same ∙ (removes w is).becomes) dir left

@@ -37,8 +37,8 @@ survives_as s t P Q less h = record {
   crash = λ clean db left. elim (h.crash clean db left) [ inl was ↦ inl was | inr is ↦ inr (less db is) ];
 }
 
-pub lasts_still : (s : State) → Lasts s s
-lasts_still s clean is_open = inr (refl, λ h. h)
+pub lasts_still : {S : Type 0} (g : Ghosts S) (k : Kept S) → Lasts g k k
+lasts_still g k clean = inr (record { told = λ w t. t; same = λ _. refl; durable = λ _ h. h })
 
 -- an answer that is right is so over any disk
 pub over : (is_clean : Type 0) (s : Settings) (w : World) (c : Caller) (q : Request) (r : Result Answer Stop) (next : World) → Meets s w c q r next → MeetsOver is_clean s w c q r next
@@ -52,7 +52,7 @@ module _ {S : Type 0} (g : Ghosts S) where
     dir = refl;
     world = λ w t. (w, over _ s w c q r w (h w (t.outline ∙ sym same)), t);
     still = λ _. refl;
-    lasts = λ _. lasts_still (state g k.connection);
+    lasts = λ _. lasts_still g k;
     survives = λ w t. survives_still (state g k.connection) _;
   }
 

@@ -2,7 +2,7 @@
 use Rattle.std.proofs.Common.{◌≡◌, None, Result, Ok, Err, refl, sym, subst, inl, IsTrue}
 use Rattle.std.specs.Prelude.{OnOk, OnErr}
 use Rattle.sqlite_trees.specs.declared.store.Store.{Ghosts}
-use Rattle.sqlite.specs.State.{Survives}
+use Rattle.sqlite.specs.State.{HasCleanDisk, Survives}
 use Rattle.sqlite.specs.Held.{state}
 use Rattle.table_statements.specs.Calls.{IsDurable}
 use Rattle.table_statements.specs.declared.failure.Failure.{Failure}
@@ -52,15 +52,16 @@ module _ {S : Type 0} (g : Ghosts S) (s : Settings) (c : Caller) (q : Request) (
           → OnOk r ((w : World) → Tells g k w → Tells g new (F w))
           → OnErr r ((w : World) → Tells g k w → Tells g new w)
           → OnOk r (IsTrue (state g new.connection).is_open → IsDurable (state g new.connection))
+          → (HasCleanDisk (state g new.connection) → OnOk r (IsTrue (state g k.connection).is_open × IsTrue (state g new.connection).is_open))
           → IsMet g s c q (answered r a) k new
-      met_by_writing (Ok u) told failed durable = record {
+      met_by_writing (Ok u) told failed durable was_open = record {
         dir = dir;
         world = λ w t. (effect s w q, (passes w t.outline, λ _. answers w t.outline, refl), subst (λ (v : World). Tells g new v) (becomes w t.outline) (told w t));
         still = λ h. absurd h;
-        lasts = λ _ clean is_open. inl (durable is_open);
+        lasts = λ _ clean. let is_open = (was_open clean).1 in inl (is_open, durable is_open);
         survives = left_so;
       }
-      met_by_writing (Err f) told failed durable = record {
+      met_by_writing (Err f) told failed durable was_open = record {
         dir = dir;
         world = λ w t. (w, refl, failed w t);
         still = λ h. absurd h;

@@ -26,6 +26,6 @@ module _ {S : Type 0} (g : Ghosts S) where
     pub dir : new.dir ≡ old.dir
     pub world : (w : World) → Tells g old w → Adds a r w new
     pub unrefused : IsRefused r → ⊥
-    pub lasts : IsAnswered r → Lasts (state g old.connection) (state g new.connection)
+    pub lasts : IsAnswered r → Lasts g old new
     pub survives : (w : World) → Tells g old w → Survives (state g old.connection) (state g new.connection)
         (λ db. LeavesWorld old.dir (state g old.connection).now db (with_object w a))

@@ -49,7 +49,7 @@ module _ {S : Type 0} (g : Ghosts S) where
     -- a refusal leaves them as they were
     pub still : IsRefused r → new ≡ old
     -- what is done outlives a crash
-    pub lasts : IsAnswered r → Lasts (state g old.connection) (state g new.connection)
+    pub lasts : IsAnswered r → Lasts g old new
     -- a crash leaves what it could leave before, or what is done where no test fails
     pub survives : (w : World) → Tells g old w → Survives (state g old.connection) (state g new.connection)
         (λ db. LeavesPassed old.dir (state g old.connection).now db s w q)
@@ -58,5 +58,5 @@ module _ {S : Type 0} (g : Ghosts S) where
   pub record OnlyReads (old new : Kept S) : Type 0 where
     pub dir : new.dir ≡ old.dir
     pub told : (w : World) → Tells g old w → Tells g new w
-    pub lasts : Lasts (state g old.connection) (state g new.connection)
+    pub lasts : Lasts g old new
     pub survives : Survives (state g old.connection) (state g new.connection) (λ _. ⊥)

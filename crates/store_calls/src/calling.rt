@@ -126,7 +126,7 @@ impl<S: Alter> Store<S> {
         ensures step { (w : World) → Tells S.Store self.old.tables w
             → (next : World) × StepOver (HasCleanDisk (state S.Store self.new.tables.connection)) self.old.settings w caller.now (request_view request) (reply_view result) next × Tells S.Store self.new.tables next }
         ensures still { IsStill (reply_view result) → self.new ≡ self.old }
-        ensures lasts { IsDone (reply_view result) → Lasts (state S.Store self.old.tables.connection) (state S.Store self.new.tables.connection) }
+        ensures lasts { IsDone (reply_view result) → Lasts S.Store self.old.tables self.new.tables }
         // At any exit a crash leaves what it could leave before, or the tables of the done case; where a rule denies the request
         // or a test of it fails there is none.
         ensures survives { (w : World) → Tells S.Store self.old.tables w → Survives (state S.Store self.old.tables.connection) (state S.Store self.new.tables.connection)

@@ -22,7 +22,7 @@ module _ {S : Type 0} (g : Ghosts S) where
     -- a denial or a refusal leaves the store as it was
     pub still : IsStill reply → new ≡ old
     -- what is done outlives a crash
-    pub lasts : IsDone reply → Lasts (state g old.tables.connection) (state g new.tables.connection)
+    pub lasts : IsDone reply → Lasts g old.tables new.tables
     -- at any exit a crash leaves what it could leave before, or the tables of the done case, if there is one
     pub survives : (w : World) → Tells g old.tables w → Survives (state g old.tables.connection) (state g new.tables.connection)
         (λ db. LeavesDone old.tables.dir (state g old.tables.connection).now db old.settings w c q)

@@ -18,7 +18,7 @@ pub returns-in-Ok : goal.returns-in-Ok
 returns-in-Ok g c =
     added_new g.S.Store c.args.added.path c.args.added.object c.args.tables.now c.args.added.nar c.args.added.nar refl
     (ap (λ (x : Outline). finite.contains_key x.objects c.args.added.path) (sym c.index.ensures) ∙ sym c.has.ensures ∙ c.if-has.false)
-    c.insert_object.new.self c.insert_object.ensures.dir c.insert_object.ensures.survives c.in-Ok.ensures.done c.in-Ok.ensures.durable
+    c.insert_object.new.self c.insert_object.ensures.dir c.insert_object.ensures.survives c.in-Ok.ensures.done c.in-Ok.ensures.durable c.in-Ok.ensures.was_open
 
 pub returns-in-Err : goal.returns-in-Err
 returns-in-Err g c =

@@ -22,7 +22,7 @@ returns-in-Ok g c s caller =
     (met_by_writing g.S.Store s caller (drop_permanent name) c.args.tables.now c.drop_permanent.new.self (λ w. without_permanent w c.as_str-text.result.now) Changed
     (λ w is. subst (λ (n : List ℕ). refusal s w (drop_permanent n) ≡ None) same (c.in-Ok.ensures s w (is ∙ sym c.index.ensures)))
     (λ w is. refl) (λ w is. ap (λ (n : List ℕ). without_permanent w n) same)
-    c.drop_permanent.ensures.dir c.drop_permanent.ensures.survives c.drop_permanent.result c.drop_permanent.ensures.done c.drop_permanent.ensures.failed c.drop_permanent.ensures.durable)
+    c.drop_permanent.ensures.dir c.drop_permanent.ensures.survives c.drop_permanent.result c.drop_permanent.ensures.done c.drop_permanent.ensures.failed c.drop_permanent.ensures.durable c.drop_permanent.ensures.was_open)
 
 pub returns : goal.returns
 returns g c s caller =

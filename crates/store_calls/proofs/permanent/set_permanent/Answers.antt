@@ -25,7 +25,7 @@ returns-in-Ok g c s caller =
     (met_by_writing g.S.Store s caller (set_permanent name path) c.args.tables.now c.put_permanent.new.self (λ w. with_permanent w c.as_str-text.result.now path) Changed
     (λ w is. subst (λ (n : List ℕ). refusal s w (set_permanent n path) ≡ None) same (c.in-Ok.ensures s w (is ∙ sym c.index.ensures)))
     (λ w is. refl) (λ w is. ap (λ (n : List ℕ). with_permanent w n path) same)
-    c.put_permanent.ensures.dir c.put_permanent.ensures.survives c.put_permanent.result c.put_permanent.ensures.done c.put_permanent.ensures.failed c.put_permanent.ensures.durable)
+    c.put_permanent.ensures.dir c.put_permanent.ensures.survives c.put_permanent.result c.put_permanent.ensures.done c.put_permanent.ensures.failed c.put_permanent.ensures.durable c.put_permanent.ensures.was_open)
 
 pub returns : goal.returns
 returns g c s caller =

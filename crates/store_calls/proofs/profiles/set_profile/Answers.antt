@@ -41,7 +41,7 @@ returns-in-Ok g c s caller =
     (λ w is. (c.in-Ok.ensures.told s w (is ∙ sym c.index.ensures)).0)
     (λ w is. ap generation (c.in-Ok.ensures.told s w (is ∙ sym c.index.ensures)).1)
     (λ w is. changed_as owner name c.as_str.result.now c.as_str-in-Ok.result.now c.as_str.ensures.value c.as_str-in-Ok.ensures.value (λ p. set_to p c.args.path) w)
-    c.put_profile.ensures.dir c.put_profile.ensures.survives c.put_profile.result c.put_profile.ensures.done c.put_profile.ensures.failed c.put_profile.ensures.durable)
+    c.put_profile.ensures.dir c.put_profile.ensures.survives c.put_profile.result c.put_profile.ensures.done c.put_profile.ensures.failed c.put_profile.ensures.durable c.put_profile.ensures.was_open)
 
 pub returns : goal.returns
 returns g c s caller =

@@ -38,7 +38,7 @@ returns-in-Ok g c s caller =
     (λ w is. c.in-Ok.ensures.told s w (is ∙ sym c.index.ensures))
     (λ w is. refl)
     (λ w is. changed_as owner name c.as_str.result.now c.as_str-in-Ok.result.now c.as_str.ensures.value c.as_str-in-Ok.ensures.value (λ p. switched p c.args.number) w)
-    c.switch_generation.ensures.dir c.switch_generation.ensures.survives c.switch_generation.result c.switch_generation.ensures.done c.switch_generation.ensures.failed c.switch_generation.ensures.durable)
+    c.switch_generation.ensures.dir c.switch_generation.ensures.survives c.switch_generation.result c.switch_generation.ensures.done c.switch_generation.ensures.failed c.switch_generation.ensures.durable c.switch_generation.ensures.was_open)
 
 pub returns : goal.returns
 returns g c s caller =

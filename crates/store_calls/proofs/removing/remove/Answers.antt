@@ -28,4 +28,4 @@ returns g c s caller q removes =
     let gone = c.args.gone in
     subst (λ (r : Result Answer Stop). IsMet g.S.Store s caller q r c.args.tables.now c.remove_objects.new.self) (sym c.answered.ensures)
     (met_by_removing g.S.Store s caller q c.args.tables.now gone.paths.items gone.bytes (Freed gone.paths gone.bytes) refl removes c.remove_objects.new.self c.deref-2.result.now c.deref-2.ensures.value
-    c.remove_objects.ensures.dir c.remove_objects.ensures.survives c.remove_objects.result c.remove_objects.ensures.done c.remove_objects.ensures.failed c.remove_objects.ensures.durable)
+    c.remove_objects.ensures.dir c.remove_objects.ensures.survives c.remove_objects.result c.remove_objects.ensures.done c.remove_objects.ensures.failed c.remove_objects.ensures.durable c.remove_objects.ensures.was_open)

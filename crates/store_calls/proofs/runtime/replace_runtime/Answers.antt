@@ -32,7 +32,7 @@ returns-in-Ok g c s caller =
     (λ w is. (c.in-Ok.ensures s w (is ∙ sym c.index.ensures)).0)
     (λ w is. ap runtime_count (c.count_of-count.ensures ∙ ap (λ (m : Set pair_cmp). finite.len m) (c.in-Ok.ensures s w (is ∙ sym c.index.ensures)).1))
     (λ w is. ap (with_runtime w) (c.in-Ok.ensures s w (is ∙ sym c.index.ensures)).1)
-    c.replace_runtime.ensures.dir c.replace_runtime.ensures.survives c.replace_runtime.result c.replace_runtime.ensures.done c.replace_runtime.ensures.failed c.replace_runtime.ensures.durable)
+    c.replace_runtime.ensures.dir c.replace_runtime.ensures.survives c.replace_runtime.result c.replace_runtime.ensures.done c.replace_runtime.ensures.failed c.replace_runtime.ensures.durable c.replace_runtime.ensures.was_open)
 
 pub returns-in-Err : goal.returns-in-Err
 returns-in-Err g c s caller =

@@ -31,7 +31,7 @@ returns-in-Ok g c s caller =
     (λ w is. subst (λ (n : List ℕ). refusal s w (add_temp n session path) ≡ None) c.as_str-text.ensures.value (c.in-Ok.ensures.told s w (is ∙ sym c.index.ensures)))
     (λ w is. refl)
     (λ w is. ap₂ (λ (o : List ℕ) (n : ℕ). with_temporary w (record { owner = o; session = n; path = path })) c.as_str-text.ensures.value c.in-Ok.ensures.number)
-    c.add_temp.ensures.dir c.add_temp.ensures.survives c.add_temp.result c.add_temp.ensures.done c.add_temp.ensures.failed c.add_temp.ensures.durable)
+    c.add_temp.ensures.dir c.add_temp.ensures.survives c.add_temp.result c.add_temp.ensures.done c.add_temp.ensures.failed c.add_temp.ensures.durable c.add_temp.ensures.was_open)
 
 pub returns : goal.returns
 returns g c s caller =

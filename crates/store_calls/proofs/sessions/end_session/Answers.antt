@@ -27,7 +27,7 @@ returns-in-Ok-end_session g c s caller =
     ∙ ap (λ (o : Outline). finite.len (finite.retain_keys o.temporary (is_of_session c.as_str-text.result.now c.in-Ok.number))) (sym is)
     ∙ ap₂ (λ (o : List ℕ) (n : ℕ). finite.len (finite.retain_keys w.temporary (is_of_session o n))) same numbered))
     (λ w is. ap₂ (λ (o : List ℕ) (n : ℕ). without_session w o n) same numbered)
-    c.end_session.ensures.dir c.end_session.ensures.survives (Ok tt) c.in-Ok-end_session.ensures.done tt c.in-Ok-end_session.ensures.durable
+    c.end_session.ensures.dir c.end_session.ensures.survives (Ok tt) c.in-Ok-end_session.ensures.done tt c.in-Ok-end_session.ensures.durable c.in-Ok-end_session.ensures.was_open
 
 pub returns-in-Ok : goal.returns-in-Ok
 returns-in-Ok g c s caller =
@@ -40,7 +40,7 @@ returns-in-Ok g c s caller =
     (λ w is. subst (λ (n : List ℕ). refusal s w (end_session n session) ≡ None) same (c.in-Ok.ensures.told s w))
     (λ w is. ap (λ (o : Outline). temporary_count (finite.len (finite.retain_keys o.temporary (is_of_session owner session)))) (sym is))
     (λ w is. ap₂ (λ (o : List ℕ) (n : ℕ). without_session w o n) same numbered)
-    c.end_session.ensures.dir c.end_session.ensures.survives (Err c.in-Err-end_session.failure) tt c.in-Err-end_session.ensures.failed tt
+    c.end_session.ensures.dir c.end_session.ensures.survives (Err c.in-Err-end_session.failure) tt c.in-Err-end_session.ensures.failed tt (λ _. tt)
 
 pub returns : goal.returns
 returns g c s caller =

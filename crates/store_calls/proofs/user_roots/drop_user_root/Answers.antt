@@ -21,7 +21,7 @@ returns-in-Ok g c s caller =
     (met_by_writing g.S.Store s caller (drop_user_root owner name) c.args.tables.now c.drop_user_root.new.self (λ w. without_user_root w (c.as_str.result.now, c.as_str-in-Ok.result.now)) Changed
     (λ w is. c.in-Ok.ensures s w (is ∙ sym c.index.ensures))
     (λ w is. refl) (λ w is. ap₂ (λ (o n : List ℕ). without_user_root w (o, n)) c.as_str.ensures.value c.as_str-in-Ok.ensures.value)
-    c.drop_user_root.ensures.dir c.drop_user_root.ensures.survives c.drop_user_root.result c.drop_user_root.ensures.done c.drop_user_root.ensures.failed c.drop_user_root.ensures.durable)
+    c.drop_user_root.ensures.dir c.drop_user_root.ensures.survives c.drop_user_root.result c.drop_user_root.ensures.done c.drop_user_root.ensures.failed c.drop_user_root.ensures.durable c.drop_user_root.ensures.was_open)
 
 pub returns : goal.returns
 returns g c s caller =

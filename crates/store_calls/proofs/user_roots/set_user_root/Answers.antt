@@ -30,7 +30,7 @@ returns-in-Ok g c s caller =
     (met_by_writing g.S.Store s caller (set_user_root owner name path) c.args.tables.now c.put_user_root.new.self (λ w. with_user_root w (c.as_str.result.now, c.as_str-in-Ok.result.now) path) Changed
     (λ w is. c.in-Ok.ensures s w (is ∙ sym c.index.ensures))
     (λ w is. refl) (λ w is. ap₂ (λ (o n : List ℕ). with_user_root w (o, n) path) c.as_str.ensures.value c.as_str-in-Ok.ensures.value)
-    c.put_user_root.ensures.dir c.put_user_root.ensures.survives c.put_user_root.result c.put_user_root.ensures.done c.put_user_root.ensures.failed c.put_user_root.ensures.durable)
+    c.put_user_root.ensures.dir c.put_user_root.ensures.survives c.put_user_root.result c.put_user_root.ensures.done c.put_user_root.ensures.failed c.put_user_root.ensures.durable c.put_user_root.ensures.was_open)
 
 pub returns : goal.returns
 returns g c s caller =
