@@ -8,3 +8,4 @@ pub use Rattle.table_statements.specs.Calls
 pub use Rattle.table_statements.specs.Failures
 pub mod Tables
 pub mod Opened
+pub mod Pages

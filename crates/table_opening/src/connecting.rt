@@ -46,12 +46,12 @@ pub fn connect<S: Start>(
     ensures opened { IfOk result (IsOpenedOver (image_at S.Start)) }
     ensures cause { IfErr result (λ e. Refuses e.0 e.1) }
 {
-    let files = match open_pair(rt, path, start) {
-        Ok(files) => files,
-        Err(error) => return Err((error, None)),
-    };
     let options = match options(rt, path) {
         Ok(options) => options,
+        Err(error) => return Err((error, None)),
+    };
+    let files = match open_pair(rt, path, start) {
+        Ok(files) => files,
         Err(error) => return Err((error, None)),
     };
     let new_has_sums = false;

@@ -5,21 +5,23 @@
 //! pages it reads most pages many times. With a place for each page it reads each one once. A file that is too long for
 //! that is no better off with some more places, since whoever goes through all pages in turn finds none of them again.
 
-ghost use Rattle.std.specs.Prelude.{◌≡◌, ◌≤◌, ◌+◌, ◌/◌, IfOk, IfErr};
+ghost use Rattle.std.specs.Prelude.{◌≡◌, ◌≤◌, ℕ, IfOk, IfErr};
+ghost use Rattle.table_opening.specs.Pages.{kept_pages};
 
 use sqlite::{Error, ErrorCode, Options};
-use std::fs;
+use std::fs::{self, File};
 use std::hash::{BuildHasher, RandomState};
+use std::io::{self, Read};
 use std::rt::HostRuntime;
 
-/// The bytes of a page, in a file that `sqlite` made.
-const PAGE_SIZE: u64 = 4096;
+/// The bytes of a page, in a file that `sqlite` makes.
+const NEW_PAGE: u64 = 4096;
 
-/// How many pages are kept in any case: 8 MiB.
-const LEAST_PAGES: u64 = 2000;
+/// How many bytes of pages are kept in any case: 2,000 pages of a file that `sqlite` makes.
+const LEAST_BYTES: u64 = 8_192_000;
 
-/// How many pages are kept at most: 64 MiB.
-const MOST_PAGES: u64 = 16384;
+/// How many bytes of pages are kept at most: 64 MiB.
+const MOST_BYTES: u64 = 67_108_864;
 
 /// How many pages a file may grow by before two of them share a place.
 const ROOM: u64 = 256;
@@ -27,37 +29,56 @@ const ROOM: u64 = 256;
 /// How many pages the log holds before it is copied into the file.
 const CHECKPOINT_FRAMES: usize = 1000;
 
-/// How many pages of a file of this length are kept: all of them where that is within the bounds.
-fn kept_pages(len: u64) -> usize
-    ensures least { 2000 ≤ result }
-    ensures most { result ≤ 16384 }
-    ensures all { len / 4096 + 256 ≤ 16384 → len / 4096 + 256 ≤ result }
+/// How many pages of a file of this length are kept, whose pages have so many bytes: all of them where that is within the bounds.
+fn kept_pages(len: u64, page: u64) -> usize
+    requires { 512 ≤ page }
+    ensures { result ≡ kept_pages len page }
 {
-    let pages = len / PAGE_SIZE + ROOM;
-    let kept = if pages <= MOST_PAGES {
-        pages.max(LEAST_PAGES)
+    let pages = len / page + ROOM;
+    let least = LEAST_BYTES / page;
+    let kept = if pages <= MOST_BYTES / page {
+        pages.max(least)
     } else {
-        LEAST_PAGES
+        least
     };
     kept as usize
 }
 
-/// The length of the file at a path, or 0 where it can't be told, as of one that isn't there yet.
-fn length_of(rt: &HostRuntime, path: &str) -> u64 {
-    match fs::metadata(rt, path) {
-        Ok(found) => found.len(),
-        Err(_) => 0,
+/// What the header of a file says of the bytes of a page.
+fn stated_page(file: &mut File) -> io::Result<u64> {
+    let mut head = [0; 18];
+    file.read_exact(&mut head)?;
+    Ok(u64::from(u16::from_be_bytes([head[16], head[17]])))
+}
+
+/// The length of the file at a path, and the bytes of a page. Where they can't be told, as of a file that isn't there yet, no bytes in
+/// pages of a new file. Only a regular file is opened here: a pipe would wait for a writer.
+fn measure(rt: &HostRuntime, path: &str) -> io::Result<(u64, u64)> {
+    let found = fs::metadata(rt, path)?;
+    if !found.is_file() {
+        return Ok((0, NEW_PAGE));
+    }
+    Ok((found.len(), stated_page(&mut File::open(rt, path)?)?))
+}
+
+/// As `sqlite` reads it: 1 stands for 65,536, and what is no size of a page for that of a new file.
+fn page_of(stated: u64) -> u64
+    ensures { (512 ≤ result) × (result ≤ 65536) }
+{
+    match stated {
+        1 => 65536,
+        512..=32768 => stated,
+        _ => NEW_PAGE,
     }
 }
 
-/// How a connection to the file at a path keeps its pages and its log.
+/// How a connection to the file at a path keeps its pages and its log. The file isn't open yet: to close one would let go of its locks.
 ///
 /// # Errors
 ///
 /// The system gives no random number.
 pub fn options(rt: &HostRuntime, path: &str) -> Result<Options, Error>
-    ensures least { IfOk result (λ it. 2000 ≤ it.cache_pages) }
-    ensures most { IfOk result (λ it. it.cache_pages ≤ 16384) }
+    ensures kept { IfOk result (λ it. (len : ℕ) × (page : ℕ) × (512 ≤ page) × (page ≤ 65536) × (it.cache_pages ≡ kept_pages len page)) }
     ensures log { IfOk result (λ it. it.checkpoint_frames ≡ 1000) }
     ensures cause { IfErr result (λ e. e ≡ Error.SqliteFailure ErrorCode.CannotOpen) }
 {
@@ -65,8 +86,9 @@ pub fn options(rt: &HostRuntime, path: &str) -> Result<Options, Error>
         Ok(state) => state.hash_one(&0u8),
         Err(_) => return Err(Error::SqliteFailure(ErrorCode::CannotOpen)),
     };
+    let (len, stated) = measure(rt, path).unwrap_or((0, NEW_PAGE));
     let mut options = Options::new(seed);
-    options.cache_pages = kept_pages(length_of(rt, path));
+    options.cache_pages = kept_pages(len, page_of(stated));
     options.checkpoint_frames = CHECKPOINT_FRAMES;
     Ok(options)
 }

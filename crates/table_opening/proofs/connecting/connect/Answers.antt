@@ -14,7 +14,7 @@ seen log db is_log history = (replay (cond is_log log db) history).seen
 pub returns-in-Ok-open_files_with-clause-opened : goal.returns-in-Ok-open_files_with-clause-opened
 returns-in-Ok-open_files_with-clause-opened g c = rw c.set_clock.ensures
     let here = c.in-Ok-open_files_with.ensures in
-    let (log, db) = c.in-Ok.ensures.fresh in
+    let (log, db) = c.in-Ok-open_pair.ensures.fresh in
     let same = ap₂ image (ap₂ (seen g.S.Start.log g.S.Start.db) log.0 log.1) (ap₂ (seen g.S.Start.log g.S.Start.db) db.0 db.1) in
     record {
       fresh = here.fresh;
@@ -27,4 +27,4 @@ returns-in-Ok-open_files_with-clause-opened g c = rw c.set_clock.ensures
 pub returns-in-Err-open_files_with-clause-cause : goal.returns-in-Err-open_files_with-clause-cause
 returns-in-Err-open_files_with-clause-cause g c =
     let failed = c.in-Err-open_files_with.ensures in
-    (failed.named, (c.in-Ok.files, c.in-Ok.ensures.fresh.0, c.in-Ok.ensures.fresh.1, λ clean. (failed.cause clean, failed.unharmed clean)))
+    (failed.named, (c.in-Ok-open_pair.files, c.in-Ok-open_pair.ensures.fresh.0, c.in-Ok-open_pair.ensures.fresh.1, λ clean. (failed.cause clean, failed.unharmed clean)))

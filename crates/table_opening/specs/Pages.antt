@@ -1,0 +1,10 @@
+-- How many pages of a file are kept in memory.
+use Rattle.std.specs.Prelude.{ℕ, ◌+◌, ◌/◌, nat_le, cond, max}
+
+-- all pages of a file of this length, whose pages have so many bytes, and 256 more
+abbrev pub all_pages : ℕ → ℕ → ℕ
+all_pages len page = len / page + 256
+
+-- these, where they have at most 64 MiB, and at least as many as have 8,192,000 bytes
+abbrev pub kept_pages : ℕ → ℕ → ℕ
+kept_pages len page = cond (nat_le (all_pages len page) (67108864 / page)) (max (all_pages len page) (8192000 / page)) (8192000 / page)
