@@ -9,6 +9,7 @@ import sys
 import time
 
 HERE = os.path.dirname(os.path.dirname(os.path.realpath(__file__)))
+BENCH = f"{HERE}/crates/bench"
 ROUNDS = 5
 MIB = 1_048_576
 # The bytes of an archive in its object's row, and in each piece but the last.
@@ -81,6 +82,15 @@ def filled(run, path, objects, size, references):
         conn.execute("COMMIT")
         conn.execute("PRAGMA wal_checkpoint(TRUNCATE)")
     return path
+
+
+def own_digests(path):
+    """Seconds of one SHA-256 of a file's bytes by the crate that the program uses."""
+    if not os.path.exists(f"{BENCH}/out/bench"):
+        subprocess.run(["rt", "run"], cwd=BENCH, check=True, stdin=subprocess.DEVNULL, capture_output=True)
+    with open(path, "rb") as given:
+        ran = subprocess.run([f"{BENCH}/out/bench", "arrivals", "time", "65536", str(ROUNDS)], stdin=given, capture_output=True, text=True, check=True)
+    return [int(line.split()[0]) / 1e9 for line in ran.stdout.splitlines()]
 
 
 def free_port():

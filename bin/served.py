@@ -3,9 +3,9 @@ import re
 import sys
 
 
-def message(user, method, target, body=b""):
-    head = f"{method} {target} HTTP/1.1\r\nstore-user: {user}\r\ncontent-length: {len(body)}\r\n\r\n"
-    return head.encode() + body
+def message(user, method, target, body=None):
+    length = "" if body is None else f"content-length: {len(body)}\r\n"
+    return f"{method} {target} HTTP/1.1\r\nstore-user: {user}\r\n{length}\r\n".encode() + (body or b"")
 
 
 def messages(asked):
