@@ -4,11 +4,13 @@ import hashlib
 import os
 import shutil
 import sqlite3
+import subprocess
 import sys
 import tempfile
 
 STORE = "/nix/store"
 DIGITS = "0123456789abcdfghijklmnpqrsvwxyz"
+SHELL = shutil.which("sqlite3")
 # Each table in the order in which they are made: its columns, `?` where NULL may stand, and how many make its key.
 FORMS = {
     "meta": (["word TEXT", "val TEXT"], 1),
@@ -70,7 +72,13 @@ def statements(text):
 
 
 def sqlite(path, text):
-    """Runs the statements, and returns the rows that they answer, a line for each with `|` between columns."""
+    """Runs the statements, and returns the rows that they answer, a line for each with `|` between columns: by SQLite's shell, and where it isn't
+    installed by SQLite in python."""
+    if SHELL:
+        ran = subprocess.run([SHELL, "-batch", "-bail", "-init", "/dev/null", path], input=text, capture_output=True, text=True)
+        if ran.returncode or ran.stderr:
+            differs(path, f"SQLite: {ran.stderr}: {text[:200]}")
+        return ran.stdout
     try:
         with contextlib.closing(sqlite3.connect(path, isolation_level=None)) as conn:
             rows = [row for statement in statements(text) for row in conn.execute(statement)]
