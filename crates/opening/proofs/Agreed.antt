@@ -34,9 +34,10 @@ module _ {S : Type 0} (g : Ghosts S) (conn : Held S) (db : Database) (own : List
       };
     }
 
-    pub took_over : (dir : List ℕ) → own ≡ dir → IsFoundBy three db → HasCleanDisk (state g conn) → TakesOver g dir db kept
-    took_over dir is found clean = record {
+    pub took_over : (dir : List ℕ) → own ≡ dir → IsFoundBy three db → IsTrue (state g conn).is_open → HasCleanDisk (state g conn) → TakesOver g dir db kept
+    took_over dir is found is_open clean = record {
       holds = record { tables = found.tables; readable = found.readable; sound = subst (λ (x : List ℕ). IsSoundContents x (contents_of db)) is (told clean).0 };
+      is_open = is_open;
       same = same clean;
       told = record {
         outline = (told clean).1;
@@ -50,4 +51,4 @@ module _ {S : Type 0} (g : Ghosts S) (conn : Held S) (old : State) (own : List �
     (made : HasCleanDisk (state g conn) → IsMade own old (state g conn))
   where
     pub took_new : HasNone old.now.schema → HasCleanDisk (state g conn) → TakesNew g old.now (record { connection = conn; dir = own; outline = outline })
-    took_new none clean = record { none = none; theirs = (made clean).theirs; told = made_tells g conn old own outline valid is made }
+    took_new none clean = record { none = none; is_open = (made clean).is_open; theirs = (made clean).theirs; told = made_tells g conn old own outline valid is made }

@@ -63,6 +63,7 @@ module _ {S : Type 0} (g : Ghosts S) (conn : Held S) (old : State) (schema : Sch
         let it = brought clean in
         record {
           holds = record { tables = found.tables; readable = found.readable; sound = (told clean).0 };
+          is_open = it.is_open;
           schema = it.schema;
           contents_are = it.contents_are;
           theirs = it.theirs;

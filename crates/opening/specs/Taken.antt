@@ -62,21 +62,24 @@ abbrev pub AreRead : Schema → List ℕ → Database → Outline → Type 0
 AreRead schema dir db outline = IsSoundBy schema dir (contents_of db) × (outline_of (world_in (contents_of db)) ≡ outline)
 
 module _ {S : Type 0} (g : Ghosts S) where
-  -- A store of the third schema was there: nothing changed, and the tables tell the world of its rows.
+  -- A store of the third schema was there: nothing changed, the connection is open, and the tables tell the world of its rows.
   pub record TakesOver (dir : List ℕ) (db : Database) (t : Kept S) : Type 0 where
     pub holds : HoldsBy three dir db
+    pub is_open : IsTrue (state g t.connection).is_open
     pub same : (state g t.connection).now ≡ db
     pub told : Tells g t (world_in (contents_of db))
 
   -- None of our tables was there: they were made beside the tables of others, and tell the new world.
   pub record TakesNew (db : Database) (t : Kept S) : Type 0 where
     pub none : HasNone db.schema
+    pub is_open : IsTrue (state g t.connection).is_open
     pub theirs : KeepsTheirs db (state g t.connection).now
     pub told : Tells g t no_world
 
   -- A store of an earlier schema was there: what it held was brought to the third, beside the tables of others, and the tables tell the world of the rows that it had.
   pub record TakesMigrated (from : Schema) (dir : List ℕ) (db : Database) (t : Kept S) : Type 0 where
     pub holds : HoldsBy from dir db
+    pub is_open : IsTrue (state g t.connection).is_open
     pub schema : (state g t.connection).now.schema ≡ all_created db.schema (lacking from)
     pub contents_are : contents_of (state g t.connection).now ≡ migrated_contents from dir (contents_of db)
     pub theirs : KeepsTheirs db (state g t.connection).now

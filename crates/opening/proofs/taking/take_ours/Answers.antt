@@ -21,4 +21,4 @@ returns-in-Ok-clause-took g c =
     let b = state g.S.Store c.read_as.new.conn in
     subst (λ (t : Kept _). HasCleanDisk (state g.S.Store t.connection) → TakesOver g.S.Store c.args.dir.now a.now t) (sym c.over.ensures) (λ clean.
     took_over g.S.Store c.read_as.new.conn a.now c.in-Ok.taken.dir c.in-Ok.taken.index (λ clean. (c.in-Ok.ensures.unchanged clean).0.now_is) c.in-Ok.ensures.told
-    c.args.dir.now c.in-Ok.ensures.dir (c.requires.found (clean_before a b _ c.read_as.ensures.survives clean)) clean)
+    c.args.dir.now c.in-Ok.ensures.dir (c.requires.found (clean_before a b _ c.read_as.ensures.survives clean)) (c.in-Ok.ensures.unchanged clean).0.is_open clean)
