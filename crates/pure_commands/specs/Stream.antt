@@ -1,5 +1,5 @@
 -- What is taken from an input, and an answer to the two outputs.
-use Rattle.std.specs.Prelude.{◌≡◌, ◌⊎◌, ⊤, ℕ, List, Option, Some, None, Result, Ok, Err, String, string_bytes, option_map}
+use Rattle.std.specs.Prelude.{◌≡◌, ◌⊎◌, ⊤, ℕ, Bool, true, is_none, List, Option, Some, None, Result, Ok, Err, String, string_bytes, option_map}
 use Rattle.std.specs.Io.KnownBytes.{Keeps}
 use Rattle.std.specs.declared.alloc.Global.{Global}
 use Rattle.streams.specs.Reads.{TakesAtMost}
@@ -24,9 +24,10 @@ abbrev pub Answers : Result (List ℕ) Stop → Option (List ℕ) → Option (Li
 Answers (Ok text) out out' err err' status = Offers text out out' err err' status
 Answers (Err stop) out out' err err' status = Keeps out out' × Says stop err err' status
 
--- memory or the input gave out before there was an answer
-abbrev pub GivesUp : Option (List ℕ) → Option (List ℕ) → Option (List ℕ) → Option (List ℕ) → ℕ → Type 0
-GivesUp out out' err err' status = Answers (Err (Failed Memory)) out out' err err' status ⊎ Answers (Err (Failed Input)) out out' err err' status
+-- memory gave out before there was an answer; or the input did, which is so only where it is read
+abbrev pub GivesUp : Bool → Option (List ℕ) → Option (List ℕ) → Option (List ℕ) → Option (List ℕ) → ℕ → Type 0
+GivesUp reads out out' err err' status =
+    Answers (Err (Failed Memory)) out out' err err' status ⊎ ((reads ≡ true) × Answers (Err (Failed Input)) out out' err err' status)
 
 -- what was found, as bytes
 abbrev pub result_text : Result (String Global) Stop → Result (List ℕ) Stop
@@ -41,19 +42,19 @@ AnswersBy (Some fault) answer known out out' err err' status = Answers (Err (Ref
 AnswersBy None answer None out out' err err' status = (bytes : List ℕ) × Answers (answer bytes) out out' err err' status
 AnswersBy None answer (Some bytes) out out' err err' status = Answers (answer bytes) out out' err err' status
 
--- the answer to an input was given; or memory or the input gave out before
+-- the answer to an input was given; or memory gave out before, or the input, which isn't read where a fault is there before
 abbrev pub AnswersTo : Option Refusal → (List ℕ → Result (List ℕ) Stop) → Option (List ℕ)
     → Option (List ℕ) → Option (List ℕ) → Option (List ℕ) → Option (List ℕ) → ℕ → Type 0
-AnswersTo fault answer known out out' err err' status = GivesUp out out' err err' status ⊎ AnswersBy fault answer known out out' err err' status
+AnswersTo fault answer known out out' err err' status = GivesUp (is_none fault) out out' err err' status ⊎ AnswersBy fault answer known out out' err err' status
 
--- a result for want of memory, or of the input
-abbrev pub IsFailure : Result (List ℕ) Stop → Type 0
-IsFailure (Err (Failed Memory)) = ⊤
-IsFailure (Err (Failed Input)) = ⊤
-IsFailure (Err (Failed File)) = ⊥
-IsFailure (Err (Failed Output)) = ⊥
-IsFailure (Err (Refused refusal)) = ⊥
-IsFailure (Ok text) = ⊥
+-- a result for want of memory, or of the input, where that is read
+abbrev pub IsFailure : Bool → Result (List ℕ) Stop → Type 0
+IsFailure reads (Err (Failed Memory)) = ⊤
+IsFailure reads (Err (Failed Input)) = reads ≡ true
+IsFailure reads (Err (Failed File)) = ⊥
+IsFailure reads (Err (Failed Output)) = ⊥
+IsFailure reads (Err (Refused refusal)) = ⊥
+IsFailure reads (Ok text) = ⊥
 
 -- a result by the fault that is there before the input is read, or by what its bytes say: some, where it doesn't tell them
 abbrev pub IsResultOf : Option Refusal → (List ℕ → Result (List ℕ) Stop) → Option (List ℕ) → Result (List ℕ) Stop → Type 0
@@ -65,6 +66,6 @@ IsResultOf None answer (Some bytes) result = result ≡ answer bytes
 abbrev pub IsStopBy : Option Refusal → Stop → Type 0
 IsStopBy fault stop = (stop ≡ Failed Memory) ⊎ (option_map Refused fault ≡ Some stop)
 
--- why there is nothing to answer to: memory or the input gave out, or a fault is there before
+-- why there is nothing to answer to: a fault is there before the input is read, or that or memory gave out
 abbrev pub IsStopAt : Option Refusal → Stop → Type 0
-IsStopAt fault stop = IsFailure (Err stop) ⊎ (option_map Refused fault ≡ Some stop)
+IsStopAt fault stop = IsFailure (is_none fault) (Err stop) ⊎ (option_map Refused fault ≡ Some stop)

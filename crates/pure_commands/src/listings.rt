@@ -1,5 +1,5 @@
 //! `ls`: the listing of an archive.
-ghost use Rattle.std.specs.Prelude.{◌≡◌, ◌⊎◌, IfOk, IfErr, Ok, Err, None, string_bytes};
+ghost use Rattle.std.specs.Prelude.{◌≡◌, ◌⊎◌, true, IfOk, IfErr, Ok, Err, None, string_bytes};
 ghost use Rattle.pure_commands.specs.Archive.{max_front, ls_answer};
 ghost use Rattle.streams.specs.Reads.{TakesAtMost};
 ghost use Rattle.pure_commands.specs.Stream.{AnswersTo, IsFailure, IsResultOf, result_text};
@@ -27,7 +27,7 @@ fn listing(alloc: Global, nar: &[u8]) -> Result<String, Stop>
 }
 
 fn ls_result<R: Read>(alloc: Global, input: &mut R) -> Result<String, Stop>
-    ensures answer { IsFailure (result_text result) ⊎ IsResultOf None ls_answer (R.remaining input.old) (result_text result) }
+    ensures answer { IsFailure true (result_text result) ⊎ IsResultOf None ls_answer (R.remaining input.old) (result_text result) }
     ensures reads { TakesAtMost max_front (R.remaining input.old) (R.remaining input.new) }
 {
     match read_input(alloc, input, MOST_OF_ARCHIVE) {

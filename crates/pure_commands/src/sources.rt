@@ -1,5 +1,5 @@
 //! `source-path`: from an archive and references to a store path.
-ghost use Rattle.std.specs.Prelude.{◌≡◌, ◌≤◌, ◌⊎◌, length, IfOk, IfErr, Ok, Err, map, string_bytes};
+ghost use Rattle.std.specs.Prelude.{◌≡◌, ◌≤◌, ◌⊎◌, length, IfOk, IfErr, Ok, Err, is_none, map, string_bytes};
 ghost use Rattle.paths.specs.StorePath.{base_of};
 ghost use Rattle.pure_commands.specs.Archive.{max_front};
 ghost use Rattle.pure_commands.specs.Object.{object_fault, source_path_answer};
@@ -39,7 +39,7 @@ fn source_path_result<S: AsStr, R: Read>(
     references: &[S],
     input: &mut R,
 ) -> Result<String, Stop>
-    ensures answer { IsFailure (result_text result) ⊎ IsResultOf (object_fault dir.now name.now (map S.text references.now))
+    ensures answer { IsFailure (is_none (object_fault dir.now name.now (map S.text references.now))) (result_text result) ⊎ IsResultOf (object_fault dir.now name.now (map S.text references.now))
         (source_path_answer dir.now name.now (map (base_of dir.now) (map S.text references.now))) (R.remaining input.old) (result_text result) }
     ensures reads { ReadsFor (object_fault dir.now name.now (map S.text references.now)) max_front (R.remaining input.old) (R.remaining input.new) }
 {

@@ -1,5 +1,5 @@
 //! `text-path`: from contents and references to a store path.
-ghost use Rattle.std.specs.Prelude.{◌≡◌, ◌+◌, ◌⊎◌, IfOk, IfErr, Ok, Err, map, string_bytes};
+ghost use Rattle.std.specs.Prelude.{◌≡◌, ◌+◌, ◌⊎◌, IfOk, IfErr, Ok, Err, is_none, map, string_bytes};
 ghost use Rattle.paths.specs.StorePath.{base_of};
 ghost use Rattle.pure_commands.specs.Object.{max_contents, object_fault, text_path_answer};
 ghost use Rattle.pure_commands.specs.Stream.{AnswersTo, ReadsFor, IsFailure, IsResultOf, result_text};
@@ -48,7 +48,7 @@ fn text_path_result<S: AsStr, R: Read>(
     references: &[S],
     input: &mut R,
 ) -> Result<String, Stop>
-    ensures answer { IsFailure (result_text result) ⊎ IsResultOf (object_fault dir.now name.now (map S.text references.now))
+    ensures answer { IsFailure (is_none (object_fault dir.now name.now (map S.text references.now))) (result_text result) ⊎ IsResultOf (object_fault dir.now name.now (map S.text references.now))
         (text_path_answer dir.now name.now (map (base_of dir.now) (map S.text references.now))) (R.remaining input.old) (result_text result) }
     ensures reads { ReadsFor (object_fault dir.now name.now (map S.text references.now)) (max_contents + 1) (R.remaining input.old) (R.remaining input.new) }
 {

@@ -26,7 +26,7 @@ use Rattle.pure_commands.specs.declared.stops.Stop.TheVariants.{Refused, Failed}
 use Rattle.tool.specs.Answer.{AnswersUnder}
 use Rattle.tool.specs.Callers.{Answering, AnswersCalled, AnswersNamed}
 use Rattle.tool.specs.Calls.{AnswersStep, AnswersRequest, AnswersWanted, AnswersIn, Serves}
-use Rattle.tool.specs.Requests.{Ask, IsAsked, IsAskedOver, StepsAs, Wants, caller_by}
+use Rattle.tool.specs.Requests.{Ask, IsAsked, IsAskedBy, StepsAs, Wants, caller_by, reads_input}
 use Rattle.pure_commands.specs.Stream.{Says}
 
 module _ {S : Type 0} (g : Ghosts S) (c : Caller) (out out' err err' : Option (List ℕ)) (status : ℕ) where
@@ -46,37 +46,41 @@ module _ {S : Type 0} (g : Ghosts S) (c : Caller) (out out' err err' : Option (L
       let is = step_clean (HasCleanDisk (state g x.new.tables.connection)) s w c x.made x.reply step.0 (λ _. clean x.new.tables.connection) step.1 in
       (x.reply, step.0, x.same s w c x.reply step.0 is, x.told)
 
-module _ (answered : Request → Type 0) (ask : List ℕ → Result Request Refusal → Type 0) where
+module _ (answered : Request → Type 0) (ask : Ask) (dir : List ℕ) (c : Caller) where
   -- the request that was made does what is asked
-  made_as : (q : Made) (out out' err err' : Option (List ℕ)) (status : ℕ) (asks : Result Request Refusal → Type 0) → IsAsked asks (Ok q)
+  made_as : (q : Made) (out out' err err' : Option (List ℕ)) (status : ℕ) (asks : Result Request Refusal → Type 0) → IsAsked (reads_input ask dir c) asks (Ok q)
       → ((r : Request) → StepsAs (request_view q) r → answered r) → AnswersWanted answered asks out out' err err' status
   made_as q out out' err err' status asks is each = (Ok is.0, is.1, each is.0 is.2)
 
-  pub asked : (known : Option (List ℕ)) (q : Made) (out out' err err' : Option (List ℕ)) (status : ℕ) → IsAskedOver ask known (Ok q)
-      → ((r : Request) → StepsAs (request_view q) r → answered r) → AnswersIn answered ask known out out' err err' status
-  asked None q out out' err err' status is each = inr (is.0, made_as q out out' err err' status (ask is.0) is.1 each)
-  asked (Some bytes) q out out' err err' status is each = inr (made_as q out out' err err' status (ask bytes) is each)
+  pub asked : (known : Option (List ℕ)) (q : Made) (out out' err err' : Option (List ℕ)) (status : ℕ) → IsAskedBy ask dir c known (Ok q)
+      → ((r : Request) → StepsAs (request_view q) r → answered r) → AnswersIn answered ask dir c known out out' err err' status
+  asked None q out out' err err' status is each = inr (is.0, made_as q out out' err err' status (Wants ask dir c is.0) is.1 each)
+  asked (Some bytes) q out out' err err' status is each = inr (made_as q out out' err err' status (Wants ask dir c bytes) is each)
 
   -- a refusal of the arguments was said
-  refused_over : (known : Option (List ℕ)) (refusal : Refusal) (out err err' : Option (List ℕ)) (status : ℕ) → IsAskedOver ask known (Err (Refused refusal))
-      → Says (Refused refusal) err err' status → AnswersIn answered ask known out out err err' status
+  refused_over : (known : Option (List ℕ)) (refusal : Refusal) (out err err' : Option (List ℕ)) (status : ℕ) → IsAskedBy ask dir c known (Err (Refused refusal))
+      → Says (Refused refusal) err err' status → AnswersIn answered ask dir c known out out err err' status
   refused_over None refusal out err err' status is said = inr (is.0, (Err refusal, is.1, (Keeps-refl out, said)))
   refused_over (Some bytes) refusal out err err' status is said = inr (Err refusal, is, (Keeps-refl out, said))
 
-  no_file : (known : Option (List ℕ)) → IsAskedOver ask known (Err (Failed File)) → ⊥
+  was_read : (known : Option (List ℕ)) → IsAskedBy ask dir c known (Err (Failed Input)) → reads_input ask dir c ≡ true
+  was_read None is = is.1
+  was_read (Some bytes) is = is
+
+  no_file : (known : Option (List ℕ)) → IsAskedBy ask dir c known (Err (Failed File)) → ⊥
   no_file None is = is.1
   no_file (Some bytes) is = is
 
-  no_output : (known : Option (List ℕ)) → IsAskedOver ask known (Err (Failed Output)) → ⊥
+  no_output : (known : Option (List ℕ)) → IsAskedBy ask dir c known (Err (Failed Output)) → ⊥
   no_output None is = is.1
   no_output (Some bytes) is = is
 
   -- why there is no request was said
-  pub stopped_over : (known : Option (List ℕ)) (stop : Stop) (out err err' : Option (List ℕ)) (status : ℕ) → IsAskedOver ask known (Err stop)
-      → Says stop err err' status → AnswersIn answered ask known out out err err' status
+  pub stopped_over : (known : Option (List ℕ)) (stop : Stop) (out err err' : Option (List ℕ)) (status : ℕ) → IsAskedBy ask dir c known (Err stop)
+      → Says stop err err' status → AnswersIn answered ask dir c known out out err err' status
   stopped_over known (Refused refusal) out err err' status is said = refused_over known refusal out err err' status is said
   stopped_over known (Failed Memory) out err err' status is said = inl (inl (Keeps-refl out, said))
-  stopped_over known (Failed Input) out err err' status is said = inl (inr (Keeps-refl out, said))
+  stopped_over known (Failed Input) out err err' status is said = inl (inr (was_read known is, (Keeps-refl out, said)))
   stopped_over known (Failed File) out err err' status is said = absurd (no_file known is)
   stopped_over known (Failed Output) out err err' status is said = absurd (no_output known is)
 
@@ -86,17 +90,17 @@ module _ (answered also : Request → Type 0) (each : (q : Request) → answered
   of_request (Ok q) told = each q told
   of_request (Err refusal) told = told
 
-  pub of_each : (ask : List ℕ → Result Request Refusal → Type 0) (known : Option (List ℕ)) → AnswersIn answered ask known out out' err err' status
-      → AnswersIn also ask known out out' err err' status
-  of_each ask known (inl gone) = inl gone
-  of_each ask None (inr told) = inr (told.0, (told.1.0, told.1.1, of_request told.1.0 told.1.2))
-  of_each ask (Some bytes) (inr told) = inr (told.0, told.1, of_request told.0 told.2)
+  pub of_each : (ask : Ask) (dir : List ℕ) (c : Caller) (known : Option (List ℕ)) → AnswersIn answered ask dir c known out out' err err' status
+      → AnswersIn also ask dir c known out out' err err' status
+  of_each ask dir c known (inl gone) = inl gone
+  of_each ask dir c None (inr told) = inr (told.0, (told.1.0, told.1.1, of_request told.1.0 told.1.2))
+  of_each ask dir c (Some bytes) (inr told) = inr (told.0, told.1, of_request told.0 told.2)
 
 module _ (answered : Answering) (s : Settings) (user group : Option (List ℕ)) (ask : Ask) (known : Option (List ℕ)) where
   -- the caller of the names was answered
   pub named : (c : Caller) (out out' err err' : Option (List ℕ)) (status : ℕ) → caller_by user group ≡ Some c
-      → answered s c (Wants ask s.store_dir c) known out out' err err' status → AnswersNamed answered s user group ask known out out' err err' status
-  named c out out' err err' status is given = inr (subst (λ o. AnswersCalled answered s o (Wants ask s.store_dir) known out out' err err' status) (sym is) given)
+      → answered s c ask known out out' err err' status → AnswersNamed answered s user group ask known out out' err err' status
+  named c out out' err err' status is given = inr (subst (λ o. AnswersCalled answered s o ask known out out' err err' status) (sym is) given)
 
   -- why there is no caller was said
   pub unnamed : (stop : Stop) (out err err' : Option (List ℕ)) (status : ℕ)
@@ -104,7 +108,7 @@ module _ (answered : Answering) (s : Settings) (user group : Option (List ℕ)) 
       → AnswersNamed answered s user group ask known out out err err' status
   unnamed stop out err err' status (inl memory) said = inl (Keeps-refl out, subst (λ x. Says x err err' status) memory said)
   unnamed stop out err err' status (inr why) said =
-      inr (subst (λ o. AnswersCalled answered s o (Wants ask s.store_dir) known out out err err' status) (sym why.1)
+      inr (subst (λ o. AnswersCalled answered s o ask known out out err err' status) (sym why.1)
       (Keeps-refl out, subst (λ x. Says x err err' status) why.0 said))
 
 -- the settings of the configuration are these

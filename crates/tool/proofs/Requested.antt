@@ -1,5 +1,5 @@
 -- What is asked of a store, by the words and the input of a command line.
-use Rattle.std.proofs.Common.{◌≡◌, ◌⊎◌, ℕ, true, false, List, [], map, take, Option, Some, None, Result, Ok, Err, inl, inr, ap, ap₂, subst, refl, sym, ◌∙◌}
+use Rattle.std.proofs.Common.{◌≡◌, ◌⊎◌, ℕ, Bool, true, false, List, [], map, take, Option, Some, None, Result, Ok, Err, inl, inr, ap, ap₂, subst, refl, sym, ◌∙◌}
 use Rattle.std.specs.Prelude.{IfOk, IfErr, IfSome}
 use Rattle.std.specs.List.{list_all}
 use Rattle.paths.specs.Names.{is_store_name}
@@ -11,17 +11,17 @@ use Rattle.store.specs.Step.{Step}
 use Rattle.store_requests.specs.declared.requests.Request.{Request as Made}
 use Rattle.store_requests.specs.View.{request_view}
 use Rattle.report.specs.declared.refusal.Refusal.{Refusal}
-use Rattle.report.specs.declared.refusal.Refusal.TheVariants.{BadStorePath}
+use Rattle.report.specs.declared.refusal.Refusal.TheVariants.{BadStoreName, BadStorePath}
 use Rattle.std.specs.declared.alloc.AllocError.{AllocError}
 use Rattle.clap.specs.Walk.{Text}
 use Rattle.command_line.specs.Asked.{Asked, unroot_view}
 use Rattle.command_line.specs.declared.line.Unrooted.{Unrooted}
 use Rattle.command_line.specs.declared.line.Unrooted.TheVariants as unrooted
-use Rattle.pure_commands.specs.declared.stops.Failure.TheVariants.{Memory}
+use Rattle.pure_commands.specs.declared.stops.Failure.TheVariants.{Memory, File, Input, Output}
 use Rattle.pure_commands.specs.declared.stops.Stop.{Stop}
 use Rattle.pure_commands.specs.declared.stops.Stop.TheVariants.{Refused, Failed}
 use Rattle.pure_commands.specs.Object.{is_path_text}
-use Rattle.tool.specs.Requests.{Ask, Gives, IsAsked, IsAskedOver, StepsAs, Wants, asks, by, drop_root, on_object, on_path, on_paths}
+use Rattle.tool.specs.Requests.{Ask, Gives, IsAsked, IsAskedBy, IsAskedOver, StepsAs, asks, at_once, drop_root, on_object, on_path, on_paths, with_bytes}
 
 -- ---- requests that are made
 
@@ -31,82 +31,99 @@ by_same made mid wanted same steps = subst (λ r. StepsAs r wanted) (sym same) s
 pub same_steps : (made wanted : Request) → made ≡ wanted → StepsAs made wanted
 same_steps made wanted same = λ s w c reply next step. subst (λ r. Step s w c r reply next) same step
 
-pub over : (ask : List ℕ → Result Request Refusal → Type 0) (known : Option (List ℕ)) (made : Result Made Stop) → ((bytes : List ℕ) → IsAsked (ask bytes) made) → IsAskedOver ask known made
-over ask None made h = ([], h [])
-over ask (Some bytes) made h = h bytes
+-- where nothing is read, the input doesn't give out either way
+pub unread : (reads : Bool) (asks : Result Request Refusal → Type 0) (made : Result Made Stop) → IsAsked false asks made → IsAsked reads asks made
+unread reads asks (Ok q) is = is
+unread reads asks (Err (Refused refusal)) is = is
+unread reads asks (Err (Failed Memory)) is = tt
+unread reads asks (Err (Failed Input)) is = cc
+unread reads asks (Err (Failed File)) is = absurd is
+unread reads asks (Err (Failed Output)) is = absurd is
 
-pub plain_asked : (wanted : Request) (q : Made) → request_view q ≡ wanted → IsAsked (Gives (Ok wanted)) (Ok q)
+pub over : (reads : Bool) (ask : List ℕ → Result Request Refusal → Type 0) (known : Option (List ℕ)) (made : Result Made Stop) → ((bytes : List ℕ) → IsAsked false (ask bytes) made)
+    → IsAskedOver reads ask known made
+over reads ask None made h = ([], unread reads (ask []) made (h []))
+over reads ask (Some bytes) made h = unread reads (ask bytes) made (h bytes)
+
+pub plain_asked : (wanted : Request) (q : Made) → request_view q ≡ wanted → IsAsked false (Gives (Ok wanted)) (Ok q)
 plain_asked wanted q same = (wanted, refl, same_steps (request_view q) wanted same)
 
 pub path_asked : (dir text : List ℕ) (ask : Path → Request) (p : Path) (q : Made) → request_view q ≡ ask p → p ≡ base_of dir text → is_path_text dir text ≡ true
-    → IsAsked (Gives (on_path dir text ask)) (Ok q)
+    → IsAsked false (Gives (on_path dir text ask)) (Ok q)
 path_asked dir text ask p q same base is =
     (ask (base_of dir text), rw is refl, same_steps (request_view q) (ask (base_of dir text)) (same ∙ ap ask base))
 
 pub paths_asked : (dir : List ℕ) (named : List Text) (ask : List Path → Request) (ps : List Path) (q : Made) → request_view q ≡ ask ps → ps ≡ map (base_of dir) named
-    → list_all (is_path_text dir) named ≡ true → IsAsked (Gives (on_paths dir named ask)) (Ok q)
+    → list_all (is_path_text dir) named ≡ true → IsAsked false (Gives (on_paths dir named ask)) (Ok q)
 paths_asked dir named ask ps q same based is =
     (ask (map (base_of dir) named), rw is refl, same_steps (request_view q) (ask (map (base_of dir) named)) (same ∙ ap ask based))
 
 pub paths_refused : (dir : List ℕ) (named : List Text) (ask : List Path → Request) (stop : Stop)
-    → (stop ≡ Failed Memory) ⊎ ((stop ≡ Refused BadStorePath) × (list_all (is_path_text dir) named ≡ false)) → IsAsked (Gives (on_paths dir named ask)) (Err stop)
-paths_refused dir named ask stop (inl memory) = subst (λ e. IsAsked (Gives (on_paths dir named ask)) (Err e)) (sym memory) tt
-paths_refused dir named ask stop (inr bad) = subst (λ e. IsAsked (Gives (on_paths dir named ask)) (Err e)) (sym bad.0) (let wrong = bad.1 in rw wrong refl)
+    → (stop ≡ Failed Memory) ⊎ ((stop ≡ Refused BadStorePath) × (list_all (is_path_text dir) named ≡ false)) → IsAsked false (Gives (on_paths dir named ask)) (Err stop)
+paths_refused dir named ask stop (inl memory) = subst (λ e. IsAsked false (Gives (on_paths dir named ask)) (Err e)) (sym memory) tt
+paths_refused dir named ask stop (inr bad) = subst (λ e. IsAsked false (Gives (on_paths dir named ask)) (Err e)) (sym bad.0) (let wrong = bad.1 in rw wrong refl)
 
 -- ---- objects that are added
 
 module _ (dir : List ℕ) (o : Text × List Text) where
+  pub no_name : (stop : Stop) → (stop ≡ Failed Memory) ⊎ ((stop ≡ Refused BadStoreName) × (is_store_name o.0 ≡ false))
+      → (ask : List ℕ → List Path → List ℕ → Request) (bytes : List ℕ) → IsAsked false (Gives (with_bytes bytes (on_object dir o ask))) (Err stop)
+  no_name stop (inl memory) ask bytes = subst (λ e. IsAsked false (Gives (with_bytes bytes (on_object dir o ask))) (Err e)) (sym memory) tt
+  no_name stop (inr bad) ask bytes =
+      subst (λ e. IsAsked false (Gives (with_bytes bytes (on_object dir o ask))) (Err e)) (sym bad.0) (let wrong = bad.1 in rw wrong refl)
+
   pub no_reference : (stop : Stop) → is_store_name o.0 ≡ true → (stop ≡ Failed Memory) ⊎ ((stop ≡ Refused BadStorePath) × (list_all (is_path_text dir) o.1 ≡ false))
-      → (ask : List ℕ → List Path → Request) → IsAsked (Gives (on_object dir o ask)) (Err stop)
-  no_reference stop named (inl memory) ask = subst (λ e. IsAsked (Gives (on_object dir o ask)) (Err e)) (sym memory) tt
-  no_reference stop named (inr bad) ask = subst (λ e. IsAsked (Gives (on_object dir o ask)) (Err e)) (sym bad.0) (let wrong = bad.1 in rw (named, wrong) refl)
+      → (ask : List ℕ → List Path → List ℕ → Request) (bytes : List ℕ) → IsAsked false (Gives (with_bytes bytes (on_object dir o ask))) (Err stop)
+  no_reference stop named (inl memory) ask bytes = subst (λ e. IsAsked false (Gives (with_bytes bytes (on_object dir o ask))) (Err e)) (sym memory) tt
+  no_reference stop named (inr bad) ask bytes =
+      subst (λ e. IsAsked false (Gives (with_bytes bytes (on_object dir o ask))) (Err e)) (sym bad.0) (let wrong = bad.1 in rw (named, wrong) refl)
 
   pub object_is : (n : List ℕ) (bases : List Path) → is_store_name o.0 ≡ true → list_all (is_path_text dir) o.1 ≡ true → n ≡ o.0 → bases ≡ map (base_of dir) o.1
-      → (ask : List ℕ → List Path → Request) → on_object dir o ask ≡ Ok (ask n bases)
+      → (ask : List ℕ → List Path → List ℕ → Request) → on_object dir o ask ≡ Ok (ask n bases)
   object_is n bases named paths same based ask = rw (named, paths) (ap₂ (λ m rs. Ok (ask m rs)) (sym same) (sym based))
 
   -- an object of a front of the input that does for all of it
-  pub object_asked : (ask : List ℕ → List ℕ → List Path → Request) (known : Option (List ℕ)) (n : List ℕ) (bases : List Path) (front : List ℕ) (most : ℕ) (q : Made)
-      → ((to : List ℕ → List Path → Request) → on_object dir o to ≡ Ok (to n bases)) → request_view q ≡ ask front n bases
-      → IfSome known (λ all. front ≡ take most all) → ((all : List ℕ) → front ≡ take most all → StepsAs (ask front n bases) (ask all n bases))
-      → IsAskedOver (λ bytes. Gives (on_object dir o (ask bytes))) known (Ok q)
-  object_asked ask None n bases front most q is made fronted steps =
-      (front, (ask front n bases, is (ask front), same_steps (request_view q) (ask front n bases) made))
-  object_asked ask (Some all) n bases front most q is made fronted steps =
-      (ask all n bases, is (ask all), by_same (request_view q) (ask front n bases) (ask all n bases) made (steps all fronted))
+  pub object_asked : (reads : Bool) (ask : List ℕ → List Path → List ℕ → Request) (known : Option (List ℕ)) (n : List ℕ) (bases : List Path) (front : List ℕ) (most : ℕ) (q : Made)
+      → on_object dir o ask ≡ Ok (ask n bases) → request_view q ≡ ask n bases front
+      → IfSome known (λ all. front ≡ take most all) → ((all : List ℕ) → front ≡ take most all → StepsAs (ask n bases front) (ask n bases all))
+      → IsAskedOver reads (λ bytes. Gives (with_bytes bytes (on_object dir o ask))) known (Ok q)
+  object_asked reads ask None n bases front most q is made fronted steps =
+      (front, (ask n bases front, ap (with_bytes front) is, same_steps (request_view q) (ask n bases front) made))
+  object_asked reads ask (Some all) n bases front most q is made fronted steps =
+      (ask n bases all, ap (with_bytes all) is, by_same (request_view q) (ask n bases front) (ask n bases all) made (steps all fronted))
 
 -- what the subcommand of an arm asks is asked
-pub arm : (t : Asked) (own : Ask) (dir : List ℕ) (c : Caller) (known : Option (List ℕ)) (made : Result Made Stop) → asks t ≡ Some own → IsAskedOver (Wants own dir c) known made
-    → (ask : Ask) → asks t ≡ Some ask → IsAskedOver (Wants ask dir c) known made
+pub arm : (t : Asked) (own : Ask) (dir : List ℕ) (c : Caller) (known : Option (List ℕ)) (made : Result Made Stop) → asks t ≡ Some own → IsAskedBy own dir c known made
+    → (ask : Ask) → asks t ≡ Some ask → IsAskedBy ask dir c known made
 arm t own dir c known made is h = λ ask also.
     let both : ◌≡◌ {A = Option Ask} (Some own) (Some ask) = sym is ∙ also in
     let same : own ≡ ask = cc in
-    subst (λ (f : Ask). IsAskedOver (Wants f dir c) known made) same h
+    subst (λ (f : Ask). IsAskedBy f dir c known made) same h
 
 -- the same of a subcommand that has but one request
-pub plain_arm : (t : Asked) (wanted : Request) (dir : List ℕ) (c : Caller) (known : Option (List ℕ)) (q : Made) → asks t ≡ Some (by (λ dir c bytes. Ok wanted))
-    → request_view q ≡ wanted → (ask : Ask) → asks t ≡ Some ask → IsAskedOver (Wants ask dir c) known (Ok q)
+pub plain_arm : (t : Asked) (wanted : Request) (dir : List ℕ) (c : Caller) (known : Option (List ℕ)) (q : Made) → asks t ≡ Some (at_once (λ dir c. Ok wanted))
+    → request_view q ≡ wanted → (ask : Ask) → asks t ≡ Some ask → IsAskedBy ask dir c known (Ok q)
 plain_arm t wanted dir c known q is same =
-    arm t (by (λ dir c bytes. Ok wanted)) dir c known (Ok q) is (over (λ bytes. Gives (Ok wanted)) known (Ok q) (λ bytes. plain_asked wanted q same))
+    arm t (at_once (λ dir c. Ok wanted)) dir c known (Ok q) is (over false (λ bytes. Gives (Ok wanted)) known (Ok q) (λ bytes. plain_asked wanted q same))
 
 -- the same of a subcommand that reads no input
 pub unread_arm : (t : Asked) (own : List ℕ → Caller → Result Request Refusal) (dir : List ℕ) (c : Caller) (known : Option (List ℕ)) (made : Result Made Stop)
-    → asks t ≡ Some (by (λ dir c bytes. own dir c)) → IsAsked (Gives (own dir c)) made → (ask : Ask) → asks t ≡ Some ask → IsAskedOver (Wants ask dir c) known made
-unread_arm t own dir c known made is h = arm t (by (λ dir c bytes. own dir c)) dir c known made is (over (λ bytes. Gives (own dir c)) known made (λ bytes. h))
+    → asks t ≡ Some (at_once (λ dir c. own dir c)) → IsAsked false (Gives (own dir c)) made → (ask : Ask) → asks t ≡ Some ask → IsAskedBy ask dir c known made
+unread_arm t own dir c known made is h = arm t (at_once (λ dir c. own dir c)) dir c known made is (over false (λ bytes. Gives (own dir c)) known made (λ bytes. h))
 
 -- ---- roots
 
-pub unroot_asks : (root : Unrooted) (name : Text) → asks (unroot_view root name) ≡ Some (by (λ dir c bytes. Ok (drop_root root c name)))
+pub unroot_asks : (root : Unrooted) (name : Text) → asks (unroot_view root name) ≡ Some (at_once (λ dir c. Ok (drop_root root c name)))
 unroot_asks unrooted.Permanent name = refl
 unroot_asks (unrooted.User owner) name = refl
 
 -- a request that was made of texts, or for which there was no memory
 pub made_asked : (wanted : Result Request Refusal) (r : Request) (built : Result Made AllocError) (result : Result Made Stop) → wanted ≡ Ok r
-    → IfOk built (λ q. request_view q ≡ r) → IfOk result (λ q. built ≡ Ok q) → IfErr result (λ e. e ≡ Failed Memory) → IsAsked (Gives wanted) result
+    → IfOk built (λ q. request_view q ≡ r) → IfOk result (λ q. built ≡ Ok q) → IfErr result (λ e. e ≡ Failed Memory) → IsAsked false (Gives wanted) result
 made_asked wanted r built (Ok q) is view same none =
     let found : request_view q ≡ r = subst (λ b. IfOk b (λ p. request_view p ≡ r)) same view in
     (r, is, same_steps (request_view q) r found)
-made_asked wanted r built (Err stop) is view same none = subst (λ e. IsAsked (Gives wanted) (Err e)) (sym none) tt
+made_asked wanted r built (Err stop) is view same none = subst (λ e. IsAsked false (Gives wanted) (Err e)) (sym none) tt
 
 pub path_is : (dir text : List ℕ) (ask : Path → Request) (p : Path) → p ≡ base_of dir text → is_path_text dir text ≡ true → on_path dir text ask ≡ Ok (ask p)
 path_is dir text ask p base is = rw is (ap (λ b. Ok (ask b)) (sym base))

@@ -1,5 +1,5 @@
 -- What a body on the input asks, of which all is read.
-use Rattle.std.proofs.Common.{◌≡◌, ◌⊎◌, ◌++◌, ℕ, ◌<◌, List, [], length, take, Option, Some, None, Result, Err, inl, inr, ap, subst, refl, sym, ◌∙◌, arith, take_all, length-take}
+use Rattle.std.proofs.Common.{◌≡◌, ◌⊎◌, ◌++◌, ℕ, ◌<◌, Bool, true, false, List, [], length, take, Option, Some, None, Result, Err, inl, inr, ap, subst, refl, sym, ◌∙◌, arith, take_all, length-take}
 use Rattle.std.specs.Prelude.{IfSome}
 use Rattle.store.specs.Request.{Request}
 use Rattle.store_requests.specs.declared.requests.Request.{Request as Made}
@@ -11,7 +11,7 @@ use Rattle.pure_commands.specs.declared.stops.Stop.{Stop}
 use Rattle.pure_commands.specs.declared.stops.Stop.TheVariants.{Failed}
 use Rattle.tool.specs.Bodies.{Said, body_stop}
 use Rattle.tool.specs.Requests.{IsAsked, IsAskedOver}
-use Rattle.tool.proofs.Requested.{over}
+use Rattle.tool.proofs.Requested.{unread}
 
 -- more bytes than a `Vec` has there are not
 pub whole_is : (known : Option (List ℕ)) (bytes : List ℕ) → length bytes < 9223372036854775808 → IfSome known (λ all. bytes ≡ take 18446744073709551615 all)
@@ -26,20 +26,24 @@ pub behind_nothing : (known : Option (List ℕ)) (held taken : List ℕ) → hel
 behind_nothing None held taken none is = tt
 behind_nothing (Some all) held taken none is = is ∙ ap (λ h. h ++ all) none
 
-module _ (ask : List ℕ → Result Request Refusal → Type 0) where
+module _ (reads : Bool) (ask : List ℕ → Result Request Refusal → Type 0) where
   -- what the whole input asks
-  pub whole_asked : (known : Option (List ℕ)) (body : List ℕ) (made : Result Made Stop) → IfSome known (λ all. body ≡ all) → IsAsked (ask body) made
-      → IsAskedOver ask known made
-  whole_asked None body made is h = (body, h)
-  whole_asked (Some all) body made is h = subst (λ b. IsAsked (ask b) made) is h
+  pub whole_asked : (known : Option (List ℕ)) (body : List ℕ) (made : Result Made Stop) → IfSome known (λ all. body ≡ all) → IsAsked false (ask body) made
+      → IsAskedOver reads ask known made
+  whole_asked None body made is h = (body, unread reads (ask body) made h)
+  whole_asked (Some all) body made is h = unread reads (ask all) made (subst (λ b. IsAsked false (ask b) made) is h)
 
-  -- memory or the input gave out
-  pub gone : (known : Option (List ℕ)) (stop : Stop) → (stop ≡ Failed Memory) ⊎ (stop ≡ Failed Input) → IsAskedOver ask known (Err stop)
-  gone known stop (inl memory) = over ask known (Err stop) (λ bytes. subst (λ e. IsAsked (ask bytes) (Err e)) (sym memory) tt)
-  gone known stop (inr input) = over ask known (Err stop) (λ bytes. subst (λ e. IsAsked (ask bytes) (Err e)) (sym input) tt)
+  gone_for : (stop : Stop) (bytes : List ℕ) → reads ≡ true → (stop ≡ Failed Memory) ⊎ (stop ≡ Failed Input) → IsAsked reads (ask bytes) (Err stop)
+  gone_for stop bytes read (inl memory) = subst (λ e. IsAsked reads (ask bytes) (Err e)) (sym memory) tt
+  gone_for stop bytes read (inr input) = subst (λ e. IsAsked reads (ask bytes) (Err e)) (sym input) read
+
+  -- memory gave out, or the input that was read
+  pub gone : (known : Option (List ℕ)) (stop : Stop) → reads ≡ true → (stop ≡ Failed Memory) ⊎ (stop ≡ Failed Input) → IsAskedOver reads ask known (Err stop)
+  gone None stop read why = ([], gone_for stop [] read why)
+  gone (Some bytes) stop read why = gone_for stop bytes read why
 
 -- why a body asks nothing
 pub body_refused : (says : Request → Type 0) (fault : BodyError) (stop : Stop) → stop ≡ body_stop fault → (fault ≡ body_error.BadBodyHead → (q : Request) → says q → ⊥)
-    → IsAsked (Said says) (Err stop)
-body_refused says body_error.BadBodyHead stop is none = subst (λ e. IsAsked (Said says) (Err e)) (sym is) (refl, none refl)
-body_refused says body_error.Memory stop is none = subst (λ e. IsAsked (Said says) (Err e)) (sym is) tt
+    → IsAsked false (Said says) (Err stop)
+body_refused says body_error.BadBodyHead stop is none = subst (λ e. IsAsked false (Said says) (Err e)) (sym is) (refl, none refl)
+body_refused says body_error.Memory stop is none = subst (λ e. IsAsked false (Said says) (Err e)) (sym is) tt

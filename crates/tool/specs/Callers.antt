@@ -1,28 +1,26 @@
 -- What the caller of a subcommand that asks something of a store is answered.
-use Rattle.std.specs.Prelude.{◌⊎◌, ℕ, List, Option, Some, None, Result, Err}
+use Rattle.std.specs.Prelude.{◌⊎◌, ℕ, List, Option, Some, None, Err}
 use Rattle.clap.specs.Walk.{Text}
 use Rattle.world.specs.World.{no_world}
 use Rattle.policy.specs.Settings.{Settings}
 use Rattle.policy.specs.Caller.{Caller}
-use Rattle.store.specs.Request.{Request}
 use Rattle.store.specs.Reply.{Failure as Lack, failed}
-use Rattle.report.specs.declared.refusal.Refusal.{Refusal}
 use Rattle.report.specs.declared.refusal.Refusal.TheVariants.{BadCaller}
 use Rattle.store_commands.specs.Telling.{IsTold}
 use Rattle.pure_commands.specs.declared.stops.Failure.TheVariants.{Memory}
 use Rattle.pure_commands.specs.declared.stops.Stop.TheVariants.{Refused, Failed}
 use Rattle.tool.specs.Calls.{AnswersIn, AnswersStep}
-use Rattle.tool.specs.Requests.{Ask, Wants, caller_by}
+use Rattle.tool.specs.Requests.{Ask, caller_by}
 use Rattle.pure_commands.specs.Stream.{Answers}
 
--- what a caller is answered, by what he asks for the bytes of the input
+-- what a caller is answered, by what he asks and the bytes of the input
 abbrev pub Answering : Type 1
-Answering = Settings → Caller → (List ℕ → Result Request Refusal → Type 0) → Option (List ℕ)
+Answering = Settings → Caller → Ask → Option (List ℕ)
     → Option (List ℕ) → Option (List ℕ) → Option (List ℕ) → Option (List ℕ) → ℕ → Type 0
 
 -- in a store in memory there is nothing yet; or there was no store to be had
 abbrev pub AnswersNew : Answering
-AnswersNew s c ask known out out' err err' status = AnswersIn (AnswersStep s no_world c out out' err err' status) ask known out out' err err' status
+AnswersNew s c ask known out out' err err' status = AnswersIn (AnswersStep s no_world c out out' err err' status) ask s.store_dir c known out out' err err' status
     ⊎ ((f : Lack) × IsTold s.store_dir (failed f) out out' err err' status)
 
 -- what a caller is answered by the store of the file, if one is named
@@ -31,12 +29,12 @@ AnswersCaller of_file None s c ask known out out' err err' status = AnswersNew s
 AnswersCaller of_file (Some file) s c ask known out out' err err' status = of_file s c ask known out out' err err' status
 
 -- the same of the caller of these names, who is refused where they aren't plain; or memory gave out before
-abbrev pub AnswersCalled : Answering → Settings → Option Caller → (Caller → List ℕ → Result Request Refusal → Type 0) → Option (List ℕ)
+abbrev pub AnswersCalled : Answering → Settings → Option Caller → Ask → Option (List ℕ)
     → Option (List ℕ) → Option (List ℕ) → Option (List ℕ) → Option (List ℕ) → ℕ → Type 0
 AnswersCalled answered s None ask known out out' err err' status = Answers (Err (Refused BadCaller)) out out' err err' status
-AnswersCalled answered s (Some c) ask known out out' err err' status = answered s c (ask c) known out out' err err' status
+AnswersCalled answered s (Some c) ask known out out' err err' status = answered s c ask known out out' err err' status
 
 abbrev pub AnswersNamed : Answering → Settings → Option (List ℕ) → Option (List ℕ) → Ask → Option (List ℕ)
     → Option (List ℕ) → Option (List ℕ) → Option (List ℕ) → Option (List ℕ) → ℕ → Type 0
 AnswersNamed answered s user group ask known out out' err err' status = Answers (Err (Failed Memory)) out out' err err' status
-    ⊎ AnswersCalled answered s (caller_by user group) (Wants ask s.store_dir) known out out' err err' status
+    ⊎ AnswersCalled answered s (caller_by user group) ask known out out' err err' status

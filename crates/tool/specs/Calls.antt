@@ -13,7 +13,7 @@ use Rattle.report.specs.declared.refusal.Refusal.{Refusal}
 use Rattle.store_commands.specs.Serving.{Calls}
 use Rattle.store_commands.specs.Telling.{IsTold}
 use Rattle.pure_commands.specs.declared.stops.Stop.TheVariants.{Refused}
-use Rattle.tool.specs.Requests.{StepsAs}
+use Rattle.tool.specs.Requests.{Ask, StepsAs, Wants, reads_input}
 use Rattle.pure_commands.specs.Stream.{Answers, GivesUp}
 
 -- ---- by what is asked for the bytes of the input, where each request is answered so
@@ -33,10 +33,11 @@ abbrev pub AnswersOver : (Request → Type 0) → (List ℕ → Result Request R
 AnswersOver answered ask None out out' err err' status = (bytes : List ℕ) × AnswersWanted answered (ask bytes) out out' err err' status
 AnswersOver answered ask (Some bytes) out out' err err' status = AnswersWanted answered (ask bytes) out out' err err' status
 
--- the same; or memory or the input gave out before there was a request
-abbrev pub AnswersIn : (Request → Type 0) → (List ℕ → Result Request Refusal → Type 0) → Option (List ℕ)
+-- the same; or memory gave out before there was a request, or the input where it is read
+abbrev pub AnswersIn : (Request → Type 0) → Ask → List ℕ → Caller → Option (List ℕ)
     → Option (List ℕ) → Option (List ℕ) → Option (List ℕ) → Option (List ℕ) → ℕ → Type 0
-AnswersIn answered ask known out out' err err' status = GivesUp out out' err err' status ⊎ AnswersOver answered ask known out out' err err' status
+AnswersIn answered ask dir c known out out' err err' status =
+    GivesUp (reads_input ask dir c) out out' err err' status ⊎ AnswersOver answered (Wants ask dir c) known out out' err err' status
 
 -- ---- how a request is answered
 

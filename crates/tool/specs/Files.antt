@@ -1,5 +1,5 @@
 -- What is answered by a store in a file.
-use Rattle.std.specs.Prelude.{◌⊎◌, ℕ, List, Option, Result, Err}
+use Rattle.std.specs.Prelude.{◌⊎◌, ℕ, List, Option, Err}
 use Rattle.std.specs.Option.{option_map_or}
 use Rattle.sqlite_disk.specs.declared.Disk as disk
 use Rattle.sqlite_disk.specs.declared.calls.Calls as calls
@@ -12,7 +12,6 @@ use Rattle.sqlite.specs.Files.{over_files}
 use Rattle.tables.specs.Kept.{Kept}
 use Rattle.policy.specs.Settings.{Settings}
 use Rattle.policy.specs.Caller.{Caller}
-use Rattle.store.specs.Request.{Request}
 use Rattle.store.specs.Reply.{failed}
 use Rattle.store_requests.specs.View.{failure_view}
 use Rattle.table_opening.specs.declared.file.Unopened.{Unopened as NoFile}
@@ -22,12 +21,12 @@ use Rattle.opening.specs.declared.refusing.Cause.TheVariants.{BadSchema, OtherSt
 use Rattle.opening.specs.declared.refusing.Unopened.{Unopened}
 use Rattle.opening.specs.declared.refusing.Unopened.TheVariants.{File, Store}
 use Rattle.opening.specs.Opened.{IsUnopened, Opens}
-use Rattle.report.specs.declared.refusal.Refusal.{Refusal}
 use Rattle.report.specs.declared.refusal.Refusal.TheVariants as refusal
 use Rattle.store_commands.specs.Telling.{IsTold}
 use Rattle.responder.specs.Answers as message
 use Rattle.pure_commands.specs.declared.stops.Stop.TheVariants.{Refused}
 use Rattle.tool.specs.Calls.{AnswersIn, Serves}
+use Rattle.tool.specs.Requests.{Ask}
 use Rattle.tool.specs.Serving.{OfFile, Serving, ServesBy}
 use Rattle.pure_commands.specs.Stream.{Answers}
 
@@ -51,10 +50,10 @@ TellsCause dir (Lacks f) out out' err err' status = IsTold dir (failed (failure_
 -- By what the file held that is opened. Which that is no code reads, so what is said here holds whatever it was.
 module _ {S : Type 0} {host : calls.Ghosts Host} (start : Ghosts S) (g : disk.Ghosts (Modelled Host S host start)) where
   -- it was taken up as the store of the directory, and what is asked is served over its tables
-  abbrev pub AnswersTaken : Settings → Caller → (List ℕ → Result Request Refusal → Type 0) → Option (List ℕ)
+  abbrev pub AnswersTaken : Settings → Caller → Ask → Option (List ℕ)
       → Option (List ℕ) → Option (List ℕ) → Option (List ℕ) → Option (List ℕ) → ℕ → Type 0
   AnswersTaken s c ask known out out' err err' status = (t : Kept (FileStore (Modelled Host S host start) g)) × Opens (image_at start) s.store_dir t
-      × AnswersIn (Serves over_files s t c out out' err err' status) ask known out out' err err' status
+      × AnswersIn (Serves over_files s t c out out' err err' status) ask s.store_dir c known out out' err err' status
 
   -- it isn't taken up, and its cause is told
   abbrev pub AnswersUntaken : List ℕ → Option (List ℕ) → Option (List ℕ) → Option (List ℕ) → Option (List ℕ) → ℕ → Type 0
@@ -62,7 +61,7 @@ module _ {S : Type 0} {host : calls.Ghosts Host} (start : Ghosts S) (g : disk.Gh
       × IsUnopened (image_at start) dir e × TellsCause dir (cause_of e) out out' err err' status
 
   -- one of both
-  abbrev pub AnswersFile : Settings → Caller → (List ℕ → Result Request Refusal → Type 0) → Option (List ℕ)
+  abbrev pub AnswersFile : Settings → Caller → Ask → Option (List ℕ)
       → Option (List ℕ) → Option (List ℕ) → Option (List ℕ) → Option (List ℕ) → ℕ → Type 0
   AnswersFile s c ask known out out' err err' status =
       AnswersTaken s c ask known out out' err err' status ⊎ AnswersUntaken s.store_dir out out' err err' status

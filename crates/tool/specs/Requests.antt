@@ -1,5 +1,5 @@
 -- What a subcommand asks of a store.
-use Rattle.std.specs.Prelude.{◌≡◌, ⊤, ℕ, Bool, true, false, not, if◌then◌else◌, List, map, Option, Some, None, Result, Ok, Err}
+use Rattle.std.specs.Prelude.{◌≡◌, ⊤, ℕ, Bool, true, false, not, is_ok, if◌then◌else◌, List, map, Option, Some, None, Result, Ok, Err}
 use Rattle.std.specs.List.{list_all}
 use Rattle.clap.specs.Walk.{Text}
 use Rattle.paths.specs.Names.{is_store_name}
@@ -40,8 +40,8 @@ on_path dir text ask = if is_path_text dir text then Ok (ask (base_of dir text))
 abbrev pub on_paths : List ℕ → List Text → (List Path → Request) → Result Request Refusal
 on_paths dir texts ask = if list_all (is_path_text dir) texts then Ok (ask (map (base_of dir) texts)) else Err BadStorePath
 
--- a request on a name and references, where they are such
-abbrev pub on_object : List ℕ → Text × List Text → (List ℕ → List Path → Request) → Result Request Refusal
+-- a request on a name, references and the bytes of the input, where the first two are such
+abbrev pub on_object : List ℕ → Text × List Text → (List ℕ → List Path → List ℕ → Request) → Result (List ℕ → Request) Refusal
 on_object dir o ask =
     if not (is_store_name o.0) then Err BadStoreName
     else if not (list_all (is_path_text dir) o.1) then Err BadStorePath
@@ -75,38 +75,54 @@ abbrev pub change_session : List ℕ → List ℕ → ℕ → OnSession → Resu
 change_session dir owner n (asked.add_temp text) = on_path dir text (request.add_temp owner n)
 change_session dir owner n asked.end_session = Ok (request.end_session owner n)
 
--- what is asked of a store: by the store directory, the caller and the bytes of the input, or why the arguments are refused; or what
--- the body says that the input is
+-- what is asked of a store, by the store directory and the caller
 pub data Ask : Type 0 where
-  by : (List ℕ → Caller → List ℕ → Result Request Refusal) → Ask
+  -- a request, or why the arguments are refused
+  at_once : (List ℕ → Caller → Result Request Refusal) → Ask
+  -- the same with the bytes of the input
+  with_input : (List ℕ → Caller → Result (List ℕ → Request) Refusal) → Ask
+  -- what the body says that the input is
   import_body : Ask
   runtime_body : Ask
 
+-- a request with these bytes, where the arguments aren't refused
+abbrev pub with_bytes : List ℕ → Result (List ℕ → Request) Refusal → Result Request Refusal
+with_bytes bytes (Ok ask) = Ok (ask bytes)
+with_bytes bytes (Err refusal) = Err refusal
+
 -- so the bytes of the input are asked, or refused
 abbrev pub Wants : Ask → List ℕ → Caller → List ℕ → Result Request Refusal → Type 0
-Wants (by ask) dir c bytes wanted = ask dir c bytes ≡ wanted
+Wants (at_once ask) dir c bytes wanted = ask dir c ≡ wanted
+Wants (with_input ask) dir c bytes wanted = with_bytes bytes (ask dir c) ≡ wanted
 Wants import_body dir c bytes wanted = Imports dir bytes wanted
 Wants runtime_body dir c bytes wanted = Replaces dir bytes wanted
 
+-- whether the input is read for that: not where nothing of it is asked, and not where the arguments are refused
+abbrev pub reads_input : Ask → List ℕ → Caller → Bool
+reads_input (at_once ask) dir c = false
+reads_input (with_input ask) dir c = is_ok (ask dir c)
+reads_input import_body dir c = true
+reads_input runtime_body dir c = true
+
 -- what a subcommand asks of a store; the others ask nothing
 abbrev pub asks : Asked → Option Ask
-asks list_paths = Some (by (λ dir c bytes. Ok request.list))
-asks list_live = Some (by (λ dir c bytes. Ok request.list_live))
-asks list_dead = Some (by (λ dir c bytes. Ok request.list_dead))
-asks roots = Some (by (λ dir c bytes. Ok request.list_roots))
-asks report = Some (by (λ dir c bytes. Ok request.report))
-asks (gc ignores limit) = Some (by (λ dir c bytes. Ok (request.collect ignores limit)))
-asks (delete ignores texts) = Some (by (λ dir c bytes. on_paths dir texts (λ named. request.delete named ignores)))
-asks (info text) = Some (by (λ dir c bytes. on_path dir text request.info))
-asks (why text) = Some (by (λ dir c bytes. on_path dir text request.list_roots_of))
-asks (cat_nar text) = Some (by (λ dir c bytes. on_path dir text request.nar))
-asks (add_source o) = Some (by (λ dir c bytes. on_object dir o (λ name refs. request.add_source name refs bytes)))
-asks (add_text o) = Some (by (λ dir c bytes. on_object dir o (λ name refs. request.add_text name refs bytes)))
-asks (root kind name text) = Some (by (λ dir c bytes. on_path dir text (set_root kind c name)))
-asks (unroot_permanent name) = Some (by (λ dir c bytes. Ok (request.drop_permanent name)))
-asks (unroot_user owner name) = Some (by (λ dir c bytes. Ok (request.drop_user_root (owner_of c owner) name)))
-asks (profile owner name action) = Some (by (λ dir c bytes. change_profile dir (owner_of c owner) name action))
-asks (temp owner n action) = Some (by (λ dir c bytes. change_session dir (owner_of c owner) n action))
+asks list_paths = Some (at_once (λ dir c. Ok request.list))
+asks list_live = Some (at_once (λ dir c. Ok request.list_live))
+asks list_dead = Some (at_once (λ dir c. Ok request.list_dead))
+asks roots = Some (at_once (λ dir c. Ok request.list_roots))
+asks report = Some (at_once (λ dir c. Ok request.report))
+asks (gc ignores limit) = Some (at_once (λ dir c. Ok (request.collect ignores limit)))
+asks (delete ignores texts) = Some (at_once (λ dir c. on_paths dir texts (λ named. request.delete named ignores)))
+asks (info text) = Some (at_once (λ dir c. on_path dir text request.info))
+asks (why text) = Some (at_once (λ dir c. on_path dir text request.list_roots_of))
+asks (cat_nar text) = Some (at_once (λ dir c. on_path dir text request.nar))
+asks (add_source o) = Some (with_input (λ dir c. on_object dir o (λ name refs bytes. request.add_source name refs bytes)))
+asks (add_text o) = Some (with_input (λ dir c. on_object dir o (λ name refs bytes. request.add_text name refs bytes)))
+asks (root kind name text) = Some (at_once (λ dir c. on_path dir text (set_root kind c name)))
+asks (unroot_permanent name) = Some (at_once (λ dir c. Ok (request.drop_permanent name)))
+asks (unroot_user owner name) = Some (at_once (λ dir c. Ok (request.drop_user_root (owner_of c owner) name)))
+asks (profile owner name action) = Some (at_once (λ dir c. change_profile dir (owner_of c owner) name action))
+asks (temp owner n action) = Some (at_once (λ dir c. change_session dir (owner_of c owner) n action))
 asks import_object = Some import_body
 asks runtime = Some runtime_body
 asks _ = None
@@ -128,17 +144,21 @@ StepsAs made wanted = (s : Settings) (w : World) (c : Caller) (reply : Reply) (n
 abbrev pub Gives : Result Request Refusal → Result Request Refusal → Type 0
 Gives said wanted = said ≡ wanted
 
--- A request was made of what is asked, or its refusal is told; memory or the input may have given out. Of contents that are too long
--- a front is enough, for which they are refused.
-abbrev pub IsAsked : (Result Request Refusal → Type 0) → Result Made Stop → Type 0
-IsAsked asks (Ok q) = (r : Request) × asks (Ok r) × StepsAs (request_view q) r
-IsAsked asks (Err (Refused r)) = asks (Err r)
-IsAsked asks (Err (Failed Memory)) = ⊤
-IsAsked asks (Err (Failed Input)) = ⊤
-IsAsked asks (Err (Failed File)) = ⊥
-IsAsked asks (Err (Failed Output)) = ⊥
+-- A request was made of what is asked, or its refusal is told; memory may have given out, and the input where it is read. Of contents that
+-- are too long a front is enough, for which they are refused.
+abbrev pub IsAsked : Bool → (Result Request Refusal → Type 0) → Result Made Stop → Type 0
+IsAsked reads asks (Ok q) = (r : Request) × asks (Ok r) × StepsAs (request_view q) r
+IsAsked reads asks (Err (Refused r)) = asks (Err r)
+IsAsked reads asks (Err (Failed Memory)) = ⊤
+IsAsked reads asks (Err (Failed Input)) = reads ≡ true
+IsAsked reads asks (Err (Failed File)) = ⊥
+IsAsked reads asks (Err (Failed Output)) = ⊥
 
 -- the same by the bytes of the input: some bytes, where it doesn't tell them
-abbrev pub IsAskedOver : (List ℕ → Result Request Refusal → Type 0) → Option (List ℕ) → Result Made Stop → Type 0
-IsAskedOver ask None made = (bytes : List ℕ) × IsAsked (ask bytes) made
-IsAskedOver ask (Some bytes) made = IsAsked (ask bytes) made
+abbrev pub IsAskedOver : Bool → (List ℕ → Result Request Refusal → Type 0) → Option (List ℕ) → Result Made Stop → Type 0
+IsAskedOver reads ask None made = (bytes : List ℕ) × IsAsked reads (ask bytes) made
+IsAskedOver reads ask (Some bytes) made = IsAsked reads (ask bytes) made
+
+-- the same of all that is asked of a store
+abbrev pub IsAskedBy : Ask → List ℕ → Caller → Option (List ℕ) → Result Made Stop → Type 0
+IsAskedBy ask dir c known made = IsAskedOver (reads_input ask dir c) (Wants ask dir c) known made

@@ -1,10 +1,10 @@
 //! What is asked of a store to which an object is added.
-ghost use Rattle.std.specs.Prelude.{◌≡◌, IfOk, IfErr, Ok, Err, List, ℕ};
+ghost use Rattle.std.specs.Prelude.{◌≡◌, IfOk, IfErr, Ok, Err, List, ℕ, false, is_ok};
 ghost use Rattle.command_line.specs.Asked.{object_view};
 ghost use Rattle.store.specs.Request as asked;
 ghost use Rattle.streams.specs.Reads.{TakesAtMost};
 ghost use Rattle.pure_commands.specs.Archive.{max_front};
-ghost use Rattle.tool.specs.Requests.{Gives, IsAsked, IsAskedOver, on_object};
+ghost use Rattle.tool.specs.Requests.{Gives, IsAsked, IsAskedOver, on_object, with_bytes};
 
 use command_line::ObjectArguments;
 use paths::{Name, StoreDir, StorePath};
@@ -21,8 +21,8 @@ fn parse_arguments(
     dir: &StoreDir,
     object: &ObjectArguments<'_>,
 ) -> Result<(Name, Vec<StorePath>), Stop>
-    ensures ok { IfOk result (λ o. (ask : List ℕ → List (List ℕ) → asked.Request) → on_object dir.now (object_view object.now) ask ≡ Ok (ask o.0 o.1.items)) }
-    ensures err { IfErr result (λ e. (ask : List ℕ → List (List ℕ) → asked.Request) → IsAsked (Gives (on_object dir.now (object_view object.now) ask)) (Err e)) }
+    ensures ok { IfOk result (λ o. (ask : List ℕ → List (List ℕ) → List ℕ → asked.Request) → on_object dir.now (object_view object.now) ask ≡ Ok (ask o.0 o.1.items)) }
+    ensures err { IfErr result (λ e. (ask : List ℕ → List (List ℕ) → List ℕ → asked.Request) (bytes : List ℕ) → IsAsked false (Gives (with_bytes bytes (on_object dir.now (object_view object.now) ask))) (Err e)) }
 {
     let name = match parse_name(alloc, object.name) {
         Ok(name) => name,
@@ -41,7 +41,7 @@ pub(crate) fn add_text<R: Read>(
     object: &ObjectArguments<'_>,
     input: &mut R,
 ) -> Result<Request, Stop>
-    ensures asked { IsAskedOver (λ bytes. Gives (on_object dir.now (object_view object.now) (λ name refs. asked.add_text name refs bytes))) (R.remaining input.old) result }
+    ensures asked { IsAskedOver (is_ok (on_object dir.now (object_view object.now) (λ name refs bytes. asked.add_text name refs bytes))) (λ bytes. Gives (with_bytes bytes (on_object dir.now (object_view object.now) (λ name refs bytes. asked.add_text name refs bytes)))) (R.remaining input.old) result }
     ensures reads { TakesAtMost max_front (R.remaining input.old) (R.remaining input.new) }
 {
     let (name, references) = match parse_arguments(alloc, dir, object) {
@@ -61,7 +61,7 @@ pub(crate) fn add_source<R: Read>(
     object: &ObjectArguments<'_>,
     input: &mut R,
 ) -> Result<Request, Stop>
-    ensures asked { IsAskedOver (λ bytes. Gives (on_object dir.now (object_view object.now) (λ name refs. asked.add_source name refs bytes))) (R.remaining input.old) result }
+    ensures asked { IsAskedOver (is_ok (on_object dir.now (object_view object.now) (λ name refs bytes. asked.add_source name refs bytes))) (λ bytes. Gives (with_bytes bytes (on_object dir.now (object_view object.now) (λ name refs bytes. asked.add_source name refs bytes)))) (R.remaining input.old) result }
     ensures reads { TakesAtMost max_front (R.remaining input.old) (R.remaining input.new) }
 {
     let (name, references) = match parse_arguments(alloc, dir, object) {

@@ -7,7 +7,7 @@ ghost use Rattle.tool.specs.Answer.{AnswersUnder};
 ghost use Rattle.pure_commands.specs.Archive.{max_front};
 ghost use Rattle.tool.specs.Callers.{AnswersCaller, AnswersNamed};
 ghost use Rattle.tool.specs.Files.{AnswersFile};
-ghost use Rattle.tool.specs.Requests.{Ask, Wants, asks, reads_all, caller_by};
+ghost use Rattle.tool.specs.Requests.{Ask, asks, reads_all, caller_by};
 
 use crate::files::call_in_file;
 use crate::stores::call_in_memory;
@@ -51,7 +51,7 @@ fn call_in<F: Start, R: Read, W: Write, E: Write>(
 ) -> u8
     requires { IsSome (asks (asked_view task.now)) }
     ensures answer { (ask : Ask) → asks (asked_view task.now) ≡ Some ask
-        → AnswersCaller (AnswersFile F.Start ⟦<FileFrom<F> as Disk>⟧) (optional_text db.entry) config caller.now (Wants ask config.store_dir caller.now) (R.remaining input.old) (W.contents output.old) (W.contents output.new) (E.contents errors.old) (E.contents errors.new) result }
+        → AnswersCaller (AnswersFile F.Start ⟦<FileFrom<F> as Disk>⟧) (optional_text db.entry) config caller.now ask (R.remaining input.old) (W.contents output.old) (W.contents output.new) (E.contents errors.old) (E.contents errors.new) result }
     ensures reads { reads_all (asked_view task.now) ≡ false → TakesAtMost max_front (R.remaining input.old) (R.remaining input.new) }
 {
     match db {

@@ -1,4 +1,5 @@
 //! What is asked of a store from which objects go.
+ghost use Rattle.std.specs.Prelude.{false};
 ghost use Rattle.clap.specs.Walk.{texts};
 ghost use Rattle.store.specs.Request as asked;
 ghost use Rattle.tool.specs.Requests.{Gives, IsAsked, on_paths};
@@ -15,7 +16,7 @@ pub(crate) fn delete_paths(
     dir: &StoreDir,
     deletion: &DeleteArguments<'_>,
 ) -> Result<Request, Stop>
-    ensures { IsAsked (Gives (on_paths dir.now (texts deletion.now.paths.items) (λ named. asked.delete named deletion.now.ignore_liveness))) result }
+    ensures { IsAsked false (Gives (on_paths dir.now (texts deletion.now.paths.items) (λ named. asked.delete named deletion.now.ignore_liveness))) result }
 {
     match parse_references(alloc, dir, deletion.paths.as_slice()) {
         Ok(named) => Ok(Request::Delete(named, deletion.ignore_liveness)),

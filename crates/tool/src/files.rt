@@ -5,7 +5,7 @@ ghost use Rattle.streams.specs.Reads.{TakesAtMost};
 ghost use Rattle.pure_commands.specs.Archive.{max_front};
 ghost use Rattle.tool.specs.Files as spec;
 ghost use Rattle.tool.specs.Files.{AnswersFile, TellsCause};
-ghost use Rattle.tool.specs.Requests.{Ask, Wants, asks, reads_all};
+ghost use Rattle.tool.specs.Requests.{Ask, asks, reads_all};
 
 use crate::stores::call_over;
 use command_line::Task;
@@ -86,7 +86,7 @@ pub(crate) fn call_in_file<F: Start, R: Read, W: Write, E: Write>(
 ) -> u8
     requires { IsSome (asks (asked_view task.now)) }
     ensures answer { (ask : Ask) → asks (asked_view task.now) ≡ Some ask
-        → AnswersFile F.Start ⟦<FileFrom<F> as Disk>⟧ config caller.now (Wants ask config.store_dir caller.now) (R.remaining input.old) (W.contents output.old) (W.contents output.new) (E.contents errors.old) (E.contents errors.new) result }
+        → AnswersFile F.Start ⟦<FileFrom<F> as Disk>⟧ config caller.now ask (R.remaining input.old) (W.contents output.old) (W.contents output.new) (E.contents errors.old) (E.contents errors.new) result }
     ensures reads { reads_all (asked_view task.now) ≡ false → TakesAtMost max_front (R.remaining input.old) (R.remaining input.new) }
 {
     match opening::open(rt, path, store_dir(&config), start) {

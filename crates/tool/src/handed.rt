@@ -1,5 +1,5 @@
 //! What is asked of a store by a body on the input.
-ghost use Rattle.std.specs.Prelude.{◌≡◌, ◌⊎◌, IfOk, IfErr, IfSome};
+ghost use Rattle.std.specs.Prelude.{◌≡◌, ◌⊎◌, IfOk, IfErr, IfSome, true, false};
 ghost use Rattle.store_requests.specs.View.{import_view};
 ghost use Rattle.intake.specs.Arriving.{bytes_in};
 ghost use Rattle.tool.specs.Bodies as spec;
@@ -60,7 +60,7 @@ fn imported_of(head: ImportHead, nar: Intake) -> Imported
 
 /// The object that a body hands in, at its path.
 fn parse_import(alloc: Global, dir: &StoreDir, body: Body) -> Result<Request, Stop>
-    ensures { IsAsked (spec.Imports dir.now body) result }
+    ensures { IsAsked false (spec.Imports dir.now body) result }
 {
     match read_import(alloc, dir, body) {
         Ok((head, nar)) => Ok(Request::Import(imported_of(head, nar))),
@@ -70,7 +70,7 @@ fn parse_import(alloc: Global, dir: &StoreDir, body: Body) -> Result<Request, St
 
 /// The runtime roots that a body names.
 fn parse_runtime(alloc: Global, dir: &StoreDir, body: &[u8]) -> Result<Request, Stop>
-    ensures { IsAsked (spec.Replaces dir.now body.now) result }
+    ensures { IsAsked false (spec.Replaces dir.now body.now) result }
 {
     match runtime_body(alloc, dir, body) {
         Ok(roots) => Ok(Request::ReplaceRuntime(roots)),
@@ -80,7 +80,7 @@ fn parse_runtime(alloc: Global, dir: &StoreDir, body: &[u8]) -> Result<Request, 
 
 /// An object is to be added at the path that the input says. Its archive is checked and hashed as it comes.
 pub(crate) fn import<R: Read>(alloc: Global, dir: &StoreDir, input: &mut R) -> Result<Request, Stop>
-    ensures { IsAskedOver (spec.Imports dir.now) (R.remaining input.old) result }
+    ensures { IsAskedOver true (spec.Imports dir.now) (R.remaining input.old) result }
 {
     let mut body = Body::parted(alloc);
     match receive_input(input, &mut body) {
@@ -95,7 +95,7 @@ pub(crate) fn replace_runtime<R: Read>(
     dir: &StoreDir,
     input: &mut R,
 ) -> Result<Request, Stop>
-    ensures { IsAskedOver (spec.Replaces dir.now) (R.remaining input.old) result }
+    ensures { IsAskedOver true (spec.Replaces dir.now) (R.remaining input.old) result }
 {
     match read_whole(alloc, input) {
         Ok(body) => parse_runtime(alloc, dir, body.as_slice()),

@@ -1,5 +1,5 @@
 //! What is asked of profiles.
-ghost use Rattle.std.specs.Prelude.{◌≡◌, IfOk, string_bytes};
+ghost use Rattle.std.specs.Prelude.{◌≡◌, IfOk, false, string_bytes};
 ghost use Rattle.command_line.specs.Asked.{on_profile_view, optional_text};
 ghost use Rattle.store.specs.Request as asked;
 ghost use Rattle.store_requests.specs.View.{request_view};
@@ -86,7 +86,7 @@ pub(crate) fn change_profile(
     caller: &Caller,
     profile: &ProfileArguments<'_>,
 ) -> Result<Request, Stop>
-    ensures { IsAsked (Gives (spec.change_profile dir.now (owner_of caller.now (optional_text profile.now.owner)) profile.now.name.now (on_profile_view profile.now.action))) result }
+    ensures { IsAsked false (Gives (spec.change_profile dir.now (owner_of caller.now (optional_text profile.now.owner)) profile.now.name.now (on_profile_view profile.now.action))) result }
 {
     match profile.action {
         ProfileAction::Set(text) => match parse_reference(alloc, dir, text) {

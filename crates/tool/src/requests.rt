@@ -4,7 +4,7 @@ ghost use Rattle.command_line.specs.Asked.{asked_view};
 ghost use Rattle.store.specs.Request as asked;
 ghost use Rattle.streams.specs.Reads.{TakesAtMost};
 ghost use Rattle.pure_commands.specs.Archive.{max_front};
-ghost use Rattle.tool.specs.Requests.{Ask, Gives, IsAsked, IsAskedOver, Wants, asks, on_path, reads_all};
+ghost use Rattle.tool.specs.Requests.{Ask, Gives, IsAsked, IsAskedBy, asks, on_path, reads_all};
 
 use crate::adds::{add_source, add_text};
 use crate::deletions::delete_paths;
@@ -35,7 +35,7 @@ pub(crate) fn is_asked(task: &Task<'_>) -> bool
 
 /// The roots that reach a path are asked for.
 fn why(alloc: Global, dir: &StoreDir, text: &str) -> Result<Request, Stop>
-    ensures { IsAsked (Gives (on_path dir.now text.now asked.list_roots_of)) result }
+    ensures { IsAsked false (Gives (on_path dir.now text.now asked.list_roots_of)) result }
 {
     match parse_reference(alloc, dir, text) {
         Ok(path) => Ok(Request::ListRootsOf(path)),
@@ -45,7 +45,7 @@ fn why(alloc: Global, dir: &StoreDir, text: &str) -> Result<Request, Stop>
 
 /// The record of an object is asked for.
 fn info(alloc: Global, dir: &StoreDir, text: &str) -> Result<Request, Stop>
-    ensures { IsAsked (Gives (on_path dir.now text.now asked.info)) result }
+    ensures { IsAsked false (Gives (on_path dir.now text.now asked.info)) result }
 {
     match parse_reference(alloc, dir, text) {
         Ok(path) => Ok(Request::Info(path)),
@@ -55,7 +55,7 @@ fn info(alloc: Global, dir: &StoreDir, text: &str) -> Result<Request, Stop>
 
 /// The archive of an object is asked for.
 fn cat_nar(alloc: Global, dir: &StoreDir, text: &str) -> Result<Request, Stop>
-    ensures { IsAsked (Gives (on_path dir.now text.now asked.nar)) result }
+    ensures { IsAsked false (Gives (on_path dir.now text.now asked.nar)) result }
 {
     match parse_reference(alloc, dir, text) {
         Ok(path) => Ok(Request::Nar(path)),
@@ -72,7 +72,7 @@ pub(crate) fn request<R: Read>(
     input: &mut R,
 ) -> Result<Request, Stop>
     requires { IsSome (asks (asked_view task.now)) }
-    ensures asked { (ask : Ask) → asks (asked_view task.now) ≡ Some ask → IsAskedOver (Wants ask dir.now caller.now) (R.remaining input.old) result }
+    ensures asked { (ask : Ask) → asks (asked_view task.now) ≡ Some ask → IsAskedBy ask dir.now caller.now (R.remaining input.old) result }
     ensures reads { reads_all (asked_view task.now) ≡ false → TakesAtMost max_front (R.remaining input.old) (R.remaining input.new) }
 {
     match task {

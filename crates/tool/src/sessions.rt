@@ -1,5 +1,5 @@
 //! What is asked of a session's temporary roots.
-ghost use Rattle.std.specs.Prelude.{◌≡◌, IfOk};
+ghost use Rattle.std.specs.Prelude.{◌≡◌, IfOk, false};
 ghost use Rattle.command_line.specs.Asked.{on_session_view, optional_text};
 ghost use Rattle.store.specs.Request as asked;
 ghost use Rattle.store_requests.specs.View.{request_view};
@@ -42,7 +42,7 @@ pub(crate) fn change_session(
     caller: &Caller,
     session: &TempArguments<'_>,
 ) -> Result<Request, Stop>
-    ensures { IsAsked (Gives (spec.change_session dir.now (owner_of caller.now (optional_text session.now.owner)) session.now.session (on_session_view session.now.action))) result }
+    ensures { IsAsked false (Gives (spec.change_session dir.now (owner_of caller.now (optional_text session.now.owner)) session.now.session (on_session_view session.now.action))) result }
 {
     match session.action {
         TempAction::Add(text) => match parse_reference(alloc, dir, text) {

@@ -5,7 +5,7 @@ ghost use Rattle.streams.specs.Reads.{TakesAtMost};
 ghost use Rattle.pure_commands.specs.Archive.{max_front};
 ghost use Rattle.tool.specs.Callers.{AnswersNew};
 ghost use Rattle.tool.specs.Calls.{AnswersIn, Serves};
-ghost use Rattle.tool.specs.Requests.{Ask, Wants, asks, reads_all};
+ghost use Rattle.tool.specs.Requests.{Ask, asks, reads_all};
 
 use crate::requests::request;
 use command_line::Task;
@@ -33,7 +33,7 @@ pub(crate) fn call_over<S: Alter + Drop, R: Read, W: Write, E: Write>(
     requires asked { IsSome (asks (asked_view task.now)) }
     requires dir { tables.dir ≡ config.store_dir }
     ensures answer { (ask : Ask) → asks (asked_view task.now) ≡ Some ask
-        → AnswersIn (Serves S.Store config tables caller.now (W.contents output.old) (W.contents output.new) (E.contents errors.old) (E.contents errors.new) result) (Wants ask config.store_dir caller.now) (R.remaining input.old) (W.contents output.old) (W.contents output.new) (E.contents errors.old) (E.contents errors.new) result }
+        → AnswersIn (Serves S.Store config tables caller.now (W.contents output.old) (W.contents output.new) (E.contents errors.old) (E.contents errors.new) result) ask config.store_dir caller.now (R.remaining input.old) (W.contents output.old) (W.contents output.new) (E.contents errors.old) (E.contents errors.new) result }
     ensures reads { reads_all (asked_view task.now) ≡ false → TakesAtMost max_front (R.remaining input.old) (R.remaining input.new) }
 {
     match request(alloc, store_dir(&config), caller, task, input) {
@@ -62,7 +62,7 @@ pub(crate) fn call_in_memory<R: Read, W: Write, E: Write>(
 ) -> u8
     requires { IsSome (asks (asked_view task.now)) }
     ensures answer { (ask : Ask) → asks (asked_view task.now) ≡ Some ask
-        → AnswersNew config caller.now (Wants ask config.store_dir caller.now) (R.remaining input.old) (W.contents output.old) (W.contents output.new) (E.contents errors.old) (E.contents errors.new) result }
+        → AnswersNew config caller.now ask (R.remaining input.old) (W.contents output.old) (W.contents output.new) (E.contents errors.old) (E.contents errors.new) result }
     ensures reads { reads_all (asked_view task.now) ≡ false → TakesAtMost max_front (R.remaining input.old) (R.remaining input.new) }
 {
     match Tables::open_in_memory(alloc, store_dir(&config)) {

@@ -1,4 +1,4 @@
-use Rattle.std.proofs.Common.{◌≡◌, ◌⊎◌, None, ap, refl, subst, ◌∙◌}
+use Rattle.std.proofs.Common.{◌≡◌, ◌⊎◌, true, None, ap, refl, subst, ◌∙◌}
 use Rattle.pure_commands.specs.Archive.{ls_answer}
 use Rattle.pure_commands.specs.Stream.{IsFailure, result_text}
 use Rattle.pure_commands.proofs.Archives.{ls_front}
@@ -8,7 +8,7 @@ use Rattle.pure_commands.proofs.listings.ls_result.Goals as goal
 pub returns-in-Ok-clause-answer : goal.returns-in-Ok-clause-answer
 returns-in-Ok-clause-answer g c =
     let bytes = c.in-Ok.nar.items in
-    let found = by_line c.listing.result _ c.listing.ensures.ok c.listing.ensures.err in
+    let found = by_line true c.listing.result _ c.listing.ensures.ok c.listing.ensures.err in
     of_front None ls_answer (g.R.Read.remaining c.args.input.now) (result_text c.listing.result) 16777224 bytes
     refl c.in-Ok.ensures.ok (λ all e is. is ∙ ap ls_answer e ∙ ls_front all)
-    (subst (λ a. IsFailure (result_text c.listing.result) ⊎ (result_text c.listing.result ≡ ls_answer a)) c.as_slice.ensures.value found)
+    (subst (λ a. IsFailure true (result_text c.listing.result) ⊎ (result_text c.listing.result ≡ ls_answer a)) c.as_slice.ensures.value found)

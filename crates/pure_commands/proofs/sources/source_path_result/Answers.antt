@@ -1,7 +1,7 @@
 use Rattle.std.proofs.Common.{◌≡◌, ◌⊎◌, ◌≤◌, length, map, ap, ap₂, subst, ◌∙◌}
-use Rattle.std.specs.Prelude.{IfOk}
+use Rattle.std.specs.Prelude.{IfOk, is_none}
 use Rattle.paths.specs.StorePath.{base_of}
-use Rattle.pure_commands.specs.Object.{source_path_answer}
+use Rattle.pure_commands.specs.Object.{object_fault, source_path_answer}
 use Rattle.pure_commands.specs.Stream.{IsFailure, result_text}
 use Rattle.pure_commands.proofs.Archives.{source_front}
 use Rattle.pure_commands.proofs.Results.{stopped_at, by_line, of_front, with_text}
@@ -20,7 +20,8 @@ returns-in-Ok-clause-answer g c =
     let lent = c.as_slice.result.now in
     let same : source_path_answer dir object.name object.references.items lent ≡ source_path_answer dir name bases bytes =
     ap₂ (λ n bs. source_path_answer dir n bs lent) c.in-Ok.ensures.object.1 c.in-Ok.ensures.object.2 ∙ ap (source_path_answer dir name bases) c.as_slice.ensures.value in
-    let found = by_line c.source_line.result _ c.source_line.ensures.ok c.source_line.ensures.err in
-    of_front _ (source_path_answer dir name bases) (g.R.Read.remaining c.args.input.now) (result_text c.source_line.result) 16777224 bytes
+    let fault = object_fault dir name (map g.S.AsStr.text c.args.references.now) in
+    let found = by_line (is_none fault) c.source_line.result _ c.source_line.ensures.ok c.source_line.ensures.err in
+    of_front fault (source_path_answer dir name bases) (g.R.Read.remaining c.args.input.now) (result_text c.source_line.result) 16777224 bytes
     c.in-Ok.ensures.object.0 c.in-Ok.ensures.bytes (λ all e is. source_front dir name bases all bytes e (result_text c.source_line.result) (with_text c.source_line.result _ (subst (λ l. IfOk c.source_line.result (λ line. length l ≤ 16777216)) c.as_slice.ensures.value c.source_line.ensures.fits)) is)
-    (subst (λ a. IsFailure (result_text c.source_line.result) ⊎ (result_text c.source_line.result ≡ a)) same found)
+    (subst (λ a. IsFailure (is_none fault) (result_text c.source_line.result) ⊎ (result_text c.source_line.result ≡ a)) same found)

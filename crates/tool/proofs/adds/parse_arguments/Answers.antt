@@ -6,11 +6,14 @@ use Rattle.clap.specs.Walk.{texts}
 use Rattle.paths.specs.StorePath.{base_of}
 use Rattle.command_line.specs.Asked.{object_view}
 use Rattle.pure_commands.specs.Object.{is_path_text}
-use Rattle.tool.proofs.Requested.{no_reference, object_is}
+use Rattle.tool.proofs.Requested.{no_name, no_reference, object_is}
 use Rattle.tool.proofs.adds.parse_arguments.Goals as goal
 
+pub returns-in-Err-clause-err : goal.returns-in-Err-clause-err
+returns-in-Err-clause-err c = λ ask bytes. no_name c.args.dir.now (object_view c.args.object.now) c.in-Err.stop c.in-Err.ensures.err ask bytes
+
 pub returns-in-Err-parse_references-clause-err : goal.returns-in-Err-parse_references-clause-err
-returns-in-Err-parse_references-clause-err c = λ ask.
+returns-in-Err-parse_references-clause-err c = λ ask bytes.
     let dir = c.args.dir.now in
     let items = c.args.object.now.references.items in
     no_reference dir (object_view c.args.object.now) c.in-Err-parse_references.stop c.in-Ok.ensures.ok.1
@@ -18,7 +21,7 @@ returns-in-Err-parse_references-clause-err c = λ ask.
       | inl memory ↦ inl memory
       | inr bad ↦ inr (bad.0, list_all-map (is_path_text dir) (λ t. t.now) items ∙ ap (list_all (λ t. is_path_text dir t.now)) (sym c.as_slice.ensures.value) ∙ bad.1)
     ])
-    ask
+    ask bytes
 
 pub returns-in-Ok-parse_references-clause-ok : goal.returns-in-Ok-parse_references-clause-ok
 returns-in-Ok-parse_references-clause-ok c = λ ask.

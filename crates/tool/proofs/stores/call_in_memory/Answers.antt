@@ -3,7 +3,6 @@ use Rattle.sqlite.specs.Steps.{over_memory}
 use Rattle.sqlite.proofs.Callers.{memory_is_clean}
 use Rattle.world.specs.World.{no_world}
 use Rattle.tool.specs.Calls.{AnswersStep, Serves}
-use Rattle.tool.specs.Requests.{Wants}
 use Rattle.tool.proofs.Called.{of_each, stepped}
 use Rattle.tool.proofs.stores.call_in_memory.Goals as goal
 
@@ -18,5 +17,5 @@ returns-in-Ok-clause-answer g c = λ ask is.
     let status = c.call_over.result in
     let t = c.in-Ok.tables in
     inl (of_each (Serves over_memory s t caller out out' err err' status) (AnswersStep s no_world caller out out' err err' status)
-    (λ q x. stepped over_memory caller out out' err err' status (λ h. memory_is_clean h) s t no_world c.in-Ok.ensures.told q x) out out' err err' status (Wants ask s.store_dir caller) (g.R.Read.remaining c.args.input.now)
+    (λ q x. stepped over_memory caller out out' err err' status (λ h. memory_is_clean h) s t no_world c.in-Ok.ensures.told q x) out out' err err' status ask s.store_dir caller (g.R.Read.remaining c.args.input.now)
     (c.call_over.ensures.answer ask is))
