@@ -20,6 +20,7 @@ const TOLD: &str = "/nix/store/a0d1zlpv81nsfbam8ay3i7snrc0sgsvr-myfile
 /nix/store/jpzwwkzwcap53421pll8gza0knik4xzf-other
 done
 denied: connect
+refused: 35 bad-label
 /nix/store/jpzwwkzwcap53421pll8gza0knik4xzf-other
 freed 1 paths 112 bytes
 /nix/store/a0d1zlpv81nsfbam8ay3i7snrc0sgsvr-myfile
@@ -67,8 +68,29 @@ fn push_root(alloc: Global, calls: &mut Vec<(Caller, Request)>) -> Result<(), Fa
     Ok(())
 }
 
-fn push_list(alloc: Global, calls: &mut Vec<(Caller, Request)>, caller: &str) -> Result<(), Fail> {
-    let caller = Caller::new(alloc, caller, None)?;
+/// A stranger sets a root of another: that he may not connect is told first.
+fn push_strange_root(alloc: Global, calls: &mut Vec<(Caller, Request)>) -> Result<(), Fail> {
+    let caller = Caller::new(alloc, "eve", None)?;
+    let owner = String::from_str(alloc, "bob")?;
+    let name = String::from_str(alloc, "kept")?;
+    let target = StorePath::from_base(alloc, TEXT)?;
+    push(calls, caller, Request::SetUserRoot(owner, name, target))?;
+    Ok(())
+}
+
+/// A runtime root whose label has a blank.
+fn push_bad_label(alloc: Global, calls: &mut Vec<(Caller, Request)>) -> Result<(), Fail> {
+    let caller = Caller::new(alloc, "ann", None)?;
+    let label = String::from_str(alloc, "a b")?;
+    let target = StorePath::from_base(alloc, TEXT)?;
+    let mut pairs = Vec::new(alloc);
+    pairs.push((label, target))?;
+    push(calls, caller, Request::ReplaceRuntime(pairs))?;
+    Ok(())
+}
+
+fn push_list(alloc: Global, calls: &mut Vec<(Caller, Request)>) -> Result<(), Fail> {
+    let caller = Caller::new(alloc, "bob", None)?;
     push(calls, caller, Request::List)?;
     Ok(())
 }
@@ -79,14 +101,15 @@ fn push_collection(alloc: Global, calls: &mut Vec<(Caller, Request)>) -> Result<
     Ok(())
 }
 
-/// A text and its referrer are added, and the text gets a root; a stranger asks; what is dead is collected.
+/// A text and its referrer are added, and the text gets a root; a stranger asks; a label isn't one; what is dead is collected.
 fn push_all(alloc: Global, calls: &mut Vec<(Caller, Request)>) -> Result<(), Fail> {
     push_text(alloc, calls)?;
     push_referrer(alloc, calls)?;
     push_root(alloc, calls)?;
-    push_list(alloc, calls, "eve")?;
+    push_strange_root(alloc, calls)?;
+    push_bad_label(alloc, calls)?;
     push_collection(alloc, calls)?;
-    push_list(alloc, calls, "bob")?;
+    push_list(alloc, calls)?;
     Ok(())
 }
 
@@ -124,7 +147,7 @@ fn calls_in_turn(rt: HostRuntime) -> Result<(), Fail> {
     let mut calls = Vec::new(alloc);
     push_all(alloc, &mut calls)?;
     let replies = replies(alloc, calls)?;
-    assert_eq!(rt; replies.len(), 6);
+    assert_eq!(rt; replies.len(), 7);
     let mut told = Vec::new(alloc);
     tell_all(alloc, replies, &mut told)?;
     assert!(rt; told.as_slice() == TOLD.as_bytes());
