@@ -68,7 +68,9 @@ pub fn prepare_source(
     let path = source_path_of(alloc, dir, name, &refs, &nar.nar_hash)?;
     let outputs = examine_source(alloc, dir, index, &path, &refs, &nar)?;
     let Arrived {
-        nar_hash, pieces, ..
+        nar_hash,
+        pieces,
+        ..
     } = nar;
     let ca = Some(Ca::new(Method::Source, nar_hash));
     let object = summary(alloc, pieces.len(), nar_hash, refs, None, ca, outputs)?;
