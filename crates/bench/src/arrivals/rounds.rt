@@ -7,17 +7,25 @@ use std::io;
 use std::rt::Clock;
 use std::time::Instant;
 
-/// What is told of an archive that is pushed in pieces of such a size.
-pub fn pushed(alloc: Global, bytes: &[u8], size: usize) -> Result<Arrived, AllocError> {
+/// What is told of an archive that is pushed in pieces of such a size, whose contents are asked for or not.
+pub fn pushed(
+    alloc: Global,
+    bytes: &[u8],
+    size: usize,
+    asked: bool,
+) -> Result<Arrived, AllocError> {
     let mut intake = Intake::new(alloc);
+    if asked {
+        intake.hash_contents();
+    }
     for piece in bytes.chunks(size.max(1)) {
         intake.push(piece)?;
     }
     intake.finish()
 }
 
-/// Prints the nanoseconds of one digest, of pushing the bytes in pieces of such a size, and of that and what is told of
-/// their contents; a line for each round.
+/// Prints the nanoseconds of one digest, of pushing the bytes in pieces of such a size, and of pushing them where what is
+/// told of their contents is asked for too; a line for each round.
 pub fn run(
     rt: &(impl Print + Clock + AllocGlobal),
     size: usize,
@@ -29,11 +37,12 @@ pub fn run(
         let digest = Sha256::digest(bytes);
         let alone = start.elapsed(rt)?.as_nanos();
         let start = Instant::now(rt)?;
-        let arrived = pushed(rt.alloc(), bytes, size)?;
+        let arrived = pushed(rt.alloc(), bytes, size, false)?;
         let came = start.elapsed(rt)?.as_nanos();
-        let facts = arrived.facts();
+        let start = Instant::now(rt)?;
+        let facts = pushed(rt.alloc(), bytes, size, true)?.facts();
         let all = start.elapsed(rt)?.as_nanos();
-        if facts.nar_hash == digest {
+        if facts == arrived.facts() && facts.nar_hash == digest {
             println!(rt; "{alone} {came} {all}")?;
         } else {
             println!(rt; "another digest")?;

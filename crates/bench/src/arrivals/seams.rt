@@ -63,10 +63,14 @@ fn is_as(expected: &Expected, arrived: &Arrived) -> Result<bool, AllocError> {
     )
 }
 
+/// Contents are asked for in between, at each second place.
 fn cut(alloc: Global, archive: &[u8], place: usize) -> Result<Arrived, AllocError> {
     let (front, rest) = archive.split_at(place.min(archive.len()));
     let mut intake = Intake::new(alloc);
     intake.push(front)?;
+    if place % 2 == 0 {
+        intake.hash_contents();
+    }
     intake.push(rest)?;
     intake.finish()
 }
@@ -95,7 +99,7 @@ fn show(rt: &(impl Print + AllocGlobal), expected: &Expected, near: usize) -> io
     let behind = near.max(SEAM.saturating_sub(near));
     let front = differing(alloc, expected, 0, near.min(len))?;
     let back = differing(alloc, expected, behind, len)?;
-    let bytes = pushed(alloc, &expected.archive, 1)?;
+    let bytes = pushed(alloc, &expected.archive, 1, true)?;
     let is_same = is_as(expected, &bytes)?;
     match front.or(back) {
         Some(place) => println!(rt; "{len} bytes, cut behind byte {place}: something else"),
@@ -104,15 +108,26 @@ fn show(rt: &(impl Print + AllocGlobal), expected: &Expected, near: usize) -> io
     }
 }
 
-/// Says whether an archive that comes in pieces of a byte less than those that are kept comes out as it has to.
-fn show_shifted(rt: &(impl Print + AllocGlobal), expected: &Expected) -> io::Result<()> {
+/// Says whether an archive that comes in pieces of so many bytes comes out as it has to.
+fn show_pieces(
+    rt: &(impl Print + AllocGlobal),
+    expected: &Expected,
+    size: usize,
+) -> io::Result<()> {
     let len = expected.archive.len();
-    let arrived = pushed(rt.alloc(), &expected.archive, SEAM - 1)?;
-    if is_as(expected, &arrived)? {
-        println!(rt; "{len} bytes: the same, cut a byte short of each piece")
+    let arrived = pushed(rt.alloc(), &expected.archive, size, true)?;
+    let told = if is_as(expected, &arrived)? {
+        "the same"
     } else {
-        println!(rt; "{len} bytes, cut a byte short of each piece: something else")
-    }
+        "something else"
+    };
+    println!(rt; "{len} bytes in pieces of {size}: {told}")
+}
+
+/// The same of pieces of a byte, and of a byte less than those that are kept.
+fn show_large(rt: &(impl Print + AllocGlobal), expected: &Expected) -> io::Result<()> {
+    show_pieces(rt, expected, 1)?;
+    show_pieces(rt, expected, SEAM - 1)
 }
 
 /// Archives of one piece and of 8 bytes more, each whole and broken; the largest, and one that is 8 bytes too large.
@@ -122,6 +137,6 @@ pub fn run(rt: &(impl Print + AllocGlobal), near: usize) -> io::Result<()> {
         show(rt, &text(alloc, len, None)?, near)?;
         show(rt, &broken(alloc, len)?, near)?;
     }
-    show_shifted(rt, &text(alloc, 16_777_104, None)?)?;
-    show_shifted(rt, &text(alloc, 16_777_112, Some(NarError::TooLarge))?)
+    show_large(rt, &text(alloc, 16_777_104, None)?)?;
+    show_large(rt, &text(alloc, 16_777_112, Some(NarError::TooLarge))?)
 }
