@@ -1,6 +1,7 @@
 //! Rounds of pushing one archive, each beside one digest of the same bytes.
 
 use intake::{Arrived, Intake};
+use paths::Facts;
 use sha2::{Digest, Sha256};
 use std::alloc::{AllocError, Global};
 use std::io;
@@ -24,6 +25,25 @@ pub fn pushed(
     intake.finish()
 }
 
+/// The nanoseconds of pushing the bytes, and what is told of them, which is in that time where it is asked for.
+fn timed(
+    rt: &(impl Clock + AllocGlobal),
+    size: usize,
+    asked: bool,
+    bytes: &[u8],
+) -> io::Result<(u128, Facts)> {
+    let start = Instant::now(rt)?;
+    let arrived = pushed(rt.alloc(), bytes, size, asked)?;
+    let came = start.elapsed(rt)?.as_nanos();
+    let facts = arrived.facts();
+    let told = start.elapsed(rt)?.as_nanos();
+    if asked {
+        Ok((told, facts))
+    } else {
+        Ok((came, facts))
+    }
+}
+
 /// Prints the nanoseconds of one digest, of pushing the bytes in pieces of such a size, and of pushing them where what is
 /// told of their contents is asked for too; a line for each round.
 pub fn run(
@@ -36,13 +56,9 @@ pub fn run(
         let start = Instant::now(rt)?;
         let digest = Sha256::digest(bytes);
         let alone = start.elapsed(rt)?.as_nanos();
-        let start = Instant::now(rt)?;
-        let arrived = pushed(rt.alloc(), bytes, size, false)?;
-        let came = start.elapsed(rt)?.as_nanos();
-        let start = Instant::now(rt)?;
-        let facts = pushed(rt.alloc(), bytes, size, true)?.facts();
-        let all = start.elapsed(rt)?.as_nanos();
-        if facts == arrived.facts() && facts.nar_hash == digest {
+        let (came, facts) = timed(rt, size, false, bytes)?;
+        let (all, told) = timed(rt, size, true, bytes)?;
+        if facts == told && facts.nar_hash == digest {
             println!(rt; "{alone} {came} {all}")?;
         } else {
             println!(rt; "another digest")?;
