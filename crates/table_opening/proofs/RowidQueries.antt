@@ -2,7 +2,6 @@
 use Rattle.std.proofs.Common.{◌≡◌, ℕ, length, true, false, List, [], ◌∷◌, map, codes, None, Option, Ok, Some, refl, take, slice_get}
 use Rattle.std.specs.Prelude.{nat_lt, nat_le, ◌^◌}
 use Rattle.std.specs.List.{AllByRecursion}
-use Rattle.sqlite_value.specs.declared.keys.Collation.{Collation}
 use Rattle.sqlite_value.specs.declared.keys.Collation.TheVariants.{Binary}
 use Rattle.sqlite_value.specs.declared.keys.Key.{Key}
 use Rattle.sqlite_value.specs.Keys.{ascending}
@@ -17,7 +16,6 @@ use Rattle.sqlite_typing.specs.Types.{accepts_program}
 use Rattle.sqlite_schema.specs.declared.schema.Column.{Column}
 use Rattle.sqlite_schema.specs.declared.schema.Schema.{Schema}
 use Rattle.sqlite_schema.specs.Names.{column_named}
-use Rattle.sqlite_resolve.specs.declared.scope.Found.TheVariants as found_as
 use Rattle.sqlite_resolve.specs.Body.{declared, tests}
 use Rattle.sqlite_resolve.specs.Expr.{lower}
 use Rattle.sqlite_resolve.specs.Lowering.{max_budget}
