@@ -3,6 +3,7 @@ pub mod Cut
 pub mod Fronts
 pub mod SameOutputs
 pub mod OfArchive
+pub mod OfText
 pub mod Paths
 pub mod SoundRows
 pub mod OwnRows

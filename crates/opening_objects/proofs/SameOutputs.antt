@@ -1,5 +1,5 @@
 -- Outputs in memory, as a list in order and as a map.
-use Rattle.std.proofs.Common.{◌≡◌, ℕ, suc, List, [], ◌∷◌, map, length, true, false, ◌&&◌, refl, sym, ap, ap₂, subst, ◌∙◌, String, Global, BTreeMap, Some, Option, string_bytes, T}
+use Rattle.std.proofs.Common.{◌≡◌, ℕ, suc, List, [], ◌∷◌, map, length, true, false, ◌&&◌, refl, sym, ap, ap₂, subst, ◌∙◌, String, Global, BTreeMap, Some, None, Option, string_bytes, T}
 use Rattle.std.specs.Prelude.{MatchOption}
 use Rattle.nar.specs.Tree.{Tree}
 use Rattle.std.specs.List.{zip}
@@ -88,7 +88,11 @@ listed_as es up names paths n p = subst (λ (l : List (List ℕ)). IsListed l pa
 -- ---- what was found
 
 module _ (dir : List ℕ) (p : Path) (tree : Tree) where
-  pub found_some : (o : Option (BTreeMap (String Global) Path)) (found : BTreeMap (String Global) Path) → o ≡ Some found
-      → MatchOption o (¬ IfDerivation dir p tree) (λ map. IfDerivation dir p tree × (outputs_view map.entries ≡ outputs_in dir p tree))
-      → IfDerivation dir p tree × (outputs_view found.entries ≡ outputs_in dir p tree)
-  found_some o found e h = subst (λ (x : Option (BTreeMap (String Global) Path)). MatchOption x (¬ IfDerivation dir p tree) (λ map. IfDerivation dir p tree × (outputs_view map.entries ≡ outputs_in dir p tree))) e h
+  abbrev Found : Option (BTreeMap (String Global) Path) → Type 0
+  Found o = MatchOption o (¬ IfDerivation dir p tree) (λ map. IfDerivation dir p tree × (outputs_view map.entries ≡ outputs_in dir p tree))
+
+  pub found_some : (o : Option (BTreeMap (String Global) Path)) (found : BTreeMap (String Global) Path) → o ≡ Some found → Found o → IfDerivation dir p tree × (outputs_view found.entries ≡ outputs_in dir p tree)
+  found_some o found e h = subst Found e h
+
+  pub found_none : (o : Option (BTreeMap (String Global) Path)) → o ≡ None → Found o → ¬ IfDerivation dir p tree
+  found_none o e h = subst Found e h

@@ -107,9 +107,3 @@ pub sound_found : (dir : List ℕ) (w : Path × Stored) (refs : List Path) (outs
     → IsSoundAt dir w.0 w.1 refs outs
 sound_found dir w refs outs o s is h =
     (subst (λ (p : Option (Path × Outlined)). MatchOption p (¬ IsSoundAt dir w.0 w.1 refs outs) (λ (x : Path × Outlined). IsSoundAt dir w.0 w.1 refs outs × (x.0 ≡ w.0) × (x.1 ≡ kept_of dir w.0 w.1 refs))) is h).0
-
-pub sound_so : (dir : List ℕ) (w e : Path × Stored) → w ≡ e → (rs ss : List Reference) → rs ≡ ss → (os us : List Output) → os ≡ us
-    → IsSoundAt dir w.0 w.1 (targets_of rs) (named_of os) → IsSoundAt dir e.0 e.1 (targets_of ss) (named_of us)
-sound_so dir w e p rs ss q os us r h =
-    subst (λ (x : Path × Stored). IsSoundAt dir x.0 x.1 (targets_of ss) (named_of us)) p
-    (subst (λ (l : List Reference). IsSoundAt dir w.0 w.1 (targets_of l) (named_of us)) q (subst (λ (l : List Output). IsSoundAt dir w.0 w.1 (targets_of rs) (named_of l)) r h))

@@ -2,7 +2,6 @@
 use Rattle.std.specs.Prelude.{ℕ, ◌+◌, ◌==◌, nat_le, ℤ, pos, negsuc, Bool, false, ◌&&◌, List, [], ◌∷◌, ◌++◌, map, length, not}
 use Rattle.table_statements.specs.Contents.{Stored}
 use Rattle.table_entries.specs.declared.pieces.Piece.{Piece}
-use Rattle.world.specs.World.{Path}
 use Rattle.world.specs.Pieces.{joined}
 
 -- the number and the bytes of a piece
@@ -15,9 +14,6 @@ parts_of pieces = map part_of pieces
 -- an object with the bytes of its row and of its pieces
 abbrev pub whole_of : Stored → List (ℤ × List ℕ) → Stored
 whole_of o parts = record o { nar = o.nar ++ joined parts }
-
-abbrev pub with_parts : Path × Stored → List (ℤ × List ℕ) → Path × Stored
-with_parts e parts = (e.0, whole_of e.1 parts)
 
 -- a piece's number is this
 abbrev pub is_number : ℤ → ℕ → Bool

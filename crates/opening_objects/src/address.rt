@@ -1,18 +1,14 @@
 //! The content address of an object beside its archive and its references.
 
-ghost use Rattle.std.specs.Prelude.{◌≡◌, Ok, IfOk};
+ghost use Rattle.std.specs.Prelude.{◌≡◌, IfOk};
 ghost use Rattle.std.specs.List.{list_any};
 ghost use Rattle.std.specs.Str.{bytes_eq};
-ghost use Rattle.sha2.specs.Sha256.{sha256};
-ghost use Rattle.nar.specs.Outcome.{outcome_of};
-ghost use Rattle.nar.specs.View.{tree_of};
-ghost use Rattle.paths.specs.ContentAddress.{plain};
-ghost use Rattle.paths.specs.Facts.{hash_of, TellsFor};
+ghost use Rattle.paths.specs.Facts.{TellsFor};
+ghost use Rattle.intake.specs.Told.{IsTold};
 ghost use Rattle.opening_objects.specs.Tested as tested;
 
-use nar::Node;
+use intake::Arrived;
 use paths::{Ca, Facts, Method, StoreDir, StorePath, VerifyError};
-use sha2::{Digest, Sha256};
 use std::alloc::{AllocError, Global};
 
 pub(crate) fn are_same(a: &[u8], b: &[u8]) -> bool
@@ -27,34 +23,18 @@ fn refers_to(refs: &[StorePath], path: &StorePath) -> bool
     refs.iter().any(|r| are_same(path.as_str().as_bytes(), r.as_str().as_bytes()))
 }
 
-/// SHA-256 of the contents of a regular file that isn't executable.
-fn plain_hash(node: &Node<'_>) -> Option<[u8; 32]>
-    ensures { result ≡ hash_of (plain (tree_of node.now)) }
+/// What an address of such a method asks for of an archive: its contents are hashed for that of a text alone.
+fn facts(method: Method, archive: &Arrived) -> Facts
+    requires told { IsTold archive.now }
+    ensures { TellsFor method archive.now.pieces result }
 {
-    match node {
-        Node::Regular {
-            executable: false,
-            contents,
-        } => Some(Sha256::digest(*contents)),
-        _ => None,
-    }
-}
-
-/// What an address of such a method asks for of an archive, by its digest and what was read of it: contents are hashed
-/// for that of a text alone.
-fn facts(method: Method, nar: &[u8], hash: &[u8; 32], node: &Node<'_>) -> Facts
-    requires hash { hash.now ≡ sha256 nar.now }
-    requires node { outcome_of nar.now ≡ Ok (tree_of node.now) }
-    ensures { TellsFor method nar.now result }
-{
-    let plain = match method {
-        Method::Text => plain_hash(node),
-        Method::Source => None,
-    };
-    Facts {
-        nar_hash: *hash,
-        nar_size: nar.len() as u64,
-        plain,
+    match method {
+        Method::Text => archive.facts(),
+        Method::Source => Facts {
+            nar_hash: archive.nar_hash,
+            nar_size: archive.pieces.len() as u64,
+            plain: None,
+        },
     }
 }
 
@@ -63,15 +43,12 @@ pub(crate) fn fits_address(
     alloc: Global,
     dir: &StoreDir,
     path: &StorePath,
-    nar: &[u8],
-    hash: &[u8; 32],
-    node: &Node<'_>,
+    archive: &Arrived,
     ca: Option<Ca>,
     refs: &[StorePath],
 ) -> Result<bool, AllocError>
-    requires hash { hash.now ≡ sha256 nar.now }
-    requires node { outcome_of nar.now ≡ Ok (tree_of node.now) }
-    ensures { IfOk result (λ ok. ok ≡ tested.fits_address ca dir.now path.now refs.now nar.now) }
+    requires told { IsTold archive.now }
+    ensures { IfOk result (λ ok. ok ≡ tested.fits_address ca dir.now path.now refs.now archive.now.pieces) }
 {
     let Some(ca) = ca else {
         return Ok(true);
@@ -79,7 +56,7 @@ pub(crate) fn fits_address(
     if refers_to(refs, path) {
         return Ok(false);
     }
-    let facts = facts(ca.method(), nar, hash, node);
+    let facts = facts(ca.method(), archive);
     match ca.verify_facts(alloc, dir, path, refs, &facts) {
         Ok(()) => Ok(true),
         Err(VerifyError::Memory) => Err(AllocError),

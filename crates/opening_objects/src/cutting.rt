@@ -1,13 +1,10 @@
-//! The pieces of an archive: whether it is cut the right way, and its bytes in one.
+//! The pieces of an archive: whether it is cut the right way.
 
-ghost use Rattle.std.specs.Prelude.{◌≡◌, ◌↔◌, ◌++◌, length, IsTrue, IfOk};
-ghost use Rattle.table_entries.specs.Entries.{stored_of};
-ghost use Rattle.world.specs.Pieces.{IsCut, joined};
+ghost use Rattle.std.specs.Prelude.{◌≡◌, ◌↔◌, length, IsTrue};
+ghost use Rattle.world.specs.Pieces.{IsCut};
 ghost use Rattle.opening_objects.specs.Cut as cut;
-ghost use Rattle.opening_objects.specs.Cut.{goes_on, part_of, parts_of, with_parts};
+ghost use Rattle.opening_objects.specs.Cut.{goes_on, part_of, parts_of};
 
-use std::alloc::AllocError;
-use table_entries::objects::Object;
 use table_entries::pieces::Piece;
 
 /// The most bytes of an archive in one row.
@@ -49,36 +46,4 @@ pub(crate) fn is_cut(row: &[u8], pieces: &[Piece]) -> bool
     ensures { IsTrue result ↔ IsCut row.now (parts_of pieces.now) }
 {
     go_on(row, pieces)
-}
-
-/// The bytes of a row and of its pieces, one after another. Each piece is freed once it is copied.
-fn joined(row: Vec<u8>, pieces: Vec<Piece>) -> Result<Vec<u8>, AllocError>
-    ensures { IfOk result (λ all. all.items ≡ row.items ++ joined (parts_of pieces.items)) }
-{
-    let mut all = row;
-    'pieces: for piece in pieces {
-        all.extend_from_slice(&piece.bytes)?;
-    }
-    Ok(all)
-}
-
-/// An object with its whole archive.
-pub(crate) fn whole(object: Object, pieces: Vec<Piece>) -> Result<Object, AllocError>
-    ensures { IfOk result (λ o. stored_of o ≡ with_parts (stored_of object) (parts_of pieces.items)) }
-{
-    let Object {
-        base,
-        nar,
-        hash,
-        deriver,
-        ca,
-    } = object;
-    let nar = joined(nar, pieces)?;
-    Ok(Object {
-        base,
-        nar,
-        hash,
-        deriver,
-        ca,
-    })
 }

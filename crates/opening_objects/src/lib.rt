@@ -8,6 +8,7 @@ mod joined;
 mod members;
 mod objects;
 mod outputs;
+mod passing;
 mod reading;
 mod recorded;
 mod references;

@@ -1,30 +1,29 @@
 //! One object, tested by its rows.
 
-ghost use Rattle.std.specs.Prelude.{◌≡◌, Ok, IfOk, IsTrue, MatchOption, length, map, string_bytes};
+ghost use Rattle.std.specs.Prelude.{◌≡◌, None, IfOk, IsTrue, MatchOption, is_some, length, map, string_bytes};
 ghost use Rattle.std.specs.List.{zip};
 ghost use Rattle.std.specs.FinMap as finite;
 ghost use Rattle.sha2.specs.Sha256.{sha256};
-ghost use Rattle.nar.specs.Tree.{Tree};
-ghost use Rattle.nar.specs.Archive.{IsArchive};
-ghost use Rattle.nar.specs.Outcome.{outcome_of};
-ghost use Rattle.nar.specs.View.{tree_of};
 ghost use Rattle.paths.specs.Root.{bytes_cmp, set_of};
 ghost use Rattle.table_entries.specs.Entries.{stored_of};
+ghost use Rattle.intake.specs.Told.{IsTold};
 ghost use Rattle.world.specs.Objects.{outputs_at};
 ghost use Rattle.index.specs.Outline.{rise};
+ghost use Rattle.opening_objects.specs.Cut.{parts_of, whole_of};
 ghost use Rattle.opening_objects.specs.Tested.{IsListed, IsRecorded, IsSoundArchive, IsSoundAt, kept_of, named_of, targets_of};
 
 use crate::address::{are_same, fits_address};
 use crate::outputs::{Listed, recorded};
+use crate::passing::archive_of;
 use crate::references::paths_of;
 use crate::texts::{address_of, deriver_of, path_of};
 use index::Summary;
-use nar::{NarError, Node};
+use intake::Arrived;
 use paths::{Ca, StoreDir, StorePath};
-use sha2::{Digest, Sha256};
 use std::alloc::{AllocError, Global};
 use table_entries::objects::Object;
 use table_entries::outputs::Output;
+use table_entries::pieces::Piece;
 use table_entries::references::Reference;
 
 /// The most references of an object.
@@ -35,24 +34,21 @@ fn sound_outputs(
     alloc: Global,
     dir: &StoreDir,
     path: &StorePath,
-    nar: &[u8],
-    node: &Node<'_>,
+    archive: &Arrived,
     rows: &[Output],
 ) -> Result<Option<Listed>, AllocError>
-    requires archive { IsArchive (tree_of node.now) nar.now }
-    requires one { (t : Tree) → IsArchive t nar.now → tree_of node.now ≡ t }
-    requires outcome { outcome_of nar.now ≡ Ok (tree_of node.now) }
+    requires told { IsTold archive.now }
+    requires sound { archive.now.fault ≡ None }
     ensures { IfOk result (λ o. MatchOption o
-        (¬ (IsRecorded dir.now path.now nar.now × (named_of rows.now ≡ finite.entries (outputs_at dir.now path.now nar.now))))
-        (λ l. IsRecorded dir.now path.now nar.now × (named_of rows.now ≡ finite.entries (outputs_at dir.now path.now nar.now)) × IsListed (map string_bytes l.names.items) l.paths.items (outputs_at dir.now path.now nar.now))) }
+        (¬ (IsRecorded dir.now path.now archive.now.pieces × (named_of rows.now ≡ finite.entries (outputs_at dir.now path.now archive.now.pieces))))
+        (λ l. IsRecorded dir.now path.now archive.now.pieces × (named_of rows.now ≡ finite.entries (outputs_at dir.now path.now archive.now.pieces)) × IsListed (map string_bytes l.names.items) l.paths.items (outputs_at dir.now path.now archive.now.pieces))) }
 {
-    recorded(alloc, dir, path, node, rows)
+    recorded(alloc, dir, path, &archive.pieces, rows)
 }
 
 /// What is kept of an object with this archive.
 fn summary_of(
-    nar: &[u8],
-    hash: &[u8; 32],
+    archive: &Arrived,
     refs: Vec<StorePath>,
     deriver: Option<StorePath>,
     ca: Option<Ca>,
@@ -61,11 +57,18 @@ fn summary_of(
     requires refs { IsTrue (rise refs.items) }
     requires names { IsTrue (rise (map string_bytes outputs.names.items)) }
     requires paths { length outputs.paths.items ≡ length (map string_bytes outputs.names.items) }
-    ensures { result ≡ record { size = length nar.now; hash = hash.now; references = set_of bytes_cmp refs.items; deriver = deriver; ca = ca; outputs = finite.from_entries (zip (map string_bytes outputs.names.items) outputs.paths.items) } }
+    ensures { result ≡ record { size = length archive.now.pieces; hash = archive.now.nar_hash; references = set_of bytes_cmp refs.items; deriver = deriver; ca = ca; outputs = finite.from_entries (zip (map string_bytes outputs.names.items) outputs.paths.items) } }
 {
     let Listed { names, paths } = outputs;
-    let hash = *hash;
-    Summary::new(nar.len(), hash, refs, deriver, ca, names, paths)
+    let size = archive.pieces.len();
+    Summary::new(size, archive.nar_hash, refs, deriver, ca, names, paths)
+}
+
+/// Whether what has passed is no archive.
+fn has_fault(archive: &Arrived) -> bool
+    ensures { result ≡ is_some archive.now.fault }
+{
+    archive.fault.is_some()
 }
 
 /// What is kept of an object, where its digest, its address and its outputs are those of its archive.
@@ -73,34 +76,31 @@ fn sound_archive(
     alloc: Global,
     dir: &StoreDir,
     path: &StorePath,
-    object: &Object,
-    hash: &[u8; 32],
+    archive: &Arrived,
+    hash: &[u8],
     refs: Vec<StorePath>,
     deriver: Option<StorePath>,
     ca: Option<Ca>,
     outputs: &[Output],
 ) -> Result<Option<Summary>, AllocError>
-    requires hash { hash.now ≡ sha256 object.now.nar.items }
+    requires told { IsTold archive.now }
     requires refs { IsTrue (rise refs.items) }
     ensures { IfOk result (λ o. MatchOption o
-        (¬ IsSoundArchive dir.now path.now object.now.nar.items object.now.hash.items ca refs.items (named_of outputs.now))
-        (λ s. IsSoundArchive dir.now path.now object.now.nar.items object.now.hash.items ca refs.items (named_of outputs.now)
-        × (s ≡ record { size = length object.now.nar.items; hash = sha256 object.now.nar.items; references = set_of bytes_cmp refs.items; deriver = deriver; ca = ca; outputs = outputs_at dir.now path.now object.now.nar.items }))) }
+        (¬ IsSoundArchive dir.now path.now archive.now.pieces hash.now ca refs.items (named_of outputs.now))
+        (λ s. IsSoundArchive dir.now path.now archive.now.pieces hash.now ca refs.items (named_of outputs.now)
+        × (s ≡ record { size = length archive.now.pieces; hash = sha256 archive.now.pieces; references = set_of bytes_cmp refs.items; deriver = deriver; ca = ca; outputs = outputs_at dir.now path.now archive.now.pieces }))) }
 {
-    let nar = object.nar.as_slice();
-    if !are_same(&object.hash, hash) {
+    if !are_same(hash, &archive.nar_hash) {
         return Ok(None);
     }
-    let node = match nar::read(alloc, nar) {
-        Ok(node) => node,
-        Err(NarError::Memory) => return Err(AllocError),
-        Err(_) => return Ok(None),
-    };
-    if !fits_address(alloc, dir, path, nar, hash, &node, ca, &refs)? {
+    if has_fault(archive) {
         return Ok(None);
     }
-    match sound_outputs(alloc, dir, path, nar, &node, outputs)? {
-        Some(listed) => Ok(Some(summary_of(nar, hash, refs, deriver, ca, listed))),
+    if !fits_address(alloc, dir, path, archive, ca, &refs)? {
+        return Ok(None);
+    }
+    match sound_outputs(alloc, dir, path, archive, outputs)? {
+        Some(listed) => Ok(Some(summary_of(archive, refs, deriver, ca, listed))),
         None => Ok(None),
     }
 }
@@ -109,15 +109,16 @@ fn sound_archive(
 pub(crate) fn sound_object(
     alloc: Global,
     dir: &StoreDir,
-    object: &Object,
+    object: Object,
+    pieces: Vec<Piece>,
     references: &[Reference],
     outputs: &[Output],
 ) -> Result<Option<(StorePath, Summary)>, AllocError>
     ensures { IfOk result (λ o. MatchOption o
-        (¬ IsSoundAt dir.now (stored_of object.now).0 (stored_of object.now).1 (targets_of references.now) (named_of outputs.now))
-        (λ s. IsSoundAt dir.now (stored_of object.now).0 (stored_of object.now).1 (targets_of references.now) (named_of outputs.now)
-        × (s.0 ≡ (stored_of object.now).0)
-        × (s.1 ≡ kept_of dir.now (stored_of object.now).0 (stored_of object.now).1 (targets_of references.now)))) }
+        (¬ IsSoundAt dir.now (stored_of object).0 (whole_of (stored_of object).1 (parts_of pieces.items)) (targets_of references.now) (named_of outputs.now))
+        (λ s. IsSoundAt dir.now (stored_of object).0 (whole_of (stored_of object).1 (parts_of pieces.items)) (targets_of references.now) (named_of outputs.now)
+        × (s.0 ≡ (stored_of object).0)
+        × (s.1 ≡ kept_of dir.now (stored_of object).0 (whole_of (stored_of object).1 (parts_of pieces.items)) (targets_of references.now)))) }
 {
     if references.len() > MOST_REFERENCES {
         return Ok(None);
@@ -134,8 +135,11 @@ pub(crate) fn sound_object(
     let Some(refs) = paths_of(alloc, references)? else {
         return Ok(None);
     };
-    let hash = Sha256::digest(&object.nar);
-    match sound_archive(alloc, dir, &path, object, &hash, refs, deriver, ca, outputs)? {
+    let Object { nar, hash, .. } = object;
+    let archive = archive_of(alloc, nar, pieces)?;
+    match sound_archive(
+        alloc, dir, &path, &archive, &hash, refs, deriver, ca, outputs,
+    )? {
         Some(summary) => Ok(Some((path, summary))),
         None => Ok(None),
     }

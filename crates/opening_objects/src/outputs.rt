@@ -1,13 +1,14 @@
 //! The rows of an object's outputs beside what its archive records.
 
-ghost use Rattle.std.specs.Prelude.{◌≡◌, ◌&&◌, IfOk, MatchOption, map, string_bytes};
+ghost use Rattle.std.specs.Prelude.{◌≡◌, ◌&&◌, Ok, IfOk, MatchOption, map, string_bytes};
 ghost use Rattle.std.specs.FinMap as finite;
 ghost use Rattle.std.specs.Str.{bytes_eq};
-ghost use Rattle.nar.specs.View.{tree_of};
+ghost use Rattle.nar.specs.Tree.{Tree};
+ghost use Rattle.nar.specs.Outcome.{outcome_of};
 ghost use Rattle.opening_objects.specs.Tested.{IfDerivation, IsListed, outputs_in, outputs_view, named_view, same_outputs, named_of};
 
 use crate::recorded::found_in;
-use nar::Node;
+use nar::Pieces;
 use paths::{StoreDir, StorePath};
 use std::alloc::{AllocError, Global};
 use std::collections::BTreeMap;
@@ -60,14 +61,14 @@ pub(crate) fn recorded(
     alloc: Global,
     dir: &StoreDir,
     path: &StorePath,
-    node: &Node<'_>,
+    archive: &Pieces,
     rows: &[Output],
 ) -> Result<Option<Listed>, AllocError>
-    ensures { IfOk result (λ o. MatchOption o
-        (¬ (IfDerivation dir.now path.now (tree_of node.now) × (named_of rows.now ≡ finite.entries (outputs_in dir.now path.now (tree_of node.now)))))
-        (λ l. IfDerivation dir.now path.now (tree_of node.now) × (named_of rows.now ≡ finite.entries (outputs_in dir.now path.now (tree_of node.now))) × IsListed (map string_bytes l.names.items) l.paths.items (outputs_in dir.now path.now (tree_of node.now)))) }
+    ensures { (t : Tree) → outcome_of archive.now ≡ Ok t → IfOk result (λ o. MatchOption o
+        (¬ (IfDerivation dir.now path.now t × (named_of rows.now ≡ finite.entries (outputs_in dir.now path.now t))))
+        (λ l. IfDerivation dir.now path.now t × (named_of rows.now ≡ finite.entries (outputs_in dir.now path.now t)) × IsListed (map string_bytes l.names.items) l.paths.items (outputs_in dir.now path.now t))) }
 {
-    let Some(found) = found_in(alloc, dir, path, node)? else {
+    let Some(found) = found_in(alloc, dir, path, archive)? else {
         return Ok(None);
     };
     // Names rise.

@@ -3,14 +3,16 @@
 ghost use Rattle.std.specs.Prelude.{◌≡◌, Ok, IfOk, IsOk, MatchOption};
 ghost use Rattle.std.specs.FinMap as finite;
 ghost use Rattle.nar.specs.declared.error.NarError.{NarError as Fault};
-ghost use Rattle.nar.specs.View.{tree_of};
+ghost use Rattle.nar.specs.Tree.{Tree};
+ghost use Rattle.nar.specs.Outcome.{outcome_of};
 ghost use Rattle.drv.specs.Outcome as outcome;
 ghost use Rattle.drv.specs.View.{pairs};
 ghost use Rattle.world.specs.Objects as objects;
 ghost use Rattle.opening_objects.specs.Tested.{HoldsDerivation, IfDerivation, outputs_in, outputs_view};
 
 use drv::DrvError;
-use nar::Node;
+use intake::file_contents;
+use nar::Pieces;
 use paths::{StoreDir, StorePath};
 use std::alloc::{AllocError, Global};
 use std::collections::BTreeMap;
@@ -45,17 +47,18 @@ fn outputs_of(
     }
 }
 
-/// The outputs of a tree that is a derivation's.
+/// The outputs of an archive that is a derivation's. Its text alone is read in one.
 fn derivation_outputs(
     alloc: Global,
     dir: &StoreDir,
-    node: &Node<'_>,
+    archive: &Pieces,
 ) -> Result<Option<BTreeMap<String, StorePath>>, AllocError>
-    ensures { IfOk result (λ o. MatchOption o (¬ HoldsDerivation dir.now (tree_of node.now)) (λ map. HoldsDerivation dir.now (tree_of node.now) × (outputs_view map.entries ≡ objects.tree_outputs {E = Fault} dir.now (Ok (tree_of node.now))))) }
+    ensures { (t : Tree) → outcome_of archive.now ≡ Ok t → IfOk result (λ o. MatchOption o (¬ HoldsDerivation dir.now t) (λ map. HoldsDerivation dir.now t × (outputs_view map.entries ≡ objects.tree_outputs {E = Fault} dir.now (Ok t)))) }
 {
-    match node {
-        Node::Regular { contents, .. } => outputs_of(alloc, dir, contents),
-        _ => Ok(None),
+    let bytes = archive.joined()?;
+    match file_contents(alloc, &bytes)? {
+        Some(text) => outputs_of(alloc, dir, text),
+        None => Ok(None),
     }
 }
 
@@ -64,12 +67,12 @@ pub(crate) fn found_in(
     alloc: Global,
     dir: &StoreDir,
     path: &StorePath,
-    node: &Node<'_>,
+    archive: &Pieces,
 ) -> Result<Option<BTreeMap<String, StorePath>>, AllocError>
-    ensures { IfOk result (λ o. MatchOption o (¬ IfDerivation dir.now path.now (tree_of node.now)) (λ map. IfDerivation dir.now path.now (tree_of node.now) × (outputs_view map.entries ≡ outputs_in dir.now path.now (tree_of node.now)))) }
+    ensures { (t : Tree) → outcome_of archive.now ≡ Ok t → IfOk result (λ o. MatchOption o (¬ IfDerivation dir.now path.now t) (λ map. IfDerivation dir.now path.now t × (outputs_view map.entries ≡ outputs_in dir.now path.now t))) }
 {
     if path.is_derivation() {
-        derivation_outputs(alloc, dir, node)
+        derivation_outputs(alloc, dir, archive)
     } else {
         Ok(Some(BTreeMap::new(alloc)))
     }

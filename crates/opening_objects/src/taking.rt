@@ -11,12 +11,12 @@ ghost use Rattle.table_statements.specs.Calls.{HasFurther, IsReady, KeepsShown};
 ghost use Rattle.table_entries.specs.Entries.{stored_of};
 ghost use Rattle.world.specs.Rows.{has_pieces};
 ghost use Rattle.world.specs.View.{schema_view};
-ghost use Rattle.opening_objects.specs.Cut.{parts_of, whole_of, with_parts};
+ghost use Rattle.opening_objects.specs.Cut.{parts_of, whole_of};
 ghost use Rattle.opening_objects.specs.Rows.{AreJoined};
 ghost use Rattle.opening_objects.specs.Tested.{IsSoundAt, kept_of, named_of, targets_of};
 ghost use Rattle.opening_objects.specs.Taken.{IsCutBy, IsSoundOne, with_object, with_objects};
 
-use crate::cutting::{is_cut, whole};
+use crate::cutting::is_cut;
 use crate::groups::group;
 use crate::joined::Joined;
 use crate::objects::sound_object;
@@ -63,8 +63,8 @@ fn take_rows(
     if !is_cut_by(schema, &object.nar, &pieces) {
         return Ok(false);
     }
-    let object = whole(object, pieces)?;
-    let Some((path, summary)) = sound_object(alloc, dir, &object, references, outputs)? else {
+    let Some((path, summary)) = sound_object(alloc, dir, object, pieces, references, outputs)?
+    else {
         return Ok(false);
     };
     index.insert_object(path, summary)?;

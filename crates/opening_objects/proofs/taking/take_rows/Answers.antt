@@ -2,9 +2,9 @@ use Rattle.std.proofs.Common.{sym, refl, ◌∙◌}
 use Rattle.std.proofs.lemmas.Bool.{false≢true}
 use Rattle.table_entries.specs.Entries.{stored_of}
 use Rattle.world.specs.View.{schema_view}
-use Rattle.opening_objects.specs.Cut.{parts_of, with_parts}
+use Rattle.opening_objects.specs.Cut.{parts_of, whole_of}
 use Rattle.opening_objects.specs.Tested.{named_of, targets_of}
-use Rattle.opening_objects.proofs.Takes.{cut_so, sound_found, sound_so}
+use Rattle.opening_objects.proofs.Takes.{cut_so, sound_found}
 use Rattle.opening_objects.proofs.taking.take_rows.Goals as goal
 
 pub returns-then-not-is_cut_by-clause-told : goal.returns-then-not-is_cut_by-clause-told
@@ -18,11 +18,7 @@ pub returns-clause-told : goal.returns-clause-told
 returns-clause-told c =
     let rows = c.args.rows in
     let cut = cut_so (schema_view c.args.schema) c.deref.result.now rows.object.nar.items c.deref-2.result.now rows.pieces.items c.deref.ensures.value c.deref-2.ensures.value (c.is_cut_by.ensures.0 c.if-not-is_cut_by.false) in
-    let sound = sound_found c.args.dir.now (stored_of c.in_ok-object.object) (targets_of c.args.references.now) (named_of c.args.outputs.now) c.in_ok-path.field-0 (c.in-Some.path, c.in-Some.summary) c.in-Some.is c.in_ok-path.ensures in (
-      λ _. (
-        cut,
-        sound_so c.args.dir.now (stored_of c.in_ok-object.object) (with_parts (stored_of rows.object) (parts_of rows.pieces.items)) c.in_ok-object.ensures
-            c.args.references.now c.args.references.now refl c.args.outputs.now c.args.outputs.now refl sound,
-      ),
+    let sound = sound_found c.args.dir.now ((stored_of rows.object).0, whole_of (stored_of rows.object).1 (parts_of rows.pieces.items)) (targets_of c.args.references.now) (named_of c.args.outputs.now) c.in_ok-path.field-0 (c.in-Some.path, c.in-Some.summary) c.in-Some.is c.in_ok-path.ensures in (
+      λ _. (cut, sound),
       λ _. refl,
     )
