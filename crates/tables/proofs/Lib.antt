@@ -18,6 +18,7 @@ pub mod SetProfiles
 pub mod Removed
 pub mod RemovedObjects
 pub mod Chosen
+pub mod Covered
 pub mod Cuts
 pub mod SessionRows
 pub mod SessionChanges

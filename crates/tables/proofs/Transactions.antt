@@ -10,8 +10,8 @@ use Rattle.sqlite.proofs.StateLemmas.{survives_then}
 use Rattle.rows.specs.Contents.{Contents, contents_of}
 use Rattle.rows.specs.Forms.{piece, temp_root}
 use Rattle.rows.specs.Frozen.{KeepsUnshown}
-use Rattle.rows.specs.Calls.{HasFurther, IsWhole, IsCommitted, KeepsTheirs, Changes, Leaves}
-use Rattle.table_statements.proofs.Steps.{changes_by}
+use Rattle.rows.specs.Calls.{HasFurther, IsUnderWay, IsWhole, IsCommitted, KeepsTheirs, Changes, Leaves}
+use Rattle.table_statements.proofs.Steps.{changes_by, changes_none}
 use Rattle.table_statements.proofs.Under.{piece_after, temp_root_after}
 use Rattle.tables.specs.Kept.{IsWritten}
 
@@ -22,6 +22,26 @@ survives_both a b c h k = survives_then a b c (λ _. ⊥) (λ _. ⊥) (λ _. ⊥
 pub done_as : {A E : Type 0} (a b : State) (f h : Contents → Contents) → ((x : Contents) → f x ≡ h x) → (r : Result A E) → OnOk r (Changes a b f) → OnOk r (Changes a b h)
 done_as a b f h same (Ok v) is = changes_by a b f h same is
 done_as a b f h same (Err e) is = is
+
+-- one that was done, if it makes the same of what there was
+pub changes_at : (a b : State) (f h : Contents → Contents) → f (contents_of a.now) ≡ h (contents_of a.now) → Changes a b f → Changes a b h
+changes_at a b f h same is = record {
+  was_open = is.was_open;
+  is_open = is.is_open;
+  schema = is.schema;
+  contents = is.contents ∙ same;
+  theirs = is.theirs;
+  unshown = is.unshown;
+  ours = is.ours;
+  further = is.further;
+  committed = is.committed;
+  mode = is.mode;
+  marks = is.marks;
+}
+
+-- one that makes nothing else of what there is, where nothing is written
+pub changes_nothing : (s : State) (f : Contents → Contents) → IsUnderWay s → IsTrue s.is_open → f (contents_of s.now) ≡ contents_of s.now → Changes s s f
+changes_nothing s f under is_open same = changes_at s s (λ c. c) f (sym same) (changes_none s under is_open)
 
 -- the same of a whole write
 pub survives_as : {a b : State} (f h : Contents → Contents) → f ≡ h → Survives a b (λ db. IsTrue a.is_open × Leaves a.now db (f (contents_of a.now))) → Survives a b (λ db. IsTrue a.is_open × Leaves a.now db (h (contents_of a.now)))

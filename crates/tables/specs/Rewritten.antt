@@ -1,11 +1,13 @@
 -- Rows that are added, one after another, and rows that go.
-use Rattle.std.specs.Prelude.{List, [], ◌∷◌, ℕ, ℤ, not, pos}
+use Rattle.std.specs.Prelude.{◌≡◌, ◌<◌, List, [], ◌∷◌, ℕ, ℤ, not, pos, Some, IsTrue}
 use Rattle.std.specs.declared.cmp.Ordering.{Ordering}
 use Rattle.std.specs.FinMap as finite
 use Rattle.live.specs.Graph.{same, holds}
 use Rattle.rows.specs.Contents.{Pair, PairSet, Contents, Stored, pair_cmp, numbered_cmp}
 use Rattle.world.specs.World.{Path}
 use Rattle.world.specs.World as world
+use Rattle.world.specs.Pieces.{piece_size}
+use Rattle.index.specs.Outline.{Outline, Outlined}
 
 -- a set of references, and some of this path
 abbrev pub put_references : Path → List Path → PairSet → PairSet
@@ -60,3 +62,10 @@ without_objects ps c = record c {
   outs = finite.retain_keys c.outs (λ k. not (holds ps k.0));
   pieces = finite.retain_keys c.pieces (λ k. not (holds ps k.0));
 }
+
+-- What rows have beside those of objects, an outline tells of: each reference, output or further piece is an object's that has this
+-- reference, this output, or more bytes of its archive than its row holds.
+pub record Covers (outline : Outline) (c : Contents) : Type 0 where
+  pub references : (p r : Path) → IsTrue (finite.contains_key c.refs (p, r)) → (x : Outlined) × (finite.get outline.objects p ≡ Some x) × IsTrue (finite.contains_key x.references r)
+  pub outputs : (p : Path) (name : List ℕ) → IsTrue (finite.contains_key c.outs (p, name)) → (x : Outlined) × (finite.get outline.objects p ≡ Some x) × IsTrue (finite.contains_key x.outputs name)
+  pub pieces : (p : Path) (n : ℤ) → IsTrue (finite.contains_key c.pieces (p, n)) → (x : Outlined) × (finite.get outline.objects p ≡ Some x) × (piece_size < x.size)

@@ -1,6 +1,7 @@
 //! The tables of a store, kept in memory but for their archives, and changed one transaction a call.
 #![tactic(auto)]
 
+mod beside;
 mod change;
 mod cutting;
 mod generations;

@@ -7,42 +7,52 @@ ghost use Rattle.sqlite.specs.Held.{state};
 ghost use Rattle.live.specs.Graph.{holds};
 ghost use Rattle.rows.specs.Forms.{piece};
 ghost use Rattle.rows.specs.Calls.{IsUnderWay, HasFurther, Changes};
-ghost use Rattle.tables.specs.Rewritten.{without_object, without_objects};
+ghost use Rattle.rows.specs.Contents.{contents_of};
+ghost use Rattle.tables.specs.Rewritten.{Covers, without_object, without_objects};
 
+use crate::beside::{delete_outputs, delete_pieces, delete_references};
 use crate::change::Change;
 use index::Index;
 use paths::StorePath;
-use rows::{objects, outputs, pieces, references};
+use rows::objects;
 use sqlite::{Alter, Transaction};
 use table_statements::failure::Failure;
 
-/// Removes the rows of one object, if it is there: its references, its outputs, the pieces of its archive and its own.
-pub(crate) fn delete_object<S: Alter>(
+/// Removes the rows of one object, if it is there: its own, and those beside it that the index tells of.
+fn delete_object<S: Alter>(
     tx: &mut Transaction<'_, S>,
-    base: &str,
+    index: &Index,
+    path: &StorePath,
 ) -> Result<(), Failure>
     requires under_way { HasCleanDisk (state S.Store tx.old.conn.now) → IsUnderWay (state S.Store tx.old.conn.now) }
     requires stands { HasCleanDisk (state S.Store tx.old.conn.now) → IsTrue (state S.Store tx.old.conn.now).is_open → HasFurther (state S.Store tx.old.conn.now).now piece }
+    requires covers { HasCleanDisk (state S.Store tx.old.conn.now) → IsTrue (state S.Store tx.old.conn.now).is_open → Covers index.now (contents_of (state S.Store tx.old.conn.now).now) }
     ensures same_reference { tx.new.conn.ghost_name ≡ tx.old.conn.ghost_name }
     ensures done { HasCleanDisk (state S.Store tx.new.conn.now) → OnOk result (Changes (state S.Store tx.old.conn.now) (state S.Store tx.new.conn.now)
-        (λ c. without_object base.now c)) }
+        (λ c. without_object path.now c)) }
     ensures failed { HasCleanDisk (state S.Store tx.new.conn.now) → OnErr result (KeepsCommit (state S.Store tx.old.conn.now) (state S.Store tx.new.conn.now)) }
     ensures survives { Survives (state S.Store tx.old.conn.now) (state S.Store tx.new.conn.now) (λ _. ⊥) }
 {
-    references::delete_of(tx, base)?;
-    outputs::delete_of(tx, base)?;
-    pieces::delete_of(tx, base)?;
-    objects::delete(tx, base)
+    let base = path.as_str();
+    objects::delete(tx, base)?;
+    let Some(object) = index.object(path) else {
+        return Ok(());
+    };
+    delete_references(tx, base, object)?;
+    delete_outputs(tx, base, object)?;
+    delete_pieces(tx, base, object)
 }
 
 /// Removes the rows of some objects.
-pub(crate) fn delete_objects<S: Alter>(
+fn delete_objects<S: Alter>(
     tx: &mut Transaction<'_, S>,
+    index: &Index,
     paths: &[StorePath],
 ) -> Result<(), Failure>
     requires under_way { HasCleanDisk (state S.Store tx.old.conn.now) → IsUnderWay (state S.Store tx.old.conn.now) }
     requires is_open { HasCleanDisk (state S.Store tx.old.conn.now) → IsTrue (state S.Store tx.old.conn.now).is_open }
     requires stands { HasCleanDisk (state S.Store tx.old.conn.now) → HasFurther (state S.Store tx.old.conn.now).now piece }
+    requires covers { HasCleanDisk (state S.Store tx.old.conn.now) → Covers index.now (contents_of (state S.Store tx.old.conn.now).now) }
     ensures same_reference { tx.new.conn.ghost_name ≡ tx.old.conn.ghost_name }
     ensures done { HasCleanDisk (state S.Store tx.new.conn.now) → OnOk result (Changes (state S.Store tx.old.conn.now) (state S.Store tx.new.conn.now)
         (λ c. without_objects paths.now c)) }
@@ -50,7 +60,7 @@ pub(crate) fn delete_objects<S: Alter>(
     ensures survives { Survives (state S.Store tx.old.conn.now) (state S.Store tx.new.conn.now) (λ _. ⊥) }
 {
     'paths: for path in paths {
-        delete_object(tx, path.as_str())?;
+        delete_object(tx, index, path)?;
     }
     Ok(())
 }
@@ -64,22 +74,23 @@ pub(crate) fn remove_all(index: &mut Index, paths: &[StorePath])
     }
 }
 
-/// Some objects go, if they are there: a first one and the rest.
+/// Some objects go, if they are there: a first one and the rest. The index is that of the rows before.
 #[derive(Drop)]
 pub(crate) struct RemoveObjects<'a> {
+    pub(crate) index: &'a Index,
     pub(crate) first: &'a StorePath,
     pub(crate) rest: &'a [StorePath],
 }
 
 impl<'a> Change for RemoveObjects<'a> {
-    ghost use Rattle.std.specs.Prelude.{⊤, ◌∷◌};
+    ghost use Rattle.std.specs.Prelude.{◌∷◌};
 
     ghost change = { λ o c. without_objects (o.first.now ∷ o.rest.now) c };
 
-    ghost fits = { λ o c. ⊤ };
+    ghost fits = { λ o c. Covers o.index.now c };
 
     fn write<S: Alter>(&self, tx: &mut Transaction<'_, S>) -> Result<(), Failure> {
-        delete_object(tx, self.first.as_str())?;
-        delete_objects(tx, self.rest)
+        delete_object(tx, self.index, self.first)?;
+        delete_objects(tx, self.index, self.rest)
     }
 }

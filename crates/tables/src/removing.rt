@@ -38,7 +38,12 @@ impl<S: Alter> Tables<S> {
         let Some((first, rest)) = paths.split_first() else {
             unreachable!()
         };
-        match change::commit(&mut self.connection, &RemoveObjects { first, rest }) {
+        let removal = RemoveObjects {
+            index: &self.index,
+            first,
+            rest,
+        };
+        match change::commit(&mut self.connection, &removal) {
             Ok(()) => {
                 remove_all(&mut self.index, paths);
                 Ok(())

@@ -1,95 +1,166 @@
-use Rattle.std.proofs.Common.{refl, ◌∙◌}
+use Rattle.std.proofs.Common.{not, sym, ap, arith, ◌∙◌}
+use Rattle.std.specs.FinMap as finite
+use Rattle.sqlite.specs.State.{HasCleanDisk}
 use Rattle.sqlite.specs.Held.{state}
-use Rattle.rows.specs.Contents.{Contents}
+use Rattle.live.specs.Graph.{same}
+use Rattle.rows.specs.Contents.{Contents, contents_of}
 use Rattle.table_statements.proofs.Transactions.{done_both, failed_next, steps_both}
 use Rattle.table_statements.proofs.Steps.{under_after}
+use Rattle.tables.specs.Rewritten.{without_object}
+use Rattle.tables.proofs.Covered.{references_told, outputs_told, pieces_told, alone_goes}
 use Rattle.tables.proofs.Failing.{err_kept}
-use Rattle.tables.proofs.Transactions.{survives_both, pieces_stand}
+use Rattle.tables.proofs.Transactions.{changes_at, survives_both, pieces_stand}
 use Rattle.tables.proofs.removal.delete_object.Goals as goal
 
-pub delete_of-requires-2 : goal.delete_of-requires-2
-delete_of-requires-2 g c clean =
-    under_after (state g.S.Store c.args.tx.now.conn.now) (state g.S.Store c.delete_of.new.tx.conn.now) _ (c.in_ok-delete_of.ensures.done clean)
-
-pub returns-in_err-delete_of-2-clause-same_reference : goal.returns-in_err-delete_of-2-clause-same_reference
-returns-in_err-delete_of-2-clause-same_reference g c = c.delete_of-2.ensures.same_reference ∙ c.delete_of.ensures.same_reference
-
-pub returns-in_err-delete_of-2-clause-failed : goal.returns-in_err-delete_of-2-clause-failed
-returns-in_err-delete_of-2-clause-failed g c clean =
-    err_kept (state g.S.Store c.args.tx.now.conn.now) (state g.S.Store c.delete_of.new.tx.conn.now) (state g.S.Store c.delete_of-2.new.tx.conn.now) _ c.from_residual-in_err-delete_of-2.result c.in_ok-delete_of.ensures.done c.delete_of-2.ensures.survives (c.in_err-delete_of-2.ensures.failed clean) clean
-
-pub returns-in_err-delete_of-2-clause-survives : goal.returns-in_err-delete_of-2-clause-survives
-returns-in_err-delete_of-2-clause-survives g c =
-    survives_both (state g.S.Store c.args.tx.now.conn.now) (state g.S.Store c.delete_of.new.tx.conn.now) (state g.S.Store c.delete_of-2.new.tx.conn.now) c.delete_of.ensures.survives c.delete_of-2.ensures.survives
-
-pub delete_of-requires-3-clause-under : goal.delete_of-requires-3-clause-under
-delete_of-requires-3-clause-under g c clean =
+pub delete_references-requires-clause-under_way : goal.delete_references-requires-clause-under_way
+delete_references-requires-clause-under_way g c clean =
     let a = state g.S.Store c.args.tx.now.conn.now in
-    let b = state g.S.Store c.delete_of.new.tx.conn.now in
-    let d = state g.S.Store c.delete_of-2.new.tx.conn.now in
-    under_after a d _ (steps_both a b d _ _ c.in_ok-delete_of.ensures.done c.delete_of-2.ensures.survives c.in_ok-delete_of-2.ensures.done clean)
+    let b = state g.S.Store c.delete.new.tx.conn.now in
+    under_after a b _ (c.in_ok-delete.ensures.done clean)
 
-pub delete_of-requires-3-clause-stands : goal.delete_of-requires-3-clause-stands
-delete_of-requires-3-clause-stands g c clean is_open =
+pub delete_references-requires-clause-is_open : goal.delete_references-requires-clause-is_open
+delete_references-requires-clause-is_open g c clean =
     let a = state g.S.Store c.args.tx.now.conn.now in
-    let b = state g.S.Store c.delete_of.new.tx.conn.now in
-    let d = state g.S.Store c.delete_of-2.new.tx.conn.now in
-    pieces_stand a d _ (steps_both a b d _ _ c.in_ok-delete_of.ensures.done c.delete_of-2.ensures.survives c.in_ok-delete_of-2.ensures.done) (survives_both a b d c.delete_of.ensures.survives c.delete_of-2.ensures.survives) c.requires.stands clean
+    let b = state g.S.Store c.delete.new.tx.conn.now in
+    (c.in_ok-delete.ensures.done clean).is_open
 
-pub returns-in_err-delete_of-3-clause-same_reference : goal.returns-in_err-delete_of-3-clause-same_reference
-returns-in_err-delete_of-3-clause-same_reference g c = c.delete_of-3.ensures.same_reference ∙ c.delete_of-2.ensures.same_reference ∙ c.delete_of.ensures.same_reference
-
-pub returns-in_err-delete_of-3-clause-failed : goal.returns-in_err-delete_of-3-clause-failed
-returns-in_err-delete_of-3-clause-failed g c clean =
+pub delete_references-requires-clause-told : goal.delete_references-requires-clause-told
+delete_references-requires-clause-told g c clean =
     let a = state g.S.Store c.args.tx.now.conn.now in
-    let b = state g.S.Store c.delete_of.new.tx.conn.now in
-    let d = state g.S.Store c.delete_of-2.new.tx.conn.now in
-    let e = state g.S.Store c.delete_of-3.new.tx.conn.now in
-    err_kept a d e _ c.from_residual-in_err-delete_of-3.result (steps_both a b d _ _ c.in_ok-delete_of.ensures.done c.delete_of-2.ensures.survives c.in_ok-delete_of-2.ensures.done) c.delete_of-3.ensures.survives (c.in_err-delete_of-3.ensures.failed clean) clean
+    let b = state g.S.Store c.delete.new.tx.conn.now in
+    let it = c.in_ok-delete.ensures.done clean in
+    let early : HasCleanDisk a = omega (arith, c.delete.ensures.survives.clean, clean) in
+    references_told c.args.index.now (contents_of a.now) c.args.path.now c.as_str-base.result.now c.in-Some.object.now (c.requires.covers early it.was_open) c.in-Some.ensures c.as_str-base.ensures.value (contents_of b.now) (ap (λ (x : Contents). x.refs) it.contents)
 
-pub returns-in_err-delete_of-3-clause-survives : goal.returns-in_err-delete_of-3-clause-survives
-returns-in_err-delete_of-3-clause-survives g c =
-    let a = state g.S.Store c.args.tx.now.conn.now in
-    let b = state g.S.Store c.delete_of.new.tx.conn.now in
-    let d = state g.S.Store c.delete_of-2.new.tx.conn.now in
-    survives_both a d (state g.S.Store c.delete_of-3.new.tx.conn.now) (survives_both a b d c.delete_of.ensures.survives c.delete_of-2.ensures.survives) c.delete_of-3.ensures.survives
+pub returns-in_err-delete_references-clause-same_reference : goal.returns-in_err-delete_references-clause-same_reference
+returns-in_err-delete_references-clause-same_reference g c = c.delete_references.ensures.same_reference ∙ c.delete.ensures.same_reference
 
-pub delete-requires : goal.delete-requires
-delete-requires g c clean =
+pub returns-in_err-delete_references-clause-failed : goal.returns-in_err-delete_references-clause-failed
+returns-in_err-delete_references-clause-failed g c clean =
     let a = state g.S.Store c.args.tx.now.conn.now in
-    let b = state g.S.Store c.delete_of.new.tx.conn.now in
-    let d = state g.S.Store c.delete_of-2.new.tx.conn.now in
-    let e = state g.S.Store c.delete_of-3.new.tx.conn.now in
-    under_after a e _ (steps_both a d e _ _ (steps_both a b d _ _ c.in_ok-delete_of.ensures.done c.delete_of-2.ensures.survives c.in_ok-delete_of-2.ensures.done) c.delete_of-3.ensures.survives c.in_ok-delete_of-3.ensures.done clean)
+    let b = state g.S.Store c.delete.new.tx.conn.now in
+    let d = state g.S.Store c.delete_references.new.tx.conn.now in
+    err_kept a b d _ c.from_residual-in_err-delete_references.result c.in_ok-delete.ensures.done c.delete_references.ensures.survives (c.in_err-delete_references.ensures.failed clean) clean
+
+pub returns-in_err-delete_references-clause-survives : goal.returns-in_err-delete_references-clause-survives
+returns-in_err-delete_references-clause-survives g c =
+    let a = state g.S.Store c.args.tx.now.conn.now in
+    let b = state g.S.Store c.delete.new.tx.conn.now in
+    let d = state g.S.Store c.delete_references.new.tx.conn.now in
+    survives_both a b d c.delete.ensures.survives c.delete_references.ensures.survives
+
+-- one that the index hasn't has nothing else
+pub returns-in_default-clause-done : goal.returns-in_default-clause-done
+returns-in_default-clause-done g c clean =
+    let a = state g.S.Store c.args.tx.now.conn.now in
+    let b = state g.S.Store c.delete.new.tx.conn.now in
+    let it = c.in_ok-delete.ensures.done clean in
+    let early : HasCleanDisk a = omega (arith, c.delete.ensures.survives.clean, clean) in
+    let path = c.args.path.now in
+    changes_at a b _ (without_object path) (ap (λ p. record (contents_of a.now) { objects = finite.retain_keys (contents_of a.now).objects (λ k. not (same k p)) }) c.as_str-base.ensures.value ∙ alone_goes c.args.index.now (contents_of a.now) path (c.requires.covers early it.was_open) (sym c.in_default.ensures)) it
+
+pub delete_outputs-requires-clause-under_way : goal.delete_outputs-requires-clause-under_way
+delete_outputs-requires-clause-under_way g c clean =
+    let a = state g.S.Store c.args.tx.now.conn.now in
+    let b = state g.S.Store c.delete.new.tx.conn.now in
+    let d = state g.S.Store c.delete_references.new.tx.conn.now in
+    under_after a d _ ((steps_both a b d _ _ c.in_ok-delete.ensures.done c.delete_references.ensures.survives c.in_ok-delete_references.ensures.done) clean)
+
+pub delete_outputs-requires-clause-is_open : goal.delete_outputs-requires-clause-is_open
+delete_outputs-requires-clause-is_open g c clean =
+    let a = state g.S.Store c.args.tx.now.conn.now in
+    let b = state g.S.Store c.delete.new.tx.conn.now in
+    let d = state g.S.Store c.delete_references.new.tx.conn.now in
+    ((steps_both a b d _ _ c.in_ok-delete.ensures.done c.delete_references.ensures.survives c.in_ok-delete_references.ensures.done) clean).is_open
+
+pub delete_outputs-requires-clause-told : goal.delete_outputs-requires-clause-told
+delete_outputs-requires-clause-told g c clean =
+    let a = state g.S.Store c.args.tx.now.conn.now in
+    let b = state g.S.Store c.delete.new.tx.conn.now in
+    let d = state g.S.Store c.delete_references.new.tx.conn.now in
+    let it = (steps_both a b d _ _ c.in_ok-delete.ensures.done c.delete_references.ensures.survives c.in_ok-delete_references.ensures.done) clean in
+    let early : HasCleanDisk a = omega (arith, (survives_both a b d c.delete.ensures.survives c.delete_references.ensures.survives).clean, clean) in
+    outputs_told c.args.index.now (contents_of a.now) c.args.path.now c.as_str-base.result.now c.in-Some.object.now (c.requires.covers early it.was_open) c.in-Some.ensures c.as_str-base.ensures.value (contents_of d.now) (ap (λ (x : Contents). x.outs) it.contents)
+
+pub returns-in_err-delete_outputs-clause-same_reference : goal.returns-in_err-delete_outputs-clause-same_reference
+returns-in_err-delete_outputs-clause-same_reference g c = c.delete_outputs.ensures.same_reference ∙ c.delete_references.ensures.same_reference ∙ c.delete.ensures.same_reference
+
+pub returns-in_err-delete_outputs-clause-failed : goal.returns-in_err-delete_outputs-clause-failed
+returns-in_err-delete_outputs-clause-failed g c clean =
+    let a = state g.S.Store c.args.tx.now.conn.now in
+    let b = state g.S.Store c.delete.new.tx.conn.now in
+    let d = state g.S.Store c.delete_references.new.tx.conn.now in
+    let e = state g.S.Store c.delete_outputs.new.tx.conn.now in
+    err_kept a d e _ c.from_residual-in_err-delete_outputs.result (steps_both a b d _ _ c.in_ok-delete.ensures.done c.delete_references.ensures.survives c.in_ok-delete_references.ensures.done) c.delete_outputs.ensures.survives (c.in_err-delete_outputs.ensures.failed clean) clean
+
+pub returns-in_err-delete_outputs-clause-survives : goal.returns-in_err-delete_outputs-clause-survives
+returns-in_err-delete_outputs-clause-survives g c =
+    let a = state g.S.Store c.args.tx.now.conn.now in
+    let b = state g.S.Store c.delete.new.tx.conn.now in
+    let d = state g.S.Store c.delete_references.new.tx.conn.now in
+    let e = state g.S.Store c.delete_outputs.new.tx.conn.now in
+    survives_both a d e (survives_both a b d c.delete.ensures.survives c.delete_references.ensures.survives) c.delete_outputs.ensures.survives
+
+pub delete_pieces-requires-clause-under_way : goal.delete_pieces-requires-clause-under_way
+delete_pieces-requires-clause-under_way g c clean =
+    let a = state g.S.Store c.args.tx.now.conn.now in
+    let b = state g.S.Store c.delete.new.tx.conn.now in
+    let d = state g.S.Store c.delete_references.new.tx.conn.now in
+    let e = state g.S.Store c.delete_outputs.new.tx.conn.now in
+    under_after a e _ ((steps_both a d e _ _ (steps_both a b d _ _ c.in_ok-delete.ensures.done c.delete_references.ensures.survives c.in_ok-delete_references.ensures.done) c.delete_outputs.ensures.survives c.in_ok-delete_outputs.ensures.done) clean)
+
+pub delete_pieces-requires-clause-is_open : goal.delete_pieces-requires-clause-is_open
+delete_pieces-requires-clause-is_open g c clean =
+    let a = state g.S.Store c.args.tx.now.conn.now in
+    let b = state g.S.Store c.delete.new.tx.conn.now in
+    let d = state g.S.Store c.delete_references.new.tx.conn.now in
+    let e = state g.S.Store c.delete_outputs.new.tx.conn.now in
+    ((steps_both a d e _ _ (steps_both a b d _ _ c.in_ok-delete.ensures.done c.delete_references.ensures.survives c.in_ok-delete_references.ensures.done) c.delete_outputs.ensures.survives c.in_ok-delete_outputs.ensures.done) clean).is_open
+
+pub delete_pieces-requires-clause-stands : goal.delete_pieces-requires-clause-stands
+delete_pieces-requires-clause-stands g c clean =
+    let a = state g.S.Store c.args.tx.now.conn.now in
+    let b = state g.S.Store c.delete.new.tx.conn.now in
+    let d = state g.S.Store c.delete_references.new.tx.conn.now in
+    let e = state g.S.Store c.delete_outputs.new.tx.conn.now in
+    pieces_stand a e _ (steps_both a d e _ _ (steps_both a b d _ _ c.in_ok-delete.ensures.done c.delete_references.ensures.survives c.in_ok-delete_references.ensures.done) c.delete_outputs.ensures.survives c.in_ok-delete_outputs.ensures.done) (survives_both a d e (survives_both a b d c.delete.ensures.survives c.delete_references.ensures.survives) c.delete_outputs.ensures.survives) c.requires.stands clean
+
+pub delete_pieces-requires-clause-told : goal.delete_pieces-requires-clause-told
+delete_pieces-requires-clause-told g c clean =
+    let a = state g.S.Store c.args.tx.now.conn.now in
+    let b = state g.S.Store c.delete.new.tx.conn.now in
+    let d = state g.S.Store c.delete_references.new.tx.conn.now in
+    let e = state g.S.Store c.delete_outputs.new.tx.conn.now in
+    let it = (steps_both a d e _ _ (steps_both a b d _ _ c.in_ok-delete.ensures.done c.delete_references.ensures.survives c.in_ok-delete_references.ensures.done) c.delete_outputs.ensures.survives c.in_ok-delete_outputs.ensures.done) clean in
+    let early : HasCleanDisk a = omega (arith, (survives_both a d e (survives_both a b d c.delete.ensures.survives c.delete_references.ensures.survives) c.delete_outputs.ensures.survives).clean, clean) in
+    pieces_told c.args.index.now (contents_of a.now) c.args.path.now c.as_str-base.result.now c.in-Some.object.now (c.requires.covers early it.was_open) c.in-Some.ensures c.as_str-base.ensures.value (contents_of e.now) (ap (λ (x : Contents). x.pieces) it.contents)
 
 pub returns-clause-same_reference : goal.returns-clause-same_reference
-returns-clause-same_reference g c = c.delete.ensures.same_reference ∙ c.delete_of-3.ensures.same_reference ∙ c.delete_of-2.ensures.same_reference ∙ c.delete_of.ensures.same_reference
+returns-clause-same_reference g c = c.delete_pieces.ensures.same_reference ∙ c.delete_outputs.ensures.same_reference ∙ c.delete_references.ensures.same_reference ∙ c.delete.ensures.same_reference
 
 pub returns-clause-done : goal.returns-clause-done
 returns-clause-done g c =
     let a = state g.S.Store c.args.tx.now.conn.now in
-    let b = state g.S.Store c.delete_of.new.tx.conn.now in
-    let d = state g.S.Store c.delete_of-2.new.tx.conn.now in
-    let e = state g.S.Store c.delete_of-3.new.tx.conn.now in
-    done_both a e (state g.S.Store c.delete.new.tx.conn.now) _ _
-    (steps_both a d e _ _ (steps_both a b d _ _ c.in_ok-delete_of.ensures.done c.delete_of-2.ensures.survives c.in_ok-delete_of-2.ensures.done) c.delete_of-3.ensures.survives c.in_ok-delete_of-3.ensures.done) c.delete.ensures.survives
-    c.delete.result _ (λ (x : Contents). refl) c.delete.ensures.done
+    let b = state g.S.Store c.delete.new.tx.conn.now in
+    let d = state g.S.Store c.delete_references.new.tx.conn.now in
+    let e = state g.S.Store c.delete_outputs.new.tx.conn.now in
+    let f = state g.S.Store c.delete_pieces.new.tx.conn.now in
+    done_both a e f _ _ (steps_both a d e _ _ (steps_both a b d _ _ c.in_ok-delete.ensures.done c.delete_references.ensures.survives c.in_ok-delete_references.ensures.done) c.delete_outputs.ensures.survives c.in_ok-delete_outputs.ensures.done) c.delete_pieces.ensures.survives c.delete_pieces.result _ (λ x. ap (λ p. without_object p x) c.as_str-base.ensures.value) c.delete_pieces.ensures.done
 
 pub returns-clause-failed : goal.returns-clause-failed
 returns-clause-failed g c =
     let a = state g.S.Store c.args.tx.now.conn.now in
-    let b = state g.S.Store c.delete_of.new.tx.conn.now in
-    let d = state g.S.Store c.delete_of-2.new.tx.conn.now in
-    let e = state g.S.Store c.delete_of-3.new.tx.conn.now in
-    failed_next a e (state g.S.Store c.delete.new.tx.conn.now) _ (λ x. x)
-    (steps_both a d e _ _ (steps_both a b d _ _ c.in_ok-delete_of.ensures.done c.delete_of-2.ensures.survives c.in_ok-delete_of-2.ensures.done) c.delete_of-3.ensures.survives c.in_ok-delete_of-3.ensures.done) c.delete.ensures.survives
-    c.delete.result c.delete.ensures.failed
+    let b = state g.S.Store c.delete.new.tx.conn.now in
+    let d = state g.S.Store c.delete_references.new.tx.conn.now in
+    let e = state g.S.Store c.delete_outputs.new.tx.conn.now in
+    let f = state g.S.Store c.delete_pieces.new.tx.conn.now in
+    failed_next a e f _ (λ x. x) (steps_both a d e _ _ (steps_both a b d _ _ c.in_ok-delete.ensures.done c.delete_references.ensures.survives c.in_ok-delete_references.ensures.done) c.delete_outputs.ensures.survives c.in_ok-delete_outputs.ensures.done) c.delete_pieces.ensures.survives c.delete_pieces.result c.delete_pieces.ensures.failed
 
 pub returns-clause-survives : goal.returns-clause-survives
 returns-clause-survives g c =
     let a = state g.S.Store c.args.tx.now.conn.now in
-    let b = state g.S.Store c.delete_of.new.tx.conn.now in
-    let d = state g.S.Store c.delete_of-2.new.tx.conn.now in
-    let e = state g.S.Store c.delete_of-3.new.tx.conn.now in
-    survives_both a e (state g.S.Store c.delete.new.tx.conn.now)
-    (survives_both a d e (survives_both a b d c.delete_of.ensures.survives c.delete_of-2.ensures.survives) c.delete_of-3.ensures.survives) c.delete.ensures.survives
+    let b = state g.S.Store c.delete.new.tx.conn.now in
+    let d = state g.S.Store c.delete_references.new.tx.conn.now in
+    let e = state g.S.Store c.delete_outputs.new.tx.conn.now in
+    let f = state g.S.Store c.delete_pieces.new.tx.conn.now in
+    survives_both a e f (survives_both a d e (survives_both a b d c.delete.ensures.survives c.delete_references.ensures.survives) c.delete_outputs.ensures.survives) c.delete_pieces.ensures.survives

@@ -1,10 +1,11 @@
-use Rattle.std.proofs.Common.{◌≡◌, ◌+◌, ◌∷◌, drop, length, arith, refl, sym, ap, ◌∙◌, List}
+use Rattle.std.proofs.Common.{◌≡◌, ◌+◌, ◌∷◌, drop, length, arith, refl, sym, ap, subst, ◌∙◌, List}
 use Rattle.sqlite.specs.Held.{state}
 use Rattle.rows.specs.Contents.{contents_of}
 use Rattle.world.specs.World.{Path}
-use Rattle.tables.specs.Rewritten.{without_object, without_objects}
+use Rattle.tables.specs.Rewritten.{Covers, without_object, without_objects}
 use Rattle.table_statements.proofs.Going.{goes_first, goes_next, goes_done}
 use Rattle.table_statements.proofs.Transactions.{survives_none}
+use Rattle.tables.proofs.Covered.{covers_less}
 use Rattle.tables.proofs.Kept.{clean_before}
 use Rattle.tables.proofs.Lists.{left_at, none_left}
 use Rattle.tables.proofs.Removed.{without_none, without_next}
@@ -17,6 +18,7 @@ paths-init g c =
     record {
       same_reference = refl;
       goes = λ clean. goes_first without_objects c.args.paths.now first (c.requires.under_way clean) (c.requires.is_open clean);
+      covers = c.requires.covers;
       survives = survives_none first;
     }
 
@@ -31,12 +33,11 @@ paths-preserved g c =
     let left = drop c.paths.path-index all in
     let rest = drop (c.paths.path-index + 1) all in
     let split : left ≡ item ∷ rest = left_at all c.paths.path-index item c.paths-test.true c.path-item.is in
-    let same : without_objects left was ≡ without_objects rest (without_object c.as_str.result.now was) =
-    ap (λ (xs : List Path). without_objects xs was) split ∙ sym (without_next item rest was)
-    ∙ ap (λ p. without_objects rest (without_object p was)) (sym c.as_str.ensures.value) in
+    let same : without_objects left was ≡ without_objects rest (without_object item was) = ap (λ (xs : List Path). without_objects xs was) split ∙ sym (without_next item rest was) in
     record {
       same_reference = c.in_ok-delete_object.ensures.same_reference ∙ c.paths.invariant.same_reference;
       goes = λ clean. goes_next without_objects all first now next left rest _ (c.paths.invariant.goes (clean_before now next _ c.delete_object.ensures.survives clean)) (c.in_ok-delete_object.ensures.done clean) same;
+      covers = λ clean. subst (Covers c.args.index.now) (sym (c.in_ok-delete_object.ensures.done clean).contents) (covers_less c.args.index.now item was (c.paths.invariant.covers (clean_before now next _ c.delete_object.ensures.survives clean)));
       survives = survives_both first now next c.paths.invariant.survives c.delete_object.ensures.survives;
     }
 

@@ -1,10 +1,16 @@
 use Rattle.std.proofs.Common.{refl, sym, ap}
 use Rattle.rows.specs.Contents.{Contents}
 use Rattle.tables.specs.Rewritten.{without_objects}
+use Rattle.tables.proofs.Covered.{covered}
 use Rattle.tables.proofs.Transactions.{survives_as, written_as}
 use Rattle.tables.proofs.Kept.{agrees_failed, told_failed}
 use Rattle.tables.proofs.RemovedObjects.{removed_agrees, removed_told, removed_survive}
 use Rattle.tables.proofs.keeping.Tables.remove_objects.Goals as goal
+
+pub commit-requires-clause-fits : goal.commit-requires-clause-fits
+commit-requires-clause-fits g c clean is_open =
+    let it = c.self.invariant.rows clean is_open in
+    covered c.self.inside.dir _ c.self.inside.index it.sound it.same
 
 pub invariant_of-self : goal.invariant_of-self
 invariant_of-self g c =

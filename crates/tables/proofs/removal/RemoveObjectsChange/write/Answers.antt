@@ -1,9 +1,10 @@
-use Rattle.std.proofs.Common.{ap, ◌∙◌}
+use Rattle.std.proofs.Common.{sym, subst, arith, ◌∙◌}
+use Rattle.sqlite.specs.State.{HasCleanDisk}
 use Rattle.sqlite.specs.Held.{state}
-use Rattle.rows.specs.Contents.{Contents}
 use Rattle.table_statements.proofs.Transactions.{done_both, failed_next}
 use Rattle.table_statements.proofs.Steps.{under_after}
-use Rattle.tables.specs.Rewritten.{without_object, without_objects}
+use Rattle.tables.specs.Rewritten.{Covers}
+use Rattle.tables.proofs.Covered.{covers_less}
 use Rattle.tables.proofs.Removed.{without_next}
 use Rattle.tables.proofs.Transactions.{survives_both, pieces_stand}
 use Rattle.tables.proofs.removal.RemoveObjectsChange.write.Goals as goal
@@ -18,6 +19,15 @@ delete_objects-requires-clause-under_way g c clean =
 pub delete_objects-requires-clause-is_open : goal.delete_objects-requires-clause-is_open
 delete_objects-requires-clause-is_open g c clean = (c.in_ok-delete_object.ensures.done clean).is_open
 
+pub delete_object-requires-clause-covers : goal.delete_object-requires-clause-covers
+delete_object-requires-clause-covers g c clean is_open = c.requires.fits clean is_open
+
+pub delete_objects-requires-clause-covers : goal.delete_objects-requires-clause-covers
+delete_objects-requires-clause-covers g c clean =
+    let it = c.in_ok-delete_object.ensures.done clean in
+    let early : HasCleanDisk (state g.S.Store c.args.tx.now.conn.now) = omega (arith, c.delete_object.ensures.survives.clean, clean) in
+    subst (Covers c.args.self.now.index.now) (sym it.contents) (covers_less c.args.self.now.index.now c.args.self.now.first.now _ (c.requires.fits early it.was_open))
+
 pub delete_objects-requires-clause-stands : goal.delete_objects-requires-clause-stands
 delete_objects-requires-clause-stands g c clean =
     pieces_stand (state g.S.Store c.args.tx.now.conn.now) (state g.S.Store c.delete_object.new.tx.conn.now) _ c.in_ok-delete_object.ensures.done c.delete_object.ensures.survives (λ early is_open. (c.requires.whole early is_open).pieces) clean
@@ -29,7 +39,7 @@ pub returns-clause-done : goal.returns-clause-done
 returns-clause-done g c =
     let it = c.args.self.now in
     done_both (state g.S.Store c.args.tx.now.conn.now) (state g.S.Store c.delete_object.new.tx.conn.now) (state g.S.Store c.delete_objects.new.tx.conn.now) _ _ c.in_ok-delete_object.ensures.done c.delete_objects.ensures.survives
-    c.delete_objects.result _ (λ (x : Contents). ap (λ p. without_objects it.rest.now (without_object p x)) c.as_str.ensures.value ∙ without_next it.first.now it.rest.now x) c.delete_objects.ensures.done
+    c.delete_objects.result _ (without_next it.first.now it.rest.now) c.delete_objects.ensures.done
 
 pub returns-clause-failed : goal.returns-clause-failed
 returns-clause-failed g c =

@@ -1,0 +1,12 @@
+use Rattle.sqlite.specs.Held.{state}
+use Rattle.rows.specs.Contents.{contents_of}
+use Rattle.tables.proofs.Covered.{keyless, no_outputs}
+use Rattle.tables.proofs.Transactions.{changes_nothing}
+use Rattle.tables.proofs.beside.delete_outputs.Goals as goal
+
+-- the object has none, and so there is no row
+pub returns-then-is_empty-clause-done : goal.returns-then-is_empty-clause-done
+returns-then-is_empty-clause-done g c clean =
+    let s = state g.S.Store c.args.tx.now.conn.now in
+    changes_nothing s _ (c.requires.under_way clean) (c.requires.is_open clean)
+    (no_outputs (contents_of s.now) c.args.base.now (λ name there. keyless c.args.object.now.outputs (λ e. e.1) c.outputs.result.now c.outputs.ensures c.if-is_empty.ensures name (c.requires.told clean name there)))

@@ -1,0 +1,12 @@
+use Rattle.sqlite.specs.Held.{state}
+use Rattle.rows.specs.Contents.{contents_of}
+use Rattle.tables.proofs.Covered.{keyless, no_references}
+use Rattle.tables.proofs.Transactions.{changes_nothing}
+use Rattle.tables.proofs.beside.delete_references.Goals as goal
+
+-- the object has none, and so there is no row
+pub returns-then-is_empty-clause-done : goal.returns-then-is_empty-clause-done
+returns-then-is_empty-clause-done g c clean =
+    let s = state g.S.Store c.args.tx.now.conn.now in
+    changes_nothing s _ (c.requires.under_way clean) (c.requires.is_open clean)
+    (no_references (contents_of s.now) c.args.base.now (λ r there. keyless c.args.object.now.references (λ e. e.0) c.references.result.now c.references.ensures c.if-is_empty.ensures r (c.requires.told clean r there)))
