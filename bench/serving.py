@@ -1,9 +1,12 @@
 """A server over a store or over files, and a client of it on one connection that stays open."""
 import contextlib
+import fcntl
 import signal
 import socket
+import struct
 import subprocess
 import sys
+import termios
 import time
 
 from figures import MIB, free_port
@@ -12,10 +15,14 @@ from figures import MIB, free_port
 class Client:
     """One connection that stays open."""
 
-    def __init__(self, port):
-        self.socket = socket.create_connection(("127.0.0.1", port))
-        self.socket.setsockopt(socket.IPPROTO_TCP, socket.TCP_NODELAY, 1)
-        self.room = memoryview(bytearray(17 * MIB))
+    def __init__(self, connected):
+        self.socket, self.room = connected, memoryview(bytearray(17 * MIB))
+
+    @classmethod
+    def of_port(cls, port):
+        connected = socket.create_connection(("127.0.0.1", port))
+        connected.setsockopt(socket.IPPROTO_TCP, socket.TCP_NODELAY, 1)
+        return cls(connected)
 
     def close(self):
         self.socket.close()
@@ -59,7 +66,7 @@ class Serving:
         self.started = subprocess.Popen(words, cwd=folder, stdout=subprocess.DEVNULL, stderr=subprocess.DEVNULL)
         for _ in range(600):
             with contextlib.suppress(OSError):
-                self.client = Client(port)
+                self.client = Client.of_port(port)
                 return
             time.sleep(0.1)
         sys.exit(f"{words[0]} doesn't listen")
@@ -86,6 +93,29 @@ class Serving:
         """The most memory in MiB that it held."""
         with open(f"/proc/{self.started.pid}/status") as file:
             return int(next(line for line in file if line.startswith("VmHWM")).split()[1]) / 1024
+
+
+class Handed(Serving):
+    """A server over a store in memory whose standard input and output are one connection, as a super-server hands it on. The other end is kept here too,
+    so that what the server hasn't read can be asked for."""
+
+    def __init__(self, run):
+        ours, self.theirs = socket.socketpair()
+        self.client = Client(ours)
+        self.started = subprocess.Popen([run.file, "serve"], stdin=self.theirs, stdout=self.theirs, stderr=subprocess.DEVNULL)
+
+    def __exit__(self, *said):
+        super().__exit__(*said)
+        self.theirs.close()
+
+    def send_bytewise(self, text):
+        """Sends each byte only once the server has read all before it."""
+        for byte in text:
+            self.client.socket.sendall(bytes([byte]))
+            while struct.unpack("i", fcntl.ioctl(self.theirs, termios.FIONREAD, bytes(4)))[0]:
+                if self.started.poll() is not None:
+                    sys.exit("the server ended")
+                time.sleep(0)
 
 
 def served(run, path=None):
