@@ -3,6 +3,7 @@
 
 mod connecting;
 pub mod file;
+mod measuring;
 pub mod opening;
 mod options;
 mod our_table;
