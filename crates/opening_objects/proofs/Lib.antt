@@ -14,3 +14,4 @@ pub mod EachEntry
 pub mod AllObjects
 pub mod AllTests
 pub mod Each
+pub mod Known

@@ -1,12 +1,12 @@
 -- The rows of a path among rows in order: those between two partition points.
 use Rattle.std.proofs.Common.{◌≡◌, ℕ, zero, suc, ◌+◌, ◌<◌, ◌≤◌, List, [], ◌∷◌, map, length, take, drop, get_or, Bool, true, false, cond, arith, refl, sym, ap, subst, ◌∙◌, T}
-use Rattle.std.specs.Prelude.{⊤, ◌==◌}
+use Rattle.std.specs.Prelude.{⊤, ◌==◌, ◌||◌, Option, Some, None}
 use Rattle.std.proofs.lemmas.Bool.{false≢true}
 use Rattle.std.proofs.lemmas.List.Sums.{prefix_len_is}
 use Rattle.std.specs.declared.cmp.Ordering.{Ordering}
 use Rattle.std.specs.declared.cmp.Ordering.TheVariants.{Less, Equal, Greater}
 use Rattle.std.specs.Ordering.{is_lt, is_eq, eq_by_cmp, ordering_then, ordering_reverse}
-use Rattle.std.specs.List.{AllByRecursion, filter, prefix_len}
+use Rattle.std.specs.List.{AllByRecursion, filter, list_any, prefix_len, slice_get}
 use Rattle.std.specs.List.Sorted.{IsPartitionedBy, IsPartitionPoint}
 use Rattle.std.specs.Cmp.Lexicographic.{texts_ties}
 use Rattle.std.specs.Str.{bytes_eq}
@@ -138,6 +138,33 @@ module _ {X : Type 0} (key : X → Path) (p : Path) where
           ap (λ (l : List X). x ∷ l) rest ∙ ap (λ n. take n (x ∷ xs)) one
       by false t rest = none_pass own xs (later_apart x xs up.0 h.0 t)
 
+  none_own : (xs : List X) → AllByRecursion (λ y. own y ≡ false) xs → list_any own xs ≡ false
+  none_own [] h = refl
+  none_own (x ∷ xs) h = ap (λ b. b || list_any own xs) h.0 ∙ none_own xs h.1
+
+  head_own : (x : X) (xs : List X) → Later x xs → below x ≡ false → list_any own (x ∷ xs) ≡ own x
+  head_own x xs later t = by (own x) refl
+    where
+      by : (b : Bool) → own x ≡ b → (b || list_any own xs) ≡ b
+      by true k = refl
+      by false k = none_own xs (later_apart x xs later t k)
+
+  -- a row, if there is one, is the path's
+  abbrev pub is_own : Option X → Bool
+  is_own None = false
+  is_own (Some x) = own x
+
+  any_own : (xs : List X) → Rises (map key xs) → list_any own xs ≡ is_own (slice_get (drop (prefix_len below xs) xs) 0)
+  any_own [] up = refl
+  any_own (x ∷ xs) up = by (below x) refl (any_own xs up.1)
+    where
+      by : (b : Bool) → below x ≡ b → list_any own xs ≡ is_own (slice_get (drop (prefix_len below xs) xs) 0)
+          → list_any own (x ∷ xs) ≡ is_own (slice_get (drop (cond b (1 + prefix_len below xs) 0) (x ∷ xs)) 0)
+      by true t rest =
+          let one : suc (prefix_len below xs) ≡ 1 + prefix_len below xs = omega arith in
+          ap (λ b. b || list_any own xs) (below_apart (key x) p t) ∙ rest ∙ ap (λ n. is_own (slice_get (drop n (x ∷ xs)) 0)) one
+      by false t rest = head_own x xs up.0 t
+
   -- what is left behind those below the path
   record IsAfter (xs ys : List X) : Type 0 where
     pub rises : Rises (map key ys)
@@ -159,6 +186,12 @@ module _ {X : Type 0} (key : X → Path) (p : Path) where
       (first : IsPartitionPoint (λ y. below y ≡ true) (λ y. below y ≡ false) xs start) (back : rest ≡ drop start xs) where
     after_here : IsAfter xs rest
     after_here = subst (IsAfter xs) (ap (λ n. drop n xs) (prefix_is below xs start within first) ∙ sym back) (after_is xs up)
+
+    -- the first one that is left decides
+    pub first_found : (o : Option X) → o ≡ slice_get rest 0 → list_any own xs ≡ is_own o
+    first_found o is =
+        any_own xs up ∙ ap (λ n. is_own (slice_get (drop n xs) 0)) (prefix_is below xs start within first)
+        ∙ ap (λ (l : List X). is_own (slice_get l 0)) (sym back) ∙ ap is_own (sym is)
 
     pub own_parted : IsPartitionedBy own rest
     own_parted = parted own rest (own_down rest after_here.rises after_here.above)
@@ -192,6 +225,31 @@ module _ {L X : Type 0} (S : L → L → Ordering) where
   paths_rise (e ∷ es) h =
       let parts = both_T (below_all (by_both S) e.0 es) (is_sorted (by_both S) es) h in
       (each_later e es parts.0, paths_rise es parts.1)
+
+-- ---- keys of a map
+
+after_less : (a b : Path) → T (is_lt (bytes_cmp a b)) → is_lt (bytes_cmp b a) ≡ false
+after_less a b h = by (bytes_cmp a b) refl h
+  where
+    by : (r : Ordering) → bytes_cmp a b ≡ r → T (is_lt r) → is_lt (bytes_cmp b a) ≡ false
+    by Less e h = ap is_lt (turned a b Less e)
+    by Equal e h = absurd h
+    by Greater e h = absurd h
+
+module _ {X : Type 0} where
+  each_above : (e : Path × X) (es : List (Path × X)) → T (below_all bytes_cmp e.0 es) → AllByRecursion (λ r. is_lt (bytes_cmp r e.0) ≡ false) (map (λ (d : Path × X). d.0) es)
+  each_above e [] h = tt
+  each_above e (d ∷ es) h =
+      let parts = both_T (is_lt (bytes_cmp e.0 d.0)) (below_all bytes_cmp e.0 es) h in
+      (after_less e.0 d.0 parts.0, each_above e es parts.1)
+
+  pub keys_rise : (es : List (Path × X)) → T (is_sorted bytes_cmp es) → Rises (map (λ (d : Path × X). d.0) es)
+  keys_rise [] h = tt
+  keys_rise (e ∷ es) h =
+      let parts = both_T (below_all bytes_cmp e.0 es) (is_sorted bytes_cmp es) h in
+      (each_above e es parts.0, keys_rise es parts.1)
+
+-- ---- lists
 
 pub map_both : {A B C : Type 0} (f : A → B) (k : B → C) (xs : List A) → map (λ x. k (f x)) xs ≡ map k (map f xs)
 map_both f k [] = refl

@@ -3,3 +3,4 @@ pub mod Cut
 pub mod Rising
 pub mod Rows
 pub mod Taken
+pub mod Known

@@ -1,10 +1,12 @@
 //! The rows of one path among all rows of a table, which are in the order of their paths.
 
-ghost use Rattle.std.specs.Prelude.{◌≡◌, List, ℕ, filter, map};
+ghost use Rattle.std.specs.Prelude.{◌≡◌, List, ℕ, true, false, filter, map, MatchOption};
+ghost use Rattle.std.specs.List.{list_any};
 ghost use Rattle.std.specs.Ordering.{eq_by_cmp};
 ghost use Rattle.paths.specs.Root.{bytes_cmp};
 ghost use Rattle.opening_objects.specs.Rising.{Rises};
 
+use paths::StorePath;
 use table_entries::outputs::Output;
 use table_entries::pieces::PieceKey;
 use table_entries::references::Reference;
@@ -45,6 +47,32 @@ impl OfPath for PieceKey {
 
     fn base(&self) -> &str {
         self.base.as_str()
+    }
+}
+
+impl OfPath for &StorePath {
+    ghost base_of = { λ path. path.now };
+
+    fn base(&self) -> &str {
+        self.as_str()
+    }
+}
+
+/// The first row of a path among rows in order, if there is one.
+pub(crate) fn first_of<'a, T: OfPath>(rows: &'a [T], base: &str) -> Option<&'a T>
+    ensures { Rises (map T.base_of rows.now) → MatchOption result
+        (list_any (λ row. eq_by_cmp bytes_cmp base.now (T.base_of row)) rows.now ≡ false)
+        (λ row. (list_any (λ r. eq_by_cmp bytes_cmp base.now (T.base_of r)) rows.now ≡ true) × (base.now ≡ T.base_of row.now)) }
+{
+    let start = rows.partition_point(|row| row.base() < base);
+    let (_, rest) = rows.split_at(start);
+    let Some(first) = rest.first() else {
+        return None;
+    };
+    if base == first.base() {
+        Some(first)
+    } else {
+        None
     }
 }
 

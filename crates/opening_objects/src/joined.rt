@@ -14,7 +14,7 @@ ghost use Rattle.table_entries.specs.Entries.{numbered_in, output_of, reference_
 ghost use Rattle.opening_objects.specs.Rows.{AreJoined};
 ghost use Rattle.opening_objects.specs.Taken.{is_output, is_owned, is_reference};
 
-use crate::members::{are_outputs, are_owned, are_references};
+use crate::members::{are_outputs, are_owned, are_references, paths_in};
 use index::Index;
 use rows::{outputs, pieces, references};
 use sqlite::{Alter, Connection};
@@ -88,11 +88,12 @@ pub(crate) fn are_joined(alloc: Global, index: &Index, joined: &Joined) -> Resul
     ensures { IfOk result (λ ok. ok ≡ ((list_all (is_reference index.now.objects) (map reference_of joined.now.references.items) && list_all (is_output index.now.objects) (map output_of joined.now.outputs.items))
         && list_all (is_owned index.now.objects) (map numbered_in joined.now.pieces.items))) }
 {
-    if !are_references(alloc, index, &joined.references)? {
+    let paths = paths_in(alloc, index)?;
+    if !are_references(&paths, &joined.references) {
         return Ok(false);
     }
-    if !are_outputs(alloc, index, &joined.outputs)? {
+    if !are_outputs(&paths, &joined.outputs) {
         return Ok(false);
     }
-    are_owned(alloc, index, &joined.pieces)
+    Ok(are_owned(&paths, &joined.pieces))
 }

@@ -1,26 +1,48 @@
-//! Rows of references, outputs and pieces beside the objects of the index.
+//! Rows of references, outputs and pieces beside the paths of all objects, which are in order: no path is made of a text to look it up.
 
 ghost use Rattle.std.specs.Prelude.{◌≡◌, ◌↔◌, true, IfOk, IsTrue, map};
 ghost use Rattle.std.specs.List.{list_all};
+ghost use Rattle.std.specs.FinMap as finite;
 ghost use Rattle.std.specs.Option.{ForSome, option_copied};
 ghost use Rattle.table_entries.specs.Entries.{numbered_in, reference_of, output_of};
-ghost use Rattle.opening_objects.specs.Taken as taken;
-ghost use Rattle.opening_objects.specs.Taken.{is_object, is_owned, is_reference};
+ghost use Rattle.opening_objects.specs.Known as known;
+ghost use Rattle.opening_objects.specs.Known.{is_known, lent};
+ghost use Rattle.opening_objects.specs.Rising.{Rises};
 
-use crate::texts::path_of;
+use crate::groups::first_of;
 use index::Index;
+use paths::StorePath;
 use std::alloc::{AllocError, Global};
 use table_entries::outputs::Output;
 use table_entries::pieces::PieceKey;
 use table_entries::references::Reference;
 
-/// Whether a text is the base name of an object.
-fn is_object(alloc: Global, index: &Index, text: &str) -> Result<bool, AllocError>
-    ensures { IfOk result (λ ok. ok ≡ is_object index.now.objects text.now) }
+/// The paths of all objects, lent, in order.
+pub(crate) fn paths_in<'a>(
+    alloc: Global,
+    index: &'a Index,
+) -> Result<Vec<&'a StorePath>, AllocError>
+    ensures { IfOk result (λ v. lent v.items ≡ finite.keys index.now.objects) }
 {
-    match path_of(alloc, text)? {
-        Some(path) => Ok(index.has(&path)),
-        None => Ok(false),
+    let mut paths = Vec::new(alloc);
+    'objects: for path in index.objects().keys() {
+        paths.push(path)?;
+    }
+    Ok(paths)
+}
+
+/// Whether a text is one of the paths.
+fn is_known(paths: &[&StorePath], text: &str) -> bool
+    requires { Rises (lent paths.now) }
+    ensures { result ≡ is_known (lent paths.now) text.now }
+{
+    match first_of(paths, text) {
+        Some(path) => {
+            // A path is a base name.
+            let _base = path.as_str();
+            true
+        }
+        None => false,
     }
 }
 
@@ -33,83 +55,74 @@ fn is_last(last: Option<&str>, text: &str) -> bool
     }
 }
 
-/// Whether a text is the base name of an object, as the last one was, if there is one. Rows come in the order of their bases, so each
-/// base is looked up once.
-fn is_next_object(
-    alloc: Global,
-    index: &Index,
-    last: Option<&str>,
-    text: &str,
-) -> Result<bool, AllocError>
-    requires { ForSome (option_copied last) (λ base. is_object index.now.objects base ≡ true) }
-    ensures { IfOk result (λ ok. ok ≡ is_object index.now.objects text.now) }
+/// Whether a text is one of the paths, as the last one was, if there is one. Rows come in the order of their bases, so each base is
+/// looked up once.
+fn is_next_known(paths: &[&StorePath], last: Option<&str>, text: &str) -> bool
+    requires rises { Rises (lent paths.now) }
+    requires last { ForSome (option_copied last) (λ base. is_known (lent paths.now) base ≡ true) }
+    ensures { result ≡ is_known (lent paths.now) text.now }
 {
     if is_last(last, text) {
-        return Ok(true);
+        return true;
     }
-    is_object(alloc, index, text)
+    is_known(paths, text)
 }
 
-/// The same of a reference, which leads to an object.
-fn is_reference(
-    alloc: Global,
-    index: &Index,
-    last: Option<&str>,
-    row: &Reference,
-) -> Result<bool, AllocError>
-    requires { ForSome (option_copied last) (λ base. is_object index.now.objects base ≡ true) }
-    ensures { IfOk result (λ ok. ok ≡ is_reference index.now.objects (reference_of row.now)) }
+/// The same of a reference, which leads to one of the paths.
+fn is_reference(paths: &[&StorePath], last: Option<&str>, row: &Reference) -> bool
+    requires rises { Rises (lent paths.now) }
+    requires last { ForSome (option_copied last) (λ base. is_known (lent paths.now) base ≡ true) }
+    ensures { result ≡ known.is_known_reference (lent paths.now) (reference_of row.now) }
 {
-    if !is_next_object(alloc, index, last, row.base.as_str())? {
-        return Ok(false);
+    if !is_next_known(paths, last, row.base.as_str()) {
+        return false;
     }
-    is_object(alloc, index, row.target.as_str())
+    is_known(paths, row.target.as_str())
 }
 
-/// Whether each reference is one of an object to an object.
-pub(crate) fn are_references(
-    alloc: Global,
-    index: &Index,
-    rows: &[Reference],
-) -> Result<bool, AllocError>
-    ensures { IfOk result (λ ok. ok ≡ list_all (is_reference index.now.objects) (map reference_of rows.now)) }
+/// Whether each reference is one of a path to a path.
+pub(crate) fn are_references(paths: &[&StorePath], rows: &[Reference]) -> bool
+    requires { Rises (lent paths.now) }
+    ensures { result ≡ list_all (known.is_known_reference (lent paths.now)) (map reference_of rows.now) }
 {
     let mut last = None;
     'rows: for row in rows {
-        if !is_reference(alloc, index, last, row)? {
-            return Ok(false);
+        if !is_reference(paths, last, row) {
+            return false;
         }
         last = Some(row.base.as_str());
     }
-    Ok(true)
+    true
 }
 
-/// Whether each output is an object's.
-pub(crate) fn are_outputs(alloc: Global, index: &Index, rows: &[Output]) -> Result<bool, AllocError>
-    ensures { IfOk result (λ ok. ok ≡ list_all (taken.is_output index.now.objects) (map output_of rows.now)) }
+/// Whether each output is a path's.
+pub(crate) fn are_outputs(paths: &[&StorePath], rows: &[Output]) -> bool
+    requires { Rises (lent paths.now) }
+    ensures { result ≡ list_all (known.is_known_output (lent paths.now)) (map output_of rows.now) }
 {
     let mut last = None;
     'rows: for row in rows {
         let base = row.base.as_str();
-        if !is_next_object(alloc, index, last, base)? {
-            return Ok(false);
+        if !is_next_known(paths, last, base) {
+            return false;
         }
         last = Some(base);
     }
-    Ok(true)
+    true
 }
 
-/// Whether each piece is one of an object's archive.
-pub(crate) fn are_owned(alloc: Global, index: &Index, rows: &[PieceKey]) -> Result<bool, AllocError>
-    ensures { IfOk result (λ ok. ok ≡ list_all (is_owned index.now.objects) (map numbered_in rows.now)) }
+/// Whether each piece is one of a path's archive.
+pub(crate) fn are_owned(paths: &[&StorePath], rows: &[PieceKey]) -> bool
+    requires { Rises (lent paths.now) }
+    ensures { result ≡ list_all (known.is_known_piece (lent paths.now)) (map numbered_in rows.now) }
 {
     let mut last = None;
     'rows: for row in rows {
         let base = row.base.as_str();
-        if !is_next_object(alloc, index, last, base)? {
-            return Ok(false);
+        if !is_next_known(paths, last, base) {
+            return false;
         }
         last = Some(base);
     }
-    Ok(true)
+    true
 }

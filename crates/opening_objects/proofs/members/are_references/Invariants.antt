@@ -2,12 +2,12 @@ use Rattle.std.specs.Prelude.{◌≡◌, true, drop, map}
 use Rattle.std.specs.List.{list_all}
 use Rattle.std.specs.Option.{ForSome, option_copied}
 use Rattle.table_entries.specs.Entries.{reference_of}
-use Rattle.opening_objects.specs.Taken.{is_object, is_reference}
+use Rattle.opening_objects.specs.Known.{is_known, is_known_reference, lent}
 use Rattle.opening_objects.proofs.members.are_references.Given as goal
 
--- what is left decides, and the last base is an object's
+-- what is left decides, and the last base is known
 abbrev pub invariant-rows : goal.invariant-rows
 invariant-rows l = record {
-  decides : list_all (is_reference l.index.objects) (map reference_of (drop l.row-index l.rows)) ≡ list_all (is_reference l.index.objects) (map reference_of l.rows);
-  last : ForSome (option_copied l.last) (λ base. is_object l.index.objects base ≡ true);
+  decides : list_all (is_known_reference (lent l.paths)) (map reference_of (drop l.row-index l.rows)) ≡ list_all (is_known_reference (lent l.paths)) (map reference_of l.rows);
+  last : ForSome (option_copied l.last) (λ base. is_known (lent l.paths) base ≡ true);
 }
