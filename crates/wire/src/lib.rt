@@ -8,6 +8,3 @@ mod statuses;
 pub use reply_head::{ReplyHead, write_reply_head};
 pub use response::Response;
 pub use statuses::refusal_status;
-
-#[cfg(test)]
-mod tests;
