@@ -55,7 +55,8 @@ impl Listener for Port {
     /// Head and text of a reply are two writes, and none waits for the other to arrive.
     fn accept(&mut self) -> io::Result<(TcpStream, TcpStream)> {
         let (input, _) = self.0.accept()?;
-        input.set_nodelay(true)?;
+        // Where the system doesn't allow that, replies only take longer: no reason to serve nobody any more.
+        drop(input.set_nodelay(true));
         let output = input.try_clone()?;
         Ok((input, output))
     }
