@@ -84,7 +84,7 @@ module _ {S : Type 0} (g : Ghosts S) where
             record {
               sound = subst (IsSoundContents k.dir) (sym l.ours) (by.sound (sound_then (world_in c) (rows_told k agrees was is_open)));
               world = ap world_in l.ours ∙ by.world ∙ ap F (t.rows was is_open);
-              theirs = l.theirs;
+              others = record { theirs = l.theirs; frozen = l.frozen };
             }
 
         survives_as : (w : World) → Tells g k w → Survives (state g k.connection) (state g conn) (λ db. LeavesWorld k.dir (state g k.connection).now db (F w))

@@ -6,17 +6,15 @@ use Rattle.sqlite_trees.specs.Tree.{Trees}
 use Rattle.sqlite.specs.Effect.{Database}
 use Rattle.sqlite.specs.State.{State, HasCleanDisk, Survives}
 use Rattle.sqlite.specs.Held.{Held, state}
-use Rattle.sqlite.proofs.StateLemmas.{survives_then}
 use Rattle.rows.specs.Contents.{Contents, contents_of}
 use Rattle.rows.specs.Forms.{piece, temp_root}
 use Rattle.rows.specs.Frozen.{KeepsUnshown}
-use Rattle.rows.specs.Calls.{HasFurther, IsUnderWay, IsWhole, IsCommitted, KeepsTheirs, Changes, Leaves}
+use Rattle.rows.specs.Calls.{HasFurther, IsReady, IsUnderWay, IsWhole, IsCommitted, KeepsTheirs, Changes, Leaves}
+use Rattle.table_statements.proofs.Frozen.{frozen_of}
 use Rattle.table_statements.proofs.Steps.{changes_by, changes_none}
 use Rattle.table_statements.proofs.Under.{piece_after, temp_root_after}
 use Rattle.tables.specs.Kept.{IsWritten}
-
-pub survives_both : (a b c : State) → Survives a b (λ _. ⊥) → Survives b c (λ _. ⊥) → Survives a c (λ _. ⊥)
-survives_both a b c h k = survives_then a b c (λ _. ⊥) (λ _. ⊥) (λ _. ⊥) (λ clean db none. none) (λ clean db none. none) h k
+use Rattle.tables.specs.Others.{KeepsOthers}
 
 -- what was done, in other words
 pub done_as : {A E : Type 0} (a b : State) (f h : Contents → Contents) → ((x : Contents) → f x ≡ h x) → (r : Result A E) → OnOk r (Changes a b f) → OnOk r (Changes a b h)
@@ -83,3 +81,9 @@ written {S} g conn start b c f P is done before after there clean k =
       whole = whole_after (state g (record conn { in_transaction = true })) b c f h k (there early h.was_open);
       ready = k.ready;
     }
+
+-- and what is others' is kept
+pub others_kept : (a b : State) (f : Contents → Contents) (P : Trees → Type 0) → Survives a b P → (HasCleanDisk a → IsTrue a.is_open → IsReady a) → HasCleanDisk b → IsWritten a b f → KeepsOthers a.now b.now
+others_kept a b f P survives ready clean it =
+    let early : HasCleanDisk a = omega (arith, survives.clean, clean) in
+    record { theirs = it.theirs; frozen = frozen_of a.now b.now.trees (ready early it.was_open).ours.sound it.unshown }

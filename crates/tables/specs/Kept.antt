@@ -12,6 +12,7 @@ use Rattle.world.specs.World.{World}
 use Rattle.world.specs.Sound.{IsSound}
 use Rattle.world.specs.Told.{IsSoundContents, world_in}
 use Rattle.index.specs.Outline.{Outline, outline_of, outline_code, bytes_code}
+use Rattle.tables.specs.Others.{KeepsOthers}
 
 pub record Kept (S : Type 0) : Type 0 where
   pub connection : Held S
@@ -54,8 +55,8 @@ pub record IsWritten (old new : State) (change : Contents → Contents) : Type 0
   pub whole : IsWhole new.now
   pub ready : IsReady new
 
--- What a crash may leave of a write: sound rows that tell this world, and the rows of the others.
+-- What a crash may leave of a write: sound rows that tell this world, and what is others' as it was.
 pub record LeavesWorld (dir : List ℕ) (old : Database) (left : Remains) (w : World) : Type 0 where
   pub sound : IsSoundContents dir (contents_of (record old { trees = left }))
   pub world : world_in (contents_of (record old { trees = left })) ≡ w
-  pub theirs : KeepsTheirs old (record old { trees = left })
+  pub others : KeepsOthers old (record old { trees = left })

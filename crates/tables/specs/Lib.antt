@@ -1,3 +1,4 @@
+pub mod Others
 pub mod Kept
 pub mod Rewritten
 pub mod Sessions

@@ -6,6 +6,7 @@ ghost use Rattle.sqlite.specs.Held.{state};
 ghost use Rattle.rows.specs.Contents.{Contents, contents_of};
 ghost use Rattle.rows.specs.Calls.{IsUnderWay, IsWhole, IsReady, Changes, KeepsShown, IsDurable, Leaves};
 ghost use Rattle.tables.specs.Kept.{IsWritten};
+ghost use Rattle.tables.specs.Others.{KeepsOthers};
 
 use sqlite::{Alter, Connection, Transaction};
 use table_statements::failure::Failure;
@@ -40,6 +41,7 @@ pub(crate) fn commit<S: Alter, C: Change>(
     requires fits { HasCleanDisk (state S.Store conn.old) → IsTrue (state S.Store conn.old).is_open → C.fits change.now (contents_of (state S.Store conn.old).now) }
     ensures alone { conn.new.in_transaction ≡ false }
     ensures done { HasCleanDisk (state S.Store conn.new) → OnOk result (IsWritten (state S.Store conn.old) (state S.Store conn.new) (C.change change.now)) }
+    ensures others { HasCleanDisk (state S.Store conn.new) → OnOk result (KeepsOthers (state S.Store conn.old).now (state S.Store conn.new).now) }
     ensures failed { HasCleanDisk (state S.Store conn.new) → OnErr result (KeepsShown (state S.Store conn.old) (state S.Store conn.new)) }
     ensures durable { OnOk result (IsTrue (state S.Store conn.new).is_open → IsDurable (state S.Store conn.new)) }
     ensures was_open { HasCleanDisk (state S.Store conn.new) → OnOk result (IsTrue (state S.Store conn.old).is_open × IsTrue (state S.Store conn.new).is_open) }

@@ -11,6 +11,7 @@ ghost use Rattle.world.specs.Profiles.{profile_at, number_for, put_at, set_to, s
 ghost use Rattle.world.specs.Sound.{IsSound};
 ghost use Rattle.index.specs.Outline.{profile_of};
 ghost use Rattle.tables.specs.Kept.{Tells, LeavesWorld};
+ghost use Rattle.tables.specs.Others.{KeepsOthers};
 
 use crate::change;
 use crate::keeping::Tables;
@@ -33,6 +34,7 @@ impl<S: Alter> Tables<S> {
         requires sound { (w : World) → Tells S.Store self.old w → IsSound self.old.dir (record w { profiles = finite.insert w.profiles (owner.now, name.now) (put_at (profile_at w (owner.now, name.now)) number target.now) }) }
         ensures dir { self.new.dir ≡ self.old.dir }
         ensures done { OnOk result ((w : World) → Tells S.Store self.old w → Tells S.Store self.new (record w { profiles = finite.insert w.profiles (owner.now, name.now) (put_at (profile_at w (owner.now, name.now)) number target.now) })) }
+        ensures others { HasCleanDisk (state S.Store self.new.connection) → OnOk result (KeepsOthers (state S.Store self.old.connection).now (state S.Store self.new.connection).now) }
         ensures failed { OnErr result ((w : World) → Tells S.Store self.old w → Tells S.Store self.new w) }
         ensures durable { OnOk result (IsTrue (state S.Store self.new.connection).is_open → IsDurable (state S.Store self.new.connection)) }
         ensures was_open { HasCleanDisk (state S.Store self.new.connection) → OnOk result (IsTrue (state S.Store self.old.connection).is_open × IsTrue (state S.Store self.new.connection).is_open) }
@@ -71,6 +73,7 @@ impl<S: Alter> Tables<S> {
         requires sound { (w : World) → Tells S.Store self.old w → IsSound self.old.dir (record w { profiles = finite.insert w.profiles (owner.now, name.now) (set_to (profile_at w (owner.now, name.now)) target.now) }) }
         ensures dir { self.new.dir ≡ self.old.dir }
         ensures done { OnOk result ((w : World) → Tells S.Store self.old w → Tells S.Store self.new (record w { profiles = finite.insert w.profiles (owner.now, name.now) (set_to (profile_at w (owner.now, name.now)) target.now) })) }
+        ensures others { HasCleanDisk (state S.Store self.new.connection) → OnOk result (KeepsOthers (state S.Store self.old.connection).now (state S.Store self.new.connection).now) }
         ensures failed { OnErr result ((w : World) → Tells S.Store self.old w → Tells S.Store self.new w) }
         ensures durable { OnOk result (IsTrue (state S.Store self.new.connection).is_open → IsDurable (state S.Store self.new.connection)) }
         ensures was_open { HasCleanDisk (state S.Store self.new.connection) → OnOk result (IsTrue (state S.Store self.old.connection).is_open × IsTrue (state S.Store self.new.connection).is_open) }
@@ -91,6 +94,7 @@ impl<S: Alter> Tables<S> {
         requires sound { (w : World) → Tells S.Store self.old w → IsSound self.old.dir (record w { profiles = finite.insert w.profiles (owner.now, name.now) (switched (profile_at w (owner.now, name.now)) number) }) }
         ensures dir { self.new.dir ≡ self.old.dir }
         ensures done { OnOk result ((w : World) → Tells S.Store self.old w → Tells S.Store self.new (record w { profiles = finite.insert w.profiles (owner.now, name.now) (switched (profile_at w (owner.now, name.now)) number) })) }
+        ensures others { HasCleanDisk (state S.Store self.new.connection) → OnOk result (KeepsOthers (state S.Store self.old.connection).now (state S.Store self.new.connection).now) }
         ensures failed { OnErr result ((w : World) → Tells S.Store self.old w → Tells S.Store self.new w) }
         ensures durable { OnOk result (IsTrue (state S.Store self.new.connection).is_open → IsDurable (state S.Store self.new.connection)) }
         ensures was_open { HasCleanDisk (state S.Store self.new.connection) → OnOk result (IsTrue (state S.Store self.old.connection).is_open × IsTrue (state S.Store self.new.connection).is_open) }
@@ -118,6 +122,7 @@ impl<S: Alter> Tables<S> {
         requires sound { (w : World) → Tells S.Store self.old w → IsSound self.old.dir (record w { profiles = finite.insert w.profiles (owner.now, name.now) (without_generation (profile_at w (owner.now, name.now)) number) }) }
         ensures dir { self.new.dir ≡ self.old.dir }
         ensures done { OnOk result ((w : World) → Tells S.Store self.old w → Tells S.Store self.new (record w { profiles = finite.insert w.profiles (owner.now, name.now) (without_generation (profile_at w (owner.now, name.now)) number) })) }
+        ensures others { HasCleanDisk (state S.Store self.new.connection) → OnOk result (KeepsOthers (state S.Store self.old.connection).now (state S.Store self.new.connection).now) }
         ensures failed { OnErr result ((w : World) → Tells S.Store self.old w → Tells S.Store self.new w) }
         ensures durable { OnOk result (IsTrue (state S.Store self.new.connection).is_open → IsDurable (state S.Store self.new.connection)) }
         ensures was_open { HasCleanDisk (state S.Store self.new.connection) → OnOk result (IsTrue (state S.Store self.old.connection).is_open × IsTrue (state S.Store self.new.connection).is_open) }

@@ -10,6 +10,7 @@ ghost use Rattle.world.specs.Sound.{IsSound};
 ghost use Rattle.sha2.specs.Sha256.{sha256};
 ghost use Rattle.index.specs.Outline.{with_archive};
 ghost use Rattle.tables.specs.Kept.{Tells, LeavesWorld};
+ghost use Rattle.tables.specs.Others.{KeepsOthers};
 
 use crate::change;
 use crate::objects::InsertObject;
@@ -81,6 +82,7 @@ impl<S: Alter> Tables<S> {
         requires sound { (w : World) → Tells S.Store self.old w → IsSound self.old.dir (record w { objects = finite.insert w.objects path.now (with_archive nar.now object) }) }
         ensures dir { self.new.dir ≡ self.old.dir }
         ensures done { OnOk result ((w : World) → Tells S.Store self.old w → Tells S.Store self.new (record w { objects = finite.insert w.objects path.now (with_archive nar.now object) })) }
+        ensures others { HasCleanDisk (state S.Store self.new.connection) → OnOk result (KeepsOthers (state S.Store self.old.connection).now (state S.Store self.new.connection).now) }
         ensures failed { OnErr result ((w : World) → Tells S.Store self.old w → Tells S.Store self.new w) }
         ensures durable { OnOk result (IsTrue (state S.Store self.new.connection).is_open → IsDurable (state S.Store self.new.connection)) }
         ensures was_open { HasCleanDisk (state S.Store self.new.connection) → OnOk result (IsTrue (state S.Store self.old.connection).is_open × IsTrue (state S.Store self.new.connection).is_open) }

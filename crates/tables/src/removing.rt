@@ -9,6 +9,7 @@ ghost use Rattle.rows.specs.Calls.{IsDurable};
 ghost use Rattle.world.specs.World.{World};
 ghost use Rattle.world.specs.Sound.{IsSound};
 ghost use Rattle.tables.specs.Kept.{Tells, LeavesWorld};
+ghost use Rattle.tables.specs.Others.{KeepsOthers};
 
 use crate::change;
 use crate::keeping::Tables;
@@ -29,6 +30,7 @@ impl<S: Alter> Tables<S> {
         requires sound { (w : World) → Tells S.Store self.old w → IsSound self.old.dir (record w { objects = finite.retain_keys w.objects (λ p. not (holds paths.now p)) }) }
         ensures dir { self.new.dir ≡ self.old.dir }
         ensures done { OnOk result ((w : World) → Tells S.Store self.old w → Tells S.Store self.new (record w { objects = finite.retain_keys w.objects (λ p. not (holds paths.now p)) })) }
+        ensures others { HasCleanDisk (state S.Store self.new.connection) → OnOk result (KeepsOthers (state S.Store self.old.connection).now (state S.Store self.new.connection).now) }
         ensures failed { OnErr result ((w : World) → Tells S.Store self.old w → Tells S.Store self.new w) }
         ensures durable { OnOk result (IsTrue (state S.Store self.new.connection).is_open → IsDurable (state S.Store self.new.connection)) }
         ensures was_open { HasCleanDisk (state S.Store self.new.connection) → OnOk result (IsTrue (state S.Store self.old.connection).is_open × IsTrue (state S.Store self.new.connection).is_open) }

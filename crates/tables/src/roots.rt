@@ -10,6 +10,7 @@ ghost use Rattle.world.specs.World.{World, pair_cmp};
 ghost use Rattle.world.specs.Sound.{IsSound};
 ghost use Rattle.index.specs.Maps.{labelled_bytes, seen_set};
 ghost use Rattle.tables.specs.Kept.{Tells, LeavesWorld};
+ghost use Rattle.tables.specs.Others.{KeepsOthers};
 
 use crate::change;
 use crate::keeping::Tables;
@@ -27,6 +28,7 @@ impl<S: Alter> Tables<S> {
         requires sound { (w : World) → Tells S.Store self.old w → IsSound self.old.dir (record w { permanent = finite.insert w.permanent name.now target.now }) }
         ensures dir { self.new.dir ≡ self.old.dir }
         ensures done { OnOk result ((w : World) → Tells S.Store self.old w → Tells S.Store self.new (record w { permanent = finite.insert w.permanent name.now target.now })) }
+        ensures others { HasCleanDisk (state S.Store self.new.connection) → OnOk result (KeepsOthers (state S.Store self.old.connection).now (state S.Store self.new.connection).now) }
         ensures failed { OnErr result ((w : World) → Tells S.Store self.old w → Tells S.Store self.new w) }
         ensures durable { OnOk result (IsTrue (state S.Store self.new.connection).is_open → IsDurable (state S.Store self.new.connection)) }
         ensures was_open { HasCleanDisk (state S.Store self.new.connection) → OnOk result (IsTrue (state S.Store self.old.connection).is_open × IsTrue (state S.Store self.new.connection).is_open) }
@@ -57,6 +59,7 @@ impl<S: Alter> Tables<S> {
         requires sound { (w : World) → Tells S.Store self.old w → IsSound self.old.dir (record w { permanent = finite.remove w.permanent name.now }) }
         ensures dir { self.new.dir ≡ self.old.dir }
         ensures done { OnOk result ((w : World) → Tells S.Store self.old w → Tells S.Store self.new (record w { permanent = finite.remove w.permanent name.now })) }
+        ensures others { HasCleanDisk (state S.Store self.new.connection) → OnOk result (KeepsOthers (state S.Store self.old.connection).now (state S.Store self.new.connection).now) }
         ensures failed { OnErr result ((w : World) → Tells S.Store self.old w → Tells S.Store self.new w) }
         ensures durable { OnOk result (IsTrue (state S.Store self.new.connection).is_open → IsDurable (state S.Store self.new.connection)) }
         ensures was_open { HasCleanDisk (state S.Store self.new.connection) → OnOk result (IsTrue (state S.Store self.old.connection).is_open × IsTrue (state S.Store self.new.connection).is_open) }
@@ -82,6 +85,7 @@ impl<S: Alter> Tables<S> {
         requires sound { (w : World) → Tells S.Store self.old w → IsSound self.old.dir (record w { user_roots = finite.insert w.user_roots (owner.now, name.now) target.now }) }
         ensures dir { self.new.dir ≡ self.old.dir }
         ensures done { OnOk result ((w : World) → Tells S.Store self.old w → Tells S.Store self.new (record w { user_roots = finite.insert w.user_roots (owner.now, name.now) target.now })) }
+        ensures others { HasCleanDisk (state S.Store self.new.connection) → OnOk result (KeepsOthers (state S.Store self.old.connection).now (state S.Store self.new.connection).now) }
         ensures failed { OnErr result ((w : World) → Tells S.Store self.old w → Tells S.Store self.new w) }
         ensures durable { OnOk result (IsTrue (state S.Store self.new.connection).is_open → IsDurable (state S.Store self.new.connection)) }
         ensures was_open { HasCleanDisk (state S.Store self.new.connection) → OnOk result (IsTrue (state S.Store self.old.connection).is_open × IsTrue (state S.Store self.new.connection).is_open) }
@@ -114,6 +118,7 @@ impl<S: Alter> Tables<S> {
         requires sound { (w : World) → Tells S.Store self.old w → IsSound self.old.dir (record w { user_roots = finite.remove w.user_roots (owner.now, name.now) }) }
         ensures dir { self.new.dir ≡ self.old.dir }
         ensures done { OnOk result ((w : World) → Tells S.Store self.old w → Tells S.Store self.new (record w { user_roots = finite.remove w.user_roots (owner.now, name.now) })) }
+        ensures others { HasCleanDisk (state S.Store self.new.connection) → OnOk result (KeepsOthers (state S.Store self.old.connection).now (state S.Store self.new.connection).now) }
         ensures failed { OnErr result ((w : World) → Tells S.Store self.old w → Tells S.Store self.new w) }
         ensures durable { OnOk result (IsTrue (state S.Store self.new.connection).is_open → IsDurable (state S.Store self.new.connection)) }
         ensures was_open { HasCleanDisk (state S.Store self.new.connection) → OnOk result (IsTrue (state S.Store self.old.connection).is_open × IsTrue (state S.Store self.new.connection).is_open) }
@@ -135,6 +140,7 @@ impl<S: Alter> Tables<S> {
         requires sound { (w : World) → Tells S.Store self.old w → IsSound self.old.dir (record w { runtime = seen_set pair_cmp labelled_bytes roots.keys }) }
         ensures dir { self.new.dir ≡ self.old.dir }
         ensures done { OnOk result ((w : World) → Tells S.Store self.old w → Tells S.Store self.new (record w { runtime = seen_set pair_cmp labelled_bytes roots.keys })) }
+        ensures others { HasCleanDisk (state S.Store self.new.connection) → OnOk result (KeepsOthers (state S.Store self.old.connection).now (state S.Store self.new.connection).now) }
         ensures failed { OnErr result ((w : World) → Tells S.Store self.old w → Tells S.Store self.new w) }
         ensures durable { OnOk result (IsTrue (state S.Store self.new.connection).is_open → IsDurable (state S.Store self.new.connection)) }
         ensures was_open { HasCleanDisk (state S.Store self.new.connection) → OnOk result (IsTrue (state S.Store self.old.connection).is_open × IsTrue (state S.Store self.new.connection).is_open) }

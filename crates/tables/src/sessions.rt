@@ -10,6 +10,7 @@ ghost use Rattle.world.specs.World.{World};
 ghost use Rattle.world.specs.Sound.{IsSound};
 ghost use Rattle.index.specs.Sessions.{of_session, without_session};
 ghost use Rattle.tables.specs.Kept.{Tells, LeavesWorld};
+ghost use Rattle.tables.specs.Others.{KeepsOthers};
 ghost use Rattle.tables.specs.Sessions.{keeps};
 
 use crate::change;
@@ -25,6 +26,7 @@ impl<S: Alter> Tables<S> {
         requires sound { (w : World) → Tells S.Store self.old w → IsSound self.old.dir (record w { temporary = finite.insert w.temporary (keeps owner.now session target.now) tt }) }
         ensures dir { self.new.dir ≡ self.old.dir }
         ensures done { OnOk result ((w : World) → Tells S.Store self.old w → Tells S.Store self.new (record w { temporary = finite.insert w.temporary (keeps owner.now session target.now) tt })) }
+        ensures others { HasCleanDisk (state S.Store self.new.connection) → OnOk result (KeepsOthers (state S.Store self.old.connection).now (state S.Store self.new.connection).now) }
         ensures failed { OnErr result ((w : World) → Tells S.Store self.old w → Tells S.Store self.new w) }
         ensures durable { OnOk result (IsTrue (state S.Store self.new.connection).is_open → IsDurable (state S.Store self.new.connection)) }
         ensures was_open { HasCleanDisk (state S.Store self.new.connection) → OnOk result (IsTrue (state S.Store self.old.connection).is_open × IsTrue (state S.Store self.new.connection).is_open) }
@@ -54,6 +56,7 @@ impl<S: Alter> Tables<S> {
         ensures dir { self.new.dir ≡ self.old.dir }
         ensures count { IfOk result (λ n. n ≡ finite.len (of_session owner.now session self.old.outline.temporary)) }
         ensures done { OnOk result ((w : World) → Tells S.Store self.old w → Tells S.Store self.new (record w { temporary = without_session owner.now session w.temporary })) }
+        ensures others { HasCleanDisk (state S.Store self.new.connection) → OnOk result (KeepsOthers (state S.Store self.old.connection).now (state S.Store self.new.connection).now) }
         ensures failed { OnErr result ((w : World) → Tells S.Store self.old w → Tells S.Store self.new w) }
         ensures durable { OnOk result (IsTrue (state S.Store self.new.connection).is_open → IsDurable (state S.Store self.new.connection)) }
         ensures was_open { HasCleanDisk (state S.Store self.new.connection) → OnOk result (IsTrue (state S.Store self.old.connection).is_open × IsTrue (state S.Store self.new.connection).is_open) }

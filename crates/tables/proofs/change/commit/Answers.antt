@@ -10,7 +10,8 @@ use Rattle.table_statements.proofs.Steps.{under_after}
 use Rattle.table_statements.proofs.Transactions.{survives_all}
 use Rattle.tables.specs.Kept.{IsWritten}
 use Rattle.tables.proofs.Begun.{always_done, begun_has, undone}
-use Rattle.tables.proofs.Transactions.{written}
+use Rattle.tables.proofs.Transactions.{others_kept, written}
+use Rattle.tables.specs.Others.{KeepsOthers}
 use Rattle.tables.proofs.change.commit.Goals as goal
 
 pub write-requires-clause-whole : goal.write-requires-clause-whole
@@ -30,6 +31,20 @@ returns-clause-done g c =
     let same : c.commit.new.tx.0 ≡ c.conn-2-1.given.0 = search rules in
     subst (λ h. HasCleanDisk (state g.S.Store h) → OnOk c.commit.result (IsWritten old (state g.S.Store h) f)) same
     (λ clean. on_ok c.commit.result _ _ (λ k. written g.S.Store c.args.conn.now c.begin-tx.result.conn.now wrote (state g.S.Store c.commit.new.tx.0) f _ c.begin-tx.ensures.begun c.in_ok-write.ensures.done c.write.ensures.survives c.commit.ensures.survives c.requires.whole clean k) (c.commit.ensures.done clean))
+
+pub returns-clause-others : goal.returns-clause-others
+returns-clause-others g c =
+    let f = g.C.Change.change c.args.change.now in
+    let old = state g.S.Store c.args.conn.now in
+    let wrote = state g.S.Store c.write.new.tx.conn.now in
+    let same : c.commit.new.tx.0 ≡ c.conn-2-1.given.0 = search rules in
+    subst (λ h. HasCleanDisk (state g.S.Store h) → OnOk c.commit.result (KeepsOthers old.now (state g.S.Store h).now)) same
+    (λ clean. on_ok c.commit.result _ _
+    (λ k.
+    let all = survives_all g.S.Store c.args.conn.now c.begin-tx.result.conn.now wrote (state g.S.Store c.commit.new.tx.0) f c.begin-tx.ensures.begun c.begin-tx.ensures.under_way c.in_ok-write.ensures.done c.write.ensures.survives c.commit.ensures.leaves in
+    others_kept old (state g.S.Store c.commit.new.tx.0) f _ all c.requires.ready clean
+    (written g.S.Store c.args.conn.now c.begin-tx.result.conn.now wrote (state g.S.Store c.commit.new.tx.0) f _ c.begin-tx.ensures.begun c.in_ok-write.ensures.done c.write.ensures.survives c.commit.ensures.survives c.requires.whole clean k))
+    (c.commit.ensures.done clean))
 
 pub returns-clause-was_open : goal.returns-clause-was_open
 returns-clause-was_open g c =

@@ -9,7 +9,8 @@ use Rattle.table_statements.proofs.Going.{Goes, goes_first, goes_next, goes_done
 use Rattle.table_statements.proofs.Transactions.{survives_none}
 use Rattle.tables.proofs.Cuts.{left_from, all_left, next_left, past_end}
 use Rattle.tables.proofs.Kept.{clean_before}
-use Rattle.tables.proofs.Transactions.{survives_both, pieces_stand}
+use Rattle.table_statements.proofs.TestFailures.{survives_both}
+use Rattle.tables.proofs.Transactions.{pieces_stand}
 use Rattle.tables.proofs.cutting.put_pieces.Goals as goal
 
 pub pieces-init : goal.pieces-init

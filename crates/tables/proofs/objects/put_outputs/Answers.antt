@@ -11,7 +11,7 @@ use Rattle.tables.proofs.Free.{AreFree, all_free, free_next}
 use Rattle.tables.proofs.Kept.{clean_before}
 use Rattle.tables.proofs.Lists.{zip_at, no_pairs_left}
 use Rattle.table_statements.proofs.Transactions.{survives_none}
-use Rattle.tables.proofs.Transactions.{survives_both}
+use Rattle.table_statements.proofs.TestFailures.{survives_both}
 use Rattle.tables.proofs.objects.put_outputs.Goals as goal
 
 pub outputs-init : goal.outputs-init

@@ -8,7 +8,7 @@ use Rattle.index.proofs.Puts.{put_over}
 use Rattle.tables.proofs.Parts.{without_pair}
 use Rattle.table_statements.proofs.Transactions.{done_both, failed_next}
 use Rattle.table_statements.proofs.Steps.{under_after}
-use Rattle.tables.proofs.Transactions.{survives_both}
+use Rattle.table_statements.proofs.TestFailures.{survives_both}
 use Rattle.tables.proofs.profiles.put_current.Goals as goal
 
 pub insert-requires : goal.insert-requires

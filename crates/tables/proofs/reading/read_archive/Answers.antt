@@ -12,7 +12,7 @@ use Rattle.rows.specs.Contents.{contents_of}
 use Rattle.rows.specs.Entries.{IsStored, stored_of}
 use Rattle.table_statements.proofs.Steps.{shown_then}
 use Rattle.tables.proofs.ReadArchives.{none_read, all_read, row_read}
-use Rattle.tables.proofs.Transactions.{survives_both}
+use Rattle.table_statements.proofs.TestFailures.{survives_both}
 use Rattle.tables.proofs.reading.read_archive.Goals as goal
 
 pub of-requires-clause-stands : goal.of-requires-clause-stands

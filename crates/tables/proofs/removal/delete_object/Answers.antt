@@ -9,7 +9,8 @@ use Rattle.table_statements.proofs.Steps.{under_after}
 use Rattle.tables.specs.Rewritten.{without_object}
 use Rattle.tables.proofs.Covered.{references_told, outputs_told, pieces_told, alone_goes}
 use Rattle.tables.proofs.Failing.{err_kept}
-use Rattle.tables.proofs.Transactions.{changes_at, survives_both, pieces_stand}
+use Rattle.table_statements.proofs.TestFailures.{survives_both}
+use Rattle.tables.proofs.Transactions.{changes_at, pieces_stand}
 use Rattle.tables.proofs.removal.delete_object.Goals as goal
 
 pub delete_references-requires-clause-under_way : goal.delete_references-requires-clause-under_way

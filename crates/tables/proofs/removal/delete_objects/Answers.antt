@@ -9,7 +9,8 @@ use Rattle.tables.proofs.Covered.{covers_less}
 use Rattle.tables.proofs.Kept.{clean_before}
 use Rattle.tables.proofs.Lists.{left_at, none_left}
 use Rattle.tables.proofs.Removed.{without_none, without_next}
-use Rattle.tables.proofs.Transactions.{survives_both, pieces_stand}
+use Rattle.table_statements.proofs.TestFailures.{survives_both}
+use Rattle.tables.proofs.Transactions.{pieces_stand}
 use Rattle.tables.proofs.removal.delete_objects.Goals as goal
 
 pub paths-init : goal.paths-init

@@ -7,7 +7,7 @@ use Rattle.tables.specs.Rewritten.{put_pairs}
 use Rattle.table_statements.proofs.Going.{goes_first, goes_next}
 use Rattle.table_statements.proofs.Transactions.{survives_none}
 use Rattle.tables.proofs.Kept.{clean_before}
-use Rattle.tables.proofs.Transactions.{survives_both}
+use Rattle.table_statements.proofs.TestFailures.{survives_both}
 use Rattle.tables.proofs.runtime.put_runtime.Goals as goal
 
 pub roots-init : goal.roots-init

@@ -13,7 +13,8 @@ use Rattle.tables.proofs.Lists.{zipped, keys_count, sorted_is}
 use Rattle.table_statements.proofs.Transactions.{done_both, failed_next, steps_both}
 use Rattle.table_statements.proofs.Steps.{under_after}
 use Rattle.tables.proofs.Failing.{err_kept}
-use Rattle.tables.proofs.Transactions.{survives_both, pieces_stand}
+use Rattle.table_statements.proofs.TestFailures.{survives_both}
+use Rattle.tables.proofs.Transactions.{pieces_stand}
 use Rattle.tables.proofs.objects.InsertObjectChange.write.Goals as goal
 
 pub put_outputs-requires-clause-count : goal.put_outputs-requires-clause-count

@@ -3,7 +3,7 @@ use Rattle.sqlite.specs.Held.{state}
 use Rattle.rows.specs.Contents.{Contents}
 use Rattle.table_statements.proofs.Transactions.{done_both, failed_next}
 use Rattle.table_statements.proofs.Steps.{under_after}
-use Rattle.tables.proofs.Transactions.{survives_both}
+use Rattle.table_statements.proofs.TestFailures.{survives_both}
 use Rattle.tables.proofs.profiles.AddGenerationChange.write.Goals as goal
 
 pub insert-requires : goal.insert-requires

@@ -6,7 +6,8 @@ use Rattle.table_statements.proofs.Steps.{under_after}
 use Rattle.tables.specs.Rewritten.{Covers}
 use Rattle.tables.proofs.Covered.{covers_less}
 use Rattle.tables.proofs.Removed.{without_next}
-use Rattle.tables.proofs.Transactions.{survives_both, pieces_stand}
+use Rattle.table_statements.proofs.TestFailures.{survives_both}
+use Rattle.tables.proofs.Transactions.{pieces_stand}
 use Rattle.tables.proofs.removal.RemoveObjectsChange.write.Goals as goal
 
 pub delete_object-requires-clause-stands : goal.delete_object-requires-clause-stands

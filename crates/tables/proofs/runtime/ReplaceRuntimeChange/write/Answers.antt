@@ -5,7 +5,7 @@ use Rattle.index.specs.Maps.{labelled_bytes}
 use Rattle.table_statements.proofs.Transactions.{done_both, failed_next}
 use Rattle.table_statements.proofs.Steps.{under_after}
 use Rattle.tables.proofs.PutPairs.{all_put}
-use Rattle.tables.proofs.Transactions.{survives_both}
+use Rattle.table_statements.proofs.TestFailures.{survives_both}
 use Rattle.tables.proofs.runtime.ReplaceRuntimeChange.write.Goals as goal
 
 pub put_runtime-requires-clause-under_way : goal.put_runtime-requires-clause-under_way

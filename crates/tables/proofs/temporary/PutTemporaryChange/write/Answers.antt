@@ -8,7 +8,8 @@ use Rattle.table_statements.proofs.Transactions.{done_both, failed_next}
 use Rattle.table_statements.proofs.Steps.{under_after}
 use Rattle.index.proofs.Puts.{put_over}
 use Rattle.tables.proofs.SessionRows.{without_one}
-use Rattle.tables.proofs.Transactions.{survives_both, temp_roots_stand}
+use Rattle.table_statements.proofs.TestFailures.{survives_both}
+use Rattle.tables.proofs.Transactions.{temp_roots_stand}
 use Rattle.tables.proofs.temporary.PutTemporaryChange.write.Goals as goal
 
 pub delete-requires-clause-stands : goal.delete-requires-clause-stands
