@@ -13,7 +13,7 @@ use Rattle.sqlite.specs.Held.{Held, state}
 use Rattle.sqlite.proofs.StateLemmas.{survives_then}
 use Rattle.table_forms.specs.Forms.{piece, temp_root, is_our_name}
 use Rattle.table_statements.specs.Contents.{Contents, contents_of}
-use Rattle.table_statements.specs.Frozen.{IsFrozen, KeepsFrozen}
+use Rattle.table_statements.specs.Frozen.{IsFrozen, SparesFrozen}
 use Rattle.table_statements.specs.Calls.{HasFurther, KeepsFurther, KeepsTheirs, IsUnderWay, Changes, IsCommitted, IsWhole, KeepsShown, Leaves}
 use Rattle.table_statements.proofs.Frozen.{frozen_of}
 use Rattle.table_statements.proofs.Lists.{one_list, two_lists}
@@ -67,7 +67,7 @@ is_grown tables contents a b c h k = record {
   schema = ap (λ (x : Database). x.schema) k.now ∙ h.schema;
   contents_are = ap contents_of k.now ∙ h.contents_are;
   theirs = subst (λ (x : Database). KeepsTheirs a.now x) (sym k.now) h.theirs;
-  frozen = subst (λ (x : Database). KeepsFrozen a.now x.trees) (sym k.now) h.frozen;
+  frozen = subst (λ (x : Database). SparesFrozen a.now x) (sym k.now) h.frozen;
   whole = subst IsWhole (sym k.now) h.whole;
   ready = k.ready;
 }
@@ -80,7 +80,7 @@ grown_from tables contents a b c same h = record {
   schema = h.schema ∙ ap (λ (x : Database). all_created x.schema tables) same.0.now_is;
   contents_are = h.contents_are;
   theirs = subst (λ (x : Database). KeepsTheirs x c.now) same.0.now_is h.theirs;
-  frozen = subst (λ (x : Database). KeepsFrozen x c.now.trees) same.0.now_is h.frozen;
+  frozen = subst (λ (x : Database). SparesFrozen x c.now) same.0.now_is h.frozen;
   whole = h.whole;
   ready = h.ready;
 }

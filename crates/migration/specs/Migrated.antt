@@ -5,7 +5,7 @@ use Rattle.sqlite.specs.Effect.{Database}
 use Rattle.sqlite.specs.State.{State}
 use Rattle.table_forms.specs.Forms.{piece, temp_root}
 use Rattle.table_statements.specs.Contents.{Contents, contents_of}
-use Rattle.table_statements.specs.Frozen.{KeepsFrozen}
+use Rattle.table_statements.specs.Frozen.{SparesFrozen}
 use Rattle.table_statements.specs.Calls.{IsReady, IsWhole, KeepsTheirs, Remains, Leaves}
 use Rattle.table_making.specs.Making.{all_created}
 use Rattle.table_making.specs.Further.{grown}
@@ -46,7 +46,7 @@ pub record Grows (tables : List Table) (contents : Contents) (old new : State) :
   pub schema : new.now.schema ≡ all_created old.now.schema tables
   pub contents_are : contents_of new.now ≡ contents
   pub theirs : KeepsTheirs old.now new.now
-  pub frozen : KeepsFrozen old.now new.now.trees
+  pub frozen : SparesFrozen old.now new.now
   pub whole : IsWhole new.now
   pub committed : new.committed ≡ old.committed
   pub mode : new.in_transaction ≡ true
@@ -59,7 +59,7 @@ pub record IsGrown (tables : List Table) (contents : Contents) (old new : State)
   pub schema : new.now.schema ≡ all_created old.now.schema tables
   pub contents_are : contents_of new.now ≡ contents
   pub theirs : KeepsTheirs old.now new.now
-  pub frozen : KeepsFrozen old.now new.now.trees
+  pub frozen : SparesFrozen old.now new.now
   pub whole : IsWhole new.now
   pub ready : IsReady new
 

@@ -12,12 +12,16 @@ use Rattle.sqlite_schema.specs.declared.schema.Table.{Table}
 use Rattle.table_forms.specs.Forms.{piece, temp_root, our_tables, further_tables, is_our_name}
 use Rattle.table_forms.specs.Standing.{HasTables, Stands}
 use Rattle.table_statements.specs.Contents.{Contents, contents_of, rows_named}
-use Rattle.table_statements.specs.Frozen.{KeepsUnshown, KeepsFrozen}
+use Rattle.table_statements.specs.Frozen.{SparesUnshown, SparesFrozen}
 use Rattle.table_statements.specs.Texts.{AreReadableRows, HasReadableRows}
 
 -- what a disk holds once its connection is gone, as an opening after a crash finds it
 abbrev pub Remains : Type 0
 Remains = Trees
+
+-- the database that a disk holds then, by the schema that was shown
+abbrev pub after_crash : Database → Remains → Database
+after_crash old left = record old { trees = left }
 
 -- each row has a rowid of its own, an integer: the list of rowids has no value twice, so no row stands there twice
 pub record IsKeyed (rows : List Row) : Type 0 where
@@ -62,10 +66,10 @@ abbrev pub KeepsTheirs : Database → Database → Type 0
 KeepsTheirs old new = AllByRecursion (λ t. is_our_name t.name ≡ false → new.trees t.tree ≡ old.trees t.tree) old.schema.tables
 
 -- what a crash may leave, or a commit: our tables hold this, each other table has the rows that it had, and what the schema doesn't show is kept
-pub record Leaves (old : Database) (trees : Trees) (contents : Contents) : Type 0 where
-  pub ours : contents_of (record old { trees = trees }) ≡ contents
-  pub theirs : KeepsTheirs old (record old { trees = trees })
-  pub frozen : KeepsFrozen old trees
+pub record Leaves (old : Database) (left : Remains) (contents : Contents) : Type 0 where
+  pub ours : contents_of (after_crash old left) ≡ contents
+  pub theirs : KeepsTheirs old (after_crash old left)
+  pub frozen : SparesFrozen old (after_crash old left)
 
 -- Inside a transaction, which goes on: our tables hold what the change makes of what they held, each other table has the rows that it had, what the schema doesn't show is as it was, and so are the savepoints.
 pub record Changes (old new : State) (change : Contents → Contents) : Type 0 where
@@ -74,7 +78,7 @@ pub record Changes (old new : State) (change : Contents → Contents) : Type 0 w
   pub schema : new.now.schema ≡ old.now.schema
   pub contents : contents_of new.now ≡ change (contents_of old.now)
   pub theirs : KeepsTheirs old.now new.now
-  pub unshown : KeepsUnshown old.now new.now.trees
+  pub unshown : SparesUnshown old.now new.now
   pub ours : IsOurs new.now
   pub further : KeepsFurther old.now new.now
   pub committed : new.committed ≡ old.committed
@@ -103,4 +107,4 @@ pub record IsCommitted (old new : State) : Type 0 where
 
 -- What a crash leaves is what the last commit left, and nothing else.
 abbrev pub IsDurable : State → Type 0
-IsDurable s = (db : Trees) → s.may_leave db → db ≡ s.committed.trees
+IsDurable s = (left : Remains) → s.may_leave left → left ≡ s.committed.trees

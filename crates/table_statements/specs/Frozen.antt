@@ -30,3 +30,11 @@ pub record KeepsFrozen (old : Database) (trees : Trees) : Type 0 where
   pub rows : (tree : ℕ) → IsFrozen old.schema tree → trees tree ≡ old.trees tree
   pub texts : KeepsForeign (old.trees catalog_tree) (trees catalog_tree)
   pub version : trees version_tree ≡ old.trees version_tree
+
+-- from one database to another, all that the schema of the first doesn't show stays
+abbrev pub SparesUnshown : Database → Database → Type 0
+SparesUnshown old new = KeepsUnshown old new.trees
+
+-- what frozen tables hold stays
+abbrev pub SparesFrozen : Database → Database → Type 0
+SparesFrozen old new = KeepsFrozen old new.trees

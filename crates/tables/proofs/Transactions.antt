@@ -8,7 +8,7 @@ use Rattle.sqlite.specs.State.{State, HasCleanDisk, Survives}
 use Rattle.sqlite.specs.Held.{Held, state}
 use Rattle.rows.specs.Contents.{Contents, contents_of}
 use Rattle.rows.specs.Forms.{piece, temp_root}
-use Rattle.rows.specs.Frozen.{KeepsUnshown}
+use Rattle.rows.specs.Frozen.{SparesUnshown}
 use Rattle.rows.specs.Calls.{HasFurther, IsReady, IsUnderWay, IsWhole, IsCommitted, KeepsTheirs, Changes, Leaves}
 use Rattle.table_statements.proofs.Frozen.{frozen_of}
 use Rattle.table_statements.proofs.Steps.{changes_by, changes_none}
@@ -77,7 +77,7 @@ written {S} g conn start b c f P is done before after there clean k =
       is_open = k.is_open;
       contents = ap contents_of k.now ∙ h.contents;
       theirs = subst (λ (d : Database). KeepsTheirs (state g conn).now d) (sym k.now) h.theirs;
-      unshown = subst (λ (d : Database). KeepsUnshown (state g conn).now d.trees) (sym k.now) h.unshown;
+      unshown = subst (λ (d : Database). SparesUnshown (state g conn).now d) (sym k.now) h.unshown;
       whole = whole_after (state g (record conn { in_transaction = true })) b c f h k (there early h.was_open);
       ready = k.ready;
     }

@@ -6,8 +6,8 @@ use Rattle.sqlite.specs.Effect.{Database}
 use Rattle.sqlite.specs.State.{State, HasCleanDisk}
 use Rattle.sqlite.specs.Held.{Held, held_code, state}
 use Rattle.rows.specs.Contents.{Contents, contents_of}
-use Rattle.rows.specs.Frozen.{KeepsUnshown}
-use Rattle.rows.specs.Calls.{Remains, IsWhole, IsReady, KeepsTheirs}
+use Rattle.rows.specs.Frozen.{SparesUnshown}
+use Rattle.rows.specs.Calls.{Remains, after_crash, IsWhole, IsReady, KeepsTheirs}
 use Rattle.world.specs.World.{World}
 use Rattle.world.specs.Sound.{IsSound}
 use Rattle.world.specs.Told.{IsSoundContents, world_in}
@@ -51,12 +51,12 @@ pub record IsWritten (old new : State) (change : Contents → Contents) : Type 0
   pub is_open : IsTrue new.is_open
   pub contents : contents_of new.now ≡ change (contents_of old.now)
   pub theirs : KeepsTheirs old.now new.now
-  pub unshown : KeepsUnshown old.now new.now.trees
+  pub unshown : SparesUnshown old.now new.now
   pub whole : IsWhole new.now
   pub ready : IsReady new
 
 -- What a crash may leave of a write: sound rows that tell this world, and what is others' as it was.
 pub record LeavesWorld (dir : List ℕ) (old : Database) (left : Remains) (w : World) : Type 0 where
-  pub sound : IsSoundContents dir (contents_of (record old { trees = left }))
-  pub world : world_in (contents_of (record old { trees = left })) ≡ w
-  pub others : KeepsOthers old (record old { trees = left })
+  pub sound : IsSoundContents dir (contents_of (after_crash old left))
+  pub world : world_in (contents_of (after_crash old left)) ≡ w
+  pub others : KeepsOthers old (after_crash old left)
