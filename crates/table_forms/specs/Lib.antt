@@ -1,4 +1,5 @@
 pub mod Forms
+pub mod OurTables
 pub mod Shapes
 pub mod Standing
 pub mod Finding

@@ -5,5 +5,6 @@ pub mod finding;
 mod form;
 mod further;
 mod nine;
+pub mod our_table;
 pub mod recognising;
 mod standing;

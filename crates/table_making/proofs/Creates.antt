@@ -1,5 +1,5 @@
 -- Making a table beside whatever tables there are.
-use Rattle.std.proofs.Common.{◌≡◌, ◌+◌, ℕ, List, [], ◌∷◌, ◌++◌, codes, Bool, true, false, cond, not, ◌&&◌, ◌||◌, Some, None, Option, Ok, refl, sym, ap, subst, ◌∙◌}
+use Rattle.std.proofs.Common.{◌≡◌, ◌+◌, ℕ, List, [], ◌∷◌, ◌++◌, codes, Bool, true, false, cond, not, ◌&&◌, ◌||◌, Some, None, Option, Ok, refl, sym, ap, subst, ◌∙◌, IsTrue}
 use Rattle.std.specs.Prelude.{find, is_some, nat_le, length}
 use Rattle.std.specs.List.{AllByRecursion, list_all, list_any, position_from}
 use Rattle.std.proofs.lemmas.List.Folds.{list_any-append}
@@ -20,14 +20,14 @@ use Rattle.sqlite_rules.proofs.ListLemmas.{test_push}
 use Rattle.sqlite_catalog.specs.Change.{created, next_tree}
 use Rattle.sqlite.specs.Does.{Tally, lacks_sequence}
 use Rattle.sqlite.specs.Rows.{sequence}
-use Rattle.sqlite.specs.Effect.{Database}
+use Rattle.sqlite.specs.Effect.{Database, IsDatabase}
 use Rattle.sqlite.specs.Listing.{understood}
 use Rattle.sqlite.specs.State.{State, Writes, Executes}
 use Rattle.sqlite.proofs.Callers.{IsPlain, command_of, statement_of, runs_as}
 use Rattle.table_forms.specs.Forms.{strict}
 use Rattle.table_forms.specs.Finding.{is_unawaited}
 use Rattle.table_statements.specs.Contents.{Bytes}
-use Rattle.table_making.specs.Making.{IsUnused, IsMaking, Makes, all_created, placed, index_of}
+use Rattle.table_making.specs.Making.{IsUnused, IsMaking, Makes, all_created, placed, index_of, is_clear, are_apart}
 use Rattle.table_statements.proofs.Means.{Means, IsMeant, understood_as}
 use Rattle.table_statements.proofs.Writes.{went, same_value}
 use Rattle.table_statements.proofs.Truths.{and_so, not_so}
@@ -70,9 +70,6 @@ none_more p (y ∷ ys) x n h is = go (p y) h (λ k. none_more p ys x (n + 1) k i
     go true k f = absurd cc
     go false k f = f k
 
-abbrev pub is_clear : Bytes → Bytes → Bool
-is_clear title name = not (same_name title name) && not (same_name (index_of title) name)
-
 module _ (s : Schema) (title : Bytes) (cs : List Column) (key : List ℕ) where
   abbrev form : Table
   form = strict title cs key
@@ -80,9 +77,9 @@ module _ (s : Schema) (title : Bytes) (cs : List Column) (key : List ℕ) where
   pub unused_after : (name : Bytes) → is_clear title name ≡ true → IsUnused s name → IsUnused (created s form) name
   unused_after name clear h = let b = and_so _ _ clear in (none_more (λ (t : Table). same_name t.name name) s.tables _ 0 h.0 (not_so _ b.0), none_more (λ (i : Index). same_name i.name name) s.indexes _ 0 h.1 (not_so _ b.1), h.2)
 
-  pub all_unused_after : (rest : List Table) → list_all (λ u. is_clear title u.name) rest ≡ true → AllByRecursion (λ u. IsUnused s u.name) rest → AllByRecursion (λ u. IsUnused (created s form) u.name) rest
+  pub all_unused_after : (rest : List Table) → list_all (λ u. is_clear title u.name && is_clear title (index_of u.name)) rest ≡ true → AllByRecursion (λ u. IsUnused s u.name) rest → AllByRecursion (λ u. IsUnused (created s form) u.name) rest
   all_unused_after [] clear h = tt
-  all_unused_after (u ∷ us) clear h = let b = and_so _ _ clear in (unused_after u.name b.0 h.0, all_unused_after us b.1 h.1)
+  all_unused_after (u ∷ us) clear h = let b = and_so _ _ clear in (unused_after u.name (and_so _ _ b.0).0 h.0, all_unused_after us b.1 h.1)
 
   -- nor does a foreign key of the new table wait for one
   pub all_unawaited_after : (rest : List Table) → AllByRecursion (λ u. is_unawaited s u.name ≡ true) rest → AllByRecursion (λ u. is_unawaited (created s form) u.name ≡ true) rest
@@ -141,13 +138,14 @@ makes_in text title cs key old new count making lacks inside h =
       mode = w.shown.mode ∙ inside;
     }
 
-pub making_after : (title : Bytes) (cs : List Column) (key : List ℕ) (rest : List Table) (old new : State) → list_all (λ u. is_clear title u.name) rest ≡ true → IsMaking (strict title cs key ∷ rest) old → Makes (strict title cs key ∷ []) old new → IsMaking rest new
-making_after title cs key rest old new clear under h = record {
-  sound = λ is_open. h.sound;
-  free = λ is_open. subst (λ (s : Schema). AllByRecursion (λ u. IsUnused s u.name) rest) (sym h.schema) (all_unused_after old.now.schema title cs key rest clear (under.free h.was_open).1);
-  unawaited = λ is_open. subst (λ (s : Schema). AllByRecursion (λ u. is_unawaited s u.name ≡ true) rest) (sym h.schema) (all_unawaited_after old.now.schema title cs key rest (under.unawaited h.was_open).1);
-  counted = λ is_open. ap lacks_sequence h.schema ∙ counted_after old.now.schema title cs key (under.counted h.was_open);
-  mode = h.mode;
+pub making_after : (title : Bytes) (cs : List Column) (key : List ℕ) (rest : List Table) (old new : State) → are_apart (strict title cs key ∷ rest) ≡ true → IsMaking (strict title cs key ∷ rest) old
+    → IsTrue old.is_open → IsDatabase new.now → new.now.schema ≡ created old.now.schema (strict title cs key) → new.in_transaction ≡ true → IsMaking rest new
+making_after title cs key rest old new apart under was_open sound made mode = record {
+  sound = λ is_open. sound;
+  free = λ is_open. subst (λ (s : Schema). AllByRecursion (λ u. IsUnused s u.name) rest) (sym made) (all_unused_after old.now.schema title cs key rest (and_so _ _ apart).0 (under.free was_open).1);
+  unawaited = λ is_open. subst (λ (s : Schema). AllByRecursion (λ u. is_unawaited s u.name ≡ true) rest) (sym made) (all_unawaited_after old.now.schema title cs key rest (under.unawaited was_open).1);
+  counted = λ is_open. ap lacks_sequence made ∙ counted_after old.now.schema title cs key (under.counted was_open);
+  mode = mode;
 }
 
 -- ---- one after another

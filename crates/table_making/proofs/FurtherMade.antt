@@ -1,12 +1,13 @@
 -- That our tables hold what they held once further tables are made beside them, and that those stand.
-use Rattle.std.proofs.Common.{◌≡◌, List, [], ◌∷◌, map, refl, sym, ap, subst, ◌∙◌, IsTrue}
+use Rattle.std.proofs.Common.{◌≡◌, List, [], ◌∷◌, map, true, false, refl, sym, ap, subst, ◌∙◌, IsTrue}
 use Rattle.std.specs.Fmt.{digits}
 use Rattle.std.specs.List.{AllByRecursion}
 use Rattle.sqlite_value.specs.Order.{Row}
-use Rattle.sqlite_trees.proofs.ListLemmas.{all-slice_get}
+use Rattle.sqlite_trees.proofs.ListLemmas.{all-slice_get, all_weaker}
 use Rattle.sqlite_schema.specs.declared.schema.Schema.{Schema}
 use Rattle.sqlite_schema.specs.declared.schema.Table.{Table}
 use Rattle.sqlite_tied.specs.Compute.{everything}
+use Rattle.sqlite.specs.Does.{lacks_sequence}
 use Rattle.sqlite.specs.Effect.{Database, IsDatabase}
 use Rattle.sqlite.specs.State.{State}
 use Rattle.table_forms.specs.Forms.{meta, object, refs, outs, permanent, user_root, profile, generation, runtime, piece, temp_root}
@@ -16,10 +17,11 @@ use Rattle.table_statements.specs.Contents.{contents_of, texts_cmp, pair_cmp, tr
 use Rattle.table_statements.specs.Texts.{AreReadableRows, HasReadableRows}
 use Rattle.table_statements.specs.Calls.{IsKeyed, IsOurs, HasFurther, KeepsFurther, IsUnderWay}
 use Rattle.table_entries.proofs.FurtherTables.{if_any_named, if_any_free}
-use Rattle.table_making.specs.Making.{IsMaking, Makes, all_created, placed}
+use Rattle.table_making.specs.Making.{IsMaking, Makes, all_created, are_apart, placed}
 use Rattle.table_making.specs.Further.{MakesFurther}
 use Rattle.table_making.proofs.Made.{nine, made_further, theirs_of}
 use Rattle.table_making.proofs.MakingTogether.{part}
+use Rattle.table_making.proofs.Settles.{making_free}
 use Rattle.table_making.proofs.Stood.{Parts, table_of, StandsAs, tree_is, all_still, all_stand, one_stands, each_stands, by_names, are_low}
 
 -- ---- the tables that were there
@@ -84,87 +86,71 @@ module _ (a b : Database) (sound : IsDatabase b) (fs : List Parts) (made : b.sch
 
 -- ---- the tables that were made
 
--- neither before nor after is there a row
-none_either : (a b : Database) (t : Table) → IsFree a.schema t.name → Stands b.schema t → rows_named b t.name ≡ [] → rows_if_any b t.name ≡ rows_if_any a t.name
-none_either a b t free stands none =
-    if_any_named b t stands ∙ none ∙ sym (if_any_free a t.name free)
+-- what a further table holds stays, and it stands if it stood
+pub record IsKept (a b : Database) (t : Table) : Type 0 where
+  pub rows : rows_if_any b t.name ≡ rows_if_any a t.name
+  pub stands : HasFurther a t → HasFurther b t
 
-module _ (a b : Database) (old_sound : IsDatabase a) (sound : IsDatabase b) where
-  both_stand : IsFree a.schema piece.name → IsFree a.schema temp_root.name → b.schema ≡ all_created a.schema (piece ∷ temp_root ∷ []) → AllByRecursion (StandsAs b.schema) (placed a.schema (piece ∷ temp_root ∷ []))
-  unfolding digits everything
-  both_stand one two made = subst (λ (s : Schema). AllByRecursion (StandsAs s) (placed a.schema (piece ∷ temp_root ∷ []))) (sym made) (all_stand a.schema (part piece ∷ part temp_root ∷ []) refl (one, (two, tt)) (are_low a old_sound))
+module _ (fs : List Parts) (apart : are_apart (map table_of fs) ≡ true) (a b : State) (under : IsUnderWay a) (free : AllByRecursion (λ t. IsFree a.now.schema t.name) (map table_of fs)) (h : Makes (map table_of fs) a b) where
+  abbrev ours : IsOurs a.now
+  ours = under.ours h.was_open
 
-  last_stands : IsFree a.schema temp_root.name → b.schema ≡ all_created a.schema (temp_root ∷ []) → AllByRecursion (StandsAs b.schema) (placed a.schema (temp_root ∷ []))
-  unfolding digits everything
-  last_stands free made = subst (λ (s : Schema). AllByRecursion (StandsAs s) (placed a.schema (temp_root ∷ []))) (sym made) (all_stand a.schema (part temp_root ∷ []) refl (free, tt) (are_low a old_sound))
+  made : AllByRecursion (StandsAs b.now.schema) (placed a.now.schema (map table_of fs))
+  made = subst (λ (s : Schema). AllByRecursion (StandsAs s) (placed a.now.schema (map table_of fs))) (sym h.schema) (all_stand a.now.schema fs apart free (are_low a.now ours.sound))
+
+  each_made : (gs : List Parts) → AllByRecursion (Stands b.now.schema) (map table_of gs) → AllByRecursion (λ t. rows_named b.now t.name ≡ []) (map table_of gs) → AllByRecursion (λ t. HasFurther b.now t × (rows_named b.now t.name ≡ [])) (map table_of gs)
+  each_made [] stand none = tt
+  each_made (g ∷ gs) stand none = ((made_further b.now (table_of g) stand.0 none.0, none.0), each_made gs stand.1 none.1)
+
+  -- each stands, with no row
+  pub these : AllByRecursion (λ t. HasFurther b.now t × (rows_named b.now t.name ≡ [])) (map table_of fs)
+  these = each_made fs (each_stands b.now h.sound a.now.schema fs made) (by_names (λ n. b.now.trees n ≡ []) b.now.schema a.now.schema fs made h.empty)
+
+  -- neither before nor after is there a row
+  pub new_kept : (t : Table) → IsFree a.now.schema t.name → HasFurther b.now t × (rows_named b.now t.name ≡ []) → IsKept a.now b.now t
+  new_kept t unused it = record { rows = if_any_named b.now t it.0.stands ∙ it.1 ∙ sym (if_any_free a.now t.name unused); stands = λ there. it.0 }
+
+  pub old_kept : (f : Parts) → Stands a.now.schema (table_of f) → IsKept a.now b.now (table_of f)
+  old_kept f stands = record {
+    rows = if_any_named b.now (table_of f) (still_stands a.now b.now h.sound fs h.schema h.kept f stands) ∙ rows_still a.now b.now h.sound fs h.schema h.kept f stands ∙ sym (if_any_named a.now (table_of f) stands);
+    stands = further_still a.now b.now h.sound fs h.schema h.kept f;
+  }
+
+  pub makes_further : IsKept a.now b.now piece → IsKept a.now b.now temp_root → MakesFurther (map table_of fs) a b
+  unfolding KeepsFurther
+  makes_further pieces temp_roots = record {
+    was_open = h.was_open;
+    is_open = h.is_open;
+    schema = h.schema;
+    contents = contents_still a.now b.now h.sound fs h.schema h.kept ours.has pieces.rows temp_roots.rows;
+    theirs = theirs_of a.now b.now.trees a.now.schema.tables h.kept;
+    frozen = h.frozen ours.sound;
+    ours = ours_still a.now b.now h.sound fs h.schema h.kept ours;
+    stand = all_weaker (λ (t : Table). HasFurther b.now t × (rows_named b.now t.name ≡ [])) (HasFurther b.now) (λ t it. it.0) (map table_of fs) these;
+    further = (pieces.stands, (temp_roots.stands, tt));
+    committed = h.committed;
+    mode = h.mode;
+  }
 
 -- ---- in a transaction
 
 pub makes_both : (a b : State) → IsUnderWay a → HasFirst a.now.schema → Makes (piece ∷ temp_root ∷ []) a b → MakesFurther (piece ∷ temp_root ∷ []) a b
-unfolding KeepsFurther
+unfolding digits everything
 makes_both a b under first h =
     let fs = part piece ∷ part temp_root ∷ [] in
-    let ours = under.ours h.was_open in
-    let made = both_stand a.now b.now ours.sound h.sound first.1 first.2 h.schema in
-    let stand = each_stands b.now h.sound a.now.schema fs made in
-    let none = by_names (λ n. b.now.trees n ≡ []) b.now.schema a.now.schema fs made h.empty in
-    let pieces = made_further b.now piece stand.0 none.0 in
-    let temp_roots = made_further b.now temp_root stand.1.0 none.1.0 in
-    record {
-      was_open = h.was_open;
-      is_open = h.is_open;
-      schema = h.schema;
-      contents = contents_still a.now b.now h.sound fs h.schema h.kept ours.has (none_either a.now b.now piece first.1 stand.0 none.0) (none_either a.now b.now temp_root first.2 stand.1.0 none.1.0);
-      theirs = theirs_of a.now b.now.trees a.now.schema.tables h.kept;
-      frozen = h.frozen ours.sound;
-      ours = ours_still a.now b.now h.sound fs h.schema h.kept ours;
-      stand = (pieces, (temp_roots, tt));
-      further = (λ there. pieces, (λ there. temp_roots, tt));
-      committed = h.committed;
-      mode = h.mode;
-    }
+    let free : AllByRecursion (λ t. IsFree a.now.schema t.name) (piece ∷ temp_root ∷ []) = (first.1, (first.2, tt)) in
+    let it = these fs refl a b under free h in
+    makes_further fs refl a b under free h (new_kept fs refl a b under free h piece first.1 it.0) (new_kept fs refl a b under free h temp_root first.2 it.1.0)
 
 pub makes_last : (a b : State) → IsUnderWay a → HasSecond a.now.schema → Makes (temp_root ∷ []) a b → MakesFurther (temp_root ∷ []) a b
-unfolding KeepsFurther
+unfolding digits everything
 makes_last a b under second h =
     let fs = part temp_root ∷ [] in
-    let ours = under.ours h.was_open in
-    let made = last_stands a.now b.now ours.sound h.sound second.2 h.schema in
-    let stand = each_stands b.now h.sound a.now.schema fs made in
-    let none = by_names (λ n. b.now.trees n ≡ []) b.now.schema a.now.schema fs made h.empty in
-    let temp_roots = made_further b.now temp_root stand.0 none.0 in
-    let pieces = if_any_named b.now piece (still_stands a.now b.now h.sound fs h.schema h.kept (part piece) second.1) ∙ rows_still a.now b.now h.sound fs h.schema h.kept (part piece) second.1 ∙ sym (if_any_named a.now piece second.1) in
-    record {
-      was_open = h.was_open;
-      is_open = h.is_open;
-      schema = h.schema;
-      contents = contents_still a.now b.now h.sound fs h.schema h.kept ours.has pieces (none_either a.now b.now temp_root second.2 stand.0 none.0);
-      theirs = theirs_of a.now b.now.trees a.now.schema.tables h.kept;
-      frozen = h.frozen ours.sound;
-      ours = ours_still a.now b.now h.sound fs h.schema h.kept ours;
-      stand = (temp_roots, tt);
-      further = (further_still a.now b.now h.sound fs h.schema h.kept (part piece), (λ there. temp_roots, tt));
-      committed = h.committed;
-      mode = h.mode;
-    }
+    let free : AllByRecursion (λ t. IsFree a.now.schema t.name) (temp_root ∷ []) = (second.2, tt) in
+    makes_further fs refl a b under free h (old_kept fs refl a b under free h (part piece) second.1) (new_kept fs refl a b under free h temp_root second.2 (these fs refl a b under free h).0)
 
-pub making_both : (s : State) → IsUnderWay s → (IsTrue s.is_open → HasFirst s.now.schema) → IsMaking (piece ∷ temp_root ∷ []) s
-making_both s under first = record {
-  sound = λ up. (under.ours up).sound;
-  free = λ up. let one = (first up).1 in let two = (first up).2 in ((one.table, one.index, one.view), ((two.table, two.index, two.view), tt));
-  unawaited = λ up. ((first up).1.unawaited, ((first up).2.unawaited, tt));
-  counted = λ up. (first up).3;
-  mode = under.mode;
-}
-
-pub making_last : (s : State) → IsUnderWay s → (IsTrue s.is_open → HasSecond s.now.schema) → IsMaking (temp_root ∷ []) s
-making_last s under second = record {
-  sound = λ up. (under.ours up).sound;
-  free = λ up. let one = (second up).2 in ((one.table, one.index, one.view), tt);
-  unawaited = λ up. ((second up).2.unawaited, tt);
-  counted = λ up. (second up).3;
-  mode = under.mode;
-}
+pub making_further : (ts : List Table) (s : State) → IsUnderWay s → (IsTrue s.is_open → AllByRecursion (λ t. IsFree s.now.schema t.name) ts × (lacks_sequence s.now.schema ≡ false)) → IsMaking ts s
+making_further ts s under free = making_free ts s (λ up. (under.ours up).sound) free under.mode
 
 -- the transaction goes on
 pub further_under : (tables : List Table) (old new : State) → MakesFurther tables old new → IsUnderWay new

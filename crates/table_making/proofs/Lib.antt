@@ -10,3 +10,4 @@ pub mod FrozenThen
 pub mod FurtherMade
 pub mod Growing
 pub mod Kept
+pub mod InTurn

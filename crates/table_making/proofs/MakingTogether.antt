@@ -17,8 +17,8 @@ use Rattle.table_statements.specs.declared.failure.Failure.{Failure}
 use Rattle.table_statements.specs.declared.failure.Failure.TheVariants.{Memory, Size, Disk}
 use Rattle.table_forms.specs.Forms.{strict}
 use Rattle.table_statements.specs.Contents.{Bytes}
-use Rattle.table_making.specs.Making.{IsUnused, Makes, index_of, all_created, LacksNumbers, LacksNames, FailsToMakeThese}
-use Rattle.table_making.proofs.Creates.{is_clear, unused_after}
+use Rattle.table_making.specs.Making.{IsUnused, Makes, index_of, all_created, is_clear, are_apart, LacksNumbers, LacksNames, FailsToMakeThese}
+use Rattle.table_making.proofs.Creates.{unused_after}
 use Rattle.table_statements.proofs.Lists.{rises, all_below}
 use Rattle.table_statements.proofs.Truths.{and_so, neither}
 use Rattle.table_making.proofs.Stood.{Parts, table_of}
@@ -71,27 +71,22 @@ module _ (s : Schema) (title : Bytes) (cs : List Column) (key : List ℕ) where
       go true is = refl
       go false is = absurd (let no = sym (none_used after name (unused_after s title cs key name clear (unused_if s name is))) ∙ h in cc)
 
-  names_before : (us : List Table) → list_all (λ u. is_clear title (index_of u.name)) us ≡ true → LacksNames after us → LacksNames s us
+  names_before : (us : List Table) → list_all (λ u. is_clear title u.name && is_clear title (index_of u.name)) us ≡ true → LacksNames after us → LacksNames s us
   names_before [] clear h = h
-  names_before (u ∷ us) clear h = let b = and_so _ _ clear in either_still _ _ _ _ (used_before (index_of u.name) b.0) (names_before us b.1) h
+  names_before (u ∷ us) clear h = let b = and_so _ _ clear in either_still _ _ _ _ (used_before (index_of u.name) (and_so _ _ b.0).1) (names_before us b.1) h
 
   abbrev Lacks : Schema → List Table → Type 0
   Lacks of tables = LacksNumbers of tables ⊎ LacksNames of tables
 
   -- what the others lack then, they lacked together with it
-  lacks_before : (us : List Table) → list_all (λ u. is_clear title (index_of u.name)) us ≡ true → Lacks after us → Lacks s (strict title cs key ∷ us)
+  lacks_before : (us : List Table) → list_all (λ u. is_clear title u.name && is_clear title (index_of u.name)) us ≡ true → Lacks after us → Lacks s (strict title cs key ∷ us)
   lacks_before us clear (inl few) = inl (omega (arith, two_more s title cs key, few))
   lacks_before us clear (inr taken) = inr (or_right (is_used s (index_of title)) _ (names_before us clear taken))
 
 abbrev pub part : Table → Parts
 part t = (t.name, (t.columns, t.primary))
 
--- each of these tables leaves the names of the later ones, and of those that follow
-abbrev pub are_clear : List Parts → List Table → Bool
-are_clear [] us = true
-are_clear (f ∷ fs) us = list_all (λ u. is_clear f.0 (index_of u.name)) (map table_of fs ++ us) && are_clear fs us
-
-lacks_then : (fs : List Parts) (us : List Table) (s : Schema) → are_clear fs us ≡ true → LacksNumbers (all_created s (map table_of fs)) us ⊎ LacksNames (all_created s (map table_of fs)) us → LacksNumbers s (map table_of fs ++ us) ⊎ LacksNames s (map table_of fs ++ us)
+lacks_then : (fs : List Parts) (us : List Table) (s : Schema) → are_apart (map table_of fs ++ us) ≡ true → LacksNumbers (all_created s (map table_of fs)) us ⊎ LacksNames (all_created s (map table_of fs)) us → LacksNumbers s (map table_of fs ++ us) ⊎ LacksNames s (map table_of fs ++ us)
 lacks_then [] us s clear h = h
 lacks_then (f ∷ fs) us s clear h = let b = and_so _ _ clear in lacks_before s f.0 f.1.0 f.1.1 (map table_of fs ++ us) b.0 (lacks_then fs us (created s (table_of f)) b.1 h)
 
@@ -99,7 +94,7 @@ lacks_then (f ∷ fs) us s clear h = let b = and_so _ _ clear in lacks_before s 
 
 module _ (large refused : Type 0) (a b c : State) where
   -- after these were made
-  pub fails_then : (fs : List Parts) (us : List Table) → are_clear fs us ≡ true → IsTrue a.is_open → b.now.schema ≡ all_created a.now.schema (map table_of fs) → IsTrue b.is_open → a.faults ≤ b.faults
+  pub fails_then : (fs : List Parts) (us : List Table) → are_apart (map table_of fs ++ us) ≡ true → IsTrue a.is_open → b.now.schema ≡ all_created a.now.schema (map table_of fs) → IsTrue b.is_open → a.faults ≤ b.faults
       → (f : Failure) → FailsToMakeThese us large refused b c f → FailsToMakeThese (map table_of fs ++ us) large refused a c f
   fails_then fs us clear was_open made is_open rise Memory h = tt
   fails_then fs us clear was_open made is_open rise Size h = (h.0, was_open)
@@ -119,12 +114,12 @@ module _ (large refused : Type 0) (a b c : State) where
   fails_wider large_too refused_too grows more ts us rise Disk (inr (inr (inr taken))) = inr (inr (inr (list_any-append (λ (t : Table). is_used a.now.schema (index_of t.name)) ts us ∙ or_left _ _ taken)))
 
 -- one of several, after these were made, where the whole may fail for further reasons
-pub fails_after : (large refused : Type 0) (a b c : State) (fs : List Parts) (ts us : List Table) → are_clear fs (ts ++ us) ≡ true → IsTrue a.is_open → b.now.schema ≡ all_created a.now.schema (map table_of fs) → IsTrue b.is_open → a.faults ≤ b.faults
+pub fails_after : (large refused : Type 0) (a b c : State) (fs : List Parts) (ts us : List Table) → are_apart (map table_of fs ++ (ts ++ us)) ≡ true → IsTrue a.is_open → b.now.schema ≡ all_created a.now.schema (map table_of fs) → IsTrue b.is_open → a.faults ≤ b.faults
     → (f : Failure) → FailsToMakeThese ts ⊥ ⊥ b c f → FailsToMakeThese (map table_of fs ++ (ts ++ us)) large refused a c f
 fails_after large refused a b c fs ts us clear was_open made is_open rise f h = fails_then large refused a b c fs (ts ++ us) clear was_open made is_open rise f (fails_wider ⊥ ⊥ b c c large refused (λ no. absurd no) (λ no. absurd no) ts us (omega arith) f h)
 
 -- the same for the same reasons
-pub fails_among : (large refused : Type 0) (a b c : State) (fs : List Parts) (ts us : List Table) → are_clear fs (ts ++ us) ≡ true → Makes (map table_of fs) a b → a.faults ≤ b.faults → (f : Failure) → FailsToMakeThese ts large refused b c f
+pub fails_among : (large refused : Type 0) (a b c : State) (fs : List Parts) (ts us : List Table) → are_apart (map table_of fs ++ (ts ++ us)) ≡ true → Makes (map table_of fs) a b → a.faults ≤ b.faults → (f : Failure) → FailsToMakeThese ts large refused b c f
     → FailsToMakeThese (map table_of fs ++ (ts ++ us)) large refused a c f
 fails_among large refused a b c fs ts us clear made rise f h = fails_then large refused a b c fs (ts ++ us) clear made.was_open made.schema made.is_open rise f (fails_wider large refused b c c large refused (λ x. x) (λ x. x) ts us (omega arith) f h)
 

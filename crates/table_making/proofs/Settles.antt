@@ -12,14 +12,15 @@ use Rattle.sqlite_schema.specs.declared.schema.Index.{Index}
 use Rattle.sqlite_schema.specs.Names.{same_name}
 use Rattle.sqlite_catalog.specs.Change.{created, next_tree, past_views}
 use Rattle.sqlite_rules.specs.Edit.{next_rowid, is_taken}
+use Rattle.sqlite.specs.Does.{lacks_sequence}
 use Rattle.sqlite.specs.Effect.{Database, IsDatabase}
 use Rattle.sqlite.specs.State.{State, Shows, ExecutesInside}
-use Rattle.table_forms.specs.Forms.{meta, object, refs, outs, permanent, user_root, profile, generation, runtime, piece, temp_root}
+use Rattle.table_forms.specs.Forms.{meta}
 use Rattle.table_forms.specs.Standing.{IsNamed, tree_named}
 use Rattle.table_statements.specs.Contents.{Bytes, texts_cmp, is_pair, pair_of, map_of, rows_named}
 use Rattle.table_statements.specs.Texts.{AreReadableRows}
 use Rattle.table_statements.specs.Calls.{IsKeyed}
-use Rattle.table_making.specs.Making.{IsUnused, Makes, MakesMeta, MakesAll, IsMadeOf, AreSettings, first_settings, IsPut, HasMeta, Puts, IsMadeIn, all_created, placed, ours_created, others_placed, other_tables}
+use Rattle.table_making.specs.Making.{IsUnused, IsMaking, Makes, MakesMeta, MakesAll, IsMadeOf, AreSettings, first_settings, IsPut, HasMeta, Puts, IsMadeIn, all_created, placed, ours_created, others_placed, other_tables}
 use Rattle.table_forms.specs.Finding.{IsFree, is_unawaited}
 use Rattle.table_statements.proofs.Orders.{texts_total, texts_antisymmetric}
 use Rattle.table_statements.proofs.Truths.{cast_null, free_of}
@@ -33,7 +34,7 @@ use Rattle.table_entries.proofs.SettingLemmas.{insert_text, insert_is, table as 
 use Rattle.table_statements.proofs.Lists.{one_list, rises, all_below}
 use Rattle.table_statements.proofs.Frozen.{frozen_of}
 use Rattle.table_making.proofs.FrozenThen.{frozen_then}
-use Rattle.table_making.proofs.Creates.{kept_then, makes_then}
+use Rattle.table_making.proofs.Creates.{kept_then}
 
 -- ---- where a table stands that was just made
 
@@ -163,12 +164,10 @@ meta_made dir a b c d free h p q =
 
 -- ---- all eleven
 
-pub all_made : (dir : Bytes) (a b c d e : State) → MakesMeta dir a b → Makes (object ∷ refs ∷ outs ∷ permanent ∷ []) b c → Makes (user_root ∷ profile ∷ generation ∷ runtime ∷ []) c d → Makes (piece ∷ temp_root ∷ []) d e → MakesAll dir a e
+pub all_made : (dir : Bytes) (a b e : State) → MakesMeta dir a b → Makes other_tables b e → MakesAll dir a e
 unfolding ours_created others_placed
-all_made dir a b c d e h p q r =
+all_made dir a b e h rest =
     let s = a.now.schema in
-    let eight = makes_then (object ∷ refs ∷ outs ∷ permanent ∷ []) (user_root ∷ profile ∷ generation ∷ runtime ∷ []) b c d p q in
-    let rest = makes_then (object ∷ refs ∷ outs ∷ permanent ∷ user_root ∷ profile ∷ generation ∷ runtime ∷ []) (piece ∷ temp_root ∷ []) b d e eight r in
     let later : AllByRecursion (λ t. e.now.trees t.tree ≡ b.now.trees t.tree) (s.tables ++ record meta { tree = next_tree s } ∷ []) = subst (λ (x : Schema). AllByRecursion (λ t. e.now.trees t.tree ≡ b.now.trees t.tree) x.tables) h.schema rest.kept in
     let both = one_list (λ (t : Table). e.now.trees t.tree ≡ b.now.trees t.tree) s.tables (record meta { tree = next_tree s } ∷ []) later in
     record {
@@ -187,13 +186,13 @@ all_made dir a b c d e h p q r =
       mode = rest.mode;
     }
 
-pub names_free : (s : Schema) (ts : List Table) → AllByRecursion (λ t. IsFree s t.name) ts → AllByRecursion (λ t. IsUnused s t.name) ts
-names_free s [] h = tt
-names_free s (t ∷ ts) h = ((h.0.table, h.0.index, h.0.view), names_free s ts h.1)
+names_free : (s : Schema) (ts : List Table) → AllByRecursion (λ t. IsFree s t.name) ts → AllByRecursion (λ t. IsUnused s t.name) ts × AllByRecursion (λ t. is_unawaited s t.name ≡ true) ts
+names_free s [] h = (tt, tt)
+names_free s (t ∷ ts) h = let rest = names_free s ts h.1 in (((h.0.table, h.0.index, h.0.view), rest.0), (h.0.unawaited, rest.1))
 
-pub names_unawaited : (s : Schema) (ts : List Table) → AllByRecursion (λ t. IsFree s t.name) ts → AllByRecursion (λ t. is_unawaited s t.name ≡ true) ts
-names_unawaited s [] h = tt
-names_unawaited s (t ∷ ts) h = (h.0.unawaited, names_unawaited s ts h.1)
+-- tables whose names are free can be made
+pub making_free : (ts : List Table) (s : State) → (IsTrue s.is_open → IsDatabase s.now) → (IsTrue s.is_open → AllByRecursion (λ t. IsFree s.now.schema t.name) ts × (lacks_sequence s.now.schema ≡ false)) → s.in_transaction ≡ true → IsMaking ts s
+making_free ts s sound free mode = record { sound = sound; free = λ up. (names_free s.now.schema ts (free up).0).0; unawaited = λ up. (names_free s.now.schema ts (free up).0).1; counted = λ up. (free up).1; mode = mode }
 
 pub free_name : (s : Schema) (name : Bytes) → IsUnused s name → is_unawaited s name ≡ true → IsFree s name
 free_name s name unused unawaited = record { table = unused.0; index = unused.1; view = unused.2; unawaited = unawaited }

@@ -26,8 +26,8 @@ use Rattle.table_forms.specs.Forms.{strict}
 use Rattle.table_forms.specs.Standing.{IsNamed, Stands, is_unreferred, is_alone, is_unguarded, points_at, tree_named}
 use Rattle.table_forms.specs.Finding.{IsFree}
 use Rattle.table_statements.specs.Contents.{Bytes}
-use Rattle.table_making.specs.Making.{all_created, placed}
-use Rattle.table_making.proofs.Creates.{is_clear, unused_after}
+use Rattle.table_making.specs.Making.{all_created, placed, index_of, is_clear, are_apart}
+use Rattle.table_making.proofs.Creates.{unused_after}
 use Rattle.table_statements.proofs.Lists.{rises, all_below}
 use Rattle.table_making.proofs.Settles.{not_next, last_found, last_there}
 use Rattle.table_statements.proofs.Truths.{and_so, not_so}
@@ -225,21 +225,17 @@ Parts = Bytes × (List Column × List ℕ)
 abbrev pub table_of : Parts → Table
 table_of f = strict f.0 f.1.0 f.1.1
 
-abbrev pub are_clear : List Parts → Bool
-are_clear [] = true
-are_clear (f ∷ fs) = list_all (λ (g : Parts). is_clear f.0 g.0) fs && are_clear fs
-
 -- a table that stood stands yet
 pub all_still : (s : Schema) (fs : List Parts) (t : Table) → StandsAs s t → StandsAs (all_created s (map table_of fs)) t
 all_still s [] t it = it
 all_still s (f ∷ fs) t it = all_still (created s (table_of f)) fs t (stands_still s f.0 f.1.0 f.1.1 t it)
 
-all_free : (s : Schema) (f : Parts) (fs : List Parts) → list_all (λ (g : Parts). is_clear f.0 g.0) fs ≡ true → AllByRecursion (λ t. IsFree s t.name) (map table_of fs) → AllByRecursion (λ t. IsFree (created s (table_of f)) t.name) (map table_of fs)
+all_free : (s : Schema) (f : Parts) (fs : List Parts) → list_all (λ (u : Table). is_clear f.0 u.name && is_clear f.0 (index_of u.name)) (map table_of fs) ≡ true → AllByRecursion (λ t. IsFree s t.name) (map table_of fs) → AllByRecursion (λ t. IsFree (created s (table_of f)) t.name) (map table_of fs)
 all_free s f [] clear h = tt
-all_free s f (g ∷ gs) clear h = let b = and_so _ _ clear in (free_after s f.0 f.1.0 f.1.1 g.0 b.0 h.0, all_free s f gs b.1 h.1)
+all_free s f (g ∷ gs) clear h = let b = and_so _ _ clear in (free_after s f.0 f.1.0 f.1.1 g.0 (and_so _ _ b.0).0 h.0, all_free s f gs b.1 h.1)
 
 -- each that was made stands in the end
-pub all_stand : (s : Schema) (fs : List Parts) → are_clear fs ≡ true → AllByRecursion (λ t. IsFree s t.name) (map table_of fs) → AreLow s → AllByRecursion (StandsAs (all_created s (map table_of fs))) (placed s (map table_of fs))
+pub all_stand : (s : Schema) (fs : List Parts) → are_apart (map table_of fs) ≡ true → AllByRecursion (λ t. IsFree s t.name) (map table_of fs) → AreLow s → AllByRecursion (StandsAs (all_created s (map table_of fs))) (placed s (map table_of fs))
 all_stand s [] clear free low = tt
 all_stand s (f ∷ fs) clear free low =
     let b = and_so _ _ clear in (

@@ -5,7 +5,7 @@ use Rattle.sqlite_schema.specs.declared.schema.Table.{Table}
 use Rattle.sqlite.specs.Effect.{Database}
 use Rattle.sqlite.specs.State.{State}
 use Rattle.table_statements.specs.Contents.{contents_of}
-use Rattle.table_statements.specs.Frozen.{KeepsFrozen}
+use Rattle.table_statements.specs.Frozen.{SparesFrozen}
 use Rattle.table_statements.specs.Calls.{IsOurs, HasFurther, KeepsFurther, KeepsTheirs}
 use Rattle.table_making.specs.Making.{all_created}
 
@@ -20,7 +20,7 @@ pub record MakesFurther (tables : List Table) (old new : State) : Type 0 where
   pub schema : new.now.schema ≡ all_created old.now.schema tables
   pub contents : contents_of new.now ≡ contents_of old.now
   pub theirs : KeepsTheirs old.now new.now
-  pub frozen : KeepsFrozen old.now new.now.trees
+  pub frozen : SparesFrozen old.now new.now
   pub ours : IsOurs new.now
   pub stand : AllByRecursion (HasFurther new.now) tables
   pub further : KeepsFurther old.now new.now

@@ -1,4 +1,5 @@
 pub use Rattle.table_forms.specs.Forms
+pub use Rattle.table_forms.specs.OurTables
 pub use Rattle.table_forms.specs.Standing
 pub use Rattle.table_forms.specs.Finding
 pub use Rattle.table_statements.specs.Contents

@@ -1,29 +1,58 @@
 -- What the making of our tables leaves: they stand after all that was there, and hold no row, but `meta` its two settings. And why it fails.
-use Rattle.std.specs.Prelude.{◌≡◌, ◌≢◌, ◌⊎◌, ℕ, ◌+◌, ◌*◌, ◌^◌, ◌<◌, true, false, List, [], ◌∷◌, ◌++◌, length, None, IsSome, IsTrue, IsUtf8, ⊤, codes}
+use Rattle.std.specs.Prelude.{◌≡◌, ◌≢◌, ◌⊎◌, ℕ, ◌+◌, ◌*◌, ◌^◌, ◌<◌, Bool, true, false, not, ◌&&◌, List, [], ◌∷◌, ◌++◌, length, None, IsSome, IsTrue, IsUtf8, ⊤, codes}
 use Rattle.std.specs.Fmt.{decimal}
-use Rattle.std.specs.List.{AllByRecursion, list_any}
+use Rattle.std.specs.List.{AllByRecursion, list_all, list_any}
 use Rattle.std.specs.FinMap as finite
 use Rattle.sqlite_value.specs.Order.{Row}
 use Rattle.sqlite_value.specs.declared.value.Value.TheVariants.{Int, Text}
 use Rattle.sqlite_trees.specs.Tree.{Trees, put_row}
 use Rattle.sqlite_schema.specs.declared.schema.Schema.{Schema}
 use Rattle.sqlite_schema.specs.declared.schema.Table.{Table}
-use Rattle.sqlite_schema.specs.Names.{table_named, index_named, view_named}
+use Rattle.sqlite_schema.specs.Names.{same_name, table_named, index_named, view_named}
 use Rattle.sqlite_rules.specs.Edit.{next_rowid}
 use Rattle.sqlite_catalog.specs.Change.{created, next_tree, is_used}
 use Rattle.sqlite.specs.Does.{lacks_sequence}
 use Rattle.sqlite.specs.Effect.{Database, IsDatabase}
 use Rattle.sqlite.specs.State.{State}
 use Rattle.table_forms.specs.Forms.{meta, object, refs, outs, permanent, user_root, profile, generation, runtime, piece, temp_root, all_tables}
+use Rattle.table_forms.specs.declared.our_table.OurTable.{OurTable}
+use Rattle.table_forms.specs.declared.our_table.OurTable.TheVariants.{Meta, Object, Refs, Outs, Permanent, UserRoot, Profile, Generation, Runtime, Piece, TempRoot}
 use Rattle.table_forms.specs.Standing.{IsNamed, tree_named}
 use Rattle.table_forms.specs.Finding.{is_unawaited}
 use Rattle.table_statements.specs.Contents.{Bytes, Contents, contents_of, texts_cmp, is_pair, pair_of, map_of, rows_named}
-use Rattle.table_statements.specs.Frozen.{KeepsFrozen}
+use Rattle.table_statements.specs.Frozen.{KeepsFrozen, SparesFrozen}
 use Rattle.table_statements.specs.Texts.{AreReadable, AreReadableRows}
 use Rattle.table_statements.specs.Calls.{IsKeyed, IsWhole, IsReady, KeepsTheirs, Leaves}
 use Rattle.table_statements.specs.Failures.{HasDiskCause}
 use Rattle.table_statements.specs.declared.failure.Failure.{Failure}
 use Rattle.table_statements.specs.declared.failure.Failure.TheVariants.{Memory, Size, Disk}
+
+-- the text that makes a table
+abbrev pub making_text : OurTable → List ℕ
+making_text Meta = codes "CREATE TABLE meta (word TEXT NOT NULL, val TEXT NOT NULL, PRIMARY KEY (word)) STRICT"
+making_text Object = codes "CREATE TABLE object (base TEXT NOT NULL, nar BLOB NOT NULL, hash BLOB NOT NULL, deriver TEXT, ca TEXT, PRIMARY KEY (base)) STRICT"
+making_text Refs = codes "CREATE TABLE refs (base TEXT NOT NULL, target TEXT NOT NULL, PRIMARY KEY (base, target)) STRICT"
+making_text Outs = codes "CREATE TABLE outs (base TEXT NOT NULL, name TEXT NOT NULL, target TEXT NOT NULL, PRIMARY KEY (base, name)) STRICT"
+making_text Permanent = codes "CREATE TABLE permanent (name TEXT NOT NULL, target TEXT NOT NULL, PRIMARY KEY (name)) STRICT"
+making_text UserRoot = codes "CREATE TABLE user_root (owner TEXT NOT NULL, name TEXT NOT NULL, target TEXT NOT NULL, PRIMARY KEY (owner, name)) STRICT"
+making_text Profile = codes "CREATE TABLE profile (owner TEXT NOT NULL, name TEXT NOT NULL, cur INTEGER NOT NULL, PRIMARY KEY (owner, name)) STRICT"
+making_text Generation = codes "CREATE TABLE generation (owner TEXT NOT NULL, name TEXT NOT NULL, num INTEGER NOT NULL, target TEXT NOT NULL, PRIMARY KEY (owner, name, num)) STRICT"
+making_text Runtime = codes "CREATE TABLE runtime (label TEXT NOT NULL, target TEXT NOT NULL, PRIMARY KEY (label, target)) STRICT"
+making_text Piece = codes "CREATE TABLE piece (base TEXT NOT NULL, num INTEGER NOT NULL, bytes BLOB NOT NULL, PRIMARY KEY (base, num)) STRICT"
+making_text TempRoot = codes "CREATE TABLE temp_root (owner TEXT NOT NULL, session INTEGER NOT NULL, target TEXT NOT NULL, PRIMARY KEY (owner, session, target)) STRICT"
+
+-- the name of the index that `sqlite` makes for a table's key
+abbrev pub index_of : Bytes → Bytes
+index_of name = codes "sqlite_autoindex_" ++ (name ++ (codes "_" ++ decimal 1))
+
+-- the title is of a table, and neither it nor the name of its index is this name
+abbrev pub is_clear : Bytes → Bytes → Bool
+is_clear title name = not (same_name title name) && not (same_name (index_of title) name)
+
+-- none of these tables takes the name of a later one, or that of its index
+abbrev pub are_apart : List Table → Bool
+are_apart [] = true
+are_apart (t ∷ ts) = list_all (λ u. is_clear t.name u.name && is_clear t.name (index_of u.name)) ts && are_apart ts
 
 -- the tables made in this order
 abbrev pub all_created : Schema → List Table → Schema
@@ -87,7 +116,7 @@ pub record IsMade (dir : Bytes) (old new : State) : Type 0 where
   pub schema : new.now.schema ≡ ours_created old.now.schema
   pub contents : contents_of new.now ≡ first_contents dir
   pub theirs : KeepsTheirs old.now new.now
-  pub frozen : KeepsFrozen old.now new.now.trees
+  pub frozen : SparesFrozen old.now new.now
   pub whole : IsWhole new.now
   pub readable : AreReadable (contents_of new.now)
   pub ready : IsReady new
@@ -127,7 +156,7 @@ pub record Makes (tables : List Table) (old new : State) : Type 0 where
   pub schema : new.now.schema ≡ all_created old.now.schema tables
   pub kept : AllByRecursion (λ t. new.now.trees t.tree ≡ old.now.trees t.tree) old.now.schema.tables
   pub empty : AllByRecursion (λ t. new.now.trees t.tree ≡ []) (placed old.now.schema tables)
-  pub frozen : IsDatabase old.now → KeepsFrozen old.now new.now.trees
+  pub frozen : IsDatabase old.now → SparesFrozen old.now new.now
   pub committed : new.committed ≡ old.committed
   pub mode : new.in_transaction ≡ true
 
@@ -139,7 +168,7 @@ pub record MakesMeta (dir : Bytes) (old new : State) : Type 0 where
   pub schema : new.now.schema ≡ created old.now.schema meta
   pub kept : AllByRecursion (λ t. new.now.trees t.tree ≡ old.now.trees t.tree) old.now.schema.tables
   pub settings : AreSettings dir (new.now.trees (next_tree old.now.schema))
-  pub frozen : IsDatabase old.now → KeepsFrozen old.now new.now.trees
+  pub frozen : IsDatabase old.now → SparesFrozen old.now new.now
   pub committed : new.committed ≡ old.committed
   pub mode : new.in_transaction ≡ true
 
@@ -163,7 +192,7 @@ pub record Puts (word value : Bytes) (old new : State) : Type 0 where
   pub schema : new.now.schema ≡ old.now.schema
   pub rows : IsPut word value (rows_named old.now (codes "meta")) (rows_named new.now (codes "meta"))
   pub others : AllByRecursion (λ t. t.tree ≢ tree_named old.now.schema (codes "meta") → new.now.trees t.tree ≡ old.now.trees t.tree) old.now.schema.tables
-  pub frozen : IsDatabase old.now → KeepsFrozen old.now new.now.trees
+  pub frozen : IsDatabase old.now → SparesFrozen old.now new.now
   pub committed : new.committed ≡ old.committed
   pub mode : new.in_transaction ≡ true
 
@@ -182,10 +211,6 @@ pub record MakesAll (dir : Bytes) (old new : State) : Type 0 where
 -- the directory is too long to be stored: the row of the setting would have more than a billion bytes, those of its two texts and 18 for each of its three values
 abbrev pub IsTooLong : Bytes → Type 0
 IsTooLong dir = 10 ^ 9 < length dir + 63
-
--- the name of the index that `sqlite` makes for a table's key
-abbrev pub index_of : Bytes → Bytes
-index_of name = codes "sqlite_autoindex_" ++ (name ++ (codes "_" ++ decimal 1))
 
 -- The trees of these tables have no numbers: there are 65536, and each table takes two, one for itself and one for its key's index.
 abbrev pub LacksNumbers : Schema → List Table → Type 0

@@ -1,4 +1,4 @@
-//! Making the further tables, inside a transaction that goes on: in a new database after the nine, or beside those that stand.
+//! Making the further tables beside those that stand, inside a transaction that goes on.
 
 ghost use Rattle.std.specs.Prelude.{◌≡◌, [], ◌∷◌, OnOk, IfErr, IsTrue};
 ghost use Rattle.sqlite.specs.State.{HasCleanDisk, KeepsCommit, Survives};
@@ -6,54 +6,13 @@ ghost use Rattle.sqlite.specs.Held.{state};
 ghost use Rattle.table_forms.specs.Forms.{piece, temp_root};
 ghost use Rattle.table_forms.specs.Finding.{HasFirst, HasSecond};
 ghost use Rattle.table_statements.specs.Calls.{IsUnderWay};
-ghost use Rattle.table_making.specs.Making.{IsMaking, Makes, FailsToMakeThese};
+ghost use Rattle.table_making.specs.Making.{FailsToMakeThese};
 ghost use Rattle.table_making.specs.Further.{MakesFurther};
 
-use crate::creating::create;
+use crate::creating;
 use sqlite::{Alter, Transaction};
+use table_forms::our_table::OurTable;
 use table_statements::failure::Failure;
-
-fn piece<S: Alter>(tx: &mut Transaction<'_, S>) -> Result<(), Failure>
-    requires { HasCleanDisk (state S.Store tx.old.conn.now) → IsMaking (piece ∷ temp_root ∷ []) (state S.Store tx.old.conn.now) }
-    ensures same_reference { tx.new.conn.ghost_name ≡ tx.old.conn.ghost_name }
-    ensures makes { HasCleanDisk (state S.Store tx.new.conn.now) → OnOk result (Makes (piece ∷ []) (state S.Store tx.old.conn.now) (state S.Store tx.new.conn.now)) }
-    ensures making { HasCleanDisk (state S.Store tx.new.conn.now) → OnOk result (IsMaking (temp_root ∷ []) (state S.Store tx.new.conn.now)) }
-    ensures cause { HasCleanDisk (state S.Store tx.new.conn.now) → IfErr result (FailsToMakeThese (piece ∷ []) ⊥ ⊥ (state S.Store tx.old.conn.now) (state S.Store tx.new.conn.now)) }
-    ensures kept { HasCleanDisk (state S.Store tx.new.conn.now) → KeepsCommit (state S.Store tx.old.conn.now) (state S.Store tx.new.conn.now) }
-    ensures survives { Survives (state S.Store tx.old.conn.now) (state S.Store tx.new.conn.now) (λ _. ⊥) }
-{
-    create(
-        tx,
-        "CREATE TABLE piece (base TEXT NOT NULL, num INTEGER NOT NULL, bytes BLOB NOT NULL, PRIMARY KEY (base, num)) STRICT",
-    )
-}
-
-fn temp_root<S: Alter>(tx: &mut Transaction<'_, S>) -> Result<(), Failure>
-    requires { HasCleanDisk (state S.Store tx.old.conn.now) → IsMaking (temp_root ∷ []) (state S.Store tx.old.conn.now) }
-    ensures same_reference { tx.new.conn.ghost_name ≡ tx.old.conn.ghost_name }
-    ensures makes { HasCleanDisk (state S.Store tx.new.conn.now) → OnOk result (Makes (temp_root ∷ []) (state S.Store tx.old.conn.now) (state S.Store tx.new.conn.now)) }
-    ensures cause { HasCleanDisk (state S.Store tx.new.conn.now) → IfErr result (FailsToMakeThese (temp_root ∷ []) ⊥ ⊥ (state S.Store tx.old.conn.now) (state S.Store tx.new.conn.now)) }
-    ensures kept { HasCleanDisk (state S.Store tx.new.conn.now) → KeepsCommit (state S.Store tx.old.conn.now) (state S.Store tx.new.conn.now) }
-    ensures survives { Survives (state S.Store tx.old.conn.now) (state S.Store tx.new.conn.now) (λ _. ⊥) }
-{
-    create(
-        tx,
-        "CREATE TABLE temp_root (owner TEXT NOT NULL, session INTEGER NOT NULL, target TEXT NOT NULL, PRIMARY KEY (owner, session, target)) STRICT",
-    )
-}
-
-/// Both of them.
-pub(crate) fn both<S: Alter>(tx: &mut Transaction<'_, S>) -> Result<(), Failure>
-    requires { HasCleanDisk (state S.Store tx.old.conn.now) → IsMaking (piece ∷ temp_root ∷ []) (state S.Store tx.old.conn.now) }
-    ensures same_reference { tx.new.conn.ghost_name ≡ tx.old.conn.ghost_name }
-    ensures makes { HasCleanDisk (state S.Store tx.new.conn.now) → OnOk result (Makes (piece ∷ temp_root ∷ []) (state S.Store tx.old.conn.now) (state S.Store tx.new.conn.now)) }
-    ensures cause { HasCleanDisk (state S.Store tx.new.conn.now) → IfErr result (FailsToMakeThese (piece ∷ temp_root ∷ []) ⊥ ⊥ (state S.Store tx.old.conn.now) (state S.Store tx.new.conn.now)) }
-    ensures kept { HasCleanDisk (state S.Store tx.new.conn.now) → KeepsCommit (state S.Store tx.old.conn.now) (state S.Store tx.new.conn.now) }
-    ensures survives { Survives (state S.Store tx.old.conn.now) (state S.Store tx.new.conn.now) (λ _. ⊥) }
-{
-    piece(tx)?;
-    temp_root(tx)
-}
 
 /// Makes the table of pieces and that of temporary roots beside the nine of the first schema, with no row. What the tables hold is as
 /// it was, and the transaction goes on.
@@ -66,7 +25,7 @@ pub fn make_both<S: Alter>(tx: &mut Transaction<'_, S>) -> Result<(), Failure>
     ensures kept { HasCleanDisk (state S.Store tx.new.conn.now) → KeepsCommit (state S.Store tx.old.conn.now) (state S.Store tx.new.conn.now) }
     ensures survives { Survives (state S.Store tx.old.conn.now) (state S.Store tx.new.conn.now) (λ _. ⊥) }
 {
-    both(tx)
+    creating::all(tx, &[OurTable::Piece, OurTable::TempRoot])
 }
 
 /// Makes the table of temporary roots beside the ten of the second schema, with no row. What the tables hold is as it was, and the
@@ -80,5 +39,5 @@ pub fn make_temp_root<S: Alter>(tx: &mut Transaction<'_, S>) -> Result<(), Failu
     ensures kept { HasCleanDisk (state S.Store tx.new.conn.now) → KeepsCommit (state S.Store tx.old.conn.now) (state S.Store tx.new.conn.now) }
     ensures survives { Survives (state S.Store tx.old.conn.now) (state S.Store tx.new.conn.now) (λ _. ⊥) }
 {
-    temp_root(tx)
+    creating::all(tx, &[OurTable::TempRoot])
 }

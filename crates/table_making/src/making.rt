@@ -11,8 +11,10 @@ ghost use Rattle.table_statements.specs.Failures.{IsWriteFailure};
 ghost use Rattle.table_making.specs.Making.{IsMaking, HasMeta, Puts, MakesMeta, MakesAll, IsMade, IsMadeIn, IsMadeOf, LeavesMade, IsTooLong, FailsToMakeThese, FailsToMake, other_tables};
 ghost use Rattle.table_statements.specs.Calls.{IsDurable};
 
-use crate::{creating, further};
+use crate::creating;
 use sqlite::{Alter, Connection, Transaction, params};
+use table_forms::our_table::{OurTable, schema_tables};
+use table_forms::recognising::Recognised;
 use table_statements::failure::Failure;
 
 fn put<S: Alter>(tx: &mut Transaction<'_, S>, word: &str, value: &str) -> Result<(), Failure>
@@ -35,12 +37,11 @@ fn settle<S: Alter>(tx: &mut Transaction<'_, S>, store_dir: &str) -> Result<(), 
     requires { HasCleanDisk (state S.Store tx.old.conn.now) → IsMaking (meta ∷ other_tables) (state S.Store tx.old.conn.now) }
     ensures same_reference { tx.new.conn.ghost_name ≡ tx.old.conn.ghost_name }
     ensures makes { HasCleanDisk (state S.Store tx.new.conn.now) → OnOk result (MakesMeta store_dir.now (state S.Store tx.old.conn.now) (state S.Store tx.new.conn.now)) }
-    ensures making { HasCleanDisk (state S.Store tx.new.conn.now) → OnOk result (IsMaking other_tables (state S.Store tx.new.conn.now)) }
     ensures cause { HasCleanDisk (state S.Store tx.new.conn.now) → IfErr result (FailsToMakeThese (meta ∷ []) (IsTooLong store_dir.now) (IsSome (state S.Store tx.old.conn.now).step_limit) (state S.Store tx.old.conn.now) (state S.Store tx.new.conn.now)) }
     ensures kept { HasCleanDisk (state S.Store tx.new.conn.now) → KeepsCommit (state S.Store tx.old.conn.now) (state S.Store tx.new.conn.now) }
     ensures survives { Survives (state S.Store tx.old.conn.now) (state S.Store tx.new.conn.now) (λ _. ⊥) }
 {
-    creating::meta(tx)?;
+    creating::one(tx, OurTable::Meta)?;
     put(tx, "schema", "3")?;
     put(tx, "store-dir", store_dir)
 }
@@ -54,9 +55,7 @@ fn make_all<S: Alter>(tx: &mut Transaction<'_, S>, store_dir: &str) -> Result<()
     ensures survives { Survives (state S.Store tx.old.conn.now) (state S.Store tx.new.conn.now) (λ _. ⊥) }
 {
     settle(tx, store_dir)?;
-    creating::next(tx)?;
-    creating::last(tx)?;
-    further::both(tx)
+    creating::all(tx, &schema_tables(Recognised::Third)[1..])
 }
 
 #[tactic(auto, using(crate::proofs::Settles::committed_made))]

@@ -1,8 +1,8 @@
 -- Tests of one table after another: what the next may take for granted, what those that were passed say of what the connection showed at first, and why one fails.
-use Rattle.std.proofs.Common.{◌≡◌, ◌↔◌, ◌⊎◌, inl, inr, ◌<◌, ◌+◌, ◌&&◌, ℕ, zero, suc, List, [], ◌∷◌, Bool, true, false, IsTrue, drop, get_or, length, refl, sym, ap, subst, ◌∙◌, arith}
+use Rattle.std.proofs.Common.{◌≡◌, ◌↔◌, ◌⊎◌, inl, inr, ◌<◌, ◌+◌, ◌&&◌, ℕ, zero, suc, List, [], ◌∷◌, Bool, true, false, IsTrue, drop, length, refl, sym, ap, subst, ◌∙◌, arith}
 use Rattle.std.specs.List.{AllByRecursion}
 use Rattle.std.proofs.lemmas.Bool.{and_from}
-use Rattle.std.proofs.Math.Seq.{drop-length, drop-cons}
+use Rattle.std.proofs.Math.Seq.{drop-length}
 use Rattle.sqlite.specs.Effect.{Database}
 use Rattle.sqlite.specs.State.{State, HasCleanDisk, IsUnchanged, Survives}
 use Rattle.sqlite.proofs.Callers.{unchanged_then}
@@ -31,9 +31,6 @@ pub left_over : {T : Type 0} (P : T → Type 0) (n : ℕ) (ts : List T) → AllB
 left_over P zero ts all = all
 left_over P (suc n) [] all = all
 left_over P (suc n) (t ∷ ts) all = left_over P n ts all.1
-
-pub one_left : {T : Type 0} (ts : List T) (n : ℕ) (d : T) → n < length ts → drop n ts ≡ get_or ts n d ∷ drop (n + 1) ts
-one_left ts n d low = let next : suc n ≡ n + 1 = omega arith in drop-cons ts n d low ∙ ap (λ k. get_or ts n d ∷ drop k ts) next
 
 -- ---- the tests of a list of tables
 

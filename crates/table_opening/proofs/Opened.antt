@@ -11,8 +11,9 @@ use Rattle.table_forms.specs.declared.recognising.Recognised.{Recognised}
 use Rattle.table_forms.specs.declared.recognising.Recognised.TheVariants.{First, Second, Third, Nothing, Other}
 use Rattle.table_forms.specs.Standing.{Stands}
 use Rattle.table_statements.specs.Texts.{AreReadable, AreReadableRows, HasReadableRows}
-use Rattle.table_opening.specs.declared.our_table.OurTable.{OurTable}
-use Rattle.table_opening.specs.Tables.{schema_tables, form, HasOwnRowids, HasReadableTexts}
+use Rattle.table_forms.specs.declared.our_table.OurTable.{OurTable}
+use Rattle.table_forms.specs.OurTables.{schema_tables, form}
+use Rattle.table_opening.specs.Tables.{HasOwnRowids, HasReadableTexts}
 use Rattle.table_opening.specs.Opened.{IsRecognised, IsBySchema, IsReadyBy, IsFound, HasUnkeyed}
 use Rattle.sqlite.specs.Effect.{Database, IsDatabase}
 use Rattle.table_statements.specs.declared.failure.Failure.{Failure}

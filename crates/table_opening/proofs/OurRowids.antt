@@ -13,7 +13,7 @@ use Rattle.table_entries.proofs.GenerationLemmas as generations
 use Rattle.table_entries.proofs.RuntimeRootLemmas as runtime_roots
 use Rattle.table_entries.proofs.PieceLemmas as pieces
 use Rattle.table_entries.proofs.TempRootLemmas as temp_roots
-use Rattle.table_opening.specs.declared.our_table.OurTable.TheVariants.{Meta, Object, Refs, Outs, Permanent, UserRoot, Profile, Generation, Runtime, Piece, TempRoot}
+use Rattle.table_forms.specs.declared.our_table.OurTable.TheVariants.{Meta, Object, Refs, Outs, Permanent, UserRoot, Profile, Generation, Runtime, Piece, TempRoot}
 use Rattle.table_opening.specs.Tables.{rowids_text}
 use Rattle.table_opening.proofs.Asking.{Asks}
 use Rattle.table_opening.proofs.OwnRowids.{query}

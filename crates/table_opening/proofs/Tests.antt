@@ -19,9 +19,10 @@ use Rattle.table_entries.proofs.TempRootLemmas as temp_roots
 use Rattle.table_entries.proofs.Typed.{objects_typed, pieces_typed}
 use Rattle.table_entries.proofs.ReadableValues.{blob_readable}
 use Rattle.sqlite_tied.specs.Compute.{everything}
-use Rattle.table_opening.specs.declared.our_table.OurTable.{OurTable}
-use Rattle.table_opening.specs.declared.our_table.OurTable.TheVariants.{Meta, Object, Refs, Outs, Permanent, UserRoot, Profile, Generation, Runtime, Piece, TempRoot}
-use Rattle.table_opening.specs.Tables.{form, rowids_text, texts_text}
+use Rattle.table_forms.specs.declared.our_table.OurTable.{OurTable}
+use Rattle.table_forms.specs.declared.our_table.OurTable.TheVariants.{Meta, Object, Refs, Outs, Permanent, UserRoot, Profile, Generation, Runtime, Piece, TempRoot}
+use Rattle.table_forms.specs.OurTables.{form}
+use Rattle.table_opening.specs.Tables.{rowids_text, texts_text}
 use Rattle.table_opening.proofs.Asking.{Asks, asks_all}
 use Rattle.table_opening.proofs.ReadableRows.{AreOfUtf8, all_cells}
 use Rattle.table_opening.proofs.RowidQueries.{by_one, by_two, by_three}

@@ -1,39 +1,12 @@
--- Our tables as they are tested: those of each schema, their forms, and the queries of their rowids and of their texts.
-use Rattle.std.specs.Prelude.{ℕ, List, [], ◌∷◌, ◌++◌, codes}
-use Rattle.sqlite_schema.specs.declared.schema.Table.{Table}
+-- Our tables as they are tested: by the queries of their rowids and of their texts.
+use Rattle.std.specs.Prelude.{ℕ, List, codes}
 use Rattle.sqlite.specs.Effect.{Database}
-use Rattle.table_forms.specs.Forms.{meta, object, refs, outs, permanent, user_root, profile, generation, runtime, piece, temp_root}
-use Rattle.table_forms.specs.declared.recognising.Recognised.{Recognised}
-use Rattle.table_forms.specs.declared.recognising.Recognised.TheVariants.{First, Second, Third, Nothing, Other}
+use Rattle.table_forms.specs.OurTables.{form}
 use Rattle.table_statements.specs.Contents.{rows_named}
 use Rattle.table_statements.specs.Texts.{AreReadableRows}
 use Rattle.table_statements.specs.Calls.{IsKeyed}
-use Rattle.table_opening.specs.declared.our_table.OurTable.{OurTable}
-use Rattle.table_opening.specs.declared.our_table.OurTable.TheVariants.{Meta, Object, Refs, Outs, Permanent, UserRoot, Profile, Generation, Runtime, Piece, TempRoot}
-
-abbrev nine : List OurTable
-nine = Meta ∷ Object ∷ Refs ∷ Outs ∷ Permanent ∷ UserRoot ∷ Profile ∷ Generation ∷ Runtime ∷ []
-
--- the tables of a schema
-abbrev pub schema_tables : Recognised → List OurTable
-schema_tables First = nine
-schema_tables Second = nine ++ Piece ∷ []
-schema_tables Third = nine ++ Piece ∷ TempRoot ∷ []
-schema_tables Nothing = []
-schema_tables Other = []
-
-abbrev pub form : OurTable → Table
-form Meta = meta
-form Object = object
-form Refs = refs
-form Outs = outs
-form Permanent = permanent
-form UserRoot = user_root
-form Profile = profile
-form Generation = generation
-form Runtime = runtime
-form Piece = piece
-form TempRoot = temp_root
+use Rattle.table_forms.specs.declared.our_table.OurTable.{OurTable}
+use Rattle.table_forms.specs.declared.our_table.OurTable.TheVariants.{Meta, Object, Refs, Outs, Permanent, UserRoot, Profile, Generation, Runtime, Piece, TempRoot}
 
 -- it shows the rowid of each row
 abbrev pub rowids_text : OurTable → List ℕ

@@ -6,7 +6,7 @@ pub mod file;
 mod measuring;
 pub mod opening;
 mod options;
-mod our_table;
+mod queries;
 mod rowids;
 mod testing;
 mod texts;

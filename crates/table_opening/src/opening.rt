@@ -5,16 +5,16 @@ ghost use Rattle.sqlite.specs.Effect.{IsDatabase};
 ghost use Rattle.sqlite.specs.State.{HasCleanDisk, IsLive, IsUnchanged, Survives};
 ghost use Rattle.sqlite.specs.Held.{state};
 ghost use Rattle.table_forms.specs.Finding.{HasNone, HasFirst, HasSecond, HasThird};
+ghost use Rattle.table_forms.specs.OurTables.{schema_tables};
 ghost use Rattle.table_statements.specs.Calls.{KeepsShown};
-ghost use Rattle.table_opening.specs.Tables.{schema_tables};
 ghost use Rattle.table_opening.specs.Opened.{IsFound, IsRecognised, FailsToOpen};
 ghost use Rattle.table_statements.specs.Failures.{FailsToTest};
 ghost use Rattle.table_forms.specs.declared.recognising.Recognised.TheVariants.{First, Second, Third, Nothing};
 
-use crate::our_table::schema_tables;
 use crate::testing;
 use sqlite::{Alter, Connection};
 use std::alloc::Global;
+use table_forms::our_table::schema_tables;
 use table_forms::recognising::{self, Recognised};
 use table_statements::failure::Failure;
 

@@ -6,14 +6,15 @@ ghost use Rattle.sqlite.specs.Effect.{IsDatabase};
 ghost use Rattle.sqlite.specs.State.{HasCleanDisk, Survives, IsUnchanged};
 ghost use Rattle.sqlite.specs.Held.{state};
 ghost use Rattle.table_forms.specs.Standing.{Stands};
+ghost use Rattle.table_forms.specs.OurTables.{form};
 ghost use Rattle.table_statements.specs.Calls.{KeepsShown};
 ghost use Rattle.table_statements.specs.Failures.{FailsToTest};
-ghost use Rattle.table_opening.specs.Tables.{form, HasOwnRowids, HasReadableTexts};
+ghost use Rattle.table_opening.specs.Tables.{HasOwnRowids, HasReadableTexts};
 
-use crate::our_table::OurTable;
-use crate::{rowids, texts};
+use crate::{queries, rowids, texts};
 use sqlite::{Alter, Connection};
 use std::alloc::Global;
+use table_forms::our_table::OurTable;
 use table_statements::failure::Failure;
 
 /// Whether each text of the table is UTF-8. Fails with `Disk` if two of its rows share a rowid, or a rowid is no integer. Nothing changes.
@@ -31,8 +32,8 @@ fn one<S: Alter>(alloc: Global, conn: &mut Connection<S>, table: OurTable) -> Re
     ensures same { HasCleanDisk (state S.Store conn.new) → KeepsShown (state S.Store conn.old) (state S.Store conn.new) }
     ensures survives { Survives (state S.Store conn.old) (state S.Store conn.new) (λ _. ⊥) }
 {
-    rowids::check(alloc, conn, table.rowids())?;
-    texts::check(conn, table.texts())
+    rowids::check(alloc, conn, queries::rowids(table))?;
+    texts::check(conn, queries::texts(table))
 }
 
 /// The same of some tables, one after another.

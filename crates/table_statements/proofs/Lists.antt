@@ -1,9 +1,9 @@
--- Two lists as one, one more at the end of a list, and a number above each of a list.
-use Rattle.std.proofs.Common.{◌≡◌, ◌<◌, ◌≤◌, ◌+◌, ◌-◌, inl, inr, ℕ, List, [], ◌∷◌, ◌++◌, length, length-append, get_or, Some, sym, ap, subst₂, ◌∙◌, arith}
+-- Two lists as one, one more at the end of a list, what is left of a list, and a number above each of a list.
+use Rattle.std.proofs.Common.{◌≡◌, ◌<◌, ◌≤◌, ◌+◌, ◌-◌, inl, inr, ℕ, suc, drop, List, [], ◌∷◌, ◌++◌, length, length-append, get_or, Some, sym, ap, subst₂, ◌∙◌, arith}
 use Rattle.std.specs.Prelude.{fold, max, slice_get}
 use Rattle.std.specs.List.{AllByRecursion, AllAdjacentBelow}
 use Rattle.std.proofs.Math.ListN.{get_or-append}
-use Rattle.std.proofs.Math.Seq.{get_or-append_seam}
+use Rattle.std.proofs.Math.Seq.{get_or-append_seam, drop-cons}
 use Rattle.std.proofs.lemmas.Option.{slice_get-get_or, slice_get_within, get_or_from_slice_get}
 use Rattle.std.proofs.Math.Nat.{eq-or-lt_of_le}
 
@@ -22,6 +22,10 @@ rises g (x ∷ xs) n = omega (arith, rises g xs (max n (g x + 1)))
 pub all_below : {X : Type 0} (g : X → ℕ) (xs : List X) (n : ℕ) → AllByRecursion (λ x. g x < fold (λ m x. max m (g x + 1)) n xs) xs
 all_below g [] n = tt
 all_below g (x ∷ xs) n = (omega (arith, rises g xs (max n (g x + 1))), all_below g xs (max n (g x + 1)))
+
+-- what is left of a list begins with the next
+pub one_left : {X : Type 0} (xs : List X) (n : ℕ) (d : X) → n < length xs → drop n xs ≡ get_or xs n d ∷ drop (n + 1) xs
+one_left xs n d low = let next : suc n ≡ n + 1 = omega arith in drop-cons xs n d low ∙ ap (λ k. get_or xs n d ∷ drop k xs) next
 
 -- ---- one more at the end of a list, in which each element is so beside the next
 

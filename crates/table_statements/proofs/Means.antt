@@ -53,7 +53,7 @@ use Rattle.sqlite_ast.specs.declared.Expr.TheOpen.{Expr-F}
 use Rattle.sqlite_resolve.specs.Scope.{column, term_of, find as found_in, column_at}
 use Rattle.sqlite_resolve.specs.declared.scope.Found.TheVariants as found_as
 use Rattle.sqlite_resolve.specs.Lowering.{spend, begin, finish}
-use Rattle.std.specs.Prelude.{nat_lt, nat_le, length, ◌-◌, unwrap_or}
+use Rattle.std.specs.Prelude.{nat_lt, nat_le, length, ◌-◌}
 use Rattle.sqlite_resolve.specs.Write.{over, simple, deleted, picked}
 use Rattle.sqlite_resolve.specs.Program.{program}
 use Rattle.sqlite_resolve.specs.Compile.{delete}

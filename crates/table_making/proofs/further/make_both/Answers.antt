@@ -1,16 +1,23 @@
-use Rattle.std.proofs.Common.{arith}
+use Rattle.std.proofs.Common.{[], ◌∷◌, refl, arith}
+use Rattle.std.specs.Fmt.{digits}
 use Rattle.sqlite.specs.State.{HasCleanDisk}
 use Rattle.sqlite.specs.Held.{state}
+use Rattle.sqlite_tied.specs.Compute.{everything}
+use Rattle.table_forms.specs.Forms.{piece, temp_root}
 use Rattle.table_statements.proofs.Scans.{on_ok}
-use Rattle.table_making.proofs.FurtherMade.{making_both, makes_both}
+use Rattle.table_making.proofs.FurtherMade.{making_further, makes_both}
 use Rattle.table_making.proofs.further.make_both.Goals as goal
 
-pub both-requires : goal.both-requires
-both-requires g c clean = making_both (state g.S.Store c.args.tx.now.conn.now) (c.requires.under clean) (c.requires.first clean)
+pub all-requires-clause-making : goal.all-requires-clause-making
+all-requires-clause-making g c clean = making_further (piece ∷ temp_root ∷ []) (state g.S.Store c.args.tx.now.conn.now) (c.requires.under clean) (λ up. let h = c.requires.first clean up in ((h.1, (h.2, tt)), h.3))
+
+pub all-requires-clause-apart : goal.all-requires-clause-apart
+unfolding digits everything
+all-requires-clause-apart g c = refl
 
 pub returns-clause-done : goal.returns-clause-done
 returns-clause-done g c clean =
     let old = state g.S.Store c.args.tx.now.conn.now in
-    let new = state g.S.Store c.both.new.tx.conn.now in
-    let early : HasCleanDisk old = omega (arith, c.both.ensures.survives.clean) in
-    on_ok c.both.result _ _ (λ made. makes_both old new (c.requires.under early) (c.requires.first early made.was_open) made) (c.both.ensures.makes clean)
+    let new = state g.S.Store c.all.new.tx.conn.now in
+    let early : HasCleanDisk old = omega (arith, c.all.ensures.survives.clean) in
+    on_ok c.all.result _ _ (λ made. makes_both old new (c.requires.under early) (c.requires.first early made.was_open) made) (c.all.ensures.makes clean)

@@ -1,16 +1,23 @@
-use Rattle.std.proofs.Common.{arith}
+use Rattle.std.proofs.Common.{[], ◌∷◌, refl, arith}
+use Rattle.std.specs.Fmt.{digits}
 use Rattle.sqlite.specs.State.{HasCleanDisk}
 use Rattle.sqlite.specs.Held.{state}
+use Rattle.sqlite_tied.specs.Compute.{everything}
+use Rattle.table_forms.specs.Forms.{temp_root}
 use Rattle.table_statements.proofs.Scans.{on_ok}
-use Rattle.table_making.proofs.FurtherMade.{making_last, makes_last}
+use Rattle.table_making.proofs.FurtherMade.{making_further, makes_last}
 use Rattle.table_making.proofs.further.make_temp_root.Goals as goal
 
-pub temp_root-requires : goal.temp_root-requires
-temp_root-requires g c clean = making_last (state g.S.Store c.args.tx.now.conn.now) (c.requires.under clean) (c.requires.second clean)
+pub all-requires-clause-making : goal.all-requires-clause-making
+all-requires-clause-making g c clean = making_further (temp_root ∷ []) (state g.S.Store c.args.tx.now.conn.now) (c.requires.under clean) (λ up. let h = c.requires.second clean up in ((h.2, tt), h.3))
+
+pub all-requires-clause-apart : goal.all-requires-clause-apart
+unfolding digits everything
+all-requires-clause-apart g c = refl
 
 pub returns-clause-done : goal.returns-clause-done
 returns-clause-done g c clean =
     let old = state g.S.Store c.args.tx.now.conn.now in
-    let new = state g.S.Store c.temp_root.new.tx.conn.now in
-    let early : HasCleanDisk old = omega (arith, c.temp_root.ensures.survives.clean) in
-    on_ok c.temp_root.result _ _ (λ made. makes_last old new (c.requires.under early) (c.requires.second early made.was_open) made) (c.temp_root.ensures.makes clean)
+    let new = state g.S.Store c.all.new.tx.conn.now in
+    let early : HasCleanDisk old = omega (arith, c.all.ensures.survives.clean) in
+    on_ok c.all.result _ _ (λ made. makes_last old new (c.requires.under early) (c.requires.second early made.was_open) made) (c.all.ensures.makes clean)

@@ -5,7 +5,7 @@ use Rattle.table_forms.specs.Forms.{all_tables}
 use Rattle.table_forms.specs.Finding.{IsFree}
 use Rattle.table_making.specs.Making.{IsMaking}
 use Rattle.table_making.proofs.Made.{together}
-use Rattle.table_making.proofs.Settles.{names_free, names_unawaited}
+use Rattle.table_making.proofs.Settles.{making_free}
 use Rattle.table_making.proofs.making.make_and_commit.Goals as goal
 
 pub make_all-requires : goal.make_all-requires
@@ -13,4 +13,4 @@ make_all-requires g c =
     let old = state g.S.Store c.args.conn.now in
     let free = λ (clean : HasCleanDisk old) (is_open : IsTrue old.is_open). let none = c.requires.none clean is_open in together (λ t. IsFree old.now.schema t.name) none.free none.further in
     subst (λ h. HasCleanDisk (state g.S.Store h) → IsMaking all_tables (state g.S.Store h)) (sym c.transaction-tx.ensures.begun)
-    (λ clean. record { sound = c.requires.sound clean; free = λ is_open. names_free old.now.schema all_tables (free clean is_open); unawaited = λ is_open. names_unawaited old.now.schema all_tables (free clean is_open); counted = λ is_open. (c.requires.none clean is_open).counted; mode = refl })
+    (λ clean. making_free all_tables _ (c.requires.sound clean) (λ up. (free clean up, (c.requires.none clean up).counted)) refl)

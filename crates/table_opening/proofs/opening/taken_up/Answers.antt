@@ -3,7 +3,7 @@ use Rattle.std.specs.List.{AllByRecursion}
 use Rattle.sqlite.specs.State.{HasCleanDisk}
 use Rattle.sqlite.specs.Held.{state}
 use Rattle.table_forms.specs.Standing.{Stands}
-use Rattle.table_opening.specs.Tables.{form}
+use Rattle.table_forms.specs.OurTables.{form}
 use Rattle.table_opening.proofs.Opened.{Tested, found_by, stand_by}
 use Rattle.table_opening.proofs.opening.taken_up.Goals as goal
 

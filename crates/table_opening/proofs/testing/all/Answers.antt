@@ -1,10 +1,11 @@
 use Rattle.std.proofs.Common.{get_or, arith}
 use Rattle.sqlite.specs.State.{HasCleanDisk}
 use Rattle.sqlite.specs.Held.{state}
+use Rattle.table_statements.proofs.Lists.{one_left}
 use Rattle.table_statements.proofs.TestFailures.{passed_on, survives_both}
-use Rattle.table_opening.specs.declared.our_table.OurTable.TheVariants.{Meta}
+use Rattle.table_forms.specs.declared.our_table.OurTable.TheVariants.{Meta}
 use Rattle.table_opening.specs.Tables.{HasOwnRowids, HasReadableTexts}
-use Rattle.table_opening.proofs.OneAfterAnother.{one_left, next_tested, next_fails}
+use Rattle.table_opening.proofs.OneAfterAnother.{next_tested, next_fails}
 use Rattle.table_opening.proofs.testing.all.Goals as goal
 
 pub tables-preserved : goal.tables-preserved

@@ -6,7 +6,8 @@ use Rattle.table_forms.specs.Standing.{Stands}
 use Rattle.table_statements.specs.Queries.{IsSelect}
 use Rattle.table_statements.proofs.Scans.{err_with}
 use Rattle.table_statements.proofs.TestFailures.{passed_on, fails_after}
-use Rattle.table_opening.specs.Tables.{form, HasOwnRowids, HasReadableTexts}
+use Rattle.table_forms.specs.OurTables.{form}
+use Rattle.table_opening.specs.Tables.{HasOwnRowids, HasReadableTexts}
 use Rattle.table_opening.proofs.OwnRowids.{ShowsApart}
 use Rattle.table_opening.proofs.ReadableRows.{if_ok, Tells}
 use Rattle.table_opening.proofs.RowidFailures.{FailsToCheck}
