@@ -1,8 +1,7 @@
--- Tests of one table after another: what the next may take for granted, what those that were passed say of what the connection showed at first, and why one fails.
-use Rattle.std.proofs.Common.{◌≡◌, ◌↔◌, ◌⊎◌, inl, inr, ◌<◌, ◌+◌, ◌&&◌, ℕ, zero, suc, List, [], ◌∷◌, Bool, true, false, IsTrue, drop, length, refl, sym, ap, subst, ◌∙◌, arith}
+-- Tests of one table after another: what those that were passed say of what the connection showed at first, and why one fails.
+use Rattle.std.proofs.Common.{◌≡◌, ◌↔◌, ◌⊎◌, inl, inr, ◌+◌, ◌&&◌, ℕ, zero, suc, List, [], ◌∷◌, Bool, true, false, IsTrue, drop, refl, sym, subst}
 use Rattle.std.specs.List.{AllByRecursion}
 use Rattle.std.proofs.lemmas.Bool.{and_from}
-use Rattle.std.proofs.Math.Seq.{drop-length}
 use Rattle.sqlite.specs.Effect.{Database}
 use Rattle.sqlite.specs.State.{State, HasCleanDisk, IsUnchanged, Survives}
 use Rattle.sqlite.proofs.Callers.{unchanged_then}
@@ -13,17 +12,6 @@ use Rattle.table_statements.specs.declared.failure.Failure.TheVariants.{Memory, 
 use Rattle.table_statements.proofs.RowByRow.{unchanged_before}
 use Rattle.table_statements.proofs.TestFailures.{fails_after}
 use Rattle.table_statements.proofs.Truths.{and_so}
-
--- ---- what the next test may take for granted
-
-module _ (a b : State) (same : HasCleanDisk b → KeepsShown a b) (survives : Survives a b (λ _. ⊥)) where
-  -- what was so of the database that an open connection showed
-  pub holds_still : (P : Database → Type 0) → (HasCleanDisk a → IsTrue a.is_open → P a.now) → HasCleanDisk b → IsTrue b.is_open → P b.now
-  holds_still P was clean is_open = let kept = same clean in subst P (sym (kept.now is_open)) (was (omega (arith, survives.clean, clean)) (kept.was_open is_open))
-
-  -- that nothing is uncommitted
-  pub settled_still : (HasCleanDisk a → IsTrue a.is_open → a.now ≡ a.committed) → HasCleanDisk b → IsTrue b.is_open → b.now ≡ b.committed
-  settled_still was clean is_open = let kept = same clean in kept.now is_open ∙ was (omega (arith, survives.clean, clean)) (kept.was_open is_open) ∙ sym (kept.committed is_open)
 
 -- ---- what is left of a list
 
@@ -42,27 +30,6 @@ module _ {T : Type 0} (Keyed Readable : Database → T → Type 0) (ts : List T)
     pub kept : KeepsShown a b
     pub keyed : AllByRecursion (Keyed a.now) (drop n ts) → AllByRecursion (Keyed a.now) ts
     pub told : IsTrue readable × AllByRecursion (Readable a.now) (drop n ts) ↔ AllByRecursion (Readable a.now) ts
-
-  pub none_tested : AreTested 0 a true
-  none_tested = record {
-    begun = inl refl;
-    rests = λ up. (record { was_open = up; is_open = up; now_is = refl; committed_is = refl; mode = refl }, record { changes = refl; last_rowid = refl }, refl);
-    kept = record { was_open = λ up. up; now = λ up. refl; committed = λ up. refl };
-    keyed = λ all. all;
-    told = (λ both. both.1, λ all. (refl, all));
-  }
-
-  -- at the end
-  pub all_tested : (n : ℕ) (b : State) (readable : Bool) → n ≡ length ts → 0 < length ts → AreTested n b readable → IsUnchanged a b × AllByRecursion (Keyed a.now) ts × (IsTrue readable ↔ AllByRecursion (Readable a.now) ts)
-  all_tested n b readable end some it =
-      let none : drop n ts ≡ [] = ap (λ k. drop k ts) end ∙ drop-length ts in (
-        elim it.begun [
-          | inl at ↦ absurd (omega (arith, at, end, some))
-          | inr up ↦ it.rests up
-        ],
-        it.keyed (subst (AllByRecursion (Keyed a.now)) (sym none) tt),
-        (λ yes. it.told.0 (yes, subst (AllByRecursion (Readable a.now)) (sym none) tt), λ all. (it.told.1 all).0),
-      )
 
   module _ (n : ℕ) (b d : State) (p : Bool) (t : T) (split : drop n ts ≡ t ∷ drop (n + 1) ts) (it : AreTested n b p) where
     -- one more was tested

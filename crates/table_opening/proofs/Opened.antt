@@ -171,9 +171,6 @@ unkeyed_by Third d some by none = (inr (inr (by.third.0 refl)), λ all. none (un
 unkeyed_by Nothing d some by none = absurd (omega (arith, some))
 unkeyed_by Other d some by none = absurd (omega (arith, some))
 
-pub some_tables : (r : Recognised) → 0 < length (schema_tables r) → r ≢ Nothing
-some_tables r some is = let none = subst (λ x. 0 < length (schema_tables x)) is some in absurd (omega (arith, none))
-
 -- what the file held is what the last commit still is
 pub held_still : (image : Image) (old new : State) → new.committed ≡ old.committed → FindsIn image old → FindsIn image new
 held_still image old new same h = record { holds = λ db held. ap (λ (d : Database). d.trees) same ∙ h.holds db held; reads = subst (λ (d : Database). AreFoundIn image d.trees) (sym same) h.reads }
