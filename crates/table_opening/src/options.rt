@@ -13,7 +13,8 @@ use sqlite::{Error, ErrorCode, Options};
 use std::hash::{BuildHasher, RandomState};
 use std::rt::HostRuntime;
 
-/// How many bytes of pages are kept in any case: 2,000 pages of a file that `sqlite` makes.
+/// How many bytes of pages are kept in any case: 2,000 pages of a file that `sqlite` makes. Each place takes its memory, and some
+/// microseconds, when the file is opened, whether a page comes to lie in it or not.
 const LEAST_BYTES: u64 = 8_192_000;
 
 /// How many bytes of pages are kept at most: 64 MiB.
