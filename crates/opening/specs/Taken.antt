@@ -10,7 +10,7 @@ use Rattle.table_forms.specs.Forms.{piece, temp_root}
 use Rattle.table_forms.specs.Finding.{HasNone, HasFirst, HasSecond, HasThird}
 use Rattle.table_statements.specs.Contents.{contents_of}
 use Rattle.table_statements.specs.Texts.{AreReadable}
-use Rattle.table_statements.specs.Frozen.{KeepsFrozen}
+use Rattle.table_statements.specs.Frozen.{SparesFrozen}
 use Rattle.table_statements.specs.Calls.{Remains, HasFurther, KeepsTheirs}
 use Rattle.table_making.specs.Making.{LeavesMade, all_created}
 use Rattle.migration.specs.Migrated.{lacking, migrated_contents, LeavesMigrated}
@@ -83,7 +83,7 @@ module _ {S : Type 0} (g : Ghosts S) where
     pub schema : (state g t.connection).now.schema ≡ all_created db.schema (lacking from)
     pub contents_are : contents_of (state g t.connection).now ≡ migrated_contents from dir (contents_of db)
     pub theirs : KeepsTheirs db (state g t.connection).now
-    pub frozen : KeepsFrozen db (state g t.connection).now.trees
+    pub frozen : SparesFrozen db (state g t.connection).now
     pub told : Tells g t (world_in (contents_of db))
 
   -- one of these
