@@ -18,7 +18,7 @@ use table_forms::our_table::OurTable;
 use table_statements::failure::Failure;
 
 /// Whether each text of the table is UTF-8. Fails with `Disk` if two of its rows share a rowid, or a rowid is no integer. Nothing changes.
-/// No archive is read, nor the bytes of a piece.
+/// No archive is shown, nor the bytes of a piece.
 fn one<S: Alter>(alloc: Global, conn: &mut Connection<S>, table: OurTable) -> Result<bool, Failure>
     requires alone { conn.old.in_transaction ≡ false }
     requires settled { HasCleanDisk (state S.Store conn.old) → IsTrue (state S.Store conn.old).is_open → (state S.Store conn.old).now ≡ (state S.Store conn.old).committed }

@@ -46,8 +46,8 @@ AnswersSourcePath config o known out out' err err' status =
     AnswersUnder (config_of config) (λ s. AnswersTo (object_fault s.store_dir o.0 o.1) (source_path_answer s.store_dir o.0 (map (base_of s.store_dir) o.1)) known out out' err err' status)
     out out' err err' status
 
--- what a subcommand that asks nothing of a store itself answers by the text of the configuration: `who` all on the first writer; there are no
--- others. The first argument says how the store of a file is served.
+-- What a subcommand that makes no request of its own answers by the text of the configuration: `who`, all on the first writer, `ls`, the two
+-- paths, and `serve`. All others make one, and aren't answered so. The first argument says how the store of a file is served.
 abbrev pub AnswersAlone : Serving → List ℕ → Option Text → Option (List ℕ) → Option (List ℕ) → Asked → Option (List ℕ) → Option (List ℕ) → Option (List ℕ) → Option (List ℕ) → Option (List ℕ) → ℕ → Type 0
 AnswersAlone of_file config db user group who known out out' err err' status = AnswersWho (verdict_of config user group) out out' status × Keeps err err'
 AnswersAlone of_file config db user group ls known out out' err err' status =
