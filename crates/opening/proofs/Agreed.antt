@@ -51,4 +51,4 @@ module _ {S : Type 0} (g : Ghosts S) (conn : Held S) (old : State) (own : List �
     (made : HasCleanDisk (state g conn) → IsMade own old (state g conn))
   where
     pub took_new : HasNone old.now.schema → HasCleanDisk (state g conn) → TakesNew g old.now (record { connection = conn; dir = own; outline = outline })
-    took_new none clean = record { none = none; is_open = (made clean).is_open; theirs = (made clean).theirs; told = made_tells g conn old own outline valid is made }
+    took_new none clean = record { none = none; is_open = (made clean).is_open; others = record { theirs = (made clean).theirs; frozen = (made clean).frozen }; told = made_tells g conn old own outline valid is made }

@@ -1,5 +1,5 @@
 -- What was found of our tables, by the schema that was recognised.
-use Rattle.std.proofs.Common.{◌≡◌, ◌∙◌, refl, sym, ap, subst}
+use Rattle.std.proofs.Common.{◌≡◌, ◌∙◌, ℕ, List, refl, sym, ap, subst}
 use Rattle.std.specs.FinMap as finite
 use Rattle.std.proofs.lemmas.Bool.{false≢true}
 use Rattle.sqlite.specs.Effect.{Database}
@@ -7,14 +7,15 @@ use Rattle.sqlite.specs.State.{State}
 use Rattle.table_forms.specs.Forms.{piece, temp_root}
 use Rattle.table_forms.specs.Finding.{HasNone, IsFree}
 use Rattle.table_forms.specs.declared.recognising.Recognised.{Recognised}
-use Rattle.table_forms.specs.declared.recognising.Recognised.TheVariants.{First, Second, Third, Nothing}
+use Rattle.table_forms.specs.declared.recognising.Recognised.TheVariants.{First, Second, Third, Nothing, Other}
 use Rattle.table_statements.specs.Contents.{contents_of, map_of, numbered_cmp, is_piece, piece_of, kept_cmp, is_kept, kept_of}
 use Rattle.table_statements.specs.Texts.{AreReadable}
 use Rattle.table_statements.specs.Calls.{HasFurther, IsOurs, IsWhole}
 use Rattle.table_entries.proofs.FurtherTables.{if_any_free}
 use Rattle.table_opening.specs.Opened.{IsFound, IsReadyBy}
 use Rattle.world.specs.Rows.{Schema, one, two, three}
-use Rattle.opening.specs.Taken.{HasFurtherOf, HasTablesOf, IsFoundBy}
+use Rattle.world.specs.Told.{IsSoundBy}
+use Rattle.opening.specs.Taken.{HasFurtherOf, HasTablesOf, IsFoundBy, IsNoStore}
 
 -- ---- the further tables, as a schema has them
 
@@ -109,3 +110,20 @@ module _ (r : Recognised) (s : State) (found : IsFound r s) where
 
   pub is_none : r ≡ Nothing → HasNone s.now.schema
   is_none is = found.by_schema.nothing.0 is
+
+  -- where it is anything else, there is no store and not nothing
+  pub is_other : r ≡ Other → IsNoStore s.now
+  is_other is = (
+    λ none. absurd (let it : Other ≡ Nothing = sym is ∙ found.by_schema.nothing.1 none in cc),
+    λ d holds. no holds.0 (sym is ∙ recognised holds.0 holds.1.tables holds.1.readable),
+  )
+    where
+      no : (schema : Schema) → Other ≡ as_recognised schema → ⊥
+      no one it = absurd (let same : Other ≡ First = it in cc)
+      no two it = absurd (let same : Other ≡ Second = it in cc)
+      no three it = absurd (let same : Other ≡ Third = it in cc)
+
+-- ---- a schema by which the rows aren't sound
+
+pub unsound : (schema : Schema) (db : Database) → IsFoundBy schema db → ((dir : List ℕ) → ¬ IsSoundBy schema dir (contents_of db)) → IsNoStore db
+unsound schema db found none = (found.some, λ d holds. none d (subst (λ (x : Schema). IsSoundBy x d (contents_of db)) (found.only holds.0 holds.1.tables) holds.1.sound))

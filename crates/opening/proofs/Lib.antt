@@ -1,3 +1,4 @@
+pub mod InTheWay
 pub mod Joined
 pub mod Found
 pub mod Agreed

@@ -19,6 +19,12 @@ module _ {T E : Type 0} (f : T → State) (h : E → State) where
   wider (Ok t) a P Q more s = survives_weaker a (f t) P Q (λ clean db left. more db left) s
   wider (Err e) a P Q more s = survives_weaker a (h e) P Q (λ clean db left. more db left) s
 
+  -- and what was so at the start goes with it
+  pub with_before : (r : Result T E) (a : State) (A : Type 0) (P Q : Trees → Type 0) → (HasCleanDisk a → A) → ((db : Trees) → A → P db → Q db)
+      → MatchResult r (λ t. Survives a (f t) P) (λ e. Survives a (h e) P) → MatchResult r (λ t. Survives a (f t) Q) (λ e. Survives a (h e) Q)
+  with_before (Ok t) a A P Q was more s = survives_weaker a (f t) P Q (λ clean db left. more db (was (before a (f t) P s clean)) left) s
+  with_before (Err e) a A P Q was more s = survives_weaker a (h e) P Q (λ clean db left. more db (was (before a (h e) P s clean)) left) s
+
   -- what was taken up is one of more
   pub among : (r : Result T E) (P Q : T → Type 0) → ((t : T) → P t → Q t) → IfOk r (λ t. HasCleanDisk (f t) → P t) → IfOk r (λ t. HasCleanDisk (f t) → Q t)
   among (Ok t) P Q more took = λ clean. more t (took clean)
@@ -54,3 +60,11 @@ module _ {T E : Type 0} (f : T → State) (h : E → State) where
               → IfErr q (λ e. HasCleanDisk (h e) → IsCause dir b.now (k e)) → IfErr q (λ e. HasCleanDisk (h e) → IsCause dir a.now (k e))
           by (Ok t) s later = tt
           by (Err e) s later = λ clean. subst (λ (x : Database). IsCause dir x (k e)) (same (before b (h e) (LeavesTaken dir b.now) s clean)).0.now_is (later clean)
+
+      pub same_took : (P : Database → T → Type 0) → IfOk r (λ t. HasCleanDisk (f t) → P b.now t) → IfOk r (λ t. HasCleanDisk (f t) → P a.now t)
+      same_took P = by r next
+        where
+          by : (q : Result T E) → MatchResult q (λ t. Survives b (f t) (LeavesTaken dir b.now)) (λ e. Survives b (h e) (LeavesTaken dir b.now))
+              → IfOk q (λ t. HasCleanDisk (f t) → P b.now t) → IfOk q (λ t. HasCleanDisk (f t) → P a.now t)
+          by (Ok t) s later = λ clean. subst (λ (x : Database). P x t) (same (before b (f t) (LeavesTaken dir b.now) s clean)).0.now_is (later clean)
+          by (Err e) s later = tt

@@ -1,2 +1,3 @@
+pub mod InTheWay
 pub mod Taken
 pub mod Opened

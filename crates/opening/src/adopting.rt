@@ -81,7 +81,8 @@ fn take_unlimited<S: Alter>(
 ///
 /// # Errors
 ///
-/// `BadSchema` where something of ours is there that isn't a store, and then `OtherStoreDir` where it is that of another
+/// `BadSchema` where something of ours is there that isn't a store, or somebody else's tables stand in the way of ours: they act on one
+/// that is there, wait for one that isn't, or keep one from being made. Then `OtherStoreDir` where it is the store of another
 /// directory; a failure of the database, or want of memory.
 pub fn adopt<S: Alter>(
     alloc: Global,

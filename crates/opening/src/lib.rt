@@ -4,10 +4,12 @@
 mod adopting;
 mod earlier;
 mod files;
+mod laws;
 mod reading;
 mod refusing;
 mod taking;
 
 pub use adopting::adopt;
 pub use files::open;
+pub use laws::no_store_is_the_rest;
 pub use refusing::{Cause, Unadopted, Unopened};

@@ -8,7 +8,8 @@ use table_statements::failure::Failure;
 /// Why a database isn't taken up.
 #[derive(Clone, Copy, Debug, PartialEq, Eq)]
 pub enum Cause {
-    /// Something of ours is there, but no store: a table lacks or has another form, or the rows aren't sound.
+    /// Something of ours is there, but no store: a table lacks or has another form, or the rows aren't sound. Or somebody else's tables
+    /// stand in the way of ours, which may be there soundly, or not at all: they act on one, wait for one, or keep one from being made.
     BadSchema,
     /// It is the store of another directory.
     OtherStoreDir,

@@ -15,7 +15,7 @@ use sqlite_schema::schema::Schema;
 /// missing that can be made, each table that counts its rowids has its counter.
 #[derive(Clone, Copy, Debug, PartialEq, Eq)]
 pub enum Recognised {
-    /// None of our eleven names is taken.
+    /// None of our eleven names is taken, no foreign key waits for one, and each table that counts its rowids has its counter.
     Nothing,
     /// The nine tables of the first schema, and no further one.
     First,

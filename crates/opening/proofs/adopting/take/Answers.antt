@@ -3,8 +3,10 @@ use Rattle.sqlite.specs.Held.{state}
 use Rattle.table_making.specs.Making.{LeavesMade}
 use Rattle.world.specs.Rows.{one, two}
 use Rattle.opening.specs.Taken.{TakesOver, TakesMigrated, TakesUp, LeavesBrought, LeavesTaken}
-use Rattle.opening.proofs.Found.{first_found, second_found, third_found}
-use Rattle.opening.proofs.Passed.{wider, among}
+use Rattle.table_forms.specs.Finding.{HasNone}
+use Rattle.opening.proofs.Found.{first_found, second_found, third_found, is_none, is_other}
+use Rattle.opening.proofs.InTheWay.{no_store_cause}
+use Rattle.opening.proofs.Passed.{wider, with_before, among}
 use Rattle.opening.proofs.Lasting.{both_durable}
 use Rattle.opening.proofs.adopting.take.Goals as goal
 
@@ -35,7 +37,8 @@ returns-in-Third-clause-took g c =
 pub returns-in-Nothing-clause-survives : goal.returns-in-Nothing-clause-survives
 returns-in-Nothing-clause-survives g c =
     let a = state g.S.Store c.args.conn in
-    wider (λ t. state g.S.Store t.connection) (λ e. state g.S.Store e.conn) c.take_new.result a (LeavesMade c.args.dir.now a.now) (LeavesTaken c.args.dir.now a.now) (λ db left. inl left) c.take_new.ensures.survives
+    with_before (λ t. state g.S.Store t.connection) (λ e. state g.S.Store e.conn) c.take_new.result a (HasNone a.now.schema) (LeavesMade c.args.dir.now a.now) (LeavesTaken c.args.dir.now a.now)
+    (λ clean. is_none c.args.found a (c.requires.found clean) c.in-Nothing.is) (λ db none left. inl (none, left)) c.take_new.ensures.survives
 
 pub returns-in-First-clause-survives : goal.returns-in-First-clause-survives
 returns-in-First-clause-survives g c =
@@ -63,3 +66,8 @@ returns-in-Second-clause-durable g c = both_durable g.S.Store g.met.S.Store.sett
 
 pub returns-in-Third-clause-durable : goal.returns-in-Third-clause-durable
 returns-in-Third-clause-durable g c = both_durable g.S.Store g.met.S.Store.settled (λ t. t.connection) (λ e. e.conn) c.take_ours.result
+
+pub returns-in-Other-clause-cause : goal.returns-in-Other-clause-cause
+returns-in-Other-clause-cause g c clean =
+    let a = state g.S.Store c.args.conn in
+    no_store_cause c.args.dir.now a.now (is_other c.args.found a (c.requires.found clean) c.in-Other.is)

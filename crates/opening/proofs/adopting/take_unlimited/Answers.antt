@@ -1,5 +1,6 @@
 use Rattle.sqlite.specs.Held.{state}
-use Rattle.opening.proofs.Passed.{both_survive, both_same, same_cause}
+use Rattle.opening.specs.Taken.{TakesUp}
+use Rattle.opening.proofs.Passed.{both_survive, both_same, same_cause, same_took}
 use Rattle.opening.proofs.adopting.take_unlimited.Goals as goal
 
 pub returns-in-Ok-clause-cause : goal.returns-in-Ok-clause-cause
@@ -16,3 +17,8 @@ pub returns-in-Ok-clause-survives : goal.returns-in-Ok-clause-survives
 returns-in-Ok-clause-survives g c =
     both_survive (λ t. state g.S.Store t.connection) (λ e. state g.S.Store e.conn) c.take.result (state g.S.Store c.args.conn) (state g.S.Store c.in-Ok.opened.conn) c.args.dir.now
     c.in-Ok.ensures.unchanged c.in-Ok.ensures.survives c.take.ensures.survives
+
+pub returns-in-Ok-clause-took : goal.returns-in-Ok-clause-took
+returns-in-Ok-clause-took g c =
+    same_took (λ t. state g.S.Store t.connection) (λ e. state g.S.Store e.conn) c.take.result (state g.S.Store c.args.conn) (state g.S.Store c.in-Ok.opened.conn) c.args.dir.now
+    c.in-Ok.ensures.unchanged c.in-Ok.ensures.survives c.take.ensures.survives (λ db t. TakesUp g.S.Store c.args.dir.now db t) c.take.ensures.took
