@@ -23,6 +23,10 @@ const MOST_BYTES: u64 = 67_108_864;
 /// How many pages a file may grow by before two of them share a place.
 const ROOM: u64 = 256;
 
+/// How many pages a transaction holds before it sends them to the log ahead of its commit, with no sync. `sqlite` keeps the room of
+/// two such lots.
+const SPILL_PAGES: usize = 1000;
+
 /// How many pages the log holds before it is copied into the file.
 const CHECKPOINT_FRAMES: usize = 1000;
 
@@ -49,7 +53,7 @@ fn kept_pages(found: &Measured) -> usize
 /// The system gives no random number.
 pub fn options(rt: &HostRuntime, path: &str) -> Result<Options, Error>
     ensures kept { IfOk result (λ it. (found : Measured) × (512 ≤ found.page) × (found.page ≤ 65536) × (it.cache_pages ≡ kept_pages found.len found.logged found.page)) }
-    ensures log { IfOk result (λ it. it.checkpoint_frames ≡ 1000) }
+    ensures log { IfOk result (λ it. (it.spill_pages ≡ 1000) × (it.checkpoint_frames ≡ 1000)) }
     ensures cause { IfErr result (λ e. e ≡ Error.SqliteFailure ErrorCode.CannotOpen) }
 {
     let seed = match RandomState::new(rt) {
@@ -58,6 +62,7 @@ pub fn options(rt: &HostRuntime, path: &str) -> Result<Options, Error>
     };
     let mut options = Options::new(seed);
     options.cache_pages = kept_pages(&measure(rt, path));
+    options.spill_pages = SPILL_PAGES;
     options.checkpoint_frames = CHECKPOINT_FRAMES;
     Ok(options)
 }
