@@ -1,4 +1,6 @@
 //! A list of calls on a store in memory.
+mod taking_up;
+
 use paths::{Name, StoreDir, StorePath};
 use policy::{Caller, Config, store_dir};
 use sqlite::MemStore;
@@ -14,6 +16,9 @@ const SETTINGS: &[u8] = b"allowed-users = [\"bob\"]\ntrusted-users = [\"ann\"]\n
 
 /// The path of the text that is added first.
 const TEXT: &str = "a0d1zlpv81nsfbam8ay3i7snrc0sgsvr-myfile";
+
+/// The line that tells it.
+const TEXT_PATH: &str = "/nix/store/a0d1zlpv81nsfbam8ay3i7snrc0sgsvr-myfile\n";
 
 /// What the calls are told, in turn.
 const TOLD: &str = "/nix/store/a0d1zlpv81nsfbam8ay3i7snrc0sgsvr-myfile
