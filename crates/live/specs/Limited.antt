@@ -59,8 +59,3 @@ is_taken groups p = list_any (λ group. holds group p) groups
 -- the paths that a collection up to a limit removes, in path order
 abbrev pub limited_paths : Graph → (Path → Bool) → (Path → ℕ) → ℕ → List Path
 limited_paths g dead size limit = filter (is_taken (limited_groups g dead size limit)) (finite.keys g)
-
--- the paths that a collection removes, in path order: all dead ones, or as many as a limit asks for
-abbrev pub collected : Graph → (Path → Bool) → (Path → ℕ) → Option ℕ → List Path
-collected g dead size None = filter dead (finite.keys g)
-collected g dead size (Some limit) = limited_paths g dead size limit

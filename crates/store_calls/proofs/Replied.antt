@@ -21,7 +21,8 @@ use Rattle.tables.specs.Kept.{Kept, Tells}
 use Rattle.store_requests.specs.declared.replies.Answer.{Answer}
 use Rattle.store_requests.specs.declared.replies.Stop.{Stop}
 use Rattle.store_requests.specs.declared.replies.Stop.TheVariants.{Refused, Failed}
-use Rattle.store_calls.specs.Standing.{IsDone, IsStill}
+use Rattle.store.specs.Laws.{IsDone}
+use Rattle.store_calls.specs.Standing.{IsStill}
 use Rattle.store_calls.specs.Disk.{StepOver}
 use Rattle.store_calls.specs.Forbidden.{IsForbidden}
 use Rattle.store_calls.specs.Leaving.{LeavesDone, LeavesPassed}

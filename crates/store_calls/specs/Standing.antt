@@ -3,7 +3,7 @@ use Rattle.std.specs.Prelude.{refl}
 use Rattle.std.specs.Coded.{Coded, code_by, coded×}
 use Rattle.policy.specs.Settings.{Settings}
 use Rattle.policy.specs.Codes.{settings_code}
-use Rattle.store.specs.Reply.{Reply, done, denied, refused}
+use Rattle.store.specs.Reply.{Reply, denied, refused}
 use Rattle.tables.specs.Kept.{Kept, kept_code}
 
 pub record Standing (S : Type 0) : Type 0 where
@@ -12,11 +12,6 @@ pub record Standing (S : Type 0) : Type 0 where
 
 abbrev pub standing_code : {S : Type 0} → Coded S → Coded (Standing S)
 standing_code {S} store = code_by (Kept S × Settings) (coded× (kept_code store) settings_code) (λ k. (k.tables, k.settings)) (λ p. record { tables = p.0; settings = p.1 }) (λ _. refl)
-
--- a reply to a request that is done
-abbrev pub IsDone : Reply → Type 0
-IsDone (done a) = Unit {0}
-IsDone _ = ⊥
 
 -- a reply that leaves the store as it was: a denial or a refusal
 abbrev pub IsStill : Reply → Type 0

@@ -5,6 +5,7 @@ ghost use Rattle.std.specs.List.{list_any};
 ghost use Rattle.sqlite.specs.State.{HasCleanDisk, Survives};
 ghost use Rattle.sqlite.specs.Held.{state};
 ghost use Rattle.world.specs.World.{World};
+ghost use Rattle.store.specs.Laws.{IsDone};
 ghost use Rattle.store.specs.Liveness.{lives};
 ghost use Rattle.store.specs.Verdict.{named_in};
 ghost use Rattle.tables.specs.Kept.{Tells};
@@ -14,7 +15,7 @@ ghost use Rattle.store_calls.specs.Lasting.{Lasts};
 ghost use Rattle.store_calls.specs.Leaving.{LeavesDone};
 ghost use Rattle.store_calls.specs.Meets.{IsMet};
 ghost use Rattle.store_requests.specs.View.{request_view, reply_view};
-ghost use Rattle.store_calls.specs.Standing.{IsDone, IsStill};
+ghost use Rattle.store_calls.specs.Standing.{IsStill};
 
 use crate::acting::{act, reply};
 use policy::{Caller, Config, Rule, class, decide};

@@ -11,7 +11,8 @@ use Rattle.tables.specs.Kept.{Tells}
 use Rattle.store_calls.specs.Disk.{StepOver}
 use Rattle.store_calls.specs.Lasting.{Lasts}
 use Rattle.store_calls.specs.Leaving.{LeavesDone}
-use Rattle.store_calls.specs.Standing.{Standing, IsDone, IsStill}
+use Rattle.store.specs.Laws.{IsDone}
+use Rattle.store_calls.specs.Standing.{Standing, IsStill}
 
 module _ {S : Type 0} (g : Ghosts S) where
   -- a caller's request had this reply

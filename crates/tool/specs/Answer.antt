@@ -71,9 +71,6 @@ AnswersLine of_file config line known out out' err err' status = AnswersAsked of
 -- a stop before there is anything to answer by is said by `who` on the first writer, and else on the second
 abbrev pub Stops : Asked → Stop → Option (List ℕ) → Option (List ℕ) → Option (List ℕ) → Option (List ℕ) → ℕ → Type 0
 Stops who stop out out' err err' status = Says stop out out' status × Keeps err err'
-Stops ls stop out out' err err' status = Answers (Err stop) out out' err err' status
-Stops (text_path o) stop out out' err err' status = Answers (Err stop) out out' err err' status
-Stops (source_path o) stop out out' err err' status = Answers (Err stop) out out' err err' status
 Stops _ stop out out' err err' status = Answers (Err stop) out out' err err' status
 
 -- there is a file of the configuration, and memory or that file gave out before its text was there
