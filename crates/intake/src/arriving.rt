@@ -1,14 +1,12 @@
 //! An archive that has come so far, with all that will be asked of it.
 
-ghost use Rattle.std.specs.Prelude.{◌≡◌, ◌++◌, List, ℕ, [], OnOk};
-ghost use Rattle.nar.specs.declared.error.NarError.TheVariants.{Memory as memory};
-ghost use Rattle.nar.specs.Outcome.{outcome_of};
+ghost use Rattle.std.specs.Prelude.{◌≡◌, ◌++◌, [], OnOk};
 ghost use Rattle.nar.specs.Tree.{IsBytes};
-ghost use Rattle.nar.specs.Checking.{HasBeenFed, HasFailed};
 ghost use Rattle.paths.specs.Facts.{facts_of};
-ghost use Rattle.intake.specs.Arriving.{HasTaken, fault_of};
+ghost use Rattle.intake.specs.Arriving.{HasTaken};
 ghost use Rattle.intake.specs.Told.{IsTold};
 
+use crate::checking::{fault_at_end, feed};
 use crate::digests::{SIZE, contents_up_to, finalized, hash_asked, hash_pieces, plain_hash};
 use nar::{Checker, NarError, Pieces};
 use paths::Facts;
@@ -63,28 +61,6 @@ impl Model for Arriving {
     ghost view = { λ a. a.pieces };
 
     ghost invariant = { λ a. HasTaken a.checker a.hasher a.contents a.pieces };
-}
-
-/// Feeds a checker, of which only want of memory is told: it remembers a fault by itself.
-fn feed(checker: &mut Checker, piece: &[u8]) -> Result<(), AllocError>
-    ensures fed { (all : List ℕ) → HasBeenFed checker.old all → HasBeenFed checker.new (all ++ piece.now) }
-    ensures sound { OnOk result (¬ HasFailed checker.new memory) }
-{
-    match checker.feed(piece) {
-        Ok(()) => Ok(()),
-        Err(NarError::Memory) => Err(AllocError),
-        Err(_) => Ok(()),
-    }
-}
-
-/// What is wrong with all bytes as an archive, if anything is.
-fn fault_at_end(checker: Checker) -> Option<NarError>
-    ensures { (all : List ℕ) → HasBeenFed checker all → ¬ HasFailed checker memory → result ≡ fault_of (outcome_of all) }
-{
-    match checker.finish() {
-        Ok(()) => None,
-        Err(e) => Some(e),
-    }
 }
 
 /// Takes the next piece: what was known of the pieces so far is known of all. Where memory is refused, the parts no longer agree.

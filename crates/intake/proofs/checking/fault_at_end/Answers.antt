@@ -2,7 +2,7 @@ use Rattle.std.proofs.Common.{◌≢◌, ap, sym, ◌∙◌, Err}
 use Rattle.nar.specs.declared.error.NarError.TheVariants.{Memory}
 use Rattle.nar.proofs.Decided.{outcome_archive, outcome_fault}
 use Rattle.intake.specs.Arriving.{fault_of}
-use Rattle.opening_objects.proofs.passing.fault_at_end.Goals as goal
+use Rattle.intake.proofs.checking.fault_at_end.Goals as goal
 
 pub returns-in-Ok : goal.returns-in-Ok
 returns-in-Ok c = λ all fed sound.

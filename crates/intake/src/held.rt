@@ -1,0 +1,37 @@
+//! What is told of bytes that are held already.
+
+ghost use Rattle.std.specs.Prelude.{◌≡◌, IfOk};
+ghost use Rattle.intake.specs.Told.{IsTold};
+
+use crate::arriving::Arrived;
+use crate::checking::{fault_at_end, feed};
+use nar::{Checker, Pieces};
+use sha2::{Digest, Sha256};
+use std::alloc::{AllocError, Global};
+
+impl Arrived {
+    /// What is told of these bytes. Each piece is checked and hashed once, where it lies, and none is copied; the digest of contents
+    /// isn't among it.
+    ///
+    /// # Errors
+    ///
+    /// Memory was refused.
+    pub fn of_pieces(alloc: Global, pieces: Pieces) -> Result<Arrived, AllocError>
+        ensures pieces { IfOk result (λ a. a.pieces ≡ pieces) }
+        ensures told { IfOk result IsTold }
+    {
+        let mut checker = Checker::new(alloc);
+        let mut hasher = Sha256::new();
+        'held: for i in 0..pieces.count() {
+            let piece = pieces.piece(i);
+            feed(&mut checker, piece)?;
+            hasher.update(piece);
+        }
+        Ok(Arrived {
+            fault: fault_at_end(checker),
+            nar_hash: hasher.finalize(),
+            contents_hash: None,
+            pieces,
+        })
+    }
+}
