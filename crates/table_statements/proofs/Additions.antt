@@ -40,7 +40,7 @@ use Rattle.table_statements.proofs.KeptRules.{refers_still, only_ours}
 use Rattle.table_statements.proofs.NewKeys.{unique_put}
 use Rattle.table_statements.proofs.Stops.{stops_at, gives_no_stop, no_end, plain_mode, concluded}
 use Rattle.table_statements.proofs.Statements.{Compiles}
-use Rattle.table_statements.proofs.WriteFailures.{MayStop, OrShut, our_write_fails, fails_wider}
+use Rattle.table_statements.proofs.WriteFailures.{MayStop, OrShut, our_write_fails}
 
 pub not_both : (b : Bool) → b ≡ true → (b && true) ≡ false → ⊥
 not_both b h k = both_ways (b && true) k (rw h refl)
@@ -161,15 +161,3 @@ module _ (name : List ℕ) (columns : List Column) (key : List ℕ) (old new : S
     insert_fails Taken free e h =
         our_write_fails name columns key old new standing text count params _ (λ at tree. refl) given is (IsTooLarge old.now table values) (IsSome old.step_limit ⊎ (HasNoRowidLeft old.now table ⊎ Taken))
         (λ up stands. insert_stops name columns key old.now (under.ours up).sound stands values typed (present _) Taken (free up) old.step_limit params terms width accepts (made _)) e h
-
-    -- and where no row has the key, for no key that is there
-    pub insert_fails_new : (IsTrue old.is_open → IsNewKey name key old.now values)
-        → (e : Error) → ExecutesInside 0 text params old new (Err e) → FailsWith old new (OrShut old (IsTooLarge old.now table values)) (IsSome old.step_limit ⊎ HasNoRowidLeft old.now table) (failure_of e)
-    insert_fails_new free e h =
-        fails_wider old new (OrShut old (IsTooLarge old.now table values)) (OrShut old (IsTooLarge old.now table values)) (IsSome old.step_limit ⊎ (HasNoRowidLeft old.now table ⊎ ⊥)) (IsSome old.step_limit ⊎ HasNoRowidLeft old.now table) (λ l. l) less (failure_of e)
-        (insert_fails ⊥ (λ up. inl (free up)) e h)
-      where
-        less : IsSome old.step_limit ⊎ (HasNoRowidLeft old.now table ⊎ ⊥) → IsSome old.step_limit ⊎ HasNoRowidLeft old.now table
-        less (inl limit) = inl limit
-        less (inr (inl full)) = inr full
-        less (inr (inr none)) = absurd none

@@ -20,7 +20,7 @@ use Rattle.table_statements.specs.Contents.{map_of}
 use Rattle.table_statements.proofs.Orders.{listed_as}
 use Rattle.table_statements.proofs.Scans.{IsScan, scan_sound, scan_complete, shows}
 use Rattle.table_statements.proofs.Writes.{rowids_where}
-use Rattle.table_statements.proofs.Members.{made_where, made_new, made_with, unit_once, gone_from, spared, left_from, left_has, Spares}
+use Rattle.table_statements.proofs.Members.{made_where, made_new, gone_from, spared, left_from, left_has, Spares}
 
 pub map-map : {A B C : Type 0} (f : B → C) (g : A → B) (xs : List A) → map f (map g xs) ≡ map (λ x. f (g x)) xs
 map-map f g [] = refl
@@ -183,9 +183,3 @@ pub put_map : {K X : Type 0} {R : K → K → Ordering} (o : IsTotalOrder R) (sa
     → is_taken rows new ≡ false → kind new ≡ true → finite.get (map_of R kind entry rows) (entry new).0 ≡ None → map_of R kind entry (put_row new rows) ≡ finite.insert (map_of R kind entry rows) (entry new).0 (entry new).1
 unfolding map_of
 put_map o same kind entry new rows free is none = made_new o same kind entry new rows free is none
-
--- one member more
-pub put_set : {K : Type 0} {R : K → K → Ordering} (o : IsTotalOrder R) (same : finite.IsAntisymmetric R) (kind : Row → Bool) (entry : Row → K × Unit {0}) (new : Row) (rows : List Row)
-    → is_taken rows new ≡ false → kind new ≡ true → map_of R kind entry (put_row new rows) ≡ finite.insert (map_of R kind entry rows) (entry new).0 (entry new).1
-unfolding map_of
-put_set {R = R} o same kind entry new rows free is = made_with o same kind entry new rows free is (unit_once R (entry new ∷ map entry (filter kind rows)))

@@ -1,9 +1,9 @@
 -- A loop of writes inside a transaction: what it makes of the contents is told by what is left to write.
 use Rattle.std.proofs.Common.{◌≡◌, List, refl, sym, ap, ◌∙◌, IsTrue}
-use Rattle.sqlite.specs.State.{State, KeepsCommit}
+use Rattle.sqlite.specs.State.{State}
 use Rattle.table_statements.specs.Contents.{Contents, contents_of}
 use Rattle.table_statements.specs.Calls.{IsUnderWay, Changes}
-use Rattle.table_statements.proofs.Steps.{changes_then, changes_none, keeps_after, under_after}
+use Rattle.table_statements.proofs.Steps.{changes_then, changes_none}
 
 -- it goes on, and with what is left the contents will be what all makes of those at first
 pub record Goes {X : Type 0} (change : List X → Contents → Contents) (all : List X) (first now : State) (left : List X) : Type 0 where
@@ -38,10 +38,6 @@ goes_next change all first now next left rest f h k same = record {
   comes = ap (change rest) k.contents ∙ sym same ∙ h.comes;
 }
 
--- it may go on after that
-pub goes_under : {X : Type 0} (change : List X → Contents → Contents) (all : List X) (first now : State) (left : List X) → Goes change all first now left → IsUnderWay now
-goes_under change all first now left h = under_after first now (λ _. contents_of now.now) h.changes
-
 -- all was
 pub goes_done : {X : Type 0} (change : List X → Contents → Contents) (all : List X) (first now : State) (left : List X) → change left (contents_of now.now) ≡ contents_of now.now → Goes change all first now left → Changes first now (change all)
 goes_done change all first now left none h = record {
@@ -57,7 +53,3 @@ goes_done change all first now left none h = record {
   mode = h.changes.mode;
   marks = h.changes.marks;
 }
-
--- one failed
-pub goes_kept : {X : Type 0} (change : List X → Contents → Contents) (all : List X) (first now next : State) (left : List X) → Goes change all first now left → KeepsCommit now next → KeepsCommit first next
-goes_kept change all first now next left h k = keeps_after first now next (λ _. contents_of now.now) h.changes k

@@ -20,32 +20,10 @@ use Rattle.sqlite_trees.specs.View.{is_int}
 use Rattle.sqlite_value.proofs.OrderLemmas.{value_cmp_total}
 use Rattle.std.specs.Cmp.{tied_itself}
 use Rattle.table_statements.specs.Calls.{IsKeyed}
-use Rattle.table_statements.proofs.Orders.{found_has, tied_some}
 use Rattle.table_statements.proofs.Apart.{once, apart_put, apart_left}
 use Rattle.table_statements.proofs.Truths.{not_so}
 use Rattle.table_statements.proofs.Scans.{IsScan, scan_sound, scan_complete}
 use Rattle.table_statements.proofs.Writes.{rowids_where}
-
--- ---- two lists with the same entries make one map, where a key has one value
-
-module _ {K X : Type 0} {R : K → K → Ordering} (o : IsTotalOrder R) (same : finite.IsAntisymmetric R) where
-  abbrev pub HasOneEach : List (K × X) → Type 0
-  HasOneEach es = (k l : K) (v w : X) → Has es (k, v) → Has es (l, w) → R k l ≡ Equal → v ≡ w
-
-  pub same_made : (ls es : List (K × X)) → ((e : K × X) → Has ls e → Has es e) → ((e : K × X) → Has es e → Has ls e) → HasOneEach es → finite.from_entries {R = R} ls ≡ finite.from_entries es
-  same_made ls es to back once = finite.same_map o same _ _ (λ q. finite.get-from_entries o ls q ∙ go q (find R q ls) refl (find R q es) refl ∙ sym (finite.get-from_entries o es q))
-    where
-      go : (q : K) (a : Option X) → find R q ls ≡ a → (b : Option X) → find R q es ≡ b → find R q ls ≡ find R q es
-      go q None a None b = a ∙ sym b
-      go q None a (Some w) b = let f = found_has o same q es w b in absurd (tied_some o same q f.0 ls w (back _ f.2) f.1 a)
-      go q (Some v) a None b = let f = found_has o same q ls v a in absurd (tied_some o same q f.0 es v (to _ f.2) f.1 b)
-      go q (Some v) a (Some w) b =
-          let f = found_has o same q ls v a in
-          let h = found_has o same q es w b in
-          a ∙ ap Some (once f.0 h.0 v w (to _ f.2) h.2 (sym (o.congr q f.0 h.0 f.1) ∙ h.1)) ∙ sym b
-
-pub unit_once : {K : Type 0} (R : K → K → Ordering) (es : List (K × Unit {0})) → (k l : K) (v w : Unit {0}) → Has es (k, v) → Has es (l, w) → R k l ≡ Equal → v ≡ w
-unit_once R es k l v w h g tie = refl
 
 -- ---- a new row
 
@@ -75,25 +53,6 @@ kept_put new (r ∷ rs) x free h = go (value_cmp (rowid r) (rowid new)) free h (
     go Less free (inr there) later = inr (later free there)
     go Equal free h later = absurd (let e = free in cc)
     go Greater free h later = inr h
-
--- the map that the rows of one kind make has one entry more
-module _ {K X : Type 0} {R : K → K → Ordering} (o : IsTotalOrder R) (same : finite.IsAntisymmetric R) (kind : Row → Bool) (entry : Row → K × X) (new : Row) (rows : List Row) where
-  pub made_with : is_taken rows new ≡ false → kind new ≡ true → HasOneEach o same (entry new ∷ map entry (filter kind rows))
-      → finite.from_entries {R = R} (map entry (filter kind (put_row new rows))) ≡ finite.insert (finite.from_entries (map entry (filter kind rows))) (entry new).0 (entry new).1
-  made_with free is once = same_made o same (map entry (filter kind (put_row new rows))) (entry new ∷ map entry (filter kind rows)) to back once
-    where
-      to : (e : K × X) → Has (map entry (filter kind (put_row new rows))) e → Has (entry new ∷ map entry (filter kind rows)) e
-      to e h =
-          let r = has_mapped entry _ e h in
-          let k = has_filtered kind _ r.0 r.1 in
-          elim (from_put new rows r.0 k.0) [ inl same ↦ inl (r.2 ∙ ap entry same) | inr there ↦ inr (subst (Has (map entry (filter kind rows))) (sym r.2) (mapped_has entry _ r.0 (has_kept kind rows r.0 there k.1))) ]
-
-      back : (e : K × X) → Has (entry new ∷ map entry (filter kind rows)) e → Has (map entry (filter kind (put_row new rows))) e
-      back e (inl same) = subst (Has (map entry (filter kind (put_row new rows)))) (sym same) (mapped_has entry _ new (has_kept kind _ new (put_has new rows) is))
-      back e (inr h) =
-          let r = has_mapped entry _ e h in
-          let k = has_filtered kind rows r.0 r.1 in
-          subst (Has (map entry (filter kind (put_row new rows)))) (sym r.2) (mapped_has entry _ r.0 (has_kept kind _ r.0 (kept_put new rows r.0 free k.0) k.1))
 
 pub keyed_put : (new : Row) (rows : List Row) → is_taken rows new ≡ false → IsTrue (is_int (rowid new)) → IsKeyed rows → IsKeyed (put_row new rows)
 keyed_put new rows free int keyed = record { ints = ints; apart = apart_put new rows free keyed.apart }

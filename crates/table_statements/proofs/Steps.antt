@@ -6,7 +6,7 @@ use Rattle.sqlite_trees.proofs.ListLemmas.{all_of}
 use Rattle.sqlite_schema.specs.declared.schema.Schema.{Schema}
 use Rattle.sqlite_schema.specs.declared.schema.Table.{Table}
 use Rattle.sqlite.specs.Effect.{Database, IsDatabase}
-use Rattle.sqlite.specs.State.{State, HasCleanDisk, Shows, KeepsCommit, Survives}
+use Rattle.sqlite.specs.State.{State, HasCleanDisk, KeepsCommit, Survives}
 use Rattle.sqlite.proofs.StateLemmas.{survives_then}
 use Rattle.table_forms.specs.Forms.{is_our_name}
 use Rattle.table_statements.specs.Contents.{Contents, contents_of}
@@ -79,17 +79,6 @@ under_after a b f h = record { ours = λ _. h.ours; mode = h.mode }
 -- what was changed and then failed keeps the last commit
 pub keeps_after : (a b c : State) (f : Contents → Contents) → Changes a b f → KeepsCommit b c → KeepsCommit a c
 keeps_after a b c f h k = record { was_open = λ _. h.was_open; committed = λ is_open. k.committed is_open ∙ h.committed }
-
--- a commit leaves the tables ready
-pub committed_is : (old new : State) → IsUnderWay old → Shows old new old.now old.now false → new.marks ≡ [] → IsCommitted old new
-committed_is old new under h none = record {
-  was_open = h.was_open;
-  is_open = h.is_open;
-  now = h.now_is;
-  ready = record { ours = subst IsOurs (sym h.now_is) (under.ours h.was_open); settled = h.now_is ∙ sym h.committed_is };
-  mode = h.mode;
-  unmarked = none;
-}
 
 -- after a read, whether it was done or failed, a connection that was ready is
 pub ready_after : (a b : State) → (IsTrue a.is_open → IsReady a) → KeepsShown a b → IsTrue b.is_open → IsReady b

@@ -2,15 +2,12 @@
 use Rattle.std.proofs.Common.{◌≡◌, ◌⊎◌, ℕ, List, [], inl, inr, Result, Ok, Err, IsErrAnd, IfErr, sym, subst, ◌∙◌, arith}
 use Rattle.std.specs.Prelude.{IsSome}
 use Rattle.sqlite.specs.declared.error.Error.{Error}
-use Rattle.sqlite.specs.Effect.{Database}
 use Rattle.sqlite.specs.State.{State, HasCleanDisk, Survives, IsUnchanged, FailsToQuery}
 use Rattle.sqlite.proofs.StateLemmas.{survives_then}
-use Rattle.sqlite.proofs.Callers.{unchanged_then}
 use Rattle.table_statements.proofs.Steps.{shown_then}
 use Rattle.table_statements.specs.declared.failure.Failure.{Failure}
 use Rattle.table_statements.specs.declared.failure.Failure.TheVariants.{Memory, Size, Disk}
-use Rattle.table_forms.specs.Standing.{HasTables}
-use Rattle.table_statements.specs.Calls.{HasSettledTables, KeepsShown}
+use Rattle.table_statements.specs.Calls.{KeepsShown}
 use Rattle.table_statements.specs.Failures.{failure_of, FailsWith, IsQueryFailure, FailsToTest}
 
 -- an error that is passed on
@@ -35,24 +32,10 @@ pub texts_fail : (old new : State) (text : List ℕ) → ((e : Error) → FailsT
 texts_fail old new text fails f (inl h) = test_fails old new text ⊥ fails f h
 texts_fail old new text fails f (inr h) = subst (FailsToTest old new ⊥) (sym h.0) tt
 
--- what failed for one of several reasons
-pub fails_for : (old new : State) (P Q : Type 0) → (P → Q) → (f : Failure) → FailsToTest old new P f → FailsToTest old new Q f
-fails_for old new P Q so Memory h = tt
-fails_for old new P Q so Size h = h
-fails_for old new P Q so Disk (inl h) = inl h
-fails_for old new P Q so Disk (inr (inl h)) = inr (inl h)
-fails_for old new P Q so Disk (inr (inr h)) = inr (inr (so h))
-
 -- ---- what stays
 
 pub both_keep : (a b c : State) → (HasCleanDisk b → KeepsShown a b) → (HasCleanDisk c → KeepsShown b c) → Survives b c (λ _. ⊥) → HasCleanDisk c → KeepsShown a c
 both_keep a b c first next survives clean = shown_then a b c (first (omega (arith, survives.clean, clean))) (next clean)
-
-pub settled_after : (a b : State) → HasSettledTables a → KeepsShown a b → HasSettledTables b
-settled_after a b rests h = record {
-  has = λ is_open. subst (λ (d : Database). HasTables d.schema) (sym (h.now is_open)) (rests.has (h.was_open is_open));
-  settled = λ is_open. h.now is_open ∙ rests.settled (h.was_open is_open) ∙ sym (h.committed is_open);
-}
 
 -- neither of two calls leaves anything to a crash
 pub survives_both : (a b c : State) → Survives a b (λ _. ⊥) → Survives b c (λ _. ⊥) → Survives a c (λ _. ⊥)
@@ -63,12 +46,6 @@ survives_both a b c h k = survives_then a b c (λ _. ⊥) (λ _. ⊥) (λ _. ⊥
 -- it was passed, and nothing changed
 abbrev Passes : State → State → Type 0
 Passes a b = (HasCleanDisk b → IsUnchanged a b) × Survives a b (λ _. ⊥)
-
-pub passes_then : (a b c : State) → Passes a b → Passes b c → Passes a c
-passes_then a b c h k = (
-  λ clean. unchanged_then a b c (h.0 (omega (arith, k.1.clean, clean))) (k.0 clean),
-  survives_both a b c h.1 k.1,
-)
 
 after : (a b c : State) (P Q : Type 0) → IsUnchanged a b → Survives a b (λ _. ⊥) → (P → Q) → (f : Failure) → FailsToTest b c P f → FailsToTest a c Q f
 after a b c P Q same before so Memory h = tt
@@ -81,7 +58,3 @@ after a b c P Q same before so Disk (inr (inr h)) = inr (inr (so h))
 -- a failure after a test that was passed is one of both
 pub fails_after : (a b c : State) (P Q : Type 0) → Passes a b → Survives b c (λ _. ⊥) → HasCleanDisk c → (IsUnchanged a b → P → Q) → (f : Failure) → FailsToTest b c P f → FailsToTest a c Q f
 fails_after a b c P Q passes later clean so = let same = passes.0 (omega (arith, later.clean, clean)) in after a b c P Q same passes.1 (so same)
-
--- what isn't so of what the second test saw, isn't so of what the first saw
-pub not_before : (P Q : Database → Type 0) → ((d : Database) → Q d → P d) → (a b : State) → IsUnchanged a b → ¬ P b.now → ¬ Q a.now
-not_before P Q of a b same none h = none (subst P (sym same.0.now_is) (of a.now h))

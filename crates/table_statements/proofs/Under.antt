@@ -3,10 +3,7 @@ use Rattle.std.specs.Prelude.{IsTrue}
 use Rattle.sqlite.specs.State.{State}
 use Rattle.table_forms.specs.Forms.{piece, temp_root}
 use Rattle.table_statements.specs.Contents.{Contents}
-use Rattle.table_statements.specs.Calls.{IsReady, HasSettledTables, IsUnderWay, Changes, HasFurther, KeepsFurther}
-
-pub changes_under : (old new : State) (change : Contents → Contents) → Changes old new change → IsUnderWay new
-changes_under old new change h = record { ours = λ is_open. h.ours; mode = h.mode }
+use Rattle.table_statements.specs.Calls.{IsReady, HasSettledTables, Changes, HasFurther, KeepsFurther}
 
 pub ready_settled : (s : State) → (IsTrue s.is_open → IsReady s) → HasSettledTables s
 ready_settled s h = record { has = λ is_open. (h is_open).ours.has; settled = λ is_open. (h is_open).settled }

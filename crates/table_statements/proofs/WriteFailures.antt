@@ -157,11 +157,6 @@ fails_wider old new large wider refused more one two Size h = (one h.0, h.1)
 fails_wider old new large wider refused more one two Disk (inl h) = inl h
 fails_wider old new large wider refused more one two Disk (inr h) = inr (two h.0, h.1)
 
--- where an entry can't be there already
-pub refused_more : {A B : Type 0} → A ⊎ B → A ⊎ (B ⊎ ⊥)
-refused_more (inl h) = inl h
-refused_more (inr h) = inr (inl h)
-
 -- a size that only a shut connection can tell may be told as the disk
 pub fails_unsized : (old new : State) (refused : Type 0) (f : Failure) → FailsWith old new (old.is_open ≡ false) refused f → FailsWith old new ⊥ refused (without_size f)
 fails_unsized old new refused Memory h = h
