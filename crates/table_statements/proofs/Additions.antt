@@ -8,7 +8,7 @@ use Rattle.sqlite_value.specs.Order.{Row}
 use Rattle.sqlite_trees.specs.Tree.{Trees}
 use Rattle.sqlite_sql.specs.Term.{Term}
 use Rattle.sqlite_schema.specs.declared.schema.Column.{Column}
-use Rattle.sqlite_schema.specs.declared.schema.Constraint.TheVariants.{Datatype, NotNull, Check, PrimaryKey, Unique, ForeignKey}
+use Rattle.sqlite_schema.specs.declared.schema.Constraint.TheVariants.{Datatype, NotNull, PrimaryKey, Unique, ForeignKey}
 use Rattle.sqlite_schema.specs.declared.schema.Among.TheVariants.{All}
 use Rattle.sqlite_schema.specs.declared.schema.Keys.TheVariants.{Enforced}
 use Rattle.sqlite_schema.specs.declared.schema.Table.{Table}
@@ -17,7 +17,7 @@ use Rattle.sqlite_schema.specs.declared.command.Command.TheVariants.{Insert}
 use Rattle.sqlite_schema.specs.Rules.{Refers, agree, are_typed, are_present}
 use Rattle.sqlite_typing.specs.Types.{accepts_terms}
 use Rattle.sqlite_rules.specs.declared.error.Refusal.{Refusal}
-use Rattle.sqlite_rules.specs.declared.error.Refusal.TheVariants.{Violates, Mismatch, NoRowid, BadReference, TooDeep}
+use Rattle.sqlite_rules.specs.declared.error.Refusal.TheVariants.{Violates, NoRowid, TooDeep}
 use Rattle.sqlite_rules.specs.declared.error.Rowids.TheVariants.{Chosen}
 use Rattle.sqlite_rules.specs.Lists.{Has}
 use Rattle.sqlite_rules.specs.Cast.{cast_row}
@@ -82,14 +82,12 @@ module _ (name : List ℕ) (columns : List Column) (key : List ℕ) (db : Databa
     unfolding HasNoRowidLeft
     refused_by (Violates Datatype) h = absurd (not_both _ (rw typed refl) h)
     refused_by (Violates NotNull) h = absurd (not_both _ present h)
-    refused_by (Violates Check) h = absurd (let e = h in cc)
     refused_by (Violates PrimaryKey) h = (refl, inl (inr (not_free _ h)))
     refused_by (Violates Unique) h = elim free [ inl fresh ↦ absurd (h (unique_put db.schema db.trees tree key stands.unguarded row refl fresh (sound.obeys.rules Unique))) | inr taken ↦ (refl, inr taken) ]
     refused_by (Violates ForeignKey) h = absurd h
-    refused_by Mismatch h = absurd (let e = h in cc)
     refused_by NoRowid h = (refl, inl (inl (unfit _ h)))
-    refused_by BadReference h = absurd (let e = h in cc)
     refused_by TooDeep h = absurd h
+    refused_by why h = absurd (let e = h in cc)
 
     module _ (limit : Option ℕ) where
       abbrev MayEnd : Option Error → Type 0

@@ -7,6 +7,7 @@ use Rattle.sqlite_value.specs.declared.value.Value.{Value}
 use Rattle.sqlite_value.specs.Order.{Row, value_cmp}
 use Rattle.sqlite_value.proofs.OrderLemmas.{value_cmp_total}
 use Rattle.sqlite_trees.specs.Tree.{rowid, put_row, has_rowid, without_rowid}
+use Rattle.sqlite_trees.proofs.ListLemmas.{all-map, all-filter, all_from_map}
 use Rattle.sqlite_rules.specs.Lists.{Has}
 use Rattle.sqlite_rules.specs.Edit.{is_taken, without_all}
 use Rattle.table_statements.proofs.Truths.{neither}
@@ -70,12 +71,8 @@ apart_put new (r ∷ rows) free h = let off = neither _ _ free in go (value_cmp 
 -- ---- rows that go
 
 lack_where : (v : Value) (p : Row → Bool) (rows : List Row) → Lack v rows → Lack v (filter p rows)
-lack_where v p [] h = tt
-lack_where v p (r ∷ rows) h = go (p r) (lack_where v p rows h.1)
-  where
-    go : (b : Bool) → Lack v (filter p rows) → Lack v (cond b (r ∷ filter p rows) (filter p rows))
-    go true later = (h.0, later)
-    go false later = later
+lack_where v p rows h =
+    let apart = λ (w : Value). tie v w ≡ false in all-map apart rowid (filter p rows) (all-filter (λ r. apart (rowid r)) p rows (all_from_map apart rowid rows h))
 
 apart_where : (p : Row → Bool) (rows : List Row) → AreApart rows → AreApart (filter p rows)
 unfolding IsDistinct

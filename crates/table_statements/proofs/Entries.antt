@@ -8,11 +8,13 @@ use Rattle.std.specs.List.{list_all, AllZip}
 use Rattle.std.specs.List.Sorted.{IsStrictlySortedBy}
 use Rattle.sqlite_value.specs.Order.{Row}
 use Rattle.sqlite_trees.specs.Tree.{Trees, put_row, has_rowid, without_rowid}
+use Rattle.sqlite_trees.proofs.ListLemmas.{all_of, filter_all, filter_same}
 use Rattle.sqlite_rules.specs.Lists.{Has}
 use Rattle.sqlite_rules.specs.Edit.{is_taken, without_all}
 use Rattle.sqlite_rules.specs.Calls.{ids_of}
-use Rattle.sqlite_rules.proofs.ListLemmas.{has_filtered, has_kept}
+use Rattle.sqlite_rules.proofs.ListLemmas.{all_from, has_filtered, has_kept}
 use Rattle.sqlite_rules.proofs.ProbeLemmas.{has_mapped, mapped_has}
+use Rattle.sqlite_catalog.proofs.LayoutLemmas.{zipped_left, zipped_right}
 use Rattle.sqlite_sql.specs.Term.{Term, holds}
 use Rattle.sqlite_sql.specs.Query.{Query, IsAnswer}
 use Rattle.table_statements.specs.Calls.{IsKeyed}
@@ -27,18 +29,6 @@ map-map f g [] = refl
 map-map f g (x ∷ xs) = ap (λ l. f (g x) ∷ l) (map-map f g xs)
 
 -- ---- two lists, one beside the other
-
-zip_left : {X Y : Type 0} (P : X → Y → Type 0) (xs : List X) (ys : List Y) → AllZip P xs ys → (x : X) → Has xs x → (y : Y) × Has ys y × P x y
-zip_left P [] ys z x h = absurd h
-zip_left P (a ∷ xs) [] z x h = absurd z
-zip_left P (a ∷ xs) (b ∷ ys) z x (inl is) = (b, inl refl, subst (λ w. P w b) (sym is) z.0)
-zip_left P (a ∷ xs) (b ∷ ys) z x (inr there) = let r = zip_left P xs ys z.1 x there in (r.0, inr r.1, r.2)
-
-zip_right : {X Y : Type 0} (P : X → Y → Type 0) (xs : List X) (ys : List Y) → AllZip P xs ys → (y : Y) → Has ys y → (x : X) × Has xs x × P x y
-zip_right P xs [] z y h = absurd h
-zip_right P [] (b ∷ ys) z y h = absurd z
-zip_right P (a ∷ xs) (b ∷ ys) z y (inl is) = (a, inl refl, subst (λ w. P a w) (sym is) z.0)
-zip_right P (a ∷ xs) (b ∷ ys) z y (inr there) = let r = zip_right P xs ys z.1 y there in (r.0, inr r.1, r.2)
 
 -- one more of each
 pub zip_more : {X Y : Type 0} (P : X → Y → Type 0) (xs : List X) (ys : List Y) (x : X) (y : Y) → AllZip P xs ys → P x y → AllZip P (xs ++ x ∷ []) (ys ++ y ∷ [])
@@ -64,14 +54,14 @@ module _ {K X T : Type 0} {R : K → K → Ordering} (o : IsTotalOrder R) (same 
       let kept = has_filtered kind _ r.0 r.1 in
       let passes = said r.0 kept.1 ∙ subst (λ (x : K × X). test x.0 ≡ true) r.2 k.1 in
       let there = scan_complete q tree scan db params rows answer r.0 kept.0 passes in
-      let p = zip_left Shown rows all texts _ there in
+      let p = zipped_right Shown rows all _ texts there in
       let f = fits r.0 p.0 p.2 in
       subst (Has (map item all)) (sym (r.2 ∙ f.1)) (mapped_has item all p.0 p.1)
 
   back : (e : K × X) → Has (map item all) e → Has wanted e
   back e h =
       let p = has_mapped item all e h in
-      let x = zip_right Shown rows all texts p.0 p.1 in
+      let x = zipped_left Shown rows all p.0 texts p.1 in
       let r = scan_sound q tree scan db params rows answer x.0 x.1 in
       let f = fits r.0 p.0 (subst (λ w. Shown w p.0) r.3 x.2) in
       let passes : test (entry r.0).0 ≡ true = sym (said r.0 f.0) ∙ r.2 in
@@ -102,10 +92,6 @@ filter-filter {A} p q (x ∷ xs) = go (q x) (filter-filter p q xs)
     go true later = ap (λ l. cond (p x) (x ∷ l) l) later
     go false later = later
 
-filter_alike : {A : Type 0} (p q : A → Bool) (xs : List A) → ((x : A) → Has xs x → p x ≡ q x) → filter p xs ≡ filter q xs
-filter_alike p q [] alike = refl
-filter_alike p q (x ∷ xs) alike = rw (alike x (inl refl)) (ap (λ l. cond (q x) (x ∷ l) l) (filter_alike p q xs (λ y h. alike y (inr h))))
-
 -- no rowid of the list is this row's, as a test
 is_spared : List ℤ → Row → Bool
 is_spared [] x = true
@@ -113,11 +99,7 @@ is_spared (id ∷ ids) x = cond (not (has_rowid id x)) (is_spared ids x) false
 
 left_is : (ids : List ℤ) (rows : List Row) → without_all rows ids ≡ filter (is_spared ids) rows
 unfolding is_spared
-left_is [] rows = sym (every rows)
-  where
-    every : (xs : List Row) → filter (λ _. true) xs ≡ xs
-    every [] = refl
-    every (x ∷ xs) = ap (λ l. x ∷ l) (every xs)
+left_is [] rows = sym (filter_all (λ _. true) rows (all_of (λ _. true ≡ true) (λ _. refl) rows))
 left_is (i ∷ ids) rows = left_is ids (without_rowid i rows) ∙ filter-filter (is_spared ids) (λ r. not (has_rowid i r)) rows
 
 module _ (tree : ℕ) (terms : List Term) (db : Trees) (params : Row) (rows : List Row) (answer : IsAnswer (rowids_where tree terms) db params rows) (keyed : IsKeyed (db tree)) where
@@ -140,7 +122,7 @@ module _ (tree : ℕ) (terms : List Term) (db : Trees) (params : Row) (rows : Li
 
   -- what stays is what does not pass the test
   pub left_by_test : without_all (db tree) (ids_of rows) ≡ filter (λ r. not (passing r)) (db tree)
-  left_by_test = left_is (ids_of rows) (db tree) ∙ filter_alike (is_spared (ids_of rows)) (λ r. not (passing r)) (db tree) alike
+  left_by_test = left_is (ids_of rows) (db tree) ∙ filter_same (is_spared (ids_of rows)) (λ r. not (passing r)) (db tree) (all_from (λ x. is_spared (ids_of rows) x ≡ not (passing x)) (db tree) alike)
     where
       alike : (x : Row) → Has (db tree) x → is_spared (ids_of rows) x ≡ not (passing x)
       alike x h = go (is_spared (ids_of rows) x) refl (passing x) refl

@@ -3,7 +3,7 @@ use Rattle.std.proofs.Common.{◌≡◌, List, refl, sym, ap, ◌∙◌, IsTrue}
 use Rattle.sqlite.specs.State.{State}
 use Rattle.table_statements.specs.Contents.{Contents, contents_of}
 use Rattle.table_statements.specs.Calls.{IsUnderWay, Changes}
-use Rattle.table_statements.proofs.Steps.{changes_then, changes_none}
+use Rattle.table_statements.proofs.Steps.{changes_then, changes_none, changes_to}
 
 -- it goes on, and with what is left the contents will be what all makes of those at first
 pub record Goes {X : Type 0} (change : List X → Contents → Contents) (all : List X) (first now : State) (left : List X) : Type 0 where
@@ -12,19 +12,7 @@ pub record Goes {X : Type 0} (change : List X → Contents → Contents) (all : 
 
 -- what a change makes is what there is then
 forgotten : (a b : State) (f : Contents → Contents) → Changes a b f → Changes a b (λ _. contents_of b.now)
-forgotten a b f h = record {
-  was_open = h.was_open;
-  is_open = h.is_open;
-  schema = h.schema;
-  contents = refl;
-  theirs = h.theirs;
-  unshown = h.unshown;
-  ours = h.ours;
-  further = h.further;
-  committed = h.committed;
-  mode = h.mode;
-  marks = h.marks;
-}
+forgotten a b f h = changes_to a b f (λ _. contents_of b.now) refl h
 
 -- nothing was written yet
 pub goes_first : {X : Type 0} (change : List X → Contents → Contents) (all : List X) (s : State) → IsUnderWay s → IsTrue s.is_open → Goes change all s s all
@@ -40,16 +28,4 @@ goes_next change all first now next left rest f h k same = record {
 
 -- all was
 pub goes_done : {X : Type 0} (change : List X → Contents → Contents) (all : List X) (first now : State) (left : List X) → change left (contents_of now.now) ≡ contents_of now.now → Goes change all first now left → Changes first now (change all)
-goes_done change all first now left none h = record {
-  was_open = h.changes.was_open;
-  is_open = h.changes.is_open;
-  schema = h.changes.schema;
-  contents = sym none ∙ h.comes;
-  theirs = h.changes.theirs;
-  unshown = h.changes.unshown;
-  ours = h.changes.ours;
-  further = h.changes.further;
-  committed = h.changes.committed;
-  mode = h.changes.mode;
-  marks = h.changes.marks;
-}
+goes_done change all first now left none h = changes_to first now (λ _. contents_of now.now) (change all) (sym none ∙ h.comes) h.changes

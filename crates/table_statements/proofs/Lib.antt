@@ -1,4 +1,5 @@
 pub mod Apart
+pub mod Contents
 pub mod Entries
 pub mod Finds
 pub mod Frozen

@@ -13,7 +13,7 @@ use Rattle.sqlite_rules.specs.Calls.{ids_of}
 use Rattle.sqlite_sql.specs.Term.{Term, holds}
 use Rattle.sqlite_sql.specs.Query.{IsAnswer}
 use Rattle.sqlite_value.specs.declared.value.Value.{Value}
-use Rattle.sqlite_value.specs.declared.value.Value.TheVariants.{Null, Int, Real, Text, Blob}
+use Rattle.sqlite_value.specs.declared.value.Value.TheVariants.{Int}
 use Rattle.sqlite_rules.proofs.ListLemmas.{has_filtered, has_kept}
 use Rattle.sqlite_rules.proofs.ProbeLemmas.{has_mapped, mapped_has}
 use Rattle.sqlite_trees.specs.View.{is_int}
@@ -83,11 +83,8 @@ keyed_left ids rows keyed = record { ints = λ a h. keyed.ints a (left_from ids 
 
 -- the rowid of a row that has an integer there
 pub int_is : (v : Value) → IsTrue (is_int v) → v ≡ Int (id_in v)
-int_is Null h = cc
 int_is (Int n) h = refl
-int_is (Real x) h = cc
-int_is (Text t) h = cc
-int_is (Blob b) h = cc
+int_is v h = cc
 
 has_own : (x : Row) → IsTrue (is_int (rowid x)) → has_rowid (id_in (rowid x)) x ≡ true
 has_own x int = rw (← int_is (rowid x) int) (ap is_eq (tied_itself value_cmp_total (rowid x)))

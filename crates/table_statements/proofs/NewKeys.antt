@@ -6,7 +6,7 @@ use Rattle.std.specs.Cmp.{tied_itself}
 use Rattle.std.proofs.lemmas.Bool.{and_parts, and_from, not-true, not_from_false, both_ways, cases_eq, false_from_ne_true}
 use Rattle.std.proofs.lemmas.Slice.Eq.{bytes_eq-Decides}
 use Rattle.sqlite_value.specs.declared.value.Value.{Value}
-use Rattle.sqlite_value.specs.declared.value.Value.TheVariants.{Null, Int, Real, Text, Blob}
+use Rattle.sqlite_value.specs.declared.value.Value.TheVariants.{Int}
 use Rattle.sqlite_value.specs.Keys.{plain}
 use Rattle.sqlite_value.specs.Order.{Row}
 use Rattle.sqlite_value.proofs.OrderLemmas.{value_cmp_total}
@@ -28,11 +28,8 @@ use Rattle.table_statements.proofs.KeptRules.{set_here, set_other}
 
 same_rowid : (v : Value) → IsTrue (is_int v) → differ v v ≡ false
 unfolding binary
-same_rowid Null h = cc
 same_rowid (Int n) h = told _ ∙ ap is_ne (tied_itself value_cmp_total (Int n))
-same_rowid (Real x) h = cc
-same_rowid (Text t) h = cc
-same_rowid (Blob b) h = cc
+same_rowid v h = cc
 
 -- in no unique index of the tree does this row clash with one of these
 abbrev IsFree : Schema → ℕ → List Row → Row → Type 0

@@ -1,5 +1,5 @@
 -- The order of pairs, and the list that a set is read as.
-use Rattle.std.proofs.Common.{◌≡◌, ℕ, ◌+◌, ◌<◌, Bool, true, false, List, [], ◌∷◌, length, map, get_or, refl, sym, ap, ◌∙◌, zero, suc, arith, ◌&&◌, cond, Some, None, Option, inl, inr}
+use Rattle.std.proofs.Common.{◌≡◌, ◌+◌, ◌<◌, Bool, true, false, List, [], ◌∷◌, length, map, refl, sym, ap, ◌∙◌, arith, ◌&&◌, cond, Some, None, Option, inl, inr}
 use Rattle.std.specs.declared.cmp.Ordering.{Ordering}
 use Rattle.std.specs.declared.cmp.Ordering.TheVariants.{Less, Equal, Greater}
 use Rattle.std.specs.Ordering.{is_lt, is_eq, ordering_then, ordering_reverse}
@@ -9,6 +9,8 @@ use Rattle.std.specs.FinMap.Entries.{is_sorted, below_all, find}
 use Rattle.std.specs.FinMap as finite
 use Rattle.std.specs.List.{AllByRecursion, AllAdjacentBelow}
 use Rattle.std.proofs.lemmas.Map.Keys.{sorted_from_all_adjacent}
+use Rattle.std.proofs.Math.ListN.{get_or-map}
+use Rattle.std.proofs.lemmas.List.{length-map}
 use Rattle.std.specs.List.Sorted.{IsStrictlySortedBy}
 use Rattle.sqlite_rules.specs.Lists.{Has}
 use lib.Dec.{T}
@@ -111,22 +113,13 @@ below_from Less h = refl
 below_from Equal h = cc
 below_from Greater h = cc
 
-get_or-map : {A B : Type 0} (f : A → B) (xs : List A) (k : ℕ) (d : A) → get_or (map f xs) k (f d) ≡ f (get_or xs k d)
-get_or-map f [] k d = refl
-get_or-map f (x ∷ xs) zero d = refl
-get_or-map f (x ∷ xs) (suc k) d = get_or-map f xs k d
-
-length_map : {A B : Type 0} (f : A → B) (xs : List A) → length (map f xs) ≡ length xs
-length_map f [] = refl
-length_map f (x ∷ xs) = ap suc (length_map f xs)
-
 -- what a test of neighbours says
 pub rises_by : {A K : Type 0} {R : K → K → Ordering} (o : IsTotalOrder R) (f : A → K) (xs : List A) → AllAdjacentBelow (λ x y. true ≡ is_lt (R (f x) (f y))) xs (length xs) → IsStrictlySortedBy R (map f xs)
 unfolding IsStrictlySortedBy
 rises_by o f [] h = tt
 rises_by o f (d ∷ xs) h =
     sorted_from_all_adjacent o (map f (d ∷ xs)) (f d) (λ k low.
-    let in_range : k + 1 < length (d ∷ xs) = omega (arith, length_map f (d ∷ xs), low) in
+    let in_range : k + 1 < length (d ∷ xs) = omega (arith, length-map (d ∷ xs) f, low) in
     rw (get_or-map f (d ∷ xs) k d, get_or-map f (d ∷ xs) (k + 1) d) (below_from _ (h k d in_range)))
 
 -- ---- the order of generations

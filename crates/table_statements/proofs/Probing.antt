@@ -4,7 +4,7 @@ use Rattle.std.specs.Prelude.{IsSome}
 use Rattle.sqlite_value.specs.declared.value.Value.TheVariants.{Int}
 use Rattle.sqlite_value.specs.Order.{Row}
 use Rattle.sqlite_trees.specs.declared.error.StoreError.{StoreError}
-use Rattle.sqlite_trees.specs.declared.error.StoreError.TheVariants.{OutOfMemory, Io, Corrupt, Full, Broken, Unstorable}
+use Rattle.sqlite_trees.specs.declared.error.StoreError.TheVariants.{OutOfMemory}
 use Rattle.sqlite_trees.specs.Tree.{Trees}
 use Rattle.sqlite_sql.specs.Term.{lit}
 use Rattle.sqlite_sql.specs.Query.{Query, end}
@@ -67,11 +67,7 @@ ask_stops old new = query_stops old new text [] (codes "1" ∷ []) query (λ sam
 
 store_names : (cause : StoreError) → store_error cause ≡ SqliteFailure OperationInterrupted → ⊥
 store_names OutOfMemory h = absurd (let e = h in cc)
-store_names Io h = absurd (let e = h in cc)
-store_names Corrupt h = absurd (let e = h in cc)
-store_names Full h = absurd (let e = h in cc)
-store_names Broken h = absurd (let e = h in cc)
-store_names Unstorable h = absurd (let e = h in cc)
+store_names cause h = absurd (let e = h in cc)
 
 -- where a limit on steps stopped it, nothing changed
 pub ask_stopped : (old new : State) (e : Error) → e ≡ SqliteFailure OperationInterrupted → FailsToQuery text [] old new e ⊎ IsTooLate text [] old new e → IsUnchanged old new

@@ -4,7 +4,7 @@ use Rattle.std.specs.Prelude.{IsSome, if◌then◌else◌}
 use Rattle.std.proofs.lemmas.Bool.{leb-true}
 use Rattle.sqlite_value.specs.Order.{Row}
 use Rattle.sqlite_trees.specs.Tree.{Trees}
-use Rattle.sqlite_trees.specs.declared.error.StoreError.TheVariants.{OutOfMemory, Io, Corrupt, Full, Broken, Unstorable}
+use Rattle.sqlite_trees.specs.declared.error.StoreError.TheVariants.{OutOfMemory, Broken, Unstorable}
 use Rattle.sqlite_sql.specs.Group.{Overflows}
 use Rattle.sqlite_sql.specs.Query.{Query, matches, FoldOverflows}
 use Rattle.sqlite_sql.specs.Program.{QueryOverflows, overlay}
@@ -41,11 +41,9 @@ use Rattle.table_statements.proofs.Statements.{Compiles}
 
 pub store_failed : (old new : State) (large refused too_big : Type 0) → (too_big → large) → (e : Error) → Fails old new too_big e → FailsWith old new large refused (failure_of e)
 store_failed old new large refused too_big grows e (OutOfMemory, is, why, back, tells) = subst (λ x. FailsWith old new large refused (failure_of x)) (sym is) (inl back)
-store_failed old new large refused too_big grows e (Io, is, why, back, tells) = subst (λ x. FailsWith old new large refused (failure_of x)) (sym is) (inl (inl why, back))
-store_failed old new large refused too_big grows e (Corrupt, is, why, back, tells) = subst (λ x. FailsWith old new large refused (failure_of x)) (sym is) (inl (inl why, back))
-store_failed old new large refused too_big grows e (Full, is, why, back, tells) = subst (λ x. FailsWith old new large refused (failure_of x)) (sym is) (inl (inl why, back))
 store_failed old new large refused too_big grows e (Broken, is, why, back, tells) = subst (λ x. FailsWith old new large refused (failure_of x)) (sym is) (inl (inr why, back))
 store_failed old new large refused too_big grows e (Unstorable, is, why, back, tells) = subst (λ x. FailsWith old new large refused (failure_of x)) (sym is) (grows why, back)
+store_failed old new large refused too_big grows e (cause, is, why, back, tells) = subst (λ x. FailsWith old new large refused (failure_of x)) (sym is) (inl (inl why, back))
 
 -- ---- a text that is a statement
 

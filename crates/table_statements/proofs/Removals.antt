@@ -6,7 +6,7 @@ use Rattle.sqlite_value.specs.Order.{Row}
 use Rattle.sqlite_trees.specs.Tree.{Trees, with_tree}
 use Rattle.sqlite_sql.specs.Term.{Term}
 use Rattle.sqlite_schema.specs.declared.schema.Column.{Column}
-use Rattle.sqlite_schema.specs.declared.schema.Constraint.TheVariants.{Datatype, NotNull, Check, PrimaryKey, Unique, ForeignKey}
+use Rattle.sqlite_schema.specs.declared.schema.Constraint.TheVariants.{Unique, ForeignKey}
 use Rattle.sqlite_schema.specs.declared.schema.Among.TheVariants.{All}
 use Rattle.sqlite_schema.specs.declared.schema.Keys.TheVariants.{Enforced}
 use Rattle.sqlite_schema.specs.declared.schema.Schema.{Schema}
@@ -15,7 +15,7 @@ use Rattle.sqlite_schema.specs.declared.command.Command.TheVariants.{Delete}
 use Rattle.sqlite_schema.specs.Rules.{Refers}
 use Rattle.sqlite_typing.specs.Types.{accepts_program}
 use Rattle.sqlite_rules.specs.declared.error.Refusal.{Refusal}
-use Rattle.sqlite_rules.specs.declared.error.Refusal.TheVariants.{Violates, Mismatch, NoRowid, BadReference, TooDeep}
+use Rattle.sqlite_rules.specs.declared.error.Refusal.TheVariants.{Violates, BadReference, TooDeep}
 use Rattle.sqlite_rules.specs.declared.error.Rowids.TheVariants.{Given}
 use Rattle.sqlite_rules.specs.Lists.{Has}
 use Rattle.sqlite_rules.specs.Edit.{Edit, edit_of, edited, taken_by, IsRefused}
@@ -64,16 +64,11 @@ module _ (name : List ℕ) (columns : List Column) (key : List ℕ) (tree at : �
 
     -- no rule refuses it
     never_refused : (gone : List Row) (why : Refusal) → IsRefused db.schema Enforced db.trees (removal gone) why → ⊥
-    never_refused gone (Violates Datatype) h = absurd (let e = h in cc)
-    never_refused gone (Violates NotNull) h = absurd (let e = h in cc)
-    never_refused gone (Violates Check) h = absurd (let e = h in cc)
-    never_refused gone (Violates PrimaryKey) h = absurd (let e = h in cc)
     never_refused gone (Violates Unique) h = h (unique_fewer db.schema db.trees (with_tree db.trees tree (edited db.trees (removal gone))) (λ t r listed there. fewer gone t r there) (sound.obeys.rules Unique))
     never_refused gone (Violates ForeignKey) h = h
-    never_refused gone Mismatch h = absurd (let e = h in cc)
-    never_refused gone NoRowid h = absurd (let e = h in cc)
     never_refused gone BadReference h = both_ways _ h (or_right (not (nat_lt 0 (length (ids_of gone)))) _ (none_to_fit db.schema own at named unreferred))
     never_refused gone TooDeep h = h
+    never_refused gone why h = absurd (let e = h in cc)
 
     never_stops : (gone : List Row) (stop : Option Error) → Edited db.schema Enforced db.trees (removal gone) (Err stop) → ⊥
     never_stops gone stop (why, inl h, is) = never_refused gone h.0 h.1

@@ -5,7 +5,7 @@ use Rattle.sqlite_value.specs.Order.{Row}
 use Rattle.sqlite_trees.specs.Tree.{Trees}
 use Rattle.sqlite_trees.specs.declared.store.Store as store
 use Rattle.sqlite_trees.specs.declared.error.StoreError.{StoreError}
-use Rattle.sqlite_trees.specs.declared.error.StoreError.TheVariants.{OutOfMemory, Io, Corrupt, Full, Broken, Unstorable}
+use Rattle.sqlite_trees.specs.declared.error.StoreError.TheVariants.{OutOfMemory, Broken, Unstorable}
 use Rattle.sqlite_schema.specs.declared.command.Returning.{Returning}
 use Rattle.sqlite_resolve.specs.declared.compiled.Compiled.{Compiled}
 use Rattle.sqlite_resolve.specs.declared.error.CompileError.{CompileError}
@@ -85,11 +85,9 @@ module _ (text : List ℕ) (params : Row) (reads : IsSelect text) (first old : S
   module _ (survives : Survives first old (λ _. ⊥)) where
     has_cause : (new : State) (too_big : Type 0) (cause : StoreError) → HasCause old new too_big cause → HasCause first new too_big cause
     has_cause new too_big OutOfMemory h = h
-    has_cause new too_big Io h = omega (arith, h, survives.counts)
-    has_cause new too_big Corrupt h = omega (arith, h, survives.counts)
-    has_cause new too_big Full h = omega (arith, h, survives.counts)
     has_cause new too_big Broken h = absurd (let no = sym same.0.is_open ∙ h in cc)
     has_cause new too_big Unstorable h = h
+    has_cause new too_big cause h = omega (arith, h, survives.counts)
 
     failed : (new : State) (e : Error) → Fails old new ⊥ e → Fails first new ⊥ e
     failed new e h = (h.0, h.1, has_cause new ⊥ h.0 h.2, undone new h.3, h.4)

@@ -3,7 +3,7 @@ use Rattle.std.proofs.Common.{◌≡◌, ◌⊎◌, inl, inr, ℕ, List, Bool, t
 use Rattle.std.specs.Prelude.{MatchBool}
 use Rattle.std.proofs.lemmas.Bool.{both_ways}
 use Rattle.sqlite_value.specs.Order.{Row}
-use Rattle.sqlite_trees.specs.declared.error.StoreError.TheVariants.{OutOfMemory, Io, Corrupt, Full, Broken, Unstorable}
+use Rattle.sqlite_trees.specs.declared.error.StoreError.TheVariants.{Unstorable}
 use Rattle.sqlite_resolve.specs.declared.compiled.Compiled.{Compiled}
 use Rattle.sqlite.specs.declared.error.Error.{Error}
 use Rattle.sqlite.specs.declared.error.Error.TheVariants.{ExecuteReturnedResults}
@@ -70,12 +70,8 @@ module _ (a b c : State) where
     still (inr h) = inr (undone_then h same)
 
     failed_still : (too_big : Type 0) → Fails a b too_big e → Fails a c too_big e
-    failed_still too_big (OutOfMemory, is, why, back, tells) = absurd (let no = subst (λ x. failure_of x ≡ Size) is is_size in cc)
-    failed_still too_big (Io, is, why, back, tells) = absurd (let no = subst (λ x. failure_of x ≡ Size) is is_size in cc)
-    failed_still too_big (Corrupt, is, why, back, tells) = absurd (let no = subst (λ x. failure_of x ≡ Size) is is_size in cc)
-    failed_still too_big (Full, is, why, back, tells) = absurd (let no = subst (λ x. failure_of x ≡ Size) is is_size in cc)
-    failed_still too_big (Broken, is, why, back, tells) = absurd (let no = subst (λ x. failure_of x ≡ Size) is is_size in cc)
     failed_still too_big (Unstorable, is, why, back, tells) = (Unstorable, is, why, undone_then back same, λ kind blamed fault. absurd (let no = fault in cc))
+    failed_still too_big (cause, is, why, back, tells) = absurd (let no = subst (λ x. failure_of x ≡ Size) is is_size in cc)
 
     ran_still : (d : Compiled) (ps : Row) (shows : Bool)
         → MatchBool shows (◌≡◌ {A = Result ℕ Error} (Err e) (Err ExecuteReturnedResults) × IsUnchanged a b) (RunsCommand a b text d ps (Err e))

@@ -1,26 +1,23 @@
 -- Calls one after another.
-use Rattle.std.proofs.Common.{◌≡◌, inl, inr, false, List, [], ◌∷◌, refl, sym, ap, subst, ◌∙◌, arith, IsTrue}
+use Rattle.std.proofs.Common.{◌≡◌, false, refl, sym, ap, subst, ◌∙◌, arith, IsTrue}
 use Rattle.std.specs.List.{AllByRecursion}
 use Rattle.sqlite_trees.specs.Tree.{Trees}
-use Rattle.sqlite_trees.proofs.ListLemmas.{all_of}
+use Rattle.sqlite_trees.proofs.ListLemmas.{all_of, all_both}
 use Rattle.sqlite_schema.specs.declared.schema.Schema.{Schema}
 use Rattle.sqlite_schema.specs.declared.schema.Table.{Table}
 use Rattle.sqlite.specs.Effect.{Database, IsDatabase}
 use Rattle.sqlite.specs.State.{State, HasCleanDisk, KeepsCommit, Survives}
-use Rattle.sqlite.proofs.StateLemmas.{survives_then}
+use Rattle.sqlite.proofs.StateLemmas.{survives_then, survives_weaker}
 use Rattle.table_forms.specs.Forms.{is_our_name}
 use Rattle.table_statements.specs.Contents.{Contents, contents_of}
 use Rattle.table_statements.specs.Frozen.{IsUnshown, KeepsUnshown}
 use Rattle.table_statements.specs.Calls.{IsOurs, IsReady, IsUnderWay, IsCommitted, KeepsTheirs, Leaves, Changes, KeepsShown, KeepsFurther}
 use Rattle.table_statements.proofs.Frozen.{frozen_next, frozen_of}
 
-theirs_walk : (a b c : Database) (ts : List Table) → AllByRecursion (λ t. is_our_name t.name ≡ false → b.trees t.tree ≡ a.trees t.tree) ts → AllByRecursion (λ t. is_our_name t.name ≡ false → c.trees t.tree ≡ b.trees t.tree) ts
-    → AllByRecursion (λ t. is_our_name t.name ≡ false → c.trees t.tree ≡ a.trees t.tree) ts
-theirs_walk a b c [] h k = tt
-theirs_walk a b c (t ∷ ts) h k = (λ other. k.0 other ∙ h.0 other, theirs_walk a b c ts h.1 k.1)
-
 pub theirs_then : (a b c : Database) → b.schema ≡ a.schema → KeepsTheirs a b → KeepsTheirs b c → KeepsTheirs a c
-theirs_then a b c is h k = theirs_walk a b c a.schema.tables h (subst (λ (s : Schema). AllByRecursion (λ t. is_our_name t.name ≡ false → c.trees t.tree ≡ b.trees t.tree) s.tables) is k)
+theirs_then a b c is h k =
+    let foreign = λ (x y : Database) (t : Table). is_our_name t.name ≡ false → y.trees t.tree ≡ x.trees t.tree in
+    all_both (foreign a b) (foreign b c) (foreign a c) (λ t p q other. q other ∙ p other) a.schema.tables h (subst (λ (s : Schema). AllByRecursion (foreign b c) s.tables) is k)
 
 -- two changes in a row are one
 pub changes_then : (a b c : State) (f g : Contents → Contents) → Changes a b f → Changes b c g → Changes a c (λ x. g (f x))
@@ -40,12 +37,12 @@ changes_then a b c f g h k = record {
 }
 
 -- one change in other words
-pub changes_by : (a b : State) (f g : Contents → Contents) → ((c : Contents) → f c ≡ g c) → Changes a b f → Changes a b g
-changes_by a b f g same h = record {
+pub changes_to : (a b : State) (f g : Contents → Contents) → contents_of b.now ≡ g (contents_of a.now) → Changes a b f → Changes a b g
+changes_to a b f g same h = record {
   was_open = h.was_open;
   is_open = h.is_open;
   schema = h.schema;
-  contents = h.contents ∙ same (contents_of a.now);
+  contents = same;
   theirs = h.theirs;
   unshown = h.unshown;
   ours = h.ours;
@@ -54,6 +51,9 @@ changes_by a b f g same h = record {
   mode = h.mode;
   marks = h.marks;
 }
+
+pub changes_by : (a b : State) (f g : Contents → Contents) → ((c : Contents) → f c ≡ g c) → Changes a b f → Changes a b g
+changes_by a b f g same h = changes_to a b f g (h.contents ∙ same (contents_of a.now)) h
 
 -- no change is a change
 pub changes_none : (s : State) → IsUnderWay s → IsTrue s.is_open → Changes s s (λ c. c)
@@ -100,14 +100,7 @@ leaves_now : (d : Database) (db : Trees) → db ≡ d.trees → Leaves d db (con
 leaves_now d db is = subst (λ (trees : Trees). Leaves d trees (contents_of d)) (sym is) (record { ours = refl; theirs = all_of (λ (t : Table). is_our_name t.name ≡ false → d.trees t.tree ≡ d.trees t.tree) (λ t other. refl) d.schema.tables; frozen = record { rows = λ tree is. refl; texts = λ row there foreign. there; version = refl } })
 
 pub leaves_by : (old new : State) → Survives old new (λ db. db ≡ old.now.trees) → Survives old new (λ db. Leaves old.now db (contents_of old.now))
-leaves_by old new h = record {
-  clean = h.clean;
-  shield = h.shield;
-  counts = h.counts;
-  limit = h.limit;
-  closes = h.closes;
-  crash = λ clean db left. elim (h.crash clean db left) [ inl was ↦ inl was | inr is ↦ inr (leaves_now old.now db is) ];
-}
+leaves_by old new h = survives_weaker old new _ _ (λ clean db is. leaves_now old.now db is) h
 
 -- ---- a whole transaction
 

@@ -2,7 +2,7 @@
 use Rattle.std.proofs.Common.{◌≡◌, List, ℕ, ℤ, Bool, true, false, not, ◌&&◌, ◌||◌, cond, Some, refl, ap, ◌∙◌}
 use Rattle.std.specs.Ordering.{is_eq, eq_by_cmp, int_cmp}
 use Rattle.sqlite_value.specs.declared.value.Value.{Value}
-use Rattle.sqlite_value.specs.declared.value.Value.TheVariants.{Null, Int, Real, Text, Blob}
+use Rattle.sqlite_value.specs.declared.value.Value.TheVariants.{Null, Int, Text}
 use Rattle.sqlite_value.specs.declared.keys.Collation.TheVariants.{Binary}
 use Rattle.sqlite_value.proofs.OrderLemmas.{value_cmp-Text, value_cmp-Int}
 use Rattle.sqlite_value.specs.Order.{bytes}
@@ -35,20 +35,14 @@ told false = refl
 -- a text against a text
 pub text_test : (v : Value) (t : List ℕ) → is_text v ≡ true → is_true (binary (Compare Eq Binary) v (Text t)) ≡ eq_by_cmp texts_cmp (bytes v) t
 unfolding binary
-text_test Null t h = absurd (let e = h in cc)
-text_test (Int n) t h = absurd (let e = h in cc)
-text_test (Real x) t h = absurd (let e = h in cc)
 text_test (Text s) t h = told _ ∙ ap is_eq (value_cmp-Text s t)
-text_test (Blob b) t h = absurd (let e = h in cc)
+text_test v t h = absurd (let e = h in cc)
 
 -- an integer against an integer
 pub int_test : (v : Value) (n : ℤ) → is_int v ≡ true → is_true (binary (Compare Eq Binary) v (Int n)) ≡ eq_by_cmp int_cmp (id_in v) n
 unfolding binary
-int_test Null t h = absurd (let e = h in cc)
 int_test (Int m) n h = told _ ∙ ap is_eq (value_cmp-Int m n)
-int_test (Real x) t h = absurd (let e = h in cc)
-int_test (Text s) t h = absurd (let e = h in cc)
-int_test (Blob b) t h = absurd (let e = h in cc)
+int_test v n h = absurd (let e = h in cc)
 
 pub and_so : (a b : Bool) → (a && b) ≡ true → (a ≡ true) × (b ≡ true)
 and_so true b h = (refl, h)

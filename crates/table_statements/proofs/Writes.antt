@@ -3,7 +3,7 @@ use Rattle.std.proofs.Common.{◌≡◌, ◌⊎◌, inl, inr, ℕ, ◌/◌, pos,
 use Rattle.sqlite_value.specs.declared.value.Value.TheVariants.{Null, Int}
 use Rattle.sqlite_value.specs.Order.{Row}
 use Rattle.sqlite_trees.specs.Tree.{Trees}
-use Rattle.sqlite_trees.proofs.ListLemmas.{all-slice_get}
+use Rattle.sqlite_trees.proofs.ListLemmas.{all-slice_get, flat_map_none}
 use Rattle.sqlite_sql.specs.Term.{Term, lit, col}
 use Rattle.sqlite_sql.specs.Query.{Query, inner, end, IsAnswer}
 use Rattle.sqlite_sql.specs.Program.{overlay}
@@ -11,15 +11,16 @@ use Rattle.sqlite_schema.specs.declared.schema.Column.{Column}
 use Rattle.sqlite_schema.specs.declared.schema.Table.{Table}
 use Rattle.sqlite_schema.specs.declared.schema.Keys.TheVariants.{Enforced}
 use Rattle.sqlite_schema.specs.declared.command.Source.TheVariants.{Values}
+use Rattle.sqlite_schema.specs.declared.command.Command.{Command}
 use Rattle.sqlite_schema.specs.declared.command.Command.TheVariants.{Insert, Delete}
-use Rattle.sqlite_rules.specs.Edit.{edit_of, edited, Applies, without_all, taken_by}
+use Rattle.sqlite_rules.specs.Edit.{Edit, edit_of, edited, Applies, without_all, taken_by}
 use Rattle.sqlite_rules.specs.Calls.{ids_of}
 use Rattle.sqlite_rules.specs.declared.error.Rowids.TheVariants.{Chosen, Given}
 use Rattle.sqlite.specs.Does.{Tally, Does, AtPlace}
 use Rattle.sqlite.specs.Rows.{Part, Written, stamped}
 use Rattle.sqlite.specs.Effect.{Database, IsDatabase, value_rows}
 use Rattle.sqlite.specs.Listing.{understood}
-use Rattle.sqlite.specs.State.{State, mode_of, Executes}
+use Rattle.sqlite.specs.State.{State, mode_of, Executes, Writes}
 use Rattle.sqlite.proofs.Callers.{IsPlain, command_of, statement_of, runs_as, one_step}
 use Rattle.table_forms.specs.Forms.{strict}
 use Rattle.std.proofs.Common.{Bool, cond, filter, not, ◌&&◌}
@@ -89,14 +90,10 @@ all_none : {X Y : Type 0} (f : X → Option Y) (xs : List X) → ((x : X) → f 
 all_none f [] none = refl
 all_none f (x ∷ xs) none = rw (none x) (all_none f xs none)
 
-all_empty : {X Y : Type 0} (f : X → List Y) (xs : List X) → ((x : X) → f x ≡ []) → flat_map f xs ≡ []
-all_empty f [] none = refl
-all_empty f (x ∷ xs) none = rw (none x) (all_empty f xs none)
-
 -- an INSERT takes no row, so no key acts, whoever refers to the table
 pub works_of_none : (s : Schema) (keys : Keys) (depth tree : ℕ) (news : List Row) → works s keys depth tree [] news ≡ []
 works_of_none s keys depth tree news =
-    all_empty (λ (child : Table). filter_map (work_for s keys depth tree [] news child) child.references) s.tables (λ child. all_none (work_for s keys depth tree [] news child) child.references (λ ref. by_none depth tree child ref _ _))
+    flat_map_none (λ (child : Table). filter_map (work_for s keys depth tree [] news child) child.references) (λ child. all_none (work_for s keys depth tree [] news child) child.references (λ ref. by_none depth tree child ref _ _)) s.tables
 
 by_order : (depth tree : ℕ) (moves : List (Row × Row)) (child p : Table) (ref : Reference) (deed : Option Deed) (places : List ℕ) (o : _) → (p.tree == tree) ≡ false → work_by depth tree moves child ref deed (option_map (λ x. (p.tree, places, x)) o) ≡ None
 by_order depth tree moves child p ref None places o other = refl
@@ -129,6 +126,22 @@ works_unreferred s keys depth tree olds h = no_works s keys depth tree olds s.ta
 
 -- ---- the two writes
 
+-- a write whose one edit was applied
+sets_by : (old new : State) (at : ℕ) (edit : Edit) {command : Command} {text : List ℕ} {params : Row} {count : ℕ} → Writes old new None command text params count → old.in_transaction ≡ true
+    → slice_get old.now.schema.tables at ≡ Some edit.table → new.now.schema ≡ old.now.schema → Applies old.now.schema Enforced old.now.trees edit new.now.trees → SetsRows old new edit.table.tree (edited old.now.trees edit)
+sets_by old new at edit w inside there same a = record {
+  was_open = w.shown.was_open;
+  is_open = w.shown.is_open;
+  sound = w.sound;
+  schema = same;
+  rows_are = a.rows;
+  others = a.tables;
+  unshown = λ t hidden. a.others t (λ e. all-slice_get (λ (x : Table). x.tree ≢ t) old.now.schema.tables at edit.table there hidden.0 (sym e)) hidden.1;
+  committed = w.shown.committed_is ∙ rw inside refl;
+  mode = w.shown.mode ∙ inside;
+  marks = w.marks;
+}
+
 module _ (name : List ℕ) (columns : List Column) (key : List ℕ) (tree at width : ℕ) (terms : List Term) (text : List ℕ) where
   abbrev table : Table
   table = record (strict name columns key) { tree = tree }
@@ -157,18 +170,7 @@ module _ (name : List ℕ) (columns : List Column) (key : List ℕ) (tree at wid
       let second : Applies old.now.schema Enforced db (edit given.0) new.now.trees = subst (λ (d : Database). Applies old.now.schema Enforced db (edit given.0) d.trees) (sym whole) first in
       let a : Applies old.now.schema Enforced db (edit (value_rows (stamped table params) width (length terms / width) terms)) new.now.trees = subst (λ all. Applies old.now.schema Enforced db (edit all) new.now.trees) given.1.1 second in (
         a,
-        record {
-          was_open = w.shown.was_open;
-          is_open = w.shown.is_open;
-          sound = w.sound;
-          schema = ap (λ (d : Database). d.schema) whole;
-          rows_are = a.rows;
-          others = a.tables;
-          unshown = λ t hidden. a.others t (λ e. all-slice_get (λ (x : Table). x.tree ≢ t) old.now.schema.tables at table there hidden.0 (sym e)) hidden.1;
-          committed = w.shown.committed_is ∙ rw inside refl;
-          mode = w.shown.mode ∙ inside;
-          marks = w.marks;
-        },
+        sets_by old new at (edit (value_rows (stamped table params) width (length terms / width) terms)) w inside there (ap (λ (d : Database). d.schema) whole) a,
       )
 
 module _ (name : List ℕ) (columns : List Column) (key : List ℕ) (tree at : ℕ) (filter : List Term) (text : List ℕ) where
@@ -197,18 +199,7 @@ module _ (name : List ℕ) (columns : List Column) (key : List ℕ) (tree at : �
       let a : Applies old.now.schema Enforced db edit new.now.trees = subst (λ (d : Database). Applies old.now.schema Enforced db edit d.trees) (sym whole) first in (
         given.0,
         given.1.answer Null,
-        record {
-          was_open = w.shown.was_open;
-          is_open = w.shown.is_open;
-          sound = w.sound;
-          schema = ap (λ (d : Database). d.schema) whole;
-          rows_are = a.rows;
-          others = a.tables;
-          unshown = λ t hidden. a.others t (λ e. all-slice_get (λ (x : Table). x.tree ≢ t) old.now.schema.tables at from there hidden.0 (sym e)) hidden.1;
-          committed = w.shown.committed_is ∙ rw inside refl;
-          mode = w.shown.mode ∙ inside;
-          marks = w.marks;
-        },
+        sets_by old new at edit w inside there (ap (λ (d : Database). d.schema) whole) a,
       )
 
 -- a tree below those of computed tables shows what it holds

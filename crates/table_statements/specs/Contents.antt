@@ -7,7 +7,7 @@ use Rattle.std.specs.FinMap as finite
 use Rattle.sqlite_value.specs.Order.{Row, column, bytes}
 use Rattle.sqlite_schema.specs.Names.{same_name}
 use Rattle.sqlite_value.specs.declared.value.Value.{Value}
-use Rattle.sqlite_value.specs.declared.value.Value.TheVariants.{Null, Int, Real, Text, Blob}
+use Rattle.sqlite_value.specs.declared.value.Value.TheVariants.{Null, Text, Blob}
 use Rattle.sqlite_trees.specs.View.{is_int}
 use Rattle.sqlite_rules.specs.Edit.{id_in}
 use Rattle.sqlite.specs.Effect.{Database}
@@ -98,32 +98,21 @@ pub record Contents : Type 0 where
 -- ---- how they are read off the rows, whose first column is the rowid; a row of another kind, which STRICT keeps out, says nothing
 
 abbrev pub is_text : Value → Bool
-is_text Null = false
-is_text (Int n) = false
-is_text (Real x) = false
 is_text (Text t) = true
-is_text (Blob b) = false
+is_text _ = false
 
 abbrev pub is_blob : Value → Bool
-is_blob Null = false
-is_blob (Int n) = false
-is_blob (Real x) = false
-is_blob (Text t) = false
 is_blob (Blob b) = true
+is_blob _ = false
 
 abbrev pub is_text_or_null : Value → Bool
 is_text_or_null Null = true
-is_text_or_null (Int n) = false
-is_text_or_null (Real x) = false
 is_text_or_null (Text t) = true
-is_text_or_null (Blob b) = false
+is_text_or_null _ = false
 
 abbrev pub text_if_any : Value → Option Bytes
-text_if_any Null = None
-text_if_any (Int n) = None
-text_if_any (Real x) = None
 text_if_any (Text t) = Some t
-text_if_any (Blob b) = None
+text_if_any _ = None
 
 -- two texts
 abbrev pub is_pair : Row → Bool
@@ -186,18 +175,22 @@ rows_named db name = db.trees (tree_named db.schema name)
 unfoldable pub rows_if_any : Database → Bytes → List Row
 rows_if_any db name = unwrap_or (option_map (λ t. db.trees t.tree) (find (λ t. same_name t.name name) db.schema.tables)) []
 
+-- what tables hold that have these rows by their names; the further two, of which there may be none, by themselves
+abbrev pub contents_with : (Bytes → List Row) → (pieces temp_roots : List Row) → Contents
+contents_with rows pieces temp_roots = record {
+  meta = map_of texts_cmp is_pair pair_of (rows (codes "meta"));
+  objects = map_of texts_cmp is_object object_of (rows (codes "object"));
+  refs = map_of pair_cmp is_pair member_of (rows (codes "refs"));
+  outs = map_of pair_cmp is_triple target_of (rows (codes "outs"));
+  permanent = map_of texts_cmp is_pair pair_of (rows (codes "permanent"));
+  user_roots = map_of pair_cmp is_triple target_of (rows (codes "user_root"));
+  profiles = map_of pair_cmp is_profile profile_of (rows (codes "profile"));
+  generations = map_of triple_cmp is_generation generation_of (rows (codes "generation"));
+  runtime = map_of pair_cmp is_pair member_of (rows (codes "runtime"));
+  pieces = map_of numbered_cmp is_piece piece_of pieces;
+  temp_roots = map_of kept_cmp is_kept kept_of temp_roots;
+}
+
 -- what our tables hold in this database
 abbrev pub contents_of : Database → Contents
-contents_of db = record {
-  meta = map_of texts_cmp is_pair pair_of (rows_named db (codes "meta"));
-  objects = map_of texts_cmp is_object object_of (rows_named db (codes "object"));
-  refs = map_of pair_cmp is_pair member_of (rows_named db (codes "refs"));
-  outs = map_of pair_cmp is_triple target_of (rows_named db (codes "outs"));
-  permanent = map_of texts_cmp is_pair pair_of (rows_named db (codes "permanent"));
-  user_roots = map_of pair_cmp is_triple target_of (rows_named db (codes "user_root"));
-  profiles = map_of pair_cmp is_profile profile_of (rows_named db (codes "profile"));
-  generations = map_of triple_cmp is_generation generation_of (rows_named db (codes "generation"));
-  runtime = map_of pair_cmp is_pair member_of (rows_named db (codes "runtime"));
-  pieces = map_of numbered_cmp is_piece piece_of (rows_if_any db (codes "piece"));
-  temp_roots = map_of kept_cmp is_kept kept_of (rows_if_any db (codes "temp_root"));
-}
+contents_of db = contents_with (rows_named db) (rows_if_any db (codes "piece")) (rows_if_any db (codes "temp_root"))
