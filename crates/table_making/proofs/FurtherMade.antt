@@ -2,27 +2,28 @@
 use Rattle.std.proofs.Common.{◌≡◌, List, [], ◌∷◌, map, true, false, refl, sym, ap, subst, ◌∙◌, IsTrue}
 use Rattle.std.specs.Fmt.{digits}
 use Rattle.std.specs.List.{AllByRecursion}
-use Rattle.sqlite_value.specs.Order.{Row}
-use Rattle.sqlite_trees.proofs.ListLemmas.{all-slice_get, all_weaker}
+use Rattle.sqlite_trees.proofs.ListLemmas.{all-slice_get, all_weaker, all_both, all-map, all_from_map}
 use Rattle.sqlite_schema.specs.declared.schema.Schema.{Schema}
 use Rattle.sqlite_schema.specs.declared.schema.Table.{Table}
 use Rattle.sqlite_tied.specs.Compute.{everything}
 use Rattle.sqlite.specs.Does.{lacks_sequence}
 use Rattle.sqlite.specs.Effect.{Database, IsDatabase}
 use Rattle.sqlite.specs.State.{State}
-use Rattle.table_forms.specs.Forms.{meta, object, refs, outs, permanent, user_root, profile, generation, runtime, piece, temp_root}
-use Rattle.table_forms.specs.Standing.{Stands, HasTables, tree_named}
+use Rattle.table_forms.specs.Forms.{piece, temp_root, our_tables}
+use Rattle.table_forms.specs.Standing.{Stands, tree_named}
 use Rattle.table_forms.specs.Finding.{IsFree, HasFirst, HasSecond}
-use Rattle.table_statements.specs.Contents.{contents_of, texts_cmp, pair_cmp, triple_cmp, is_pair, pair_of, is_object, object_of, member_of, is_triple, target_of, is_profile, profile_of, is_generation, generation_of, numbered_cmp, is_piece, piece_of, kept_cmp, is_kept, kept_of, map_of, rows_named, rows_if_any}
+use Rattle.table_statements.specs.Contents.{rows_named, rows_if_any}
 use Rattle.table_statements.specs.Texts.{AreReadableRows, HasReadableRows}
 use Rattle.table_statements.specs.Calls.{IsKeyed, IsOurs, HasFurther, KeepsFurther, IsUnderWay}
+use Rattle.table_statements.proofs.Contents.{contents_alike}
+use Rattle.table_making.proofs.Creates.{tree_is}
 use Rattle.table_entries.proofs.FurtherTables.{if_any_named, if_any_free}
 use Rattle.table_making.specs.Making.{IsMaking, Makes, all_created, are_apart, placed}
 use Rattle.table_making.specs.Further.{MakesFurther}
 use Rattle.table_making.proofs.Made.{nine, made_further, theirs_of}
 use Rattle.table_making.proofs.MakingTogether.{part}
 use Rattle.table_making.proofs.Settles.{making_free}
-use Rattle.table_making.proofs.Stood.{Parts, table_of, StandsAs, tree_is, all_still, all_stand, one_stands, each_stands, by_names, are_low}
+use Rattle.table_making.proofs.Stood.{Parts, table_of, StandsAs, all_still, all_stand, one_stands, each_stands, by_names, are_low}
 
 -- ---- the tables that were there
 
@@ -44,44 +45,26 @@ module _ (a b : Database) (sound : IsDatabase b) (fs : List Parts) (made : b.sch
       let now = stays f it in
       ap b.trees (tree_is b.schema t now.at now.named) ∙ all-slice_get (λ (u : Table). b.trees u.tree ≡ a.trees u.tree) a.schema.tables it.at t it.known.named.1 kept
 
-  all_stand_still : (gs : List Parts) → AllByRecursion (Stands a.schema) (map table_of gs) → AllByRecursion (Stands b.schema) (map table_of gs)
-  all_stand_still [] has = tt
-  all_stand_still (g ∷ gs) has = (still_stands g has.0, all_stand_still gs has.1)
-
-  -- what holds of the rows of each holds yet
-  all_rows_still : (P : Table → List Row → Type 0) (gs : List Parts) → AllByRecursion (Stands a.schema) (map table_of gs) → AllByRecursion (λ t. P t (rows_named a t.name)) (map table_of gs) → AllByRecursion (λ t. P t (rows_named b t.name)) (map table_of gs)
-  all_rows_still P [] has held = tt
-  all_rows_still P (g ∷ gs) has held = (subst (P (table_of g)) (sym (rows_still g has.0)) held.0, all_rows_still P gs has.1 held.1)
+  same_rows : AllByRecursion (Stands a.schema) our_tables → AllByRecursion (λ t. rows_named b t.name ≡ rows_named a t.name) our_tables
+  same_rows has = all-map (λ (t : Table). rows_named b t.name ≡ rows_named a t.name) table_of nine (all_weaker (λ f. Stands a.schema (table_of f)) (λ f. rows_named b f.0 ≡ rows_named a f.0) rows_still nine (all_from_map (Stands a.schema) table_of nine has))
 
   ours_still : IsOurs a → IsOurs b
   unfolding HasReadableRows
-  ours_still ours = record {
-    sound = sound;
-    has = all_stand_still nine ours.has;
-    keyed = all_rows_still (λ t rows. IsKeyed rows) nine ours.has ours.keyed;
-    readable = all_rows_still AreReadableRows nine ours.has ours.readable;
-  }
+  ours_still ours =
+      let Same = λ (t : Table). rows_named b t.name ≡ rows_named a t.name in
+      let same = same_rows ours.has in
+      record {
+        sound = sound;
+        has = all-map (Stands b.schema) table_of nine (all_weaker (λ f. Stands a.schema (table_of f)) (λ f. Stands b.schema (table_of f)) still_stands nine (all_from_map (Stands a.schema) table_of nine ours.has));
+        keyed = all_both Same (λ t. IsKeyed (rows_named a t.name)) (λ t. IsKeyed (rows_named b t.name)) (λ t is. subst IsKeyed (sym is)) our_tables same ours.keyed;
+        readable = all_both Same (λ t. AreReadableRows t (rows_named a t.name)) (λ t. AreReadableRows t (rows_named b t.name)) (λ t is. subst (AreReadableRows t) (sym is)) our_tables same ours.readable;
+      }
 
   further_still : (f : Parts) → HasFurther a (table_of f) → HasFurther b (table_of f)
   further_still f it = record {
     stands = still_stands f it.stands;
     keyed = subst IsKeyed (sym (rows_still f it.stands)) it.keyed;
     readable = subst (AreReadableRows (table_of f)) (sym (rows_still f it.stands)) it.readable;
-  }
-
-  contents_still : HasTables a.schema → rows_if_any b piece.name ≡ rows_if_any a piece.name → rows_if_any b temp_root.name ≡ rows_if_any a temp_root.name → contents_of b ≡ contents_of a
-  contents_still has pieces temp_roots = λ i. record {
-    meta = map_of texts_cmp is_pair pair_of (rows_still (part meta) has.0 i);
-    objects = map_of texts_cmp is_object object_of (rows_still (part object) has.1.0 i);
-    refs = map_of pair_cmp is_pair member_of (rows_still (part refs) has.1.1.0 i);
-    outs = map_of pair_cmp is_triple target_of (rows_still (part outs) has.1.1.1.0 i);
-    permanent = map_of texts_cmp is_pair pair_of (rows_still (part permanent) has.1.1.1.1.0 i);
-    user_roots = map_of pair_cmp is_triple target_of (rows_still (part user_root) has.1.1.1.1.1.0 i);
-    profiles = map_of pair_cmp is_profile profile_of (rows_still (part profile) has.1.1.1.1.1.1.0 i);
-    generations = map_of triple_cmp is_generation generation_of (rows_still (part generation) has.1.1.1.1.1.1.1.0 i);
-    runtime = map_of pair_cmp is_pair member_of (rows_still (part runtime) has.1.1.1.1.1.1.1.1.0 i);
-    pieces = map_of numbered_cmp is_piece piece_of (pieces i);
-    temp_roots = map_of kept_cmp is_kept kept_of (temp_roots i);
   }
 
 -- ---- the tables that were made
@@ -98,13 +81,10 @@ module _ (fs : List Parts) (apart : are_apart (map table_of fs) ≡ true) (a b :
   made : AllByRecursion (StandsAs b.now.schema) (placed a.now.schema (map table_of fs))
   made = subst (λ (s : Schema). AllByRecursion (StandsAs s) (placed a.now.schema (map table_of fs))) (sym h.schema) (all_stand a.now.schema fs apart free (are_low a.now ours.sound))
 
-  each_made : (gs : List Parts) → AllByRecursion (Stands b.now.schema) (map table_of gs) → AllByRecursion (λ t. rows_named b.now t.name ≡ []) (map table_of gs) → AllByRecursion (λ t. HasFurther b.now t × (rows_named b.now t.name ≡ [])) (map table_of gs)
-  each_made [] stand none = tt
-  each_made (g ∷ gs) stand none = ((made_further b.now (table_of g) stand.0 none.0, none.0), each_made gs stand.1 none.1)
-
   -- each stands, with no row
   pub these : AllByRecursion (λ t. HasFurther b.now t × (rows_named b.now t.name ≡ [])) (map table_of fs)
-  these = each_made fs (each_stands b.now h.sound a.now.schema fs made) (by_names (λ n. b.now.trees n ≡ []) b.now.schema a.now.schema fs made h.empty)
+  these = all_both (Stands b.now.schema) (λ t. rows_named b.now t.name ≡ []) (λ t. HasFurther b.now t × (rows_named b.now t.name ≡ [])) (λ t stand none. (made_further b.now t stand none, none)) (map table_of fs)
+      (each_stands b.now h.sound a.now.schema fs made) (by_names (λ n. b.now.trees n ≡ []) b.now.schema a.now.schema fs made h.empty)
 
   -- neither before nor after is there a row
   pub new_kept : (t : Table) → IsFree a.now.schema t.name → HasFurther b.now t × (rows_named b.now t.name ≡ []) → IsKept a.now b.now t
@@ -122,7 +102,7 @@ module _ (fs : List Parts) (apart : are_apart (map table_of fs) ≡ true) (a b :
     was_open = h.was_open;
     is_open = h.is_open;
     schema = h.schema;
-    contents = contents_still a.now b.now h.sound fs h.schema h.kept ours.has pieces.rows temp_roots.rows;
+    contents = contents_alike (rows_named b.now) (rows_named a.now) _ _ _ _ (same_rows a.now b.now h.sound fs h.schema h.kept ours.has) pieces.rows temp_roots.rows;
     theirs = theirs_of a.now b.now.trees a.now.schema.tables h.kept;
     frozen = h.frozen ours.sound;
     ours = ours_still a.now b.now h.sound fs h.schema h.kept ours;
@@ -151,7 +131,3 @@ makes_last a b under second h =
 
 pub making_further : (ts : List Table) (s : State) → IsUnderWay s → (IsTrue s.is_open → AllByRecursion (λ t. IsFree s.now.schema t.name) ts × (lacks_sequence s.now.schema ≡ false)) → IsMaking ts s
 making_further ts s under free = making_free ts s (λ up. (under.ours up).sound) free under.mode
-
--- the transaction goes on
-pub further_under : (tables : List Table) (old new : State) → MakesFurther tables old new → IsUnderWay new
-further_under tables old new h = record { ours = λ is_open. h.ours; mode = h.mode }

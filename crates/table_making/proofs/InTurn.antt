@@ -1,12 +1,11 @@
 -- Our tables are made one after another: what one text makes, what stands after so many, and why the next fails.
 use Rattle.std.proofs.Common.{◌≡◌, inl, inr, ◌<◌, ◌≤◌, ◌+◌, ℕ, zero, suc, List, [], ◌∷◌, ◌++◌, map, take, drop, length, Ok, true, false, refl, sym, ap, subst, ◌∙◌, arith, IsTrue}
-use Rattle.std.proofs.lemmas.List.{take_more, take_all, map-append}
+use Rattle.std.proofs.lemmas.List.{take_more, take_all, take-append-drop, map-append}
 use Rattle.std.specs.Prelude.{get_or}
-use Rattle.std.specs.List.{AllByRecursion}
 use Rattle.std.proofs.lemmas.Bool.{cases_Bool}
 use Rattle.sqlite_schema.specs.declared.schema.Column.{Column}
 use Rattle.sqlite_schema.specs.declared.schema.Table.{Table}
-use Rattle.sqlite_trees.specs.Tree.{Trees}
+use Rattle.sqlite_trees.proofs.ListLemmas.{all_of}
 use Rattle.sqlite.specs.State.{State, ExecutesInside}
 use Rattle.table_forms.specs.Forms.{strict, meta}
 use Rattle.table_forms.specs.OurTables.{form}
@@ -45,7 +44,7 @@ one_fails t old new under f h =
 
 -- the first of those that are to be made
 pub first_making : (t : Table) (rest : List Table) (s : State) → IsMaking (t ∷ rest) s → IsMaking (t ∷ []) s
-first_making t rest s h = record { sound = h.sound; free = λ up. ((h.free up).0, tt); unawaited = λ up. ((h.unawaited up).0, tt); counted = h.counted; mode = h.mode }
+first_making t rest s h = record { sound = h.sound; free = λ up. ((h.free up).0, tt); counted = h.counted; mode = h.mode }
 
 -- so many of them stand, and the rest can be made; no fault has shut the connection since
 pub record AreMade (ts : List OurTable) (n : ℕ) (a b : State) : Type 0 where
@@ -53,13 +52,9 @@ pub record AreMade (ts : List OurTable) (n : ℕ) (a b : State) : Type 0 where
   pub shut : b.is_open ≡ false → (n ≡ 0) × (a.is_open ≡ false)
   pub rest : IsMaking (map form (drop n ts)) b
 
-same_kept : (a : Trees) (ts : List Table) → AllByRecursion (λ t. a t.tree ≡ a t.tree) ts
-same_kept a [] = tt
-same_kept a (t ∷ ts) = (refl, same_kept a ts)
-
 pub none_made : (ts : List OurTable) (a : State) → IsMaking (map form ts) a → AreMade ts 0 a a
 none_made ts a under = record {
-  made = λ up. record { was_open = up; is_open = up; sound = under.sound up; schema = refl; kept = same_kept a.now.trees a.now.schema.tables; empty = tt; frozen = λ sound. record { rows = λ tree is. refl; texts = λ row there foreign. there; version = refl }; committed = refl; mode = under.mode };
+  made = λ up. record { was_open = up; is_open = up; sound = under.sound up; schema = refl; kept = all_of (λ (t : Table). a.now.trees t.tree ≡ a.now.trees t.tree) (λ t. refl) a.now.schema.tables; empty = tt; frozen = λ sound. record { rows = λ tree is. refl; texts = λ row there foreign. there; version = refl }; committed = refl; mode = under.mode };
   shut = λ shut. (refl, shut);
   rest = under;
 }
@@ -78,11 +73,6 @@ apart_left (suc n) (t ∷ ts) apart = apart_left n ts (and_so _ _ apart).1
 parts_are : (ts : List OurTable) → map table_of (map (λ t. part (form t)) ts) ≡ map form ts
 parts_are [] = refl
 parts_are (t ∷ ts) = ap (λ u. u ∷ map table_of (map (λ t. part (form t)) ts)) (of_form (λ u. table_of (part u) ≡ u) (λ title cs key. refl) t) ∙ ap (λ l. form t ∷ l) (parts_are ts)
-
-parted : (ts : List OurTable) (n : ℕ) → take n ts ++ drop n ts ≡ ts
-parted ts zero = refl
-parted [] (suc n) = refl
-parted (t ∷ ts) (suc n) = ap (λ l. t ∷ l) (parted ts n)
 
 -- a connection that a fault had shut
 fails_shut : (ts us : List Table) (a b c : State) → a.is_open ≡ false → (f : Failure) → FailsToMakeThese us ⊥ ⊥ b c f → FailsToMakeThese ts ⊥ ⊥ a c f
@@ -115,7 +105,7 @@ module _ (ts : List OurTable) (n : ℕ) (low : n < length ts) (a b c : State) wh
   pub next_fails : are_apart (map form ts) ≡ true → AreMade ts n a b → a.faults ≤ b.faults → (f : Failure) → FailsToMakeThese (form next ∷ []) ⊥ ⊥ b c f → FailsToMakeThese (map form ts) ⊥ ⊥ a c f
   next_fails apart it rise f h =
       let rest = map form (drop (n + 1) ts) in
-      let whole : map form (take n ts) ++ (form next ∷ rest) ≡ map form ts = ap (λ l. map form (take n ts) ++ map form l) (sym (one_left ts n Meta low)) ∙ sym (map-append form (take n ts) (drop n ts)) ∙ ap (map form) (parted ts n) in
+      let whole : map form (take n ts) ++ (form next ∷ rest) ≡ map form ts = ap (λ l. map form (take n ts) ++ map form l) (sym (one_left ts n Meta low)) ∙ sym (map-append form (take n ts) (drop n ts)) ∙ ap (map form) (take-append-drop n ts) in
       let fs = map (λ (t : OurTable). part (form t)) (take n ts) in
       let is = parts_are (take n ts) in
       elim (cases_Bool b.is_open) [

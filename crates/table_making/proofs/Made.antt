@@ -1,8 +1,6 @@
 -- What our tables hold once they are made, and that they stand.
-use Rattle.std.proofs.Common.{◌≡◌, List, [], ◌∷◌, codes, Bool, true, false, refl, sym, ap, subst, ◌∙◌}
+use Rattle.std.proofs.Common.{◌≡◌, List, [], ◌∷◌, codes, true, false, if◌then◌else◌, bytes_eq, refl, sym, ap, subst, ◌∙◌}
 use Rattle.std.specs.Prelude.{IsUtf8}
-use Rattle.std.specs.declared.cmp.Ordering.{Ordering}
-use Rattle.std.specs.FinMap as finite
 use Rattle.std.specs.Fmt.{digits}
 use Rattle.std.specs.List.{AllByRecursion}
 use Rattle.sqlite_value.specs.Order.{Row}
@@ -17,17 +15,19 @@ use Rattle.sqlite.specs.State.{State}
 use Rattle.table_forms.specs.Forms.{meta, object, refs, outs, permanent, user_root, profile, generation, runtime, piece, temp_root, our_tables, further_tables, all_tables, is_our_name}
 use Rattle.table_forms.specs.Standing.{Stands}
 use Rattle.table_forms.specs.Finding.{IsFree, HasNone}
-use Rattle.table_statements.specs.Contents.{Bytes, contents_of, texts_cmp, pair_cmp, triple_cmp, is_pair, pair_of, is_object, object_of, member_of, is_triple, target_of, is_profile, profile_of, is_generation, generation_of, numbered_cmp, is_piece, piece_of, kept_cmp, is_kept, kept_of, map_of, rows_named}
+use Rattle.table_statements.specs.Contents.{Bytes, contents_of, map_of, rows_named}
 use Rattle.table_statements.specs.Texts.{AreReadableRows, HasReadableRows}
 use Rattle.table_statements.specs.Calls.{IsKeyed, IsWhole, HasFurther}
+use Rattle.table_statements.proofs.Contents.{contents_alike}
+use Rattle.table_statements.proofs.Lists.{one_list}
 use Rattle.table_making.specs.Making.{IsMade, IsMadeIn, IsMadeOf, LeavesMade, AreSettings, first_contents, placed, ours_created, other_tables, others_placed}
 use Rattle.table_making.proofs.FrozenThen.{frozen_before}
 use Rattle.table_entries.proofs.FurtherTables.{if_any_named}
 use Rattle.table_entries.proofs.ReadableFurther.{whole_readable}
 use Rattle.table_making.proofs.MakingTogether.{part}
-use Rattle.table_making.proofs.Creates.{tables_after}
+use Rattle.table_making.proofs.Creates.{tables_after, tree_is}
 use Rattle.table_making.proofs.Settles.{keyed_none}
-use Rattle.table_making.proofs.Stood.{Parts, StandsAs, tree_is, all_stand, each_stands, by_names, are_low}
+use Rattle.table_making.proofs.Stood.{Parts, StandsAs, all_stand, each_stands, by_names, are_low}
 
 abbrev pub nine : List Parts
 nine = part meta ∷ part object ∷ part refs ∷ part outs ∷ part permanent ∷ part user_root ∷ part profile ∷ part generation ∷ part runtime ∷ []
@@ -38,22 +38,15 @@ others = part object ∷ part refs ∷ part outs ∷ part permanent ∷ part use
 
 -- what holds of all eleven holds of the nine, and of the further two
 apart : (P : Table → Type 0) → AllByRecursion P all_tables → AllByRecursion P our_tables × (P piece × P temp_root)
-apart P h = (
-  (h.0, (h.1.0, (h.1.1.0, (h.1.1.1.0, (h.1.1.1.1.0, (h.1.1.1.1.1.0, (h.1.1.1.1.1.1.0, (h.1.1.1.1.1.1.1.0, (h.1.1.1.1.1.1.1.1.0, tt))))))))),
-  (h.1.1.1.1.1.1.1.1.1.0, h.1.1.1.1.1.1.1.1.1.1.0),
-)
+apart P h = let both = one_list P our_tables further_tables h in (both.0, (both.1.0, both.1.1.0))
 
 pub together : (P : Table → Type 0) → AllByRecursion P our_tables → AllByRecursion P further_tables → AllByRecursion P all_tables
-together P h k = (h.0, (h.1.0, (h.1.1.0, (h.1.1.1.0, (h.1.1.1.1.0, (h.1.1.1.1.1.0, (h.1.1.1.1.1.1.0, (h.1.1.1.1.1.1.1.0, (h.1.1.1.1.1.1.1.1.0, k)))))))))
+together P = all-append P our_tables further_tables
 
 -- all eleven stand, each with its tree
 standing : (old : Database) → IsDatabase old → HasNone old.schema → AllByRecursion (StandsAs (ours_created old.schema)) (placed old.schema all_tables)
 unfolding ours_created digits everything
 standing old sound none = all_stand old.schema (part meta ∷ others) refl (together (λ t. IsFree old.schema t.name) none.free none.further) (are_low old sound)
-
-nothing : {K X : Type 0} {R : K → K → Ordering} (kind : Row → Bool) (entry : Row → K × X) → map_of R kind entry [] ≡ finite.from_entries []
-unfolding map_of
-nothing kind entry = refl
 
 no_rows : (t : Table) (rows : List Row) → rows ≡ [] → AreReadableRows t rows
 no_rows t rows is = subst (AreReadableRows t) (sym is) (λ row at there low. absurd there)
@@ -80,20 +73,15 @@ module _ (dir : Bytes) (s : Schema) (d : Database) (sound : IsDatabase d) (stand
   temp_roots : rows_named d temp_root.name ≡ []
   temp_roots = none.1.1.1.1.1.1.1.1.1.0
 
+  -- the settings in `meta`, and none in the others
+  abbrev made_rows : Bytes → List Row
+  made_rows name = if bytes_eq name (codes "meta") then d.trees (next_tree s) else []
+
   pub contents_made : contents_of d ≡ first_contents dir
-  contents_made = λ i. record {
-    meta = (ap (map_of texts_cmp is_pair pair_of) own ∙ settings.settings) i;
-    objects = (ap (map_of texts_cmp is_object object_of) none.0 ∙ nothing is_object object_of) i;
-    refs = (ap (map_of pair_cmp is_pair member_of) none.1.0 ∙ nothing is_pair member_of) i;
-    outs = (ap (map_of pair_cmp is_triple target_of) none.1.1.0 ∙ nothing is_triple target_of) i;
-    permanent = (ap (map_of texts_cmp is_pair pair_of) none.1.1.1.0 ∙ nothing is_pair pair_of) i;
-    user_roots = (ap (map_of pair_cmp is_triple target_of) none.1.1.1.1.0 ∙ nothing is_triple target_of) i;
-    profiles = (ap (map_of pair_cmp is_profile profile_of) none.1.1.1.1.1.0 ∙ nothing is_profile profile_of) i;
-    generations = (ap (map_of triple_cmp is_generation generation_of) none.1.1.1.1.1.1.0 ∙ nothing is_generation generation_of) i;
-    runtime = (ap (map_of pair_cmp is_pair member_of) none.1.1.1.1.1.1.1.0 ∙ nothing is_pair member_of) i;
-    pieces = (ap (map_of numbered_cmp is_piece piece_of) (if_any_named d piece stands.1.0 ∙ pieces) ∙ nothing is_piece piece_of) i;
-    temp_roots = (ap (map_of kept_cmp is_kept kept_of) (if_any_named d temp_root stands.1.1 ∙ temp_roots) ∙ nothing is_kept kept_of) i;
-  }
+  unfolding map_of
+  contents_made =
+      contents_alike (rows_named d) made_rows _ [] _ [] (apart (λ t. rows_named d t.name ≡ made_rows t.name) (own, none)).0 (if_any_named d piece stands.1.0 ∙ pieces) (if_any_named d temp_root stands.1.1 ∙ temp_roots)
+      ∙ ap (λ m. record (first_contents dir) { meta = m }) settings.settings
 
   keyed_made : AllByRecursion (λ t. IsKeyed (rows_named d t.name)) our_tables
   keyed_made = (apart (λ t. IsKeyed (rows_named d t.name)) (subst IsKeyed (sym own) settings.keyed, all_weaker (λ (t : Table). rows_named d t.name ≡ []) (λ t. IsKeyed (rows_named d t.name)) (λ t is. subst IsKeyed (sym is) keyed_none) other_tables none)).0

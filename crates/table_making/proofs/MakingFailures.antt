@@ -27,10 +27,11 @@ use Rattle.sqlite.specs.State.{State, mode_of}
 use Rattle.table_statements.specs.declared.failure.Failure.{Failure}
 use Rattle.table_statements.specs.declared.failure.Failure.TheVariants.{Memory, Size, Disk}
 use Rattle.table_forms.specs.Forms.{strict}
+use Rattle.table_forms.specs.Finding.{IsFree}
 use Rattle.table_statements.specs.Contents.{Bytes}
 use Rattle.table_statements.specs.Failures.{failure_of, without_size, FailsWith, IsWriteFailure}
-use Rattle.table_making.specs.Making.{IsUnused, LacksNumbers, LacksNames, FailsToMakeThese}
-use Rattle.table_making.proofs.Creates.{IsMakingIn, counted_after}
+use Rattle.table_making.specs.Making.{LacksNumbers, LacksNames, FailsToMakeThese}
+use Rattle.table_making.proofs.Creates.{IsUnused, IsMakingIn, counted_after}
 use Rattle.table_statements.proofs.Writes.{same_value}
 use Rattle.table_statements.proofs.WriteFailures.{MayStop, OrShut, is_write, write_fails, fails_wider, fails_unsized}
 
@@ -66,9 +67,9 @@ module _ (s : Schema) (text : List ℕ) (title : Bytes) (cs : List Column) (key 
   not_wide (k, inr none, wide) = none
 
   -- what is left of the reasons to refuse it
-  refused_table : IsUnused s title → (why : Refusal) → RefusesTable s text why → LacksNumbers s (form ∷ []) ⊎ LacksNames s (form ∷ [])
+  refused_table : IsFree s title → (why : Refusal) → RefusesTable s text why → LacksNumbers s (form ∷ []) ⊎ LacksNames s (form ∷ [])
   refused_table free (Invalid e) h = absurd (let no = sym accepted.defined ∙ h in cc)
-  refused_table free NameTaken (t, is, inl used) = absurd (let no = sym (none_used s title free) ∙ ap (λ (x : Table). is_used s x.name) (sym (its t is)) ∙ used in cc)
+  refused_table free NameTaken (t, is, inl used) = absurd (let no = sym (none_used s title (free.table, free.index, free.view)) ∙ ap (λ (x : Table). is_used s x.name) (sym (its t is)) ∙ used in cc)
   refused_table free NameTaken (t, is, inr taken) = inr (taken_index (subst (λ (x : Table). (index : Index) × Has (automatics x 0 0 x.uniques) index × (is_used s index.name ≡ true)) (its t is) taken))
   refused_table free BadName (t, is, inl odd) = absurd (odd (subst (λ (x : Table). IsUtf8 x.name) (sym (its t is)) accepted.named))
   refused_table free BadName (t, is, inr own) = absurd (let no = sym accepted.own ∙ ap (λ (x : Table). is_reserved x.name) (sym (its t is)) ∙ own.0 in cc)
@@ -104,12 +105,7 @@ told tables large refused old new up Disk (inr h) = inr h.0
 
 refusal_is : (why : Refusal) → failure_of (alter_error why) ≡ Disk
 refusal_is (Invalid e) = refl
-refusal_is NameTaken = refl
-refusal_is BadName = refl
-refusal_is TooBig = refl
-refusal_is BadKey = refl
-refusal_is BadText = refl
-refusal_is (Violates rule) = refl
+refusal_is why = refl
 
 module _ (text : List ℕ) (title : Bytes) (cs : List Column) (key : List ℕ) (accepted : IsAccepted text (strict title cs key)) (old new : State) where
   abbrev these : List Table
@@ -118,13 +114,13 @@ module _ (text : List ℕ) (title : Bytes) (cs : List Column) (key : List ℕ) (
   abbrev Refused : Type 0
   Refused = ⊥ ⊎ (LacksNumbers old.now.schema these ⊎ LacksNames old.now.schema these)
 
-  table_may_stop : IsUnused old.now.schema title → (stop : Option Error) → MakesTable text old.now (Err stop) → MayStop ⊥ Refused stop
+  table_may_stop : IsFree old.now.schema title → (stop : Option Error) → MakesTable text old.now (Err stop) → MayStop ⊥ Refused stop
   table_may_stop free None h = not_long old.now.schema text title cs key accepted h
   table_may_stop free (Some e) (inl odd) = absurd (odd.0 accepted.utf8)
   table_may_stop free (Some e) (inr (why, refuses, is)) = (ap failure_of is ∙ refusal_is why, inr (refused_table old.now.schema text title cs key accepted free why refuses))
 
   -- a CREATE TABLE of ours
-  pub create_fails : (IsTrue old.is_open → IsMakingIn old.now.schema text (strict title cs key)) → (IsTrue old.is_open → IsUnused old.now.schema title) → (IsTrue old.is_open → lacks_sequence old.now.schema ≡ false)
+  pub create_fails : (IsTrue old.is_open → IsMakingIn old.now.schema text (strict title cs key)) → (IsTrue old.is_open → IsFree old.now.schema title) → (IsTrue old.is_open → lacks_sequence old.now.schema ≡ false)
       → (f : Failure) → (g : Failure) × (f ≡ without_size g) × IsWriteFailure text [] old new g → FailsToMakeThese these ⊥ ⊥ old new f
   create_fails making free lacks f h =
       let it = write_fails old new text [] CreateTable refl ⊥ Refused (λ up. is_write old text [] CreateTable refl (making up).meant)

@@ -6,15 +6,16 @@ use Rattle.sqlite_schema.specs.declared.schema.Schema.{Schema}
 use Rattle.sqlite_schema.specs.declared.schema.Table.{Table}
 use Rattle.sqlite_tied.specs.Compute.{everything}
 use Rattle.table_forms.specs.OurTables.{form}
+use Rattle.table_forms.specs.Finding.{IsFree}
 use Rattle.table_forms.specs.declared.our_table.OurTable.{OurTable}
 use Rattle.table_forms.specs.declared.our_table.OurTable.TheVariants.{Meta}
-use Rattle.table_making.specs.Making.{making_text, IsUnused}
+use Rattle.table_making.specs.Making.{making_text}
 use Rattle.table_making.proofs.Creates.{IsMakingIn, making, create_means}
 use Rattle.table_making.proofs.MakingFailures.{IsAccepted}
 
 -- the text makes the table, and is accepted
 pub record IsCreating (text : List ℕ) (table : Table) : Type 0 where
-  pub makes : (s : Schema) → IsUnused s table.name → IsMakingIn s text table
+  pub makes : (s : Schema) → IsFree s table.name → IsMakingIn s text table
   pub accepted : IsAccepted text table
 
 pub texts_are : (t : OurTable) → IsCreating (making_text t) (form t)

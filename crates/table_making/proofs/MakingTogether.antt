@@ -1,11 +1,13 @@
 -- A failure after some of our tables were made is a failure to make them all.
-use Rattle.std.proofs.Common.{◌≡◌, ◌⊎◌, inl, inr, ◌<◌, ◌≤◌, ◌+◌, ℕ, List, [], ◌∷◌, ◌++◌, map, Bool, true, false, ◌||◌, Some, None, Option, refl, sym, ap, subst, ◌∙◌, arith, IsTrue, length-append, ◌&&◌, Result, Ok, Err}
+use Rattle.std.proofs.Common.{◌≡◌, ◌⊎◌, inl, inr, ◌<◌, ◌≤◌, ◌+◌, ℕ, List, [], ◌∷◌, ◌++◌, map, Bool, true, false, Some, None, Option, refl, sym, ap, subst, ◌∙◌, arith, IsTrue, length-append, ◌&&◌, Result, Ok, Err}
 use Rattle.std.specs.Prelude.{fold, max, is_some, IfErr}
 use Rattle.std.specs.Result.{IsErrAnd}
 use Rattle.std.specs.List.{AllByRecursion, list_all}
 use Rattle.std.proofs.lemmas.Bool.{or_left, or_right}
 use Rattle.std.proofs.lemmas.List.Folds.{list_any-append}
+use Rattle.std.proofs.lemmas.List.Sums.{fold-append}
 use Rattle.sqlite_trees.proofs.ListLemmas.{all_weaker}
+use Rattle.sqlite_rules.proofs.ListLemmas.{test_has, some_has, some_from}
 use Rattle.sqlite_schema.specs.declared.schema.Column.{Column}
 use Rattle.sqlite_schema.specs.declared.schema.Schema.{Schema}
 use Rattle.sqlite_schema.specs.declared.schema.Table.{Table}
@@ -17,18 +19,14 @@ use Rattle.table_statements.specs.declared.failure.Failure.{Failure}
 use Rattle.table_statements.specs.declared.failure.Failure.TheVariants.{Memory, Size, Disk}
 use Rattle.table_forms.specs.Forms.{strict}
 use Rattle.table_statements.specs.Contents.{Bytes}
-use Rattle.table_making.specs.Making.{IsUnused, Makes, index_of, all_created, is_clear, are_apart, LacksNumbers, LacksNames, FailsToMakeThese}
-use Rattle.table_making.proofs.Creates.{unused_after}
+use Rattle.table_making.specs.Making.{Makes, index_of, all_created, is_clear, are_apart, LacksNumbers, LacksNames, FailsToMakeThese}
+use Rattle.table_making.proofs.Creates.{IsUnused, unused_after}
 use Rattle.table_statements.proofs.Lists.{rises, all_below}
 use Rattle.table_statements.proofs.Truths.{and_so, neither}
 use Rattle.table_making.proofs.Stood.{Parts, table_of}
 use Rattle.table_making.proofs.MakingFailures.{none_used}
 
 -- ---- numbers
-
-fold_last : {X Y : Type 0} (f : Y → X → Y) (n : Y) (xs : List X) (x : X) → fold f n (xs ++ x ∷ []) ≡ f (fold f n xs) x
-fold_last f n [] x = refl
-fold_last f n (y ∷ xs) x = fold_last f (f n y) xs x
 
 bounded : {X : Type 0} (g : X → ℕ) (xs : List X) (m n : ℕ) → m ≤ n → AllByRecursion (λ x. g x < n) xs → fold (λ k x. max k (g x + 1)) m xs ≤ n
 bounded g [] m n low all = low
@@ -40,11 +38,11 @@ two_more s title cs key =
     let n = next_tree s in
     let table : Table = record (strict title cs key) { tree = n } in
     let tables = fold (λ k (t : Table). max k (t.tree + 1)) (past_views s) s.tables in
-    let more : fold (λ k (t : Table). max k (t.tree + 1)) (past_views s) (s.tables ++ table ∷ []) ≡ max tables (n + 1) = fold_last (λ k (t : Table). max k (t.tree + 1)) (past_views s) s.tables table in
+    let more : fold (λ k (t : Table). max k (t.tree + 1)) (past_views s) (s.tables ++ table ∷ []) ≡ max tables (n + 1) = fold-append (λ k (t : Table). max k (t.tree + 1)) (past_views s) s.tables (table ∷ []) in
     let low : tables ≤ n = rises (λ (i : Index). i.tree) s.indexes tables in
     let below = all_weaker (λ (i : Index). i.tree < n) (λ i. i.tree < n + 1) (λ i h. omega (arith, h)) s.indexes (all_below (λ (i : Index). i.tree) s.indexes tables) in
     let first = bounded (λ (i : Index). i.tree) s.indexes (max tables (n + 1)) (n + 1) (omega (arith, low)) below in
-    omega (arith, first, ap (λ m. fold (λ k (i : Index). max k (i.tree + 1)) m (created s (strict title cs key)).indexes) more, fold_last (λ k (i : Index). max k (i.tree + 1)) (max tables (n + 1)) s.indexes (automatic table 0 key (n + 1)))
+    omega (arith, first, ap (λ m. fold (λ k (i : Index). max k (i.tree + 1)) m (created s (strict title cs key)).indexes) more, fold-append (λ k (i : Index). max k (i.tree + 1)) (max tables (n + 1)) s.indexes (automatic table 0 key (n + 1) ∷ []))
 
 -- ---- names
 
@@ -54,10 +52,6 @@ none_if (Some x) h = cc
 
 unused_if : (s : Schema) (name : Bytes) → is_used s name ≡ false → IsUnused s name
 unused_if s name h = let last = neither _ _ h in let first = neither _ _ last.0 in (none_if _ first.0, none_if _ first.1, none_if _ last.1)
-
-either_still : (a b x y : Bool) → (a ≡ true → x ≡ true) → (b ≡ true → y ≡ true) → (a || b) ≡ true → (x || y) ≡ true
-either_still true b x y f g h = or_left x y (f refl)
-either_still false b x y f g h = or_right x y (g h)
 
 module _ (s : Schema) (title : Bytes) (cs : List Column) (key : List ℕ) where
   abbrev after : Schema
@@ -72,8 +66,10 @@ module _ (s : Schema) (title : Bytes) (cs : List Column) (key : List ℕ) where
       go false is = absurd (let no = sym (none_used after name (unused_after s title cs key name clear (unused_if s name is))) ∙ h in cc)
 
   names_before : (us : List Table) → list_all (λ u. is_clear title u.name && is_clear title (index_of u.name)) us ≡ true → LacksNames after us → LacksNames s us
-  names_before [] clear h = h
-  names_before (u ∷ us) clear h = let b = and_so _ _ clear in either_still _ _ _ _ (used_before (index_of u.name) (and_so _ _ b.0).1) (names_before us b.1) h
+  names_before us clear h =
+      let used = some_has (λ (u : Table). is_used after (index_of u.name)) us h in
+      let apart = and_so _ _ (test_has (λ (u : Table). is_clear title u.name && is_clear title (index_of u.name)) us used.0 clear used.1) in
+      some_from (λ (u : Table). is_used s (index_of u.name)) us used.0 used.1 (used_before (index_of used.0.name) apart.1 used.2)
 
   abbrev Lacks : Schema → List Table → Type 0
   Lacks of tables = LacksNumbers of tables ⊎ LacksNames of tables

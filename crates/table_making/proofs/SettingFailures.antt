@@ -134,7 +134,7 @@ module _ (a : State) (free : IsFree a.now.schema (codes "meta")) (sound : IsData
   in_meta b c rows word value large was_open made is_open sound_b has new short grows rise limit f h =
       let stands = stands_in b.now sound_b made in
       let values = Text word ∷ Text value ∷ [] in
-      let tree : tree_named b.now.schema meta.name ≡ next_tree a.now.schema = ap (λ (s : Schema). tree_named s meta.name) made ∙ meta_tree a.now.schema (free.table, free.index, free.view) in
+      let tree : tree_named b.now.schema meta.name ≡ next_tree a.now.schema = ap (λ (s : Schema). tree_named s meta.name) made ∙ meta_tree a.now.schema free in
       let own = subst (λ n. HasOwnIndex b.now.schema n) (sym tree) (subst (λ s. HasOwnIndex s (next_tree a.now.schema)) (sym made) (own_index a.now.schema (are_low a.now sound))) in
       let Refused = IsSome b.step_limit ⊎ (HasNoRowidLeft b.now meta ⊎ ⊥) in
       let it = write.write_fails b c insert_text values (Insert stands.at (Values (terms_of settings) 3)) refl (IsTooLarge b.now meta values) Refused (λ up. write.is_write b insert_text values _ refl (insert_is b.now.schema stands.at _ stands.known.named))
@@ -147,7 +147,7 @@ module _ (a : State) (free : IsFree a.now.schema (codes "meta")) (sound : IsData
 
   module _ (b : State) (made : Makes (meta ∷ []) a b) (rise : a.faults ≤ b.faults) (limit : b.step_limit ≡ a.step_limit) where
     tree_b : tree_named b.now.schema meta.name ≡ next_tree a.now.schema
-    tree_b = ap (λ (s : Schema). tree_named s meta.name) made.schema ∙ meta_tree a.now.schema (free.table, free.index, free.view)
+    tree_b = ap (λ (s : Schema). tree_named s meta.name) made.schema ∙ meta_tree a.now.schema free
 
     rows_b : rows_named b.now meta.name ≡ []
     rows_b = ap b.now.trees tree_b ∙ made.empty.0

@@ -1,15 +1,15 @@
 -- That `meta` is made with its two settings.
-use Rattle.std.proofs.Common.{◌≡◌, ◌≢◌, ◌<◌, ◌≤◌, ◌+◌, ℕ, suc, List, [], ◌∷◌, ◌++◌, codes, Bool, true, false, cond, not, ◌&&◌, Some, None, Option, Ok, length, refl, sym, ap, subst, ◌∙◌, arith, IsTrue}
-use Rattle.std.specs.Prelude.{IsUtf8, slice_get, option_and_then, option_map, unwrap_or}
+use Rattle.std.proofs.Common.{◌≡◌, ◌≢◌, ◌<◌, ◌+◌, ℕ, List, [], ◌∷◌, ◌++◌, codes, true, false, not, ◌&&◌, None, Ok, length, refl, sym, ap, subst, ◌∙◌, arith, IsTrue}
+use Rattle.std.specs.Prelude.{IsUtf8, fold, max}
 use Rattle.std.specs.FinMap as finite
-use Rattle.std.specs.List.{AllByRecursion, IsDistinct, position_from}
+use Rattle.std.specs.List.{AllByRecursion, IsDistinct}
 use Rattle.sqlite_value.specs.Order.{Row}
 use Rattle.sqlite_value.specs.declared.value.Value.TheVariants.{Int, Text}
-use Rattle.sqlite_trees.specs.Tree.{Trees, put_row}
+use Rattle.sqlite_trees.specs.Tree.{put_row}
+use Rattle.sqlite_trees.proofs.ListLemmas.{all_both, all_weaker}
 use Rattle.sqlite_schema.specs.declared.schema.Schema.{Schema}
 use Rattle.sqlite_schema.specs.declared.schema.Table.{Table}
 use Rattle.sqlite_schema.specs.declared.schema.Index.{Index}
-use Rattle.sqlite_schema.specs.Names.{same_name}
 use Rattle.sqlite_catalog.specs.Change.{created, next_tree, past_views}
 use Rattle.sqlite_rules.specs.Edit.{next_rowid, is_taken}
 use Rattle.sqlite.specs.Does.{lacks_sequence}
@@ -20,8 +20,8 @@ use Rattle.table_forms.specs.Standing.{IsNamed, tree_named}
 use Rattle.table_statements.specs.Contents.{Bytes, texts_cmp, is_pair, pair_of, map_of, rows_named}
 use Rattle.table_statements.specs.Texts.{AreReadableRows}
 use Rattle.table_statements.specs.Calls.{IsKeyed}
-use Rattle.table_making.specs.Making.{IsUnused, IsMaking, Makes, MakesMeta, MakesAll, IsMadeOf, AreSettings, first_settings, IsPut, HasMeta, Puts, IsMadeIn, all_created, placed, ours_created, others_placed, other_tables}
-use Rattle.table_forms.specs.Finding.{IsFree, is_unawaited}
+use Rattle.table_making.specs.Making.{IsMaking, Makes, MakesMeta, MakesAll, IsMadeOf, AreSettings, first_settings, IsPut, HasMeta, Puts, IsMadeIn, all_created, placed, ours_created, others_placed, other_tables}
+use Rattle.table_forms.specs.Finding.{IsFree}
 use Rattle.table_statements.proofs.Orders.{texts_total, texts_antisymmetric}
 use Rattle.table_statements.proofs.Truths.{cast_null, free_of}
 use Rattle.table_statements.proofs.Means.{means_command}
@@ -34,55 +34,40 @@ use Rattle.table_entries.proofs.SettingLemmas.{insert_text, insert_is, table as 
 use Rattle.table_statements.proofs.Lists.{one_list, rises, all_below}
 use Rattle.table_statements.proofs.Frozen.{frozen_of}
 use Rattle.table_making.proofs.FrozenThen.{frozen_then}
-use Rattle.table_making.proofs.Creates.{kept_then}
+use Rattle.table_making.proofs.Creates.{kept_then, new_named, tree_is}
 
--- ---- where a table stands that was just made
+-- ---- where `meta` stands that was just made
 
-pub last_found : {X : Type 0} (p : X → Bool) (xs : List X) (x : X) (n : ℕ) → position_from p n xs ≡ None → p x ≡ true → position_from p n (xs ++ x ∷ []) ≡ Some (n + length xs)
-last_found p [] x n h is = rw is (ap Some (let e : n ≡ n + 0 = omega arith in e))
-last_found {X} p (y ∷ ys) x n h is = go (p y) h (λ k. last_found p ys x (n + 1) k is)
-  where
-    go : (b : Bool) → ◌≡◌ {A = Option ℕ} (cond b (Some n) (position_from p (n + 1) ys)) None → (position_from p (n + 1) ys ≡ None → position_from p (n + 1) (ys ++ x ∷ []) ≡ Some (n + 1 + length ys))
-        → ◌≡◌ {A = Option ℕ} (cond b (Some n) (position_from p (n + 1) (ys ++ x ∷ []))) (Some (n + length (y ∷ ys)))
-    go true k f = absurd cc
-    go false k f = f k ∙ ap Some (let e : n + 1 + length ys ≡ n + suc (length ys) = omega arith in e)
+meta_named : (s : Schema) → IsFree s (codes "meta") → IsNamed (created s meta) (codes "meta") (length s.tables) (record meta { tree = next_tree s })
+meta_named s h = new_named s meta.name meta.columns meta.primary h.table
 
-pub last_there : {X : Type 0} (xs : List X) (x : X) → slice_get (xs ++ x ∷ []) (length xs) ≡ Some x
-last_there [] x = refl
-last_there (y ∷ ys) x = last_there ys x
+pub meta_tree : (s : Schema) → IsFree s (codes "meta") → tree_named (created s meta) (codes "meta") ≡ next_tree s
+meta_tree s h = tree_is (created s meta) (record meta { tree = next_tree s }) _ (meta_named s h)
 
-same_meta : same_name (codes "meta") (codes "meta") ≡ true
-unfolding same_name
-same_meta = refl
-
-meta_named : (s : Schema) → IsUnused s (codes "meta") → IsNamed (created s meta) (codes "meta") (0 + length s.tables) (record meta { tree = next_tree s })
-meta_named s h = (last_found (λ (t : Table). same_name t.name (codes "meta")) s.tables (record meta { tree = next_tree s }) 0 h.0 same_meta, ap (slice_get (s.tables ++ record meta { tree = next_tree s } ∷ [])) (let e : 0 + length s.tables ≡ length s.tables = omega arith in e) ∙ last_there s.tables (record meta { tree = next_tree s }))
-
-pub meta_tree : (s : Schema) → IsUnused s (codes "meta") → tree_named (created s meta) (codes "meta") ≡ next_tree s
-meta_tree s h = let it = meta_named s h in
-    ap (λ o. unwrap_or (option_map (λ (t : Table). t.tree) (option_and_then (slice_get (created s meta).tables) o)) 0) it.0 ∙ ap (λ o. unwrap_or (option_map (λ (t : Table). t.tree) o) 0) it.1
-
-pub has_meta : (a b : State) → IsUnused a.now.schema (codes "meta") → Makes (meta ∷ []) a b → HasMeta b
+pub has_meta : (a b : State) → IsFree a.now.schema (codes "meta") → Makes (meta ∷ []) a b → HasMeta b
 has_meta a b free h =
     let s = a.now.schema in
-    let own : IsNamed (created s meta) (codes "meta") (0 + length s.tables) (record meta { tree = tree_named (created s meta) (codes "meta") }) = subst (λ n. IsNamed (created s meta) (codes "meta") (0 + length s.tables) (record meta { tree = n })) (sym (meta_tree s free)) (meta_named s free) in
-    record { named = λ is_open. (0 + length s.tables, subst (λ (x : Schema). IsNamed x (codes "meta") (0 + length s.tables) (record meta { tree = tree_named x (codes "meta") })) (sym h.schema) own); mode = h.mode }
+    let own : IsNamed (created s meta) (codes "meta") (length s.tables) (record meta { tree = tree_named (created s meta) (codes "meta") }) = subst (λ n. IsNamed (created s meta) (codes "meta") (length s.tables) (record meta { tree = n })) (sym (meta_tree s free)) (meta_named s free) in
+    record { named = λ is_open. (length s.tables, subst (λ (x : Schema). IsNamed x (codes "meta") (length s.tables) (record meta { tree = tree_named x (codes "meta") })) (sym h.schema) own); mode = h.mode }
 
 pub has_still : (a b : State) (word value : Bytes) → HasMeta a → Puts word value a b → HasMeta b
 has_still a b word value has h = record { named = λ is_open. subst (λ (x : Schema). (at : ℕ) × IsNamed x (codes "meta") at (record meta { tree = tree_named x (codes "meta") })) (sym h.schema) (has.named h.was_open); mode = h.mode }
 
 -- ---- no table has the next tree
 
-others_apart : (ts : List Table) (m n : ℕ) → m ≤ n → AllByRecursion (λ t. t.tree < m) ts → AllByRecursion (λ t. t.tree ≢ n) ts
-others_apart [] m n h k = tt
-others_apart (t ∷ ts) m n h k = (λ e. absurd (omega (arith, h, k.0, e)), others_apart ts m n h k.1)
+-- each table has a tree below the next
+pub trees_below : (s : Schema) → AllByRecursion (λ t. t.tree < next_tree s) s.tables
+trees_below s =
+    let low = rises (λ (i : Index). i.tree) s.indexes (fold (λ n (t : Table). max n (t.tree + 1)) (past_views s) s.tables) in
+    all_weaker (λ (t : Table). t.tree < fold (λ n (u : Table). max n (u.tree + 1)) (past_views s) s.tables) (λ t. t.tree < next_tree s) (λ t h. omega (arith, low, h)) s.tables (all_below (λ (t : Table). t.tree) s.tables (past_views s))
 
-pub not_next : (s : Schema) → AllByRecursion (λ t. t.tree ≢ next_tree s) s.tables
-not_next s = others_apart s.tables _ _ (rises (λ (i : Index). i.tree) s.indexes _) (all_below (λ (t : Table). t.tree) s.tables (past_views s))
-
-kept_off : (a b : Trees) (tree : ℕ) (ts : List Table) → AllByRecursion (λ t. t.tree ≢ tree) ts → AllByRecursion (λ t. t.tree ≢ tree → b t.tree ≡ a t.tree) ts → AllByRecursion (λ t. b t.tree ≡ a t.tree) ts
-kept_off a b tree [] h k = tt
-kept_off a b tree (t ∷ ts) h k = (k.0 h.0, kept_off a b tree ts h.1 k.1)
+-- so those that a setting leaves keep their rows
+put_keeps : (s : Schema) → IsFree s (codes "meta") → (word value : Bytes) (b c : State) → b.now.schema ≡ created s meta → Puts word value b c → AllByRecursion (λ t. c.now.trees t.tree ≡ b.now.trees t.tree) s.tables
+put_keeps s free word value b c made p =
+    let Keeps = λ (tree : ℕ) (t : Table). t.tree ≢ tree → c.now.trees t.tree ≡ b.now.trees t.tree in
+    let others = subst (λ (x : Schema). AllByRecursion (Keeps (tree_named x (codes "meta"))) x.tables) made p.others in
+    let here = one_list (Keeps (next_tree s)) s.tables _ (subst (λ n. AllByRecursion (Keeps n) (created s meta).tables) (meta_tree s free) others) in
+    all_both (λ (t : Table). t.tree < next_tree s) (Keeps (next_tree s)) (λ t. c.now.trees t.tree ≡ b.now.trees t.tree) (λ t low kept. kept (λ e. absurd (omega (arith, low, e)))) s.tables (trees_below s) here.0
 
 -- ---- one setting
 
@@ -128,7 +113,7 @@ words_utf8 : IsUtf8 (codes "schema") × IsUtf8 (codes "3") × IsUtf8 (codes "sto
 unfolding lib.Utf8.encode
 words_utf8 = ((codes "schema", (refl, refl)), (codes "3", (refl, refl)), (codes "store-dir", (refl, refl)))
 
-pub meta_made : (dir : Bytes) (a b c d : State) → IsUnused a.now.schema (codes "meta") → Makes (meta ∷ []) a b → Puts (codes "schema") (codes "3") b c → Puts (codes "store-dir") dir c d → MakesMeta dir a d
+pub meta_made : (dir : Bytes) (a b c d : State) → IsFree a.now.schema (codes "meta") → Makes (meta ∷ []) a b → Puts (codes "schema") (codes "3") b c → Puts (codes "store-dir") dir c d → MakesMeta dir a d
 meta_made dir a b c d free h p q =
     let s = a.now.schema in
     let tree = next_tree s in
@@ -145,17 +130,14 @@ meta_made dir a b c d free h p q =
     let keyed : IsKeyed (rows_named d.now (codes "meta")) = q.rows.keyed (p.rows.keyed (subst IsKeyed (sym rows_b) keyed_none)) in
     let none : AreReadableRows meta (rows_named b.now (codes "meta")) = subst (AreReadableRows meta) (sym rows_b) (λ row at there low. absurd there) in
     let made : AreSettings dir (rows_named d.now (codes "meta")) = record { keyed = keyed; readable = λ utf8. q.rows.readable words_utf8.2 utf8 (p.rows.readable words_utf8.0 words_utf8.1 none); settings = map_d } in
-    let old_c : AllByRecursion (λ t. t.tree ≢ tree → c.now.trees t.tree ≡ b.now.trees t.tree) s.tables = (one_list (λ (t : Table). t.tree ≢ tree → c.now.trees t.tree ≡ b.now.trees t.tree) s.tables _
-    (subst (λ (x : Schema). AllByRecursion (λ t. t.tree ≢ tree → c.now.trees t.tree ≡ b.now.trees t.tree) x.tables) h.schema (subst (λ n. AllByRecursion (λ t. t.tree ≢ n → c.now.trees t.tree ≡ b.now.trees t.tree) b.now.schema.tables) tree_b p.others))).0 in
-    let old_d : AllByRecursion (λ t. t.tree ≢ tree → d.now.trees t.tree ≡ c.now.trees t.tree) s.tables = (one_list (λ (t : Table). t.tree ≢ tree → d.now.trees t.tree ≡ c.now.trees t.tree) s.tables _
-    (subst (λ (x : Schema). AllByRecursion (λ t. t.tree ≢ tree → d.now.trees t.tree ≡ c.now.trees t.tree) x.tables) (p.schema ∙ h.schema) (subst (λ n. AllByRecursion (λ t. t.tree ≢ n → d.now.trees t.tree ≡ c.now.trees t.tree) c.now.schema.tables) tree_c q.others))).0 in
-    let off = not_next s in
+    let kept_c = put_keeps s free (codes "schema") (codes "3") b c h.schema p in
+    let kept_d = put_keeps s free (codes "store-dir") dir c d (p.schema ∙ h.schema) q in
     record {
       was_open = h.was_open;
       is_open = q.is_open;
       sound = q.sound;
       schema = q.schema ∙ p.schema ∙ h.schema;
-      kept = kept_then a.now.trees c.now.trees d.now.trees s.tables (kept_then a.now.trees b.now.trees c.now.trees s.tables h.kept (kept_off b.now.trees c.now.trees tree s.tables off old_c)) (kept_off c.now.trees d.now.trees tree s.tables off old_d);
+      kept = kept_then a.now.trees c.now.trees d.now.trees s.tables (kept_then a.now.trees b.now.trees c.now.trees s.tables h.kept kept_c) kept_d;
       settings = subst (λ n. AreSettings dir (d.now.trees n)) tree_d made;
       frozen = λ sound. frozen_then a.now b.now d.now.trees (meta ∷ []) h.schema (h.frozen sound) (frozen_then b.now c.now d.now.trees [] p.schema (p.frozen h.sound) (q.frozen p.sound));
       committed = q.committed ∙ p.committed ∙ h.committed;
@@ -186,16 +168,9 @@ all_made dir a b e h rest =
       mode = rest.mode;
     }
 
-names_free : (s : Schema) (ts : List Table) → AllByRecursion (λ t. IsFree s t.name) ts → AllByRecursion (λ t. IsUnused s t.name) ts × AllByRecursion (λ t. is_unawaited s t.name ≡ true) ts
-names_free s [] h = (tt, tt)
-names_free s (t ∷ ts) h = let rest = names_free s ts h.1 in (((h.0.table, h.0.index, h.0.view), rest.0), (h.0.unawaited, rest.1))
-
 -- tables whose names are free can be made
 pub making_free : (ts : List Table) (s : State) → (IsTrue s.is_open → IsDatabase s.now) → (IsTrue s.is_open → AllByRecursion (λ t. IsFree s.now.schema t.name) ts × (lacks_sequence s.now.schema ≡ false)) → s.in_transaction ≡ true → IsMaking ts s
-making_free ts s sound free mode = record { sound = sound; free = λ up. (names_free s.now.schema ts (free up).0).0; unawaited = λ up. (names_free s.now.schema ts (free up).0).1; counted = λ up. (free up).1; mode = mode }
-
-pub free_name : (s : Schema) (name : Bytes) → IsUnused s name → is_unawaited s name ≡ true → IsFree s name
-free_name s name unused unawaited = record { table = unused.0; index = unused.1; view = unused.2; unawaited = unawaited }
+making_free ts s sound free mode = record { sound = sound; free = λ up. (free up).0; counted = λ up. (free up).1; mode = mode }
 
 -- what was made and committed
 pub committed_made : (dir : Bytes) (a b m n : State) → b.now ≡ a.now → b.is_open ≡ a.is_open → MakesAll dir b m → Shows m n m.now m.now false → IsMadeIn dir a n

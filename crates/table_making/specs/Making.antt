@@ -8,7 +8,7 @@ use Rattle.sqlite_value.specs.declared.value.Value.TheVariants.{Int, Text}
 use Rattle.sqlite_trees.specs.Tree.{Trees, put_row}
 use Rattle.sqlite_schema.specs.declared.schema.Schema.{Schema}
 use Rattle.sqlite_schema.specs.declared.schema.Table.{Table}
-use Rattle.sqlite_schema.specs.Names.{same_name, table_named, index_named, view_named}
+use Rattle.sqlite_schema.specs.Names.{same_name}
 use Rattle.sqlite_rules.specs.Edit.{next_rowid}
 use Rattle.sqlite_catalog.specs.Change.{created, next_tree, is_used}
 use Rattle.sqlite.specs.Does.{lacks_sequence}
@@ -18,7 +18,7 @@ use Rattle.table_forms.specs.Forms.{meta, object, refs, outs, permanent, user_ro
 use Rattle.table_forms.specs.declared.our_table.OurTable.{OurTable}
 use Rattle.table_forms.specs.declared.our_table.OurTable.TheVariants.{Meta, Object, Refs, Outs, Permanent, UserRoot, Profile, Generation, Runtime, Piece, TempRoot}
 use Rattle.table_forms.specs.Standing.{IsNamed, tree_named}
-use Rattle.table_forms.specs.Finding.{is_unawaited}
+use Rattle.table_forms.specs.Finding.{IsFree}
 use Rattle.table_statements.specs.Contents.{Bytes, Contents, contents_of, texts_cmp, is_pair, pair_of, map_of, rows_named}
 use Rattle.table_statements.specs.Frozen.{KeepsFrozen, SparesFrozen}
 use Rattle.table_statements.specs.Texts.{AreReadable, AreReadableRows}
@@ -136,15 +136,10 @@ pub record IsMadeIn (dir : Bytes) (old new : State) : Type 0 where
   pub made : IsMadeOf dir old.now new.now.trees
   pub settled : new.now ≡ new.committed
 
--- nothing of the schema has the name
-abbrev pub IsUnused : Schema → Bytes → Type 0
-IsUnused s name = (table_named s name ≡ None) × (index_named s name ≡ None) × (view_named s name ≡ None)
-
 -- A transaction is under way over a schema that has none of these tables, and in which no foreign key waits for one. The database obeys it.
 pub record IsMaking (tables : List Table) (s : State) : Type 0 where
   pub sound : IsTrue s.is_open → IsDatabase s.now
-  pub free : IsTrue s.is_open → AllByRecursion (λ t. IsUnused s.now.schema t.name) tables
-  pub unawaited : IsTrue s.is_open → AllByRecursion (λ t. is_unawaited s.now.schema t.name ≡ true) tables
+  pub free : IsTrue s.is_open → AllByRecursion (λ t. IsFree s.now.schema t.name) tables
   pub counted : IsTrue s.is_open → lacks_sequence s.now.schema ≡ false
   pub mode : s.in_transaction ≡ true
 

@@ -1,10 +1,10 @@
-use Rattle.std.proofs.Common.{[], ◌∷◌, refl, arith}
+use Rattle.std.proofs.Common.{[], ◌∷◌, refl}
 use Rattle.std.specs.Fmt.{digits}
-use Rattle.sqlite.specs.State.{HasCleanDisk}
 use Rattle.sqlite.specs.Held.{state}
 use Rattle.sqlite_tied.specs.Compute.{everything}
 use Rattle.table_forms.specs.Forms.{temp_root}
 use Rattle.table_statements.proofs.Scans.{on_ok}
+use Rattle.table_statements.proofs.Steps.{clean_before}
 use Rattle.table_making.proofs.FurtherMade.{making_further, makes_last}
 use Rattle.table_making.proofs.further.make_temp_root.Goals as goal
 
@@ -17,7 +17,5 @@ all-requires-clause-apart g c = refl
 
 pub returns-clause-done : goal.returns-clause-done
 returns-clause-done g c clean =
-    let old = state g.S.Store c.args.tx.now.conn.now in
-    let new = state g.S.Store c.all.new.tx.conn.now in
-    let early : HasCleanDisk old = omega (arith, c.all.ensures.survives.clean) in
-    on_ok c.all.result _ _ (λ made. makes_last old new (c.requires.under early) (c.requires.second early made.was_open) made) (c.all.ensures.makes clean)
+    let early = clean_before _ _ _ c.all.ensures.survives clean in
+    on_ok c.all.result _ _ (λ made. makes_last _ _ (c.requires.under early) (c.requires.second early made.was_open) made) (c.all.ensures.makes clean)
