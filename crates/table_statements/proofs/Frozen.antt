@@ -91,10 +91,13 @@ spared old new sound h = record {
 
 -- ---- one after another
 
--- two in a row keep it
-pub frozen_next : (a b : Database) (trees : Trees) → b.schema ≡ a.schema → KeepsFrozen a b.trees → KeepsFrozen b trees → KeepsFrozen a trees
-frozen_next a b trees same h k = record {
-  rows = λ tree is. k.rows tree (subst (λ (s : Schema). IsFrozen s tree) (sym same) is) ∙ h.rows tree is;
+-- two in a row keep what is frozen for both
+pub frozen_both : (a b : Database) (trees : Trees) → ((tree : ℕ) → IsFrozen a.schema tree → IsFrozen b.schema tree) → KeepsFrozen a b.trees → KeepsFrozen b trees → KeepsFrozen a trees
+frozen_both a b trees still h k = record {
+  rows = λ tree is. k.rows tree (still tree is) ∙ h.rows tree is;
   texts = λ row there foreign. k.texts row (h.texts row there foreign) foreign;
   version = k.version ∙ h.version;
 }
+
+pub frozen_next : (a b : Database) (trees : Trees) → b.schema ≡ a.schema → KeepsFrozen a b.trees → KeepsFrozen b trees → KeepsFrozen a trees
+frozen_next a b trees same = frozen_both a b trees (λ tree. subst (λ (s : Schema). IsFrozen s tree) (sym same))

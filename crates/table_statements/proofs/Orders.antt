@@ -2,7 +2,7 @@
 use Rattle.std.proofs.Common.{◌≡◌, ◌+◌, ◌<◌, Bool, true, false, List, [], ◌∷◌, length, map, refl, sym, ap, ◌∙◌, arith, ◌&&◌, cond, Some, None, Option, inl, inr}
 use Rattle.std.specs.declared.cmp.Ordering.{Ordering}
 use Rattle.std.specs.declared.cmp.Ordering.TheVariants.{Less, Equal, Greater}
-use Rattle.std.specs.Ordering.{is_lt, is_eq, ordering_then, ordering_reverse}
+use Rattle.std.specs.Ordering.{on, then_cmp, is_lt, is_eq, ordering_then, ordering_reverse}
 use Rattle.std.specs.Cmp.{IsTotalOrder, then_total, on_total, int_cmp_total}
 use Rattle.std.specs.Cmp.Lexicographic.{on_texts, nat_list_cmp_total}
 use Rattle.std.specs.FinMap.Entries.{is_sorted, below_all, find}
@@ -37,12 +37,19 @@ first_equal Less s e = cc
 first_equal Equal s e = (refl, e)
 first_equal Greater s e = cc
 
+-- pairs and triples that are compared part by part
+two_antisymmetric : {A B : Type 0} {R : A → A → Ordering} {S : B → B → Ordering} → finite.IsAntisymmetric R → finite.IsAntisymmetric S → finite.IsAntisymmetric {K = A × B} (then_cmp (on (λ p. p.0) R) (on (λ p. p.1) S))
+two_antisymmetric r s x y e = let both = first_equal _ _ e in λ i. (r x.0 y.0 both.0 i, s x.1 y.1 both.1 i)
+
+three_antisymmetric : {A B C : Type 0} {R : A → A → Ordering} {S : B → B → Ordering} {Q : C → C → Ordering} → finite.IsAntisymmetric R → finite.IsAntisymmetric S → finite.IsAntisymmetric Q
+    → finite.IsAntisymmetric {K = A × B × C} (then_cmp (on (λ t. t.0) R) (then_cmp (on (λ t. t.1) S) (on (λ t. t.2) Q)))
+three_antisymmetric r s q x y e =
+    let first = first_equal _ _ e in
+    let rest = first_equal _ _ first.1 in
+    λ i. (r x.0 y.0 first.0 i, s x.1 y.1 rest.0 i, q x.2 y.2 rest.1 i)
+
 pub pair_antisymmetric : finite.IsAntisymmetric pair_cmp
-pair_antisymmetric x y e =
-    let both = first_equal (texts_cmp x.0 y.0) (texts_cmp x.1 y.1) e in
-    let a = texts_antisymmetric x.0 y.0 both.0 in
-    let b = texts_antisymmetric x.1 y.1 both.1 in
-    λ i. (a i, b i)
+pair_antisymmetric = two_antisymmetric texts_antisymmetric texts_antisymmetric
 
 -- ---- a map that is made of a list, and its entries in order
 module _ {K X : Type 0} {R : K → K → Ordering} (o : IsTotalOrder R) (same : finite.IsAntisymmetric R) where
@@ -128,13 +135,7 @@ pub triple_total : IsTotalOrder triple_cmp
 triple_total = then_total (on_texts (λ t. t.0)) (then_total (on_texts (λ t. t.1)) (on_total (λ (t : Triple). t.2) int_cmp_total))
 
 pub triple_antisymmetric : finite.IsAntisymmetric triple_cmp
-triple_antisymmetric x y e =
-    let first = first_equal _ _ e in
-    let rest = first_equal _ _ first.1 in
-    let a = texts_antisymmetric x.0 y.0 first.0 in
-    let b = texts_antisymmetric x.1 y.1 rest.0 in
-    let c = finite.int_cmp-IsAntisymmetric x.2 y.2 rest.1 in
-    λ i. (a i, b i, c i)
+triple_antisymmetric = three_antisymmetric texts_antisymmetric texts_antisymmetric finite.int_cmp-IsAntisymmetric
 
 -- ---- the order of pieces
 
@@ -142,11 +143,7 @@ pub numbered_total : IsTotalOrder numbered_cmp
 numbered_total = then_total (on_texts (λ n. n.0)) (on_total (λ (n : Numbered). n.1) int_cmp_total)
 
 pub numbered_antisymmetric : finite.IsAntisymmetric numbered_cmp
-numbered_antisymmetric x y e =
-    let both = first_equal _ _ e in
-    let a = texts_antisymmetric x.0 y.0 both.0 in
-    let b = finite.int_cmp-IsAntisymmetric x.1 y.1 both.1 in
-    λ i. (a i, b i)
+numbered_antisymmetric = two_antisymmetric texts_antisymmetric finite.int_cmp-IsAntisymmetric
 
 -- ---- the order of temporary roots
 
@@ -154,10 +151,4 @@ pub kept_total : IsTotalOrder kept_cmp
 kept_total = then_total (on_texts (λ k. k.0)) (then_total (on_total (λ (k : Kept). k.1) int_cmp_total) (on_texts (λ k. k.2)))
 
 pub kept_antisymmetric : finite.IsAntisymmetric kept_cmp
-kept_antisymmetric x y e =
-    let first = first_equal _ _ e in
-    let rest = first_equal _ _ first.1 in
-    let a = texts_antisymmetric x.0 y.0 first.0 in
-    let b = finite.int_cmp-IsAntisymmetric x.1 y.1 rest.0 in
-    let c = texts_antisymmetric x.2 y.2 rest.1 in
-    λ i. (a i, b i, c i)
+kept_antisymmetric = three_antisymmetric texts_antisymmetric finite.int_cmp-IsAntisymmetric texts_antisymmetric

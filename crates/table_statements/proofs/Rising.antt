@@ -9,7 +9,6 @@ use Rattle.std.specs.FinMap as finite
 use Rattle.std.specs.List.{list_all, AllByRecursion, AllZip, AllAdjacentBelow, IsDistinct}
 use Rattle.std.proofs.lemmas.Slice.Zip.{AllZip-long}
 use Rattle.std.proofs.lemmas.Map.Keys.{apart_from_distinct, IsDistinct-IsPermutation}
-use Rattle.sqlite_value.specs.declared.value.Value.TheVariants.{Null}
 use Rattle.sqlite_value.specs.Order.{Row, column}
 use Rattle.sqlite_value.proofs.OrderLemmas.{value_cmp_total}
 use Rattle.sqlite_trees.specs.Tree.{Trees, rowid}
@@ -25,7 +24,6 @@ use Rattle.std.proofs.Math.ListN.{get_or-append}
 use Rattle.sqlite_rules.proofs.ProbeLemmas.{has_mapped, mapped_has}
 use Rattle.sqlite.specs.declared.error.Error.{Error}
 use Rattle.sqlite.specs.State.{State, FailsToQuery}
-use Rattle.sqlite.proofs.Callers.{reads_as}
 use Rattle.table_statements.specs.declared.failure.Failure.{Failure}
 use Rattle.table_statements.specs.declared.failure.Failure.TheVariants.{Memory, Disk}
 use Rattle.table_forms.specs.Forms.{strict}
@@ -37,9 +35,8 @@ use Rattle.table_statements.specs.Calls.{IsOurs, IsReady}
 use Rattle.table_statements.specs.Failures.{failure_of, IsQueryFailure, FailsWith, FailsFor}
 use Rattle.table_statements.specs.Reading.{IsAmiss}
 use Rattle.table_statements.proofs.Apart.{tie, AreApart}
-use Rattle.table_statements.proofs.Means.{means_command}
 use Rattle.table_statements.proofs.Scans.{IsScan, shows, kept, listed, scan_sound, has_matched, has_permuted}
-use Rattle.table_statements.proofs.Statements.{Compiles}
+use Rattle.table_statements.proofs.Statements.{answer_of, Compiles}
 use Rattle.table_statements.proofs.RowByRow.{whole}
 use Rattle.table_statements.proofs.Writes.{overlay_low}
 
@@ -201,10 +198,8 @@ module _ (name : List ℕ) (columns : List Column) (primary : List ℕ) {K : Typ
       let tree = tree_named old.now.schema name in
       let db = overlay old.now.trees [] in
       let same_rows : db tree ≡ old.now.trees tree = overlay_low old.now.trees tree stands.known.low in
-      let m = means_command old.now.schema text _ (is old.now.schema stands.at tree stands.known) in
       let all = whole text params old new names (query tree) (is old.now.schema stands.at tree stands.known) rows given in
-      let got = reads_as text params old new old.now.schema refl _ m.0 m.1 m.2 (rows ++ all.0) all.1 in
-      let answer : IsAnswer (query tree) db params (rows ++ all.0) = got.answer Null in
+      let answer = answer_of name columns primary old new text params query is stands (rows ++ all.0) all.1 in
       none_amiss (query tree) tree (scan tree) db params rows all.0 answer same kind key width (subst (AreKept kind key width) (sym same_rows) (own ours)) (orders tree) ShowsItem item (fits tree) IsLegible (legible tree)
 
 -- ---- so a read fails only for want of memory, once its query was answered

@@ -16,7 +16,7 @@ use Rattle.sqlite_schema.specs.declared.command.Command.{Command}
 use Rattle.sqlite_schema.specs.declared.command.Command.TheVariants.{Delete, Select}
 use Rattle.sqlite_rules.specs.Edit.{without_all}
 use Rattle.sqlite_rules.specs.Calls.{ids_of}
-use Rattle.sqlite.specs.State.{State, ExecutesInside, IsUnchanged}
+use Rattle.sqlite.specs.State.{State, Shown, ExecutesInside, IsUnchanged}
 use Rattle.sqlite.proofs.Callers.{reads_as}
 use Rattle.table_statements.specs.declared.failure.Failure.{Failure}
 use Rattle.table_forms.specs.Forms.{strict}
@@ -36,6 +36,13 @@ use Rattle.table_statements.proofs.ReadableWrites.{left_readable}
 -- in any schema in which the table stands, the text is this command
 abbrev pub Compiles : (name : List ℕ) → List Column → List ℕ → List ℕ → ℕ → (ℕ → ℕ → Command) → Type 0
 Compiles name columns key text count command = (s : Schema) (at tree : ℕ) → IsKnown s name at (record (strict name columns key) { tree = tree }) → IsMeant s text count (command at tree)
+
+-- what a query of the table answers, where the table stands
+pub answer_of : (name : List ℕ) (columns : List Column) (key : List ℕ) (old new : State) (text : List ℕ) (params : Row) {names : List (List ℕ)} (query : ℕ → Query) {count : ℕ} → Compiles name columns key text count (λ at tree. Select (record { lets = []; body = query tree }) names)
+    → Stands old.now.schema (strict name columns key) → (rows : List Row) → Shown text params old new rows → IsAnswer (query (tree_named old.now.schema name)) (overlay old.now.trees []) params rows
+answer_of name columns key old new text params query is stands rows shown =
+    let m = means_command old.now.schema text _ (is old.now.schema stands.at (tree_named old.now.schema name) stands.known) in
+    (reads_as text params old new old.now.schema refl _ m.0 m.1 m.2 rows shown).answer Null
 
 -- the entries that were read, with the rows that show them
 abbrev pub Selects : {T : Type 0} → (Row → T → Type 0) → State → State → List ℕ → Row → Result (Vec T Global) Failure → Type 0
@@ -64,9 +71,7 @@ module _ (name : List ℕ) (columns : List Column) (key : List ℕ) {K X : Type 
         let tree = tree_named old.now.schema name in
         let db = overlay old.now.trees [] in
         let same_rows : db tree ≡ old.now.trees tree = overlay_low old.now.trees tree stands.known.low in
-        let m = means_command old.now.schema text _ (is old.now.schema stands.at tree stands.known) in
-        let got = reads_as text params old new old.now.schema refl _ m.0 m.1 m.2 rows shown.0 in
-        let answer : IsAnswer (query tree) db params rows = got.answer Null in
+        let answer = answer_of name columns key old new text params query is stands rows shown.0 in
         let part = part_listed o same kind entry tree (query tree) (scan tree) db params rows answer test (said tree) ShowsItem item (fits tree) all texts (rises_by o (λ t. (item t).0) all up) in
         (same_all, part ∙ ap (λ rs. finite.entries (finite.retain_keys (map_of R kind entry rs) test)) same_rows)
 

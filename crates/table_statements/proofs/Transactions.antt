@@ -7,7 +7,7 @@ use Rattle.sqlite.specs.State.{State, HasCleanDisk, KeepsCommit, Survives}
 use Rattle.sqlite.specs.Held.{Held, state}
 use Rattle.table_statements.specs.Contents.{Contents, contents_of}
 use Rattle.table_statements.specs.Calls.{Changes, IsUnderWay, Leaves}
-use Rattle.table_statements.proofs.Steps.{changes_then, changes_by, keeps_after, survives_whole}
+use Rattle.table_statements.proofs.Steps.{clean_before, changes_then, changes_by, keeps_after, survives_whole}
 
 -- what a crash leaves is told from before it was begun
 pub survives_begun : {S : Type 0} (g : Ghosts S) (conn : Held S) (c : State) (P : Trees → Type 0) → Survives (state g (record conn { in_transaction = true })) c P → Survives (state g conn) c P
@@ -33,19 +33,16 @@ survives_none s = record {
 
 -- two calls, of which the first was done
 module _ (a b c : State) (f g : Contents → Contents) (first : HasCleanDisk b → Changes a b f) (next : Survives b c (λ _. ⊥)) where
-  before_next : HasCleanDisk c → HasCleanDisk b
-  before_next clean = omega (arith, next.clean, clean)
-
   -- both were done
   pub done_both : {A E : Type 0} (r : Result A E) (h : Contents → Contents) → ((x : Contents) → g (f x) ≡ h x) → (HasCleanDisk c → OnOk r (Changes b c g)) → HasCleanDisk c → OnOk r (Changes a c h)
-  done_both (Ok v) h same second clean = changes_by a c (λ x. g (f x)) h same (changes_then a b c f g (first (before_next clean)) (second clean))
+  done_both (Ok v) h same second clean = changes_by a c (λ x. g (f x)) h same (changes_then a b c f g (first (clean_before b c _ next clean)) (second clean))
   done_both (Err e) h same second clean = second clean
 
   -- the second failed
   pub failed_next : {A E : Type 0} (r : Result A E) → (HasCleanDisk c → OnErr r (KeepsCommit b c)) → HasCleanDisk c → OnErr r (KeepsCommit a c)
   failed_next (Ok v) second clean = second clean
-  failed_next (Err e) second clean = keeps_after a b c f (first (before_next clean)) (second clean)
+  failed_next (Err e) second clean = keeps_after a b c f (first (clean_before b c _ next clean)) (second clean)
 
   -- and both that succeed always
   pub steps_both : (HasCleanDisk c → Changes b c g) → HasCleanDisk c → Changes a c (λ x. g (f x))
-  steps_both second clean = changes_then a b c f g (first (before_next clean)) (second clean)
+  steps_both second clean = changes_then a b c f g (first (clean_before b c _ next clean)) (second clean)
