@@ -1,5 +1,5 @@
 -- Tests of one table after another: what those that were passed say of what the connection showed at first, and why one fails.
-use Rattle.std.proofs.Common.{◌≡◌, ◌↔◌, ◌⊎◌, inl, inr, ◌+◌, ◌&&◌, ℕ, zero, suc, List, [], ◌∷◌, Bool, true, false, IsTrue, drop, refl, sym, subst}
+use Rattle.std.proofs.Common.{◌≡◌, ◌↔◌, ◌⊎◌, inl, inr, ◌+◌, ◌&&◌, ℕ, List, ◌∷◌, Bool, true, false, IsTrue, take, drop, refl, sym, subst}
 use Rattle.std.specs.List.{AllByRecursion}
 use Rattle.std.proofs.lemmas.Bool.{and_from}
 use Rattle.sqlite.specs.Effect.{Database}
@@ -12,13 +12,13 @@ use Rattle.table_statements.specs.declared.failure.Failure.TheVariants.{Memory, 
 use Rattle.table_statements.proofs.RowByRow.{unchanged_before}
 use Rattle.table_statements.proofs.TestFailures.{fails_after}
 use Rattle.table_statements.proofs.Truths.{and_so}
+use Rattle.table_statements.proofs.Lists.{one_list}
+use Rattle.std.proofs.lemmas.List.{take-append-drop}
 
 -- ---- what is left of a list
 
 pub left_over : {T : Type 0} (P : T → Type 0) (n : ℕ) (ts : List T) → AllByRecursion P ts → AllByRecursion P (drop n ts)
-left_over P zero ts all = all
-left_over P (suc n) [] all = all
-left_over P (suc n) (t ∷ ts) all = left_over P n ts all.1
+left_over P n ts all = (one_list P (take n ts) (drop n ts) (subst (AllByRecursion P) (sym (take-append-drop n ts)) all)).1
 
 -- ---- the tests of a list of tables
 

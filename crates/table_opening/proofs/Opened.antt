@@ -1,5 +1,5 @@
 -- By which schema a connection is ready, where the rowids and texts that it shows were tested; and what is told of files that weren't taken up.
-use Rattle.std.proofs.Common.{◌≡◌, ◌≢◌, ◌↔◌, inl, inr, ◌<◌, ◌++◌, List, [], ◌∷◌, length, arith, Bool, true, false, Result, Ok, Err, IfOk, IsTrue, refl, sym, ap, subst, ◌∙◌}
+use Rattle.std.proofs.Common.{◌≡◌, ◌≢◌, ◌↔◌, ◌<◌, ◌++◌, List, [], ◌∷◌, length, arith, Bool, true, false, Result, Ok, Err, IfOk, IsTrue, refl, sym, ap, subst, ◌∙◌}
 use Rattle.std.specs.List.{AllByRecursion}
 use Rattle.sqlite_wal.specs.Recovery.{Image}
 use Rattle.sqlite_schema.specs.declared.schema.Schema.{Schema}
@@ -14,15 +14,17 @@ use Rattle.table_statements.specs.Texts.{AreReadable, AreReadableRows, HasReadab
 use Rattle.table_forms.specs.declared.our_table.OurTable.{OurTable}
 use Rattle.table_forms.specs.OurTables.{schema_tables, form}
 use Rattle.table_opening.specs.Tables.{HasOwnRowids, HasReadableTexts}
-use Rattle.table_opening.specs.Opened.{IsRecognised, IsBySchema, IsReadyBy, IsFound, HasUnkeyed}
+use Rattle.table_opening.specs.Opened.{IsRecognised, IsBySchema, IsReadyBy, IsFound}
 use Rattle.sqlite.specs.Effect.{Database, IsDatabase}
 use Rattle.table_statements.specs.declared.failure.Failure.{Failure}
-use Rattle.table_forms.specs.Forms.{piece, temp_root, our_tables, further_tables}
+use Rattle.table_forms.specs.Forms.{piece, our_tables, further_tables}
 use Rattle.table_statements.specs.Contents.{contents_of, rows_named}
 use Rattle.table_statements.specs.Calls.{IsKeyed, IsOurs, IsWhole, HasFurther, IsReady}
 use Rattle.sqlite.proofs.Callers.{unchanged_then}
 use Rattle.table_entries.proofs.ReadableMaps.{readable_by_maps}
 use Rattle.table_entries.proofs.ReadableFurther.{pieces_by_maps, temp_roots_by_maps, no_pieces, no_temp_roots}
+use Rattle.sqlite_trees.proofs.ListLemmas.{all-append}
+use Rattle.table_statements.proofs.Lists.{one_list}
 
 -- ---- what the tests told
 
@@ -75,29 +77,16 @@ module _ (r : Recognised) (a n : State) (by : IsRecognised r a.now.schema) (same
 
 -- there are no tables of ours, or they are no schema's
 pub found_none : (r : Recognised) (a n : State) → IsRecognised r a.now.schema → IsUnchanged a n → a.now ≡ a.committed → r ≢ First → r ≢ Second → r ≢ Third → IsFound r n
-found_none Nothing a n by same settled one two three = record {
-  by_schema = subst (IsBySchema Nothing) (sym same.0.now_is) (record { nothing = by.nothing; first = (λ is. absurd (one is), λ both. by.first.1 both.0); second = (λ is. absurd (two is), λ both. by.second.1 both.0); third = (λ is. absurd (three is), λ both. by.third.1 both.0) });
-  ready = tt;
-  settled = settled_still Nothing a n by same settled;
-}
 found_none First a n by same settled one two three = absurd (one refl)
 found_none Second a n by same settled one two three = absurd (two refl)
 found_none Third a n by same settled one two three = absurd (three refl)
-found_none Other a n by same settled one two three = record {
-  by_schema = subst (IsBySchema Other) (sym same.0.now_is) (record { nothing = by.nothing; first = (λ is. absurd (one is), λ both. by.first.1 both.0); second = (λ is. absurd (two is), λ both. by.second.1 both.0); third = (λ is. absurd (three is), λ both. by.third.1 both.0) });
+found_none r a n by same settled one two three = record {
+  by_schema = subst (IsBySchema r) (sym same.0.now_is) (record { nothing = by.nothing; first = (λ is. absurd (one is), λ both. by.first.1 both.0); second = (λ is. absurd (two is), λ both. by.second.1 both.0); third = (λ is. absurd (three is), λ both. by.third.1 both.0) });
   ready = tt;
-  settled = settled_still Other a n by same settled;
+  settled = settled_still r a n by same settled;
 }
 
 -- ---- by each schema
-
-parts : {T : Type 0} (P : T → Type 0) (xs ys : List T) → AllByRecursion P (xs ++ ys) → AllByRecursion P xs × AllByRecursion P ys
-parts P [] ys all = (tt, all)
-parts P (x ∷ xs) ys all = let rest = parts P xs ys all.1 in ((all.0, rest.0), rest.1)
-
-joined : {T : Type 0} (P : T → Type 0) (xs ys : List T) → AllByRecursion P xs → AllByRecursion P ys → AllByRecursion P (xs ++ ys)
-joined P [] ys here there = there
-joined P (x ∷ xs) ys here there = (here.0, joined P xs ys here.1 there)
 
 -- what the tests of these tables told
 abbrev pub Tested : List OurTable → State → State → Bool → Type 0
@@ -122,23 +111,23 @@ module _ (a n : State) (b : Bool) (sound : IsDatabase a.now) (settled : a.now �
       (λ rows. ready_by told.0 (record { sound = sound; has = has.0; keyed = told.1; readable = rows })) (λ is. absurd cc)
   found_by Second some by told =
       let has = by.second.0 refl in
-      let keyed = parts Keyed our_tables (piece ∷ []) told.1 in
+      let keyed = one_list Keyed our_tables (piece ∷ []) told.1 in
       let maps = readable_by_maps a.now sound has.0 keyed.0 _ _ (pieces_by_maps a.now sound has.1 keyed.1.0) (no_temp_roots a.now has.2) in
       found_if Second a n by told.0 settled (AllByRecursion Readable (our_tables ++ piece ∷ [])) b told.2
-      (λ rows. let each = parts Readable our_tables (piece ∷ []) rows in maps.0 (each.0, each.1.0, tt), λ readable. let all = maps.1 readable in joined Readable our_tables (piece ∷ []) all.0 (all.1, tt))
+      (λ rows. let each = one_list Readable our_tables (piece ∷ []) rows in maps.0 (each.0, each.1.0, tt), λ readable. let all = maps.1 readable in all-append Readable our_tables (piece ∷ []) all.0 (all.1, tt))
       (λ rows.
-      let each = parts Readable our_tables (piece ∷ []) rows in (
+      let each = one_list Readable our_tables (piece ∷ []) rows in (
         ready_by told.0 (record { sound = sound; has = has.0; keyed = keyed.0; readable = each.0 }),
         subst (λ (d : Database). HasFurther d piece) (sym told.0.0.now_is) (record { stands = has.1; keyed = keyed.1.0; readable = each.1.0 }),
       )) (λ is. absurd cc)
   found_by Third some by told =
       let has = by.third.0 refl in
-      let keyed = parts Keyed our_tables further_tables told.1 in
+      let keyed = one_list Keyed our_tables further_tables told.1 in
       let maps = readable_by_maps a.now sound has.0 keyed.0 _ _ (pieces_by_maps a.now sound has.1 keyed.1.0) (temp_roots_by_maps a.now sound has.2 keyed.1.1.0) in
       found_if Third a n by told.0 settled (AllByRecursion Readable (our_tables ++ further_tables)) b told.2
-      (λ rows. let each = parts Readable our_tables further_tables rows in maps.0 (each.0, each.1.0, each.1.1.0), λ readable. let all = maps.1 readable in joined Readable our_tables further_tables all.0 (all.1, (all.2, tt)))
+      (λ rows. let each = one_list Readable our_tables further_tables rows in maps.0 (each.0, each.1.0, each.1.1.0), λ readable. let all = maps.1 readable in all-append Readable our_tables further_tables all.0 (all.1, (all.2, tt)))
       (λ rows.
-      let each = parts Readable our_tables further_tables rows in
+      let each = one_list Readable our_tables further_tables rows in
       let ours : IsOurs a.now = record { sound = sound; has = has.0; keyed = keyed.0; readable = each.0 } in (
         ready_by told.0 ours,
         subst IsWhole (sym told.0.0.now_is) (record {
@@ -154,22 +143,10 @@ module _ (a n : State) (b : Bool) (sound : IsDatabase a.now) (settled : a.now �
 
 pub stand_by : (r : Recognised) (s : Schema) → IsRecognised r s → AllByRecursion (λ t. Stands s (form t)) (schema_tables r)
 stand_by First s by = (by.first.0 refl).0
-stand_by Second s by = let has = by.second.0 refl in joined (Stands s) our_tables (piece ∷ []) has.0 (has.1, tt)
-stand_by Third s by = let has = by.third.0 refl in joined (Stands s) our_tables further_tables has.0 (has.1, (has.2, tt))
+stand_by Second s by = let has = by.second.0 refl in all-append (Stands s) our_tables (piece ∷ []) has.0 (has.1, tt)
+stand_by Third s by = let has = by.third.0 refl in all-append (Stands s) our_tables further_tables has.0 (has.1, (has.2, tt))
 stand_by Nothing s by = tt
 stand_by Other s by = tt
-
--- in one of these tables, all of which stand, a rowid isn't its row's own
-unkeyed_in : (d : Database) (ts rest : List Table) → AllByRecursion (Stands d.schema) ts → AllByRecursion (λ t. Stands d.schema t → IsKeyed (rows_named d t.name)) (ts ++ rest) → AllByRecursion (λ t. IsKeyed (rows_named d t.name)) ts
-unkeyed_in d [] rest stand all = tt
-unkeyed_in d (t ∷ ts) rest stand all = (all.0 stand.0, unkeyed_in d ts rest stand.1 all.1)
-
-pub unkeyed_by : (r : Recognised) (d : Database) → 0 < length (schema_tables r) → IsRecognised r d.schema → ¬ AllByRecursion (HasOwnRowids d) (schema_tables r) → HasUnkeyed d
-unkeyed_by First d some by none = (inl (by.first.0 refl), λ all. none (unkeyed_in d our_tables further_tables (stand_by First d.schema by) all))
-unkeyed_by Second d some by none = (inr (inl (by.second.0 refl)), λ all. none (unkeyed_in d (our_tables ++ piece ∷ []) (temp_root ∷ []) (stand_by Second d.schema by) all))
-unkeyed_by Third d some by none = (inr (inr (by.third.0 refl)), λ all. none (unkeyed_in d (our_tables ++ further_tables) [] (stand_by Third d.schema by) all))
-unkeyed_by Nothing d some by none = absurd (omega (arith, some))
-unkeyed_by Other d some by none = absurd (omega (arith, some))
 
 -- what the file held is what the last commit still is
 pub held_still : (image : Image) (old new : State) → new.committed ≡ old.committed → FindsIn image old → FindsIn image new

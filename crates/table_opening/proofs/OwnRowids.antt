@@ -10,7 +10,7 @@ use Rattle.std.proofs.lemmas.Map.Keys.{sorted_from_all_adjacent, apart_from_dist
 use Rattle.std.proofs.lemmas.List.Sorted.{IsPermutation-map, IsPermutation-sym}
 use Rattle.std.proofs.lemmas.Simd.{map-map}
 use Rattle.sqlite_value.specs.declared.value.Value.{Value}
-use Rattle.sqlite_value.specs.declared.value.Value.TheVariants.{Null, Int}
+use Rattle.sqlite_value.specs.declared.value.Value.TheVariants.{Int}
 use Rattle.sqlite_value.specs.declared.keys.Collation.{Collation}
 use Rattle.sqlite_value.specs.declared.keys.Key.{Key}
 use Rattle.sqlite_value.specs.Order.{Row, column}
@@ -39,18 +39,18 @@ use Rattle.sqlite_resolve.specs.Scope.{Name, Context, find as found_in, column a
 use Rattle.sqlite_rules.specs.Lists.{Has}
 use Rattle.sqlite.specs.State.{State, IsUnchanged}
 use Rattle.sqlite.specs.Values.{IsInt}
-use Rattle.sqlite.proofs.Callers.{reads_as}
 use Rattle.table_forms.specs.Forms.{strict}
 use Rattle.table_forms.specs.Standing.{Stands, tree_named}
 use Rattle.table_statements.specs.Contents.{rows_named}
 use Rattle.table_statements.specs.Calls.{IsKeyed}
 use Rattle.table_statements.specs.Queries.{IsAnswered}
 use Rattle.table_opening.specs.Opened.{ShowIds}
-use Rattle.table_statements.proofs.Means.{means_command, plain_state}
+use Rattle.table_statements.proofs.Means.{plain_state}
 use Rattle.table_statements.proofs.Scans.{IsScan, scan_complete, kept, listed}
 use Rattle.table_statements.proofs.Apart.{tie, turned}
-use Rattle.table_statements.proofs.Statements.{Compiles}
+use Rattle.table_statements.proofs.Statements.{Compiles, answer_of}
 use Rattle.table_statements.proofs.Writes.{overlay_low}
+use Rattle.sqlite_trees.proofs.ListLemmas.{all_weaker, all-map}
 
 -- ---- what the text means
 
@@ -127,14 +127,10 @@ module _ (order : List (Term × Key)) (tree : ℕ) (db : Trees) (rows : List Row
       each [] = refl
       each (r ∷ all) = ap (λ l. rowid r ∷ l) (each all)
 
-apart_ints : (n : ℤ) (ns : List ℤ) → AllByRecursion (λ m. eq_by_cmp int_cmp n m ≡ false) ns → AllByRecursion (λ v. tie (Int n) v ≡ false) (map Int ns)
-apart_ints n [] h = one
-apart_ints n (m ∷ ns) h = (ap is_eq (value_cmp-Int n m) ∙ h.0, apart_ints n ns h.1)
-
 distinct_ints : (ns : List ℤ) → IsDistinct (eq_by_cmp int_cmp) ns → IsDistinct tie (map Int ns)
 unfolding IsDistinct
 distinct_ints [] h = one
-distinct_ints (n ∷ ns) h = (apart_ints n ns h.0, distinct_ints ns h.1)
+distinct_ints (n ∷ ns) h = (all-map (λ v. tie (Int n) v ≡ false) Int ns (all_weaker (λ m. eq_by_cmp int_cmp n m ≡ false) (λ m. tie (Int n) (Int m) ≡ false) (λ m apart. ap is_eq (value_cmp-Int n m) ∙ apart) ns h.0), distinct_ints ns h.1)
 
 ints_from : (rows : List Row) (ns : List ℤ) → map first rows ≡ map Int ns → (x : Row) → Has rows x → IsTrue (is_int (first x))
 ints_from [] ns e x h = absurd h
@@ -160,9 +156,7 @@ pub keyed_if : (name : List ℕ) (columns : List Column) (key : List ℕ) (text 
     → {count : ℕ} → Compiles name columns key text count (λ at tree. Select (whole order tree) (codes "rowid" ∷ [])) → ShowsApart text old new → IsUnchanged old new × IsKeyed (rows_named old.now name)
 keyed_if name columns key text order old new stands is h =
     let tree = tree_named old.now.schema name in
-    let m = means_command old.now.schema text _ (is old.now.schema stands.at tree stands.known) in
-    let got = reads_as text [] old new old.now.schema refl _ m.0 m.1 m.2 h.0 h.1.0 in
-    let answer : IsAnswer (query order tree) (overlay old.now.trees []) [] h.0 = got.answer Null in
+    let answer = answer_of name columns key old new text [] (query order) is stands h.0 h.1.0 in
     (h.1.1.1, subst IsKeyed (overlay_low old.now.trees tree stands.known.low) (keyed_from order tree (overlay old.now.trees []) h.0 answer h.2))
 
 -- ---- what a sort and a test of neighbours say of integers

@@ -1,24 +1,21 @@
 -- That the texts of a table are UTF-8 exactly where those are that a query over all its rows shows.
 use Rattle.std.proofs.Common.{◌≡◌, ◌↔◌, ℕ, zero, suc, ◌+◌, ◌<◌, List, [], ◌∷◌, Bool, IsTrue, Result, Ok, Err, IfOk, length, refl, sym, ap, subst, ◌∙◌, arith}
 use Rattle.std.specs.List.{AllByRecursion}
-use Rattle.sqlite_value.specs.declared.value.Value.TheVariants.{Null}
 use Rattle.sqlite_value.specs.Order.{Row, column}
 use Rattle.sqlite_rules.specs.Lists.{Has}
 use Rattle.sqlite_rules.proofs.ListLemmas.{all_has, all_from}
-use Rattle.sqlite_sql.specs.Query.{Query, IsAnswer}
+use Rattle.sqlite_sql.specs.Query.{Query}
 use Rattle.sqlite_sql.specs.Program.{overlay}
 use Rattle.sqlite_schema.specs.declared.schema.Column.{Column}
 use Rattle.sqlite_schema.specs.declared.command.Command.TheVariants.{Select}
 use Rattle.sqlite.specs.State.{State, IsUnchanged}
-use Rattle.sqlite.proofs.Callers.{reads_as}
 use Rattle.table_forms.specs.Forms.{strict}
 use Rattle.table_forms.specs.Standing.{Stands, tree_named}
 use Rattle.table_statements.specs.Contents.{rows_named}
 use Rattle.table_statements.specs.Texts.{IsReadable, IsReadableRow, AreReadableRows}
 use Rattle.table_statements.specs.Queries.{IsAnswered}
-use Rattle.table_statements.proofs.Means.{means_command}
 use Rattle.table_statements.proofs.Scans.{IsScan, shows, scan_sound, scan_complete}
-use Rattle.table_statements.proofs.Statements.{Compiles}
+use Rattle.table_statements.proofs.Statements.{answer_of, Compiles}
 use Rattle.table_statements.proofs.Writes.{overlay_low}
 
 -- so many columns of a row, from this one on
@@ -58,9 +55,7 @@ module _ (name : List ℕ) (columns : List Column) (key : List ℕ) (text : List
       let tree = tree_named old.now.schema name in
       let db = overlay old.now.trees [] in
       let same_rows : db tree ≡ old.now.trees tree = overlay_low old.now.trees tree stands.known.low in
-      let m = means_command old.now.schema text _ (is old.now.schema stands.at tree stands.known) in
-      let got = reads_as text [] old new old.now.schema refl _ m.0 m.1 m.2 h.0 h.1.0 in
-      let answer : IsAnswer (query tree) db [] h.0 = got.answer Null in (
+      let answer = answer_of name columns key old new text [] query is stands h.0 h.1.0 in (
         h.1.1.1,
         (
           λ yes row at there low.

@@ -1,9 +1,9 @@
 -- Why the test of a table's rowids fails: where they are integers that differ, only for the disk or a limit on steps.
 use Rattle.std.proofs.Common.{◌≡◌, ◌⊎◌, inl, inr, ℕ, ℤ, List, [], ◌∷◌, ◌++◌, map, false, IsTrue, refl, sym, ap, ap₂, subst, ◌∙◌}
-use Rattle.std.specs.List.{AllByRecursion, IsDistinct}
+use Rattle.std.specs.List.{IsDistinct}
 use Rattle.std.specs.Ordering.{is_eq, eq_by_cmp, int_cmp}
 use Rattle.std.proofs.lemmas.Map.Keys.{IsDistinct-IsPermutation}
-use Rattle.sqlite_value.specs.declared.value.Value.TheVariants.{Null, Int}
+use Rattle.sqlite_value.specs.declared.value.Value.TheVariants.{Int}
 use Rattle.sqlite_value.specs.declared.keys.Key.{Key}
 use Rattle.sqlite_value.specs.Order.{Row}
 use Rattle.sqlite_value.proofs.OrderLemmas.{value_cmp-Int}
@@ -17,7 +17,6 @@ use Rattle.sqlite_sql.specs.Program.{overlay}
 use Rattle.sqlite_schema.specs.declared.schema.Column.{Column}
 use Rattle.sqlite_schema.specs.declared.command.Command.TheVariants.{Select}
 use Rattle.sqlite.specs.State.{State, Shown as Answered}
-use Rattle.sqlite.proofs.Callers.{reads_as}
 use Rattle.table_forms.specs.Forms.{strict}
 use Rattle.table_forms.specs.Standing.{Stands, tree_named}
 use Rattle.table_statements.specs.Contents.{rows_named}
@@ -27,17 +26,17 @@ use Rattle.table_statements.specs.declared.failure.Failure.TheVariants.{Memory, 
 use Rattle.table_statements.specs.Failures.{IsQueryFailure, FailsToTest}
 use Rattle.table_statements.specs.Queries.{HasBegunWith}
 use Rattle.table_opening.specs.Opened.{ShowIds}
-use Rattle.table_statements.proofs.Means.{means_command}
 use Rattle.table_statements.proofs.Scans.{scan_sound}
 use Rattle.table_statements.proofs.Apart.{tie, turned}
 use Rattle.table_statements.proofs.Members.{int_is}
-use Rattle.table_statements.proofs.Statements.{Compiles}
+use Rattle.table_statements.proofs.Statements.{answer_of, Compiles}
 use Rattle.table_statements.proofs.Writes.{overlay_low}
 use Rattle.table_statements.proofs.RowByRow.{whole as all_rows}
 use Rattle.table_statements.proofs.TestFailures.{test_fails}
 use Rattle.table_opening.proofs.Asking.{Asks}
 use Rattle.table_opening.proofs.OwnRowids.{query, whole, scan, first, same_rowids, front}
 use Rattle.table_opening.proofs.RowidQueries.{names}
+use Rattle.sqlite_trees.proofs.ListLemmas.{all_weaker, all_from_map}
 
 -- ---- what is shown of rowids that differ
 
@@ -48,14 +47,10 @@ ints_are : (rows : List Row) → ((x : Row) → Has rows x → IsTrue (is_int (f
 ints_are [] ints = refl
 ints_are (r ∷ rows) ints = ap₂ (λ v vs. v ∷ vs) (int_is (first r) (ints r (inl refl))) (ints_are rows (λ x there. ints x (inr there)))
 
-ints_apart : (n : ℤ) (ns : List ℤ) → AllByRecursion (λ v. tie (Int n) v ≡ false) (map Int ns) → AllByRecursion (λ m. eq_by_cmp int_cmp n m ≡ false) ns
-ints_apart n [] h = tt
-ints_apart n (m ∷ ns) h = (sym (ap is_eq (value_cmp-Int n m)) ∙ h.0, ints_apart n ns h.1)
-
 ints_distinct : (ns : List ℤ) → IsDistinct tie (map Int ns) → IsDistinct (eq_by_cmp int_cmp) ns
 unfolding IsDistinct
 ints_distinct [] h = tt
-ints_distinct (n ∷ ns) h = (ints_apart n ns h.0, ints_distinct ns h.1)
+ints_distinct (n ∷ ns) h = (all_weaker (λ m. tie (Int n) (Int m) ≡ false) (λ m. eq_by_cmp int_cmp n m ≡ false) (λ m apart. sym (ap is_eq (value_cmp-Int n m)) ∙ apart) ns (all_from_map (λ v. tie (Int n) v ≡ false) Int ns h.0), ints_distinct ns h.1)
 
 ids_from : (order : List (Term × Key)) (tree : ℕ) (db : Trees) (rows : List Row) → IsAnswer (query order tree) db [] rows → IsKeyed (db tree) → ShowIds rows
 ids_from order tree db rows answer keyed =
@@ -68,9 +63,7 @@ pub ids_if : (name : List ℕ) (columns : List Column) (key : List ℕ) (text : 
     → {count : ℕ} → Compiles name columns key text count (λ at tree. Select (whole order tree) names) → (rows : List Row) → Answered text [] old new rows → IsKeyed (rows_named old.now name) → ShowIds rows
 ids_if name columns key text order old new stands is rows shown keyed =
     let tree = tree_named old.now.schema name in
-    let m = means_command old.now.schema text _ (is old.now.schema stands.at tree stands.known) in
-    let got = reads_as text [] old new old.now.schema refl _ m.0 m.1 m.2 rows shown in
-    let answer : IsAnswer (query order tree) (overlay old.now.trees []) [] rows = got.answer Null in
+    let answer = answer_of name columns key old new text [] (query order) is stands rows shown in
     ids_from order tree (overlay old.now.trees []) rows answer (subst IsKeyed (sym (overlay_low old.now.trees tree stands.known.low)) keyed)
 
 -- ---- why the test fails

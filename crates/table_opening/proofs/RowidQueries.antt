@@ -1,20 +1,17 @@
 -- A query of all rowids of a table, in the order of its key.
-use Rattle.std.proofs.Common.{◌≡◌, ℕ, length, true, false, List, [], ◌∷◌, map, codes, None, Option, Ok, Some, refl, take, slice_get}
+use Rattle.std.proofs.Common.{◌≡◌, ℕ, length, true, false, List, [], ◌∷◌, map, codes, None, Option, Ok, Some, refl, ◌+◌, slice_get}
 use Rattle.std.specs.Prelude.{nat_lt, nat_le, ◌^◌}
 use Rattle.std.specs.List.{AllByRecursion}
-use Rattle.sqlite_value.specs.declared.keys.Collation.TheVariants.{Binary}
-use Rattle.sqlite_value.specs.declared.keys.Key.{Key}
-use Rattle.sqlite_value.specs.Keys.{ascending}
 use Rattle.sqlite_ast.specs.declared.Core.{out-Core}
 use Rattle.sqlite_ast.specs.declared.Expr.{Expr, out-Expr}
 use Rattle.sqlite_ast.specs.declared.Expr.TheOpen.{Expr-F, Shown-F}
 use Rattle.sqlite_ast.specs.declared.Select.{out-Select}
 use Rattle.sqlite_ast.specs.declared.Shown.{Shown, out-Shown}
 use Rattle.sqlite_ast.specs.declared.Source.{Source}
-use Rattle.sqlite_sql.specs.Term.{Term, col}
 use Rattle.sqlite_typing.specs.Types.{accepts_program}
 use Rattle.sqlite_schema.specs.declared.schema.Column.{Column}
 use Rattle.sqlite_schema.specs.declared.schema.Schema.{Schema}
+use Rattle.sqlite_schema.specs.declared.schema.Table.{Table}
 use Rattle.sqlite_schema.specs.Names.{column_named}
 use Rattle.sqlite_resolve.specs.Body.{declared, tests}
 use Rattle.sqlite_resolve.specs.Expr.{lower}
@@ -27,21 +24,20 @@ use Rattle.table_forms.specs.Standing.{IsKnown}
 use Rattle.table_statements.specs.Queries.{IsSelect}
 use Rattle.table_statements.proofs.Means.{plain_state}
 use Rattle.table_statements.proofs.ReadFailures.{standing_read_fails}
-use Rattle.table_entries.proofs.Ordered.{Place, IsColumn, IsOfOne, AreSorts, AreAbove, key_of, context, fronts, selects_by}
+use Rattle.table_entries.proofs.Ordered.{Place, IsColumn, IsOfOne, AreSorts, AreAbove, key_of, context, selects_by}
 use Rattle.table_opening.proofs.Asking.{Asks}
 use Rattle.table_opening.proofs.OwnRowids.{query, scan, draft, whole, rowid_column, outputs_rowid, below, IsRowid}
 
 abbrev pub names : List (List ℕ)
 names = codes "rowid" ∷ []
 
-abbrev pub by_one : List (Term × Key)
-by_one = (col 1 1, ascending Binary) ∷ []
+-- the columns of the key, which are the first of the table
+abbrev pub first_columns : List ℕ → List Column → ℕ → List Place
+first_columns (k ∷ ks) (c ∷ cs) at = (c.name, at) ∷ first_columns ks cs (at + 1)
+first_columns _ _ at = []
 
-abbrev pub by_two : List (Term × Key)
-by_two = (col 1 1, ascending Binary) ∷ (col 1 2, ascending Binary) ∷ []
-
-abbrev pub by_three : List (Term × Key)
-by_three = (col 1 1, ascending Binary) ∷ (col 1 2, ascending Binary) ∷ (col 1 3, ascending Binary) ∷ []
+abbrev pub key_columns : Table → List Place
+key_columns t = first_columns t.primary t.columns 0
 
 -- the text shows the rowid alone
 abbrev pub ShowsRowid : List Shown → Type 0
@@ -61,15 +57,15 @@ module _ (name : Name) (columns : List Column) (key : List ℕ) (bare : column_n
   unfolding tests
   unfiltered s at every = rw every
 
-  -- in any schema in which the table stands, the text shows its rowids, in the order of the first of these columns
-  pub asks : (text : List ℕ) (places : List Place) (n : ℕ) → AllByRecursion (IsColumn name columns key) places → (reads : IsSelect text) {source : Source} → IsOfOne name reads.4 source → ShowsRowid (out-Core (out-Select reads.4).first).shown
-      → AreSorts (rowid_column ∷ []) (out-Select reads.4).order (take n places) → AreAbove (length (take n places)) 99999 → (out-Core (out-Select reads.4).first).filter ≡ None
-      → ((s : Schema) (at tree : ℕ) → IsKnown s name at (record (strict name columns key) { tree = tree }) → program s [] (draft (map key_of (take n places)) tree) ≡ Ok (whole (map key_of (take n places)) tree))
+  -- in any schema in which the table stands, the text shows its rowids, in the order of these columns
+  pub asks : (text : List ℕ) (places : List Place) → AllByRecursion (IsColumn name columns key) places → (reads : IsSelect text) {source : Source} → IsOfOne name reads.4 source → ShowsRowid (out-Core (out-Select reads.4).first).shown
+      → AreSorts (rowid_column ∷ []) (out-Select reads.4).order places → AreAbove (length places) 99999 → (out-Core (out-Select reads.4).first).filter ≡ None
+      → ((s : Schema) (at tree : ℕ) → IsKnown s name at (record (strict name columns key) { tree = tree }) → program s [] (draft (map key_of places) tree) ≡ Ok (whole (map key_of places) tree))
       → nat_le (length text) reads.3 ≡ true → length reads.0 ≡ 0
-      → ((s : Schema) (at tree : ℕ) → IsKnown s name at (record (strict name columns key) { tree = tree }) → accepts_program s [] (query (map key_of (take n places)) tree) [] ≡ true) → Asks name columns key text names (query (map key_of (take n places)))
-  asks text places n are reads one alone sorted enough every typed ends given accepts =
-      let order = map key_of (take n places) in
-      let is = selects_by name columns key text (rowid_column ∷ []) (take n places) (fronts (IsColumn name columns key) n places are) reads one sorted None None 99999 99999
+      → ((s : Schema) (at tree : ℕ) → IsKnown s name at (record (strict name columns key) { tree = tree }) → accepts_program s [] (query (map key_of places) tree) [] ≡ true) → Asks name columns key text names (query (map key_of places))
+  asks text places are reads one alone sorted enough every typed ends given accepts =
+      let order = map key_of places in
+      let is = selects_by name columns key text (rowid_column ∷ []) places are reads one sorted None None 99999 99999
       (λ s at tree known. outputs_rowid (context name columns key s at [] true) (record { name = name; table = at; slot = 1; shared = [] } ∷ []) (out-Core (out-Select reads.4).first).shown alone.3 alone.4 at (rowid_is s at tree known.named.1 (below tree known.low) alone.1 alone.5) None max_budget refl)
       [] enough (λ s at tree known. unfiltered s at every) typed ends given in
       record {

@@ -25,8 +25,7 @@ use Rattle.table_forms.specs.OurTables.{form}
 use Rattle.table_opening.specs.Tables.{rowids_text, texts_text}
 use Rattle.table_opening.proofs.Asking.{Asks, asks_all}
 use Rattle.table_opening.proofs.ReadableRows.{AreOfUtf8, all_cells}
-use Rattle.table_opening.proofs.RowidQueries.{by_one, by_two, by_three}
-use Rattle.table_opening.proofs.OurRowids.{meta_rowids, object_rowids, refs_rowids, outs_rowids, permanent_rowids, user_root_rowids, profile_rowids, generation_rowids, runtime_rowids, piece_rowids, temp_root_rowids}
+use Rattle.table_opening.proofs.OurRowids.{our_rowids}
 use Rattle.table_opening.proofs.Tested.{AreTests, tests_by}
 
 -- ---- the objects, whose archives are not shown: they are no texts
@@ -80,16 +79,16 @@ piece_texts = record { scan = pieces.scan; is = pieces.keys_is; reads = pieces.k
 -- ---- each table
 
 pub tests_of : (t : OurTable) → AreTests (form t) (rowids_text t) (texts_text t)
-tests_of Meta = tests_by meta.name meta.columns meta.primary by_one meta_rowids (asks_all settings.table settings.reading settings.all settings.all_is) (λ tree. refl) (λ db sound stands tree r there. all_cells 2 r)
-tests_of Object = tests_by object.name object.columns object.primary by_one object_rowids object_texts (λ tree. refl)
+tests_of Meta = tests_by meta.name meta.columns meta.primary _ (our_rowids Meta) (asks_all settings.table settings.reading settings.all settings.all_is) (λ tree. refl) (λ db sound stands tree r there. all_cells 2 r)
+tests_of Object = tests_by object.name object.columns object.primary _ (our_rowids Object) object_texts (λ tree. refl)
     (λ db sound stands tree r there. (all_columns r (blob_readable (column r 2) (and_so _ _ (and_so _ _ (and_so _ _ (and_so _ _ (objects_typed db sound stands r there)).0).0).0).1), shown_columns r))
-tests_of Refs = tests_by refs.name refs.columns refs.primary by_two refs_rowids (asks_all references.table references.reading references.all references.all_is) (λ tree. refl) (λ db sound stands tree r there. all_cells 2 r)
-tests_of Outs = tests_by outs.name outs.columns outs.primary by_two outs_rowids (asks_all outputs.table outputs.reading outputs.all outputs.all_is) (λ tree. refl) (λ db sound stands tree r there. all_cells 3 r)
-tests_of Permanent = tests_by permanent.name permanent.columns permanent.primary by_one permanent_rowids (asks_all permanent_roots.table permanent_roots.reading permanent_roots.all permanent_roots.all_is) (λ tree. refl) (λ db sound stands tree r there. all_cells 2 r)
-tests_of UserRoot = tests_by user_root.name user_root.columns user_root.primary by_two user_root_rowids (asks_all user_roots.table user_roots.reading user_roots.all user_roots.all_is) (λ tree. refl) (λ db sound stands tree r there. all_cells 3 r)
-tests_of Profile = tests_by profile.name profile.columns profile.primary by_two profile_rowids (asks_all profiles.table profiles.reading profiles.all profiles.all_is) (λ tree. refl) (λ db sound stands tree r there. all_cells 3 r)
-tests_of Generation = tests_by generation.name generation.columns generation.primary by_three generation_rowids (asks_all generations.table generations.reading generations.all generations.all_is) (λ tree. refl) (λ db sound stands tree r there. all_cells 4 r)
-tests_of Runtime = tests_by runtime.name runtime.columns runtime.primary by_two runtime_rowids (asks_all runtime_roots.table runtime_roots.reading runtime_roots.all runtime_roots.all_is) (λ tree. refl) (λ db sound stands tree r there. all_cells 2 r)
-tests_of Piece = tests_by piece.name piece.columns piece.primary by_two piece_rowids piece_texts (λ tree. refl)
+tests_of Refs = tests_by refs.name refs.columns refs.primary _ (our_rowids Refs) (asks_all references.table references.reading references.all references.all_is) (λ tree. refl) (λ db sound stands tree r there. all_cells 2 r)
+tests_of Outs = tests_by outs.name outs.columns outs.primary _ (our_rowids Outs) (asks_all outputs.table outputs.reading outputs.all outputs.all_is) (λ tree. refl) (λ db sound stands tree r there. all_cells 3 r)
+tests_of Permanent = tests_by permanent.name permanent.columns permanent.primary _ (our_rowids Permanent) (asks_all permanent_roots.table permanent_roots.reading permanent_roots.all permanent_roots.all_is) (λ tree. refl) (λ db sound stands tree r there. all_cells 2 r)
+tests_of UserRoot = tests_by user_root.name user_root.columns user_root.primary _ (our_rowids UserRoot) (asks_all user_roots.table user_roots.reading user_roots.all user_roots.all_is) (λ tree. refl) (λ db sound stands tree r there. all_cells 3 r)
+tests_of Profile = tests_by profile.name profile.columns profile.primary _ (our_rowids Profile) (asks_all profiles.table profiles.reading profiles.all profiles.all_is) (λ tree. refl) (λ db sound stands tree r there. all_cells 3 r)
+tests_of Generation = tests_by generation.name generation.columns generation.primary _ (our_rowids Generation) (asks_all generations.table generations.reading generations.all generations.all_is) (λ tree. refl) (λ db sound stands tree r there. all_cells 4 r)
+tests_of Runtime = tests_by runtime.name runtime.columns runtime.primary _ (our_rowids Runtime) (asks_all runtime_roots.table runtime_roots.reading runtime_roots.all runtime_roots.all_is) (λ tree. refl) (λ db sound stands tree r there. all_cells 2 r)
+tests_of Piece = tests_by piece.name piece.columns piece.primary _ (our_rowids Piece) piece_texts (λ tree. refl)
     (λ db sound stands tree r there. (whole_piece r (blob_readable (column r 3) (and_so _ _ (pieces_typed db sound stands r there)).1), key_columns r))
-tests_of TempRoot = tests_by temp_root.name temp_root.columns temp_root.primary by_three temp_root_rowids (asks_all temp_roots.table temp_roots.reading temp_roots.all temp_roots.all_is) (λ tree. refl) (λ db sound stands tree r there. all_cells 3 r)
+tests_of TempRoot = tests_by temp_root.name temp_root.columns temp_root.primary _ (our_rowids TempRoot) (asks_all temp_roots.table temp_roots.reading temp_roots.all temp_roots.all_is) (λ tree. refl) (λ db sound stands tree r there. all_cells 3 r)

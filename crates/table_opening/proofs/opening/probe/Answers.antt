@@ -1,22 +1,18 @@
-use Rattle.std.proofs.Common.{[], refl, arith}
-use Rattle.sqlite.specs.State.{HasCleanDisk}
+use Rattle.std.proofs.Common.{[], refl}
 use Rattle.sqlite.specs.Held.{state}
 use Rattle.table_statements.proofs.TestFailures.{passed_on}
 use Rattle.table_statements.proofs.RowByRow.{commits_nothing, unchanged_before, failed_before}
 use Rattle.table_statements.proofs.Probing.{text, reads, ask_fails, ask_same}
 use Rattle.table_opening.proofs.opening.probe.Goals as goal
+use Rattle.table_statements.proofs.Steps.{clean_before}
 
 pub returns-in_err-query_all-clause-cause : goal.returns-in_err-query_all-clause-cause
 returns-in_err-query_all-clause-cause g c clean =
-    let old = state g.S.Store c.args.conn.now in
-    let new = state g.S.Store c.query_all.new.self in
-    passed_on c.from_residual.result _ _ c.from_residual.ensures.1 (ask_fails old new _ (c.in_err-query_all.field-0.0, refl, c.in_err-query_all.ensures.err clean))
+    passed_on c.from_residual.result _ _ c.from_residual.ensures.1 (ask_fails (state g.S.Store c.args.conn.now) (state g.S.Store c.query_all.new.self) _ (c.in_err-query_all.field-0.0, refl, c.in_err-query_all.ensures.err clean))
 
 pub returns-in_err-query_all-clause-same : goal.returns-in_err-query_all-clause-same
 returns-in_err-query_all-clause-same g c clean =
-    let old = state g.S.Store c.args.conn.now in
-    let early : HasCleanDisk old = omega (arith, c.query_all.ensures.survives.clean) in
-    failed_before text [] reads old _ (c.requires.settled early) c.in_err-query_all.field-0.0 (c.in_err-query_all.ensures.err clean)
+    failed_before text [] reads _ _ (c.requires.settled (clean_before _ _ _ c.query_all.ensures.survives clean)) c.in_err-query_all.field-0.0 (c.in_err-query_all.ensures.err clean)
 
 pub returns-in_err-query_all-clause-survives : goal.returns-in_err-query_all-clause-survives
 returns-in_err-query_all-clause-survives g c = commits_nothing text [] reads _ _ c.query_all.ensures.survives

@@ -1,27 +1,23 @@
-use Rattle.std.proofs.Common.{sym, subst, arith}
+use Rattle.std.proofs.Common.{sym, subst}
 use Rattle.std.specs.List.{AllByRecursion}
-use Rattle.sqlite.specs.State.{HasCleanDisk}
 use Rattle.sqlite.specs.Held.{state}
 use Rattle.table_forms.specs.Standing.{Stands}
 use Rattle.table_forms.specs.OurTables.{form}
 use Rattle.table_opening.proofs.Opened.{Tested, found_by, stand_by}
 use Rattle.table_opening.proofs.opening.taken_up.Goals as goal
+use Rattle.table_statements.proofs.Steps.{clean_before}
 
 pub all-requires-clause-stand : goal.all-requires-clause-stand
 all-requires-clause-stand g c clean up = let schema = c.args.conn.now.schema in subst (AllByRecursion (λ t. Stands schema (form t))) (sym c.schema_tables.ensures) (stand_by c.args.schema schema c.requires.recognised)
 
 pub returns-then-branch-clause-found : goal.returns-then-branch-clause-found
 returns-then-branch-clause-found g c clean =
-    let a = state g.S.Store c.args.conn.now in
-    let n = state g.S.Store c.all.new.conn in
-    let early : HasCleanDisk a = omega (arith, c.all.ensures.survives.clean) in
-    let told = subst (λ ts. Tested ts a n c.in_ok-all.field-0) c.schema_tables.ensures (c.in_ok-all.ensures.told clean) in
-    (found_by a n _ (c.requires.sound early told.0.0.was_open) (c.requires.settled early told.0.0.was_open) c.args.schema c.requires.some c.requires.recognised told).0 c.if-branch.true
+    let early = clean_before _ _ _ c.all.ensures.survives clean in
+    let told = subst (λ ts. Tested ts (state g.S.Store c.args.conn.now) (state g.S.Store c.all.new.conn) c.in_ok-all.field-0) c.schema_tables.ensures (c.in_ok-all.ensures.told clean) in
+    (found_by _ _ _ (c.requires.sound early told.0.0.was_open) (c.requires.settled early told.0.0.was_open) c.args.schema c.requires.some c.requires.recognised told).0 c.if-branch.true
 
 pub returns-else-branch-clause-found : goal.returns-else-branch-clause-found
 returns-else-branch-clause-found g c clean =
-    let a = state g.S.Store c.args.conn.now in
-    let n = state g.S.Store c.all.new.conn in
-    let early : HasCleanDisk a = omega (arith, c.all.ensures.survives.clean) in
-    let told = subst (λ ts. Tested ts a n c.in_ok-all.field-0) c.schema_tables.ensures (c.in_ok-all.ensures.told clean) in
-    (found_by a n _ (c.requires.sound early told.0.0.was_open) (c.requires.settled early told.0.0.was_open) c.args.schema c.requires.some c.requires.recognised told).1 c.if-branch.false
+    let early = clean_before _ _ _ c.all.ensures.survives clean in
+    let told = subst (λ ts. Tested ts (state g.S.Store c.args.conn.now) (state g.S.Store c.all.new.conn) c.in_ok-all.field-0) c.schema_tables.ensures (c.in_ok-all.ensures.told clean) in
+    (found_by _ _ _ (c.requires.sound early told.0.0.was_open) (c.requires.settled early told.0.0.was_open) c.args.schema c.requires.some c.requires.recognised told).1 c.if-branch.false
