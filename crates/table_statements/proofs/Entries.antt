@@ -1,5 +1,5 @@
 -- What map the rows of one table make, when they are read, when one is put and when some are taken.
-use Rattle.std.proofs.Common.{◌≡◌, inl, inr, ℕ, ℤ, List, [], ◌∷◌, ◌++◌, map, filter, Bool, true, false, not, cond, None, refl, sym, ap, subst, ◌∙◌}
+use Rattle.std.proofs.Common.{◌≡◌, ℕ, ℤ, List, [], ◌∷◌, map, filter, Bool, true, false, not, cond, None, refl, sym, ap, subst, ◌∙◌}
 use Rattle.std.specs.declared.cmp.Ordering.{Ordering}
 use Rattle.std.specs.Cmp.{IsTotalOrder}
 use Rattle.std.specs.FinMap as finite
@@ -12,9 +12,10 @@ use Rattle.sqlite_trees.proofs.ListLemmas.{all_of, filter_all, filter_same}
 use Rattle.sqlite_rules.specs.Lists.{Has}
 use Rattle.sqlite_rules.specs.Edit.{is_taken, without_all}
 use Rattle.sqlite_rules.specs.Calls.{ids_of}
-use Rattle.sqlite_rules.proofs.ListLemmas.{all_from, has_filtered, has_kept}
+use Rattle.sqlite_rules.proofs.ListLemmas.{all_from, test_from, test_has, has_filtered, has_kept}
 use Rattle.sqlite_rules.proofs.ProbeLemmas.{has_mapped, mapped_has}
 use Rattle.sqlite_catalog.proofs.LayoutLemmas.{zipped_left, zipped_right}
+use Rattle.sqlite_catalog.proofs.ListFacts.{filter_within}
 use Rattle.sqlite_sql.specs.Term.{Term, holds}
 use Rattle.sqlite_sql.specs.Query.{Query, IsAnswer}
 use Rattle.table_statements.specs.Calls.{IsKeyed}
@@ -22,20 +23,12 @@ use Rattle.table_statements.specs.Contents.{map_of}
 use Rattle.table_statements.proofs.Orders.{listed_as}
 use Rattle.table_statements.proofs.Scans.{IsScan, scan_sound, scan_complete, shows}
 use Rattle.table_statements.proofs.Writes.{rowids_where}
-use Rattle.table_statements.proofs.Members.{made_where, made_new, gone_from, spared, left_from, left_has, Spares}
+use Rattle.table_statements.proofs.Members.{made_where, made_new, gone_from, spared, left_from, left_has}
+use Rattle.table_statements.proofs.Truths.{and_so, not_so}
 
 pub map-map : {A B C : Type 0} (f : B → C) (g : A → B) (xs : List A) → map f (map g xs) ≡ map (λ x. f (g x)) xs
 map-map f g [] = refl
 map-map f g (x ∷ xs) = ap (λ l. f (g x) ∷ l) (map-map f g xs)
-
--- ---- two lists, one beside the other
-
--- one more of each
-pub zip_more : {X Y : Type 0} (P : X → Y → Type 0) (xs : List X) (ys : List Y) (x : X) (y : Y) → AllZip P xs ys → P x y → AllZip P (xs ++ x ∷ []) (ys ++ y ∷ [])
-zip_more P [] [] x y z h = (h, tt)
-zip_more P [] (b ∷ ys) x y z h = absurd z
-zip_more P (a ∷ xs) [] x y z h = absurd z
-zip_more P (a ∷ xs) (b ∷ ys) x y z h = (z.0, zip_more P xs ys x y z.1 h)
 
 -- ---- what a query of some of the rows shows
 
@@ -84,41 +77,21 @@ none_kept o same m = finite.same_map o same _ _ (λ q. finite.get-retain_keys m 
 
 -- ---- rows that a DELETE takes
 
-filter-filter : {A : Type 0} (p q : A → Bool) (xs : List A) → filter p (filter q xs) ≡ filter (λ x. cond (q x) (p x) false) xs
-filter-filter p q [] = refl
-filter-filter {A} p q (x ∷ xs) = go (q x) (filter-filter p q xs)
-  where
-    go : (b : Bool) → filter p (filter q xs) ≡ filter (λ x. cond (q x) (p x) false) xs → filter p (cond b (x ∷ filter q xs) (filter q xs)) ≡ cond (cond b (p x) false) (x ∷ filter (λ x. cond (q x) (p x) false) xs) (filter (λ x. cond (q x) (p x) false) xs)
-    go true later = ap (λ l. cond (p x) (x ∷ l) l) later
-    go false later = later
-
 -- no rowid of the list is this row's, as a test
-is_spared : List ℤ → Row → Bool
-is_spared [] x = true
-is_spared (id ∷ ids) x = cond (not (has_rowid id x)) (is_spared ids x) false
+abbrev is_spared : List ℤ → Row → Bool
+is_spared ids x = list_all (λ id. not (has_rowid id x)) ids
 
 left_is : (ids : List ℤ) (rows : List Row) → without_all rows ids ≡ filter (is_spared ids) rows
-unfolding is_spared
 left_is [] rows = sym (filter_all (λ _. true) rows (all_of (λ _. true ≡ true) (λ _. refl) rows))
-left_is (i ∷ ids) rows = left_is ids (without_rowid i rows) ∙ filter-filter (is_spared ids) (λ r. not (has_rowid i r)) rows
+left_is (i ∷ ids) rows =
+    let others = λ (r : Row). not (has_rowid i r) in
+    left_is ids (without_rowid i rows)
+    ∙ filter_same (is_spared ids) (is_spared (i ∷ ids)) (filter others rows) (all_from (λ r. is_spared ids r ≡ is_spared (i ∷ ids) r) (filter others rows) (λ r there. rw (has_filtered others rows r there).1 refl))
+    ∙ filter_within (is_spared (i ∷ ids)) others rows (λ r there spared. (and_so _ _ spared).0)
 
 module _ (tree : ℕ) (terms : List Term) (db : Trees) (params : Row) (rows : List Row) (answer : IsAnswer (rowids_where tree terms) db params rows) (keyed : IsKeyed (db tree)) where
   abbrev passing : Row → Bool
   passing row = list_all (holds (params ∷ row ∷ [])) terms
-
-  spares_all : (ids : List ℤ) (x : Row) → Spares ids x → is_spared ids x ≡ true
-  unfolding is_spared
-  spares_all [] x h = refl
-  spares_all (id ∷ ids) x h = rw (h id (inl refl)) (spares_all ids x (λ i there. h i (inr there)))
-
-  all_spares : (ids : List ℤ) (x : Row) → is_spared ids x ≡ true → Spares ids x
-  unfolding is_spared
-  all_spares [] x h = λ id none. absurd none
-  all_spares (id ∷ ids) x h = go (has_rowid id x) refl h (all_spares ids x)
-    where
-      go : (b : Bool) → has_rowid id x ≡ b → cond (not b) (is_spared ids x) false ≡ true → (is_spared ids x ≡ true → Spares ids x) → Spares (id ∷ ids) x
-      go true e h later = absurd (let f = h in cc)
-      go false e h later = λ i there. elim there [ inl is ↦ ap (λ n. has_rowid n x) is ∙ e | inr more ↦ later h i more ]
 
   -- what stays is what does not pass the test
   pub left_by_test : without_all (db tree) (ids_of rows) ≡ filter (λ r. not (passing r)) (db tree)
@@ -128,12 +101,12 @@ module _ (tree : ℕ) (terms : List Term) (db : Trees) (params : Row) (rows : Li
       alike x h = go (is_spared (ids_of rows) x) refl (passing x) refl
         where
           go : (b : Bool) → is_spared (ids_of rows) x ≡ b → (c : Bool) → passing x ≡ c → b ≡ not c
-          go true e true f = let was = gone_from tree terms db params rows answer keyed x (left_has (ids_of rows) (db tree) x h (all_spares (ids_of rows) x e)) in absurd (let g = sym f ∙ was.1 in cc)
+          go true e true f = let was = gone_from tree terms db params rows answer keyed x (left_has (ids_of rows) (db tree) x h (λ id there. not_so _ (test_has (λ i. not (has_rowid i x)) (ids_of rows) id e there))) in absurd (let g = sym f ∙ was.1 in cc)
           go true e false f = refl
           go false e true f = refl
           go false e false f =
               let there = left_from (ids_of rows) (db tree) x (spared tree terms db params rows answer keyed x h f) in
-              absurd (let g = sym e ∙ spares_all (ids_of rows) x there.1 in cc)
+              absurd (let g = sym e ∙ test_from (λ i. not (has_rowid i x)) (ids_of rows) (λ id known. ap not (there.1 id known)) in cc)
 
 -- a filter of the rows of one kind by what their keys say
 filtered : {K X : Type 0} (kind p : Row → Bool) (entry : Row → K × X) (keep : K → Bool) (rows : List Row) → ((r : Row) → kind r ≡ true → p r ≡ keep (entry r).0)

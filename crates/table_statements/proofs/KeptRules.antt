@@ -49,7 +49,7 @@ unique_fewer s old new was keeps = keeps_from Unique s new (λ t row listed ther
 -- ---- a table that no foreign key refers to
 
 -- the parent of a reference is found by its name
-parent_off : (s : Schema) (tree : ℕ) (ref : Reference) (key : ParentKey) → not (points_at s tree ref) ≡ true → parent_key s.tables ref ≡ Some key → (t : Table) × Has s.tables t × (t.tree ≢ tree) × (t.tree ≡ key.0)
+pub parent_off : (s : Schema) (tree : ℕ) (ref : Reference) (key : ParentKey) → not (points_at s tree ref) ≡ true → parent_key s.tables ref ≡ Some key → (t : Table) × Has s.tables t × (t.tree ≢ tree) × (t.tree ≡ key.0)
 parent_off s tree ref key off is = go (find (λ t. same_name t.name ref.parent) s.tables) refl (subst (λ o. not (unwrap_or (option_map (λ (p : Table). p.tree == tree) o) false) ≡ true) (found_by_place (λ t. same_name t.name ref.parent) s.tables) off) is
   where
     mapped : (t : Table) (o : Option (List ℕ)) → option_and_then (key_in t) o ≡ Some key → t.tree ≡ key.0

@@ -1,6 +1,6 @@
--- Two lists as one, one more at the end of a list, what is left of a list, and a number above each of a list.
-use Rattle.std.proofs.Common.{◌≡◌, ◌<◌, ◌≤◌, ◌+◌, ◌-◌, inl, inr, ℕ, suc, drop, List, [], ◌∷◌, ◌++◌, length, length-append, get_or, Some, sym, ap, subst₂, ◌∙◌, arith}
-use Rattle.std.specs.Prelude.{fold, max, slice_get}
+-- Two lists as one, one more at the end of a list, and what is left of a list.
+use Rattle.std.proofs.Common.{◌≡◌, ◌<◌, ◌+◌, ◌-◌, inl, inr, ℕ, suc, drop, List, [], ◌∷◌, ◌++◌, length, length-append, get_or, Some, sym, ap, subst₂, ◌∙◌, arith}
+use Rattle.std.specs.Prelude.{slice_get}
 use Rattle.std.specs.List.{AllByRecursion, AllAdjacentBelow}
 use Rattle.std.proofs.Math.ListN.{get_or-append}
 use Rattle.std.proofs.Math.Seq.{get_or-append_seam, drop-cons}
@@ -14,14 +14,6 @@ one_list P (x ∷ xs) ys h = let both = one_list P xs ys h.1 in ((h.0, both.0), 
 pub two_lists : {X : Type 0} (P : X → Type 0) (xs ys : List X) → AllByRecursion P xs → AllByRecursion P ys → AllByRecursion P (xs ++ ys)
 two_lists P [] ys h k = k
 two_lists P (x ∷ xs) ys h k = (h.0, two_lists P xs ys h.1 k)
-
-pub rises : {X : Type 0} (g : X → ℕ) (xs : List X) (n : ℕ) → n ≤ fold (λ m x. max m (g x + 1)) n xs
-rises g [] n = omega arith
-rises g (x ∷ xs) n = omega (arith, rises g xs (max n (g x + 1)))
-
-pub all_below : {X : Type 0} (g : X → ℕ) (xs : List X) (n : ℕ) → AllByRecursion (λ x. g x < fold (λ m x. max m (g x + 1)) n xs) xs
-all_below g [] n = tt
-all_below g (x ∷ xs) n = (omega (arith, rises g xs (max n (g x + 1))), all_below g xs (max n (g x + 1)))
 
 -- what is left of a list begins with the next
 pub one_left : {X : Type 0} (xs : List X) (n : ℕ) (d : X) → n < length xs → drop n xs ≡ get_or xs n d ∷ drop (n + 1) xs

@@ -9,11 +9,11 @@ use Rattle.sqlite_ast.specs.declared.Rows.{Rows}
 use Rattle.sqlite_ast.specs.declared.Conflict.TheVariants as conflict
 use Rattle.sqlite_ast.specs.declared.Statement.TheVariants as written
 use Rattle.sqlite_syntax.specs.declared.statement.Parsed.{Parsed}
-use Rattle.sqlite_resolve.specs.Scope.{Name}
-use Rattle.sqlite_resolve.specs.Compile.{first, compiled, planned, meaning, timed, returning, shows, command, insert_or_abort, insert, new_rows, small, with_command}
+use Rattle.sqlite_resolve.specs.Scope.{Name, Context, column, term_of, find as found_in, column_at}
+use Rattle.sqlite_resolve.specs.Compile.{first, compiled, planned, meaning, timed, returning, shows, command, insert_or_abort, insert, new_rows, small, with_command, read, delete}
 use Rattle.sqlite.specs.Listing.{understood, reads_listing}
-use Rattle.sqlite.proofs.Callers.{command_of}
-use Rattle.sqlite_sql.specs.Term.{col}
+use Rattle.sqlite.proofs.Callers.{command_of, IsPlain}
+use Rattle.sqlite_sql.specs.Term.{col, reads_below, Term}
 use Rattle.sqlite_schema.specs.declared.schema.Column.{Column}
 use Rattle.sqlite_resolve.specs.declared.compiled.Compiled.{Compiled}
 use Rattle.table_forms.specs.Forms.{strict}
@@ -22,43 +22,29 @@ use Rattle.sqlite_value.specs.declared.keys.Collation.TheVariants.{Binary}
 use Rattle.sqlite_ast.specs.declared.Select as written_select
 use Rattle.sqlite_ast.specs.declared.Core.{Core, out-Core}
 use Rattle.sqlite_draft.specs.Join.{chain}
-use Rattle.sqlite_resolve.specs.Program.{Shown, Building, query, query_to, level, with, whole, alone as alone_in, single, viewing, sources}
-use Rattle.sqlite_ast.specs.declared.Sort.{Sort}
+use Rattle.sqlite_resolve.specs.Program.{Shown, Building, query, query_to, level, with, whole, alone as alone_in, single, viewing, sources, program}
+use Rattle.sqlite_ast.specs.declared.Sort.{Sort, out-Sort}
 use Rattle.sqlite_ast.specs.declared.Select.{out-Select}
 use Rattle.sqlite_resolve.specs.Select.{named, parts, assembled, ungrouped, having, paging, outermost, inside}
 use Rattle.sqlite_resolve.specs.Order.{keys, sorts, sort, key, peeled, collation_of, alias_in, is_numeral, written_on, placed}
 use Rattle.sqlite_value.specs.declared.keys.Collation.{Collation}
-use Rattle.sqlite_resolve.specs.Lowering.{alone}
-use Rattle.sqlite_sql.specs.Term.{reads_below}
-use Rattle.sqlite_ast.specs.declared.Sort.{out-Sort}
-use Rattle.sqlite_resolve.specs.Scope.{Context}
+use Rattle.sqlite_resolve.specs.Lowering.{alone, fresh, max_budget, spend, begin, finish}
 use Rattle.sqlite_resolve.specs.declared.scope.Bound.{Bound}
 use Rattle.sqlite_resolve.specs.declared.scope.Output.{Output}
 use Rattle.sqlite_resolve.specs.declared.body.Joined.{Joined}
-use Rattle.sqlite_resolve.specs.Body.{body, bounds, result, matching, joins, join, inner_join, shared, within}
+use Rattle.sqlite_resolve.specs.Body.{body, bounds, result, matching, joins, join, inner_join, shared, within, tests}
 use Rattle.sqlite_ast.specs.declared.Source.{Source as From, out-Source}
 use Rattle.sqlite_value.specs.declared.keys.Key.{Key}
-use Rattle.std.specs.Prelude.{suc, map, ◌++◌}
+use Rattle.std.specs.Prelude.{suc, map, ◌++◌, nat_lt, nat_le, length, ◌-◌}
 use Rattle.sqlite_schema.specs.declared.program.Table.{Table as Let}
-use Rattle.sqlite_resolve.specs.Compile.{read}
-use Rattle.sqlite_ast.specs.declared.Expr.{Expr}
-use Rattle.sqlite_sql.specs.Term.{Term}
+use Rattle.sqlite_ast.specs.declared.Expr.{Expr, out-Expr}
 use Rattle.sqlite_draft.specs.declared.join.Step.TheVariants.{Inner}
 use Rattle.sqlite_resolve.specs.declared.state.State.{State}
-use Rattle.sqlite_resolve.specs.Lowering.{fresh, max_budget}
-use Rattle.sqlite_resolve.specs.Body.{tests}
 use Rattle.sqlite_resolve.specs.Expr.{lower, lower_to, node, opened, passes}
-use Rattle.sqlite_ast.specs.declared.Expr.{out-Expr}
 use Rattle.sqlite_ast.specs.declared.Expr.TheOpen.{Expr-F}
-use Rattle.sqlite_resolve.specs.Scope.{column, term_of, find as found_in, column_at}
 use Rattle.sqlite_resolve.specs.declared.scope.Found.TheVariants as found_as
-use Rattle.sqlite_resolve.specs.Lowering.{spend, begin, finish}
-use Rattle.std.specs.Prelude.{nat_lt, nat_le, length, ◌-◌}
 use Rattle.sqlite_resolve.specs.Write.{over, simple, deleted, picked}
-use Rattle.sqlite_resolve.specs.Program.{program}
-use Rattle.sqlite_resolve.specs.Compile.{delete}
 use Rattle.sqlite_schema.specs.declared.program.Program.{Program}
-use Rattle.sqlite.proofs.Callers.{IsPlain}
 
 -- a text is this command, and no query on sqlite_schema
 abbrev pub Means : Schema → List ℕ → Compiled → Type 0

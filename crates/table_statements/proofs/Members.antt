@@ -1,7 +1,7 @@
 -- Which rows a table has after a write, and what map they make.
-use Rattle.std.proofs.Common.{◌≡◌, ◌⊎◌, inl, inr, ℕ, ℤ, List, [], ◌∷◌, map, filter, Bool, true, false, not, ◌||◌, cond, Some, None, Option, refl, sym, ap, subst, ◌∙◌, IsTrue, Less, Equal, Greater, Ordering}
+use Rattle.std.proofs.Common.{◌≡◌, inl, inr, ℕ, ℤ, List, [], ◌∷◌, map, filter, Bool, true, false, not, ◌||◌, cond, Some, None, Option, refl, sym, ap, subst, ◌∙◌, IsTrue, Less, Equal, Greater, Ordering}
 use Rattle.std.specs.Ordering.{is_eq, eq_by_cmp, match_ordering}
-use Rattle.std.specs.Cmp.{IsTotalOrder}
+use Rattle.std.specs.Cmp.{IsTotalOrder, tied_itself}
 use Rattle.std.specs.FinMap as finite
 use Rattle.std.specs.FinMap.Entries.{find, where_key, find-where_key}
 use Rattle.std.specs.List.{list_all}
@@ -12,13 +12,12 @@ use Rattle.sqlite_rules.specs.Edit.{is_taken, without_all, id_in}
 use Rattle.sqlite_rules.specs.Calls.{ids_of}
 use Rattle.sqlite_sql.specs.Term.{Term, holds}
 use Rattle.sqlite_sql.specs.Query.{IsAnswer}
-use Rattle.sqlite_value.specs.declared.value.Value.{Value}
 use Rattle.sqlite_value.specs.declared.value.Value.TheVariants.{Int}
 use Rattle.sqlite_rules.proofs.ListLemmas.{has_filtered, has_kept}
 use Rattle.sqlite_rules.proofs.ProbeLemmas.{has_mapped, mapped_has}
+use Rattle.sqlite_rules.proofs.TableLemmas.{has_put, put_has as from_put, put_all_keeps, int_is}
 use Rattle.sqlite_trees.specs.View.{is_int}
 use Rattle.sqlite_value.proofs.OrderLemmas.{value_cmp_total}
-use Rattle.std.specs.Cmp.{tied_itself}
 use Rattle.table_statements.specs.Calls.{IsKeyed}
 use Rattle.table_statements.proofs.Apart.{once, apart_put, apart_left}
 use Rattle.table_statements.proofs.Truths.{not_so}
@@ -28,31 +27,10 @@ use Rattle.table_statements.proofs.Writes.{rowids_where}
 -- ---- a new row
 
 pub put_has : (new : Row) (rows : List Row) → Has (put_row new rows) new
-put_has new [] = inl refl
-put_has new (r ∷ rs) = elim (value_cmp (rowid r) (rowid new)) as (λ c. Has (match_ordering c (r ∷ put_row new rs) (new ∷ rs) (new ∷ r ∷ rs)) new) [ Less ↦ inr (put_has new rs) | Equal ↦ inl refl | Greater ↦ inl refl ]
-
-pub from_put : (new : Row) (rows : List Row) (x : Row) → Has (put_row new rows) x → (x ≡ new) ⊎ Has rows x
-from_put new [] x (inl is) = inl is
-from_put new [] x (inr h) = absurd h
-from_put new (r ∷ rs) x h = go (value_cmp (rowid r) (rowid new)) h (from_put new rs x)
-  where
-    go : (c : Ordering) → Has (match_ordering c (r ∷ put_row new rs) (new ∷ rs) (new ∷ r ∷ rs)) x → (Has (put_row new rs) x → (x ≡ new) ⊎ Has rs x) → (x ≡ new) ⊎ Has (r ∷ rs) x
-    go Less (inl is) later = inr (inl is)
-    go Less (inr there) later = elim (later there) [ inl is ↦ inl is | inr rest ↦ inr (inr rest) ]
-    go Equal (inl is) later = inl is
-    go Equal (inr there) later = inr (inr there)
-    go Greater (inl is) later = inl is
-    go Greater (inr there) later = inr there
+put_has = has_put
 
 pub kept_put : (new : Row) (rows : List Row) (x : Row) → is_taken rows new ≡ false → Has rows x → Has (put_row new rows) x
-kept_put new [] x free h = absurd h
-kept_put new (r ∷ rs) x free h = go (value_cmp (rowid r) (rowid new)) free h (kept_put new rs x)
-  where
-    go : (c : Ordering) → (is_eq c || is_taken rs new) ≡ false → Has (r ∷ rs) x → (is_taken rs new ≡ false → Has rs x → Has (put_row new rs) x) → Has (match_ordering c (r ∷ put_row new rs) (new ∷ rs) (new ∷ r ∷ rs)) x
-    go Less free (inl is) later = inl is
-    go Less free (inr there) later = inr (later free there)
-    go Equal free h later = absurd (let e = free in cc)
-    go Greater free h later = inr h
+kept_put new rows x free h = put_all_keeps (new ∷ []) rows x (rw free refl) h
 
 pub keyed_put : (new : Row) (rows : List Row) → is_taken rows new ≡ false → IsTrue (is_int (rowid new)) → IsKeyed rows → IsKeyed (put_row new rows)
 keyed_put new rows free int keyed = record { ints = ints; apart = apart_put new rows free keyed.apart }
@@ -80,11 +58,6 @@ left_has (i ∷ ids) rows x h spares =
 
 pub keyed_left : (ids : List ℤ) (rows : List Row) → IsKeyed rows → IsKeyed (without_all rows ids)
 keyed_left ids rows keyed = record { ints = λ a h. keyed.ints a (left_from ids rows a h).0; apart = apart_left ids rows keyed.apart }
-
--- the rowid of a row that has an integer there
-pub int_is : (v : Value) → IsTrue (is_int v) → v ≡ Int (id_in v)
-int_is (Int n) h = refl
-int_is v h = cc
 
 has_own : (x : Row) → IsTrue (is_int (rowid x)) → has_rowid (id_in (rowid x)) x ≡ true
 has_own x int = rw (← int_is (rowid x) int) (ap is_eq (tied_itself value_cmp_total (rowid x)))

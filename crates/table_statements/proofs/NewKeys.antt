@@ -23,7 +23,7 @@ use Rattle.sqlite_rules.proofs.KeyLemmas.{agree_back}
 use Rattle.sqlite_rules.proofs.RuleLemmas.{keeps_at, keeps_from}
 use Rattle.table_forms.specs.Standing.{is_unguarded}
 use Rattle.table_statements.proofs.Truths.{told}
-use Rattle.table_statements.proofs.Members.{from_put}
+use Rattle.sqlite_rules.proofs.TableLemmas.{put_has as from_put}
 use Rattle.table_statements.proofs.KeptRules.{set_here, set_other}
 
 same_rowid : (v : Value) → IsTrue (is_int v) → differ v v ≡ false

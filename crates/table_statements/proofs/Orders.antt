@@ -16,9 +16,6 @@ use Rattle.sqlite_rules.specs.Lists.{Has}
 use lib.Dec.{T}
 use Rattle.table_statements.specs.Contents.{Triple, Numbered, Kept, texts_cmp, pair_cmp, triple_cmp, numbered_cmp, kept_cmp}
 
-one : T true
-one = tt
-
 both_true : (a b : Bool) → T a → T b → T (a && b)
 both_true true b h g = g
 both_true false b h g = h
@@ -54,12 +51,12 @@ pair_antisymmetric = two_antisymmetric texts_antisymmetric texts_antisymmetric
 -- ---- a map that is made of a list, and its entries in order
 module _ {K X : Type 0} {R : K → K → Ordering} (o : IsTotalOrder R) (same : finite.IsAntisymmetric R) where
   below_each : (x : K) (es : List (K × X)) → AllByRecursion (λ y. R x y ≡ Less) (map (λ e. e.0) es) → T (below_all R x es)
-  below_each x [] h = one
+  below_each x [] h = tt
   below_each x (e ∷ es) h = rw h.0 (below_each x es h.1)
 
   sorted_entries : (es : List (K × X)) → IsStrictlySortedBy R (map (λ e. e.0) es) → T (is_sorted R es)
   unfolding IsStrictlySortedBy
-  sorted_entries [] h = one
+  sorted_entries [] h = tt
   sorted_entries (e ∷ es) h = both_true _ _ (below_each e.0 es h.0) (sorted_entries es h.1)
 
   pub found_has : (q : K) (es : List (K × X)) (v : X) → find R q es ≡ Some v → (k : K) × (R q k ≡ Equal) × Has es (k, v)

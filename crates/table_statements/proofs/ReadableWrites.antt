@@ -6,7 +6,8 @@ use Rattle.sqlite_trees.specs.Tree.{put_row}
 use Rattle.sqlite_schema.specs.declared.schema.Table.{Table}
 use Rattle.sqlite_rules.specs.Edit.{without_all}
 use Rattle.table_statements.specs.Texts.{IsReadable, AreReadableRows}
-use Rattle.table_statements.proofs.Members.{from_put, left_from}
+use Rattle.sqlite_rules.proofs.TableLemmas.{put_has as from_put}
+use Rattle.table_statements.proofs.Members.{left_from}
 
 column_readable : (row : Row) → AllByRecursion IsReadable row → (at : ℕ) → IsReadable (column row at)
 column_readable [] h at = tt

@@ -1,11 +1,9 @@
 -- A query whose rows are read one at a time: what is known of it at each row.
-use Rattle.std.proofs.Common.{◌≡◌, ◌⊎◌, inl, inr, ℕ, List, [], ◌++◌, None, Result, Ok, Err, IsTrue, IfOk, refl, sym, ap, subst, ◌∙◌, arith}
+use Rattle.std.proofs.Common.{◌≡◌, ◌⊎◌, inl, inr, ℕ, List, [], ◌++◌, None, Result, Ok, Err, IsTrue, IfOk, refl, sym, ap, subst, ◌∙◌}
 use Rattle.std.specs.Prelude.{IsSome, IfErr}
 use Rattle.sqlite_value.specs.Order.{Row}
 use Rattle.sqlite_trees.specs.Tree.{Trees}
 use Rattle.sqlite_trees.specs.declared.store.Store as store
-use Rattle.sqlite_trees.specs.declared.error.StoreError.{StoreError}
-use Rattle.sqlite_trees.specs.declared.error.StoreError.TheVariants.{OutOfMemory, Broken, Unstorable}
 use Rattle.sqlite_schema.specs.declared.command.Returning.{Returning}
 use Rattle.sqlite_resolve.specs.declared.compiled.Compiled.{Compiled}
 use Rattle.sqlite_resolve.specs.declared.error.CompileError.{CompileError}
@@ -15,9 +13,10 @@ use Rattle.sqlite.specs.Clock.{timed}
 use Rattle.sqlite.specs.Held.{Held, state}
 use Rattle.sqlite.specs.Given.{HasBegun, HasGiven, Returns}
 use Rattle.sqlite.specs.Listing.{understood, reads_listing, IsSourceOf}
-use Rattle.sqlite.specs.State.{State, Survives, Shown, ShowsRows, Begins, CommitsShowing, IsUnchanged, IsRolledBack, IsStatement, IsNoStatement, IsNotRun, Fails, HasCause, FailsToQuery, FailsToShow}
+use Rattle.sqlite.specs.State.{State, Survives, Shown, ShowsRows, Begins, CommitsShowing, IsUnchanged, IsRolledBack, IsStatement, IsNotRun, FailsToQuery, FailsToShow}
 use Rattle.sqlite.proofs.Callers.{unchanged_then, begins_shown, EndsIn}
 use Rattle.sqlite.proofs.StateLemmas.{survives_weaker}
+use Rattle.sqlite.proofs.StreamLemmas.{fails_since as store_fails_since}
 use Rattle.sqlite_sql.specs.Query.{Query}
 use Rattle.sqlite_schema.specs.declared.command.Command.TheVariants.{Select}
 use Rattle.table_statements.specs.Queries.{IsSelect, HasBegunWith, IsAnswered}
@@ -69,39 +68,16 @@ module _ (text : List ℕ) (params : Row) (reads : IsSelect text) (first old : S
   unfolding Begins statement
   begins_since rows h = (h.0, statement h.0 h.1, h.2, h.3, subst (λ (d : Database). IsSourceOf (reads_listing d.schema text) d h.3) same.0.now_is h.4, h.5)
 
-  no_statement : (e : Error) → IsNoStatement old text params e → IsNoStatement first text params e
-  no_statement e (inl (fault, is, error)) = inl (fault, subst (λ (d : Database). understood d.schema text ≡ Err fault) same.0.now_is is, error)
-  no_statement e (inr (c, is, why)) = inr (c, subst (λ (d : Database). understood d.schema text ≡ Ok c) same.0.now_is is, why)
-
-  undone : (new : State) → IsRolledBack old new → IsRolledBack first new
-  undone new h = record {
-    was_open = λ _. same.0.was_open;
-    undone = λ is_open. ((h.undone is_open).0 ∙ same.0.committed_is, (h.undone is_open).1 ∙ same.0.committed_is);
-    autocommit = h.autocommit;
-    unmarked = h.unmarked;
-    counts = record { changes = h.counts.changes ∙ same.1.changes; last_rowid = h.counts.last_rowid ∙ same.1.last_rowid };
-  }
-
-  module _ (survives : Survives first old (λ _. ⊥)) where
-    has_cause : (new : State) (too_big : Type 0) (cause : StoreError) → HasCause old new too_big cause → HasCause first new too_big cause
-    has_cause new too_big OutOfMemory h = h
-    has_cause new too_big Broken h = absurd (let no = sym same.0.is_open ∙ h in cc)
-    has_cause new too_big Unstorable h = h
-    has_cause new too_big cause h = omega (arith, h, survives.counts)
-
-    failed : (new : State) (e : Error) → Fails old new ⊥ e → Fails first new ⊥ e
-    failed new e h = (h.0, h.1, has_cause new ⊥ h.0 h.2, undone new h.3, h.4)
-
-    pub fails_since : (new : State) (e : Error) → FailsToQuery text params old new e → FailsToQuery text params first new e
-    unfolding FailsToQuery IsNotRun statement
-    fails_since new e (inl (inl h)) = inl (inl (no_statement e h.0, unchanged_then first old new same h.1))
-    fails_since new e (inl (inr h)) = inl (inr (failed new e h))
-    fails_since new e (inr (c, it, h)) =
-        let none = silent text reads old c it.is in
-        let full = timed params c.formats it.now in
-        let why = subst (FailsToShow old new text c full e) none h in
-        let kept : FailsToShow first new text c full e None = (why.0, subst (λ (d : Database). IsSourceOf (reads_listing d.schema text) d why.0) same.0.now_is why.1, subst (λ limit. RefusesToRead limit c.command why.0 full e) survives.limit why.2, unchanged_then first old new same why.3) in
-        inr (c, statement c it, subst (FailsToShow first new text c full e) (sym none) kept)
+  pub fails_since : Survives first old (λ _. ⊥) → (new : State) (e : Error) → FailsToQuery text params old new e → FailsToQuery text params first new e
+  unfolding FailsToQuery IsNotRun statement
+  fails_since survives new e (inl (inl h)) = inl (inl (rw (← same.0.now_is) h.0, unchanged_then first old new same h.1))
+  fails_since survives new e (inl (inr h)) = inl (inr (store_fails_since first old new same survives.counts e h))
+  fails_since survives new e (inr (c, it, h)) =
+      let none = silent text reads old c it.is in
+      let full = timed params c.formats it.now in
+      let why = subst (FailsToShow old new text c full e) none h in
+      let kept : FailsToShow first new text c full e None = (why.0, subst (λ (d : Database). IsSourceOf (reads_listing d.schema text) d why.0) same.0.now_is why.1, subst (λ limit. RefusesToRead limit c.command why.0 full e) survives.limit why.2, unchanged_then first old new same why.3) in
+      inr (c, statement c it, subst (FailsToShow first new text c full e) (sym none) kept)
 
 -- what a text that is meant as a query begins with, a whole answer begins with
 pub whole : (text : List ℕ) (params : Row) (old new : State) (names : List (List ℕ)) (query : Query) {count : ℕ} → IsMeant old.now.schema text count (Select (record { lets = []; body = query }) names) → (rows : List Row) → HasBegunWith text params old new rows → (tail : List Row) × Shown text params old new (rows ++ tail)

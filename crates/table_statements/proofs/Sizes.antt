@@ -1,5 +1,5 @@
 -- That an insert tells a size of an open connection alone: what is asked after the size, and what it tells.
-use Rattle.std.proofs.Common.{◌≡◌, ◌⊎◌, inl, inr, ℕ, List, Bool, true, false, Result, Ok, Err, IfErr, IsTrue, refl, sym, subst, ◌∙◌, arith}
+use Rattle.std.proofs.Common.{◌≡◌, ◌⊎◌, inl, inr, ℕ, List, Bool, true, false, Result, Ok, Err, IfErr, IsTrue, refl, sym, subst, ◌∙◌, arith, ◌≤◌}
 use Rattle.std.specs.Prelude.{MatchBool}
 use Rattle.std.proofs.lemmas.Bool.{both_ways}
 use Rattle.sqlite_value.specs.Order.{Row}
@@ -10,6 +10,7 @@ use Rattle.sqlite.specs.declared.error.Error.TheVariants.{ExecuteReturnedResults
 use Rattle.sqlite.specs.Clock.{timed}
 use Rattle.sqlite.specs.State.{State, HasCleanDisk, Survives, IsUnchanged, IsRolledBack, Fails, IsNotRun, ExecutesIn, ExecutesInside, RunsCommand, shows_rows}
 use Rattle.sqlite.proofs.Callers.{unchanged_then}
+use Rattle.sqlite.proofs.StreamLemmas.{rolled_back_since}
 use Rattle.table_statements.specs.declared.failure.Failure.{Failure}
 use Rattle.table_statements.specs.declared.failure.Failure.TheVariants.{Memory, Size, Disk}
 use Rattle.table_statements.specs.Failures.{failure_of, FailsWith, HasDiskCause, IsWriteFailure, IsAdditionFailure}
@@ -28,15 +29,9 @@ module _ (a b c : State) where
     counts = record { changes = q.1.changes ∙ p.counts.changes; last_rowid = q.1.last_rowid ∙ p.counts.last_rowid };
   }
 
-  undone_after : IsUnchanged a b ⊎ IsRolledBack a b → IsRolledBack b c → IsRolledBack a c
-  undone_after (inl p) q = record {
-    was_open = λ _. p.0.was_open;
-    undone = λ up. let u = q.undone up in (u.0 ∙ p.0.committed_is, u.1 ∙ p.0.committed_is);
-    autocommit = q.autocommit;
-    unmarked = q.unmarked;
-    counts = record { changes = q.counts.changes ∙ p.1.changes; last_rowid = q.counts.last_rowid ∙ p.1.last_rowid };
-  }
-  undone_after (inr p) q = record {
+  undone_after : a.faults ≤ b.faults → IsUnchanged a b ⊎ IsRolledBack a b → IsRolledBack b c → IsRolledBack a c
+  undone_after more (inl p) q = rolled_back_since a b c p more q
+  undone_after more (inr p) q = record {
     was_open = λ up. p.was_open (q.was_open up);
     undone = λ up. let u = q.undone up in let before = (p.undone (q.was_open up)).1 in (u.0 ∙ before, u.1 ∙ before);
     autocommit = q.autocommit;
@@ -55,11 +50,11 @@ module _ (a b c : State) where
 
   -- a failure of the store in the later call is one of both
   pub fails_later : IsUnchanged a b ⊎ IsRolledBack a b → Survives a b (λ _. ⊥) → Survives b c (λ _. ⊥) → HasCleanDisk b → (f : Failure) → FailsWith b c ⊥ ⊥ f → FailsWith a c ⊥ ⊥ f
-  fails_later first before later clean Memory (inl h) = inl (undone_after first h)
+  fails_later first before later clean Memory (inl h) = inl (undone_after before.counts first h)
   fails_later (inl first) before later clean Memory (inr h) = inr (unchanged_then a b c first h)
   fails_later (inr first) before later clean Memory (inr h) = inl (undone_then first h)
   fails_later first before later clean Size h = absurd h.0
-  fails_later first before later clean Disk (inl h) = inl (disk_later before later clean h.0, undone_after first h.1)
+  fails_later first before later clean Disk (inl h) = inl (disk_later before later clean h.0, undone_after before.counts first h.1)
   fails_later first before later clean Disk (inr h) = absurd h.0
 
   -- ---- a size still stands after a call that changed nothing

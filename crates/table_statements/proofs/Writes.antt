@@ -1,5 +1,5 @@
 -- What an INSERT and a DELETE make of their table, whatever other tables there are.
-use Rattle.std.proofs.Common.{◌≡◌, ◌⊎◌, inl, inr, ℕ, ◌/◌, pos, negsuc, List, [], ◌∷◌, length, slice_get, true, false, Some, None, Option, Ok, Err, Result, refl, sym, ap, subst, ◌∙◌, IsTrue, ◌≢◌}
+use Rattle.std.proofs.Common.{◌≡◌, ◌⊎◌, inl, inr, ℕ, ◌/◌, pos, negsuc, List, [], ◌∷◌, length, slice_get, true, false, Some, None, Option, Ok, Err, Result, refl, sym, ap, subst, ◌∙◌, IsTrue, ◌≢◌, Bool, cond, filter, not, ◌&&◌}
 use Rattle.sqlite_value.specs.declared.value.Value.TheVariants.{Null, Int}
 use Rattle.sqlite_value.specs.Order.{Row}
 use Rattle.sqlite_trees.specs.Tree.{Trees}
@@ -23,20 +23,19 @@ use Rattle.sqlite.specs.Listing.{understood}
 use Rattle.sqlite.specs.State.{State, mode_of, Executes, Writes}
 use Rattle.sqlite.proofs.Callers.{IsPlain, command_of, statement_of, runs_as, one_step}
 use Rattle.table_forms.specs.Forms.{strict}
-use Rattle.std.proofs.Common.{Bool, cond, filter, not, ◌&&◌}
-use Rattle.std.specs.Prelude.{nat_le, ◌^◌, ◌==◌, find, option_map, option_and_then, unwrap_or}
+use Rattle.std.specs.Prelude.{nat_le, ◌^◌, ◌==◌}
 use Rattle.std.specs.List.{AllByRecursion, list_all, flat_map, filter_map}
 use Rattle.sqlite_schema.specs.declared.schema.Schema.{Schema}
 use Rattle.sqlite_schema.specs.declared.schema.Keys.{Keys}
 use Rattle.sqlite_schema.specs.declared.schema.Reference.{Reference}
-use Rattle.sqlite_schema.specs.Names.{same_name}
-use Rattle.sqlite_schema.specs.Rules.{ParentKey, key_in, key_places, declared_order}
+use Rattle.sqlite_schema.specs.Rules.{ParentKey, parent_key}
 use Rattle.sqlite_rules.specs.declared.action.Deed.{Deed}
 use Rattle.sqlite_rules.specs.Action.{Work, work_by, work_for, works, deed_for, pairs}
 use Rattle.table_forms.specs.Standing.{points_at, is_unreferred}
 use Rattle.table_statements.specs.Frozen.{KeepsUnshown}
-use Rattle.table_statements.proofs.Truths.{and_so, not_so}
-use Rattle.table_statements.proofs.Finds.{found_by_place}
+use Rattle.table_statements.proofs.Truths.{and_so}
+use Rattle.std.proofs.lemmas.Bool.{ne_eqb}
+use Rattle.table_statements.proofs.KeptRules.{parent_off}
 
 -- inside a transaction: one table has these rows, and each other table, ours or theirs, has those that it had
 pub record SetsRows (old new : State) (tree : ℕ) (rows : List Row) : Type 0 where
@@ -95,26 +94,17 @@ pub works_of_none : (s : Schema) (keys : Keys) (depth tree : ℕ) (news : List R
 works_of_none s keys depth tree news =
     flat_map_none (λ (child : Table). filter_map (work_for s keys depth tree [] news child) child.references) (λ child. all_none (work_for s keys depth tree [] news child) child.references (λ ref. by_none depth tree child ref _ _)) s.tables
 
-by_order : (depth tree : ℕ) (moves : List (Row × Row)) (child p : Table) (ref : Reference) (deed : Option Deed) (places : List ℕ) (o : _) → (p.tree == tree) ≡ false → work_by depth tree moves child ref deed (option_map (λ x. (p.tree, places, x)) o) ≡ None
-by_order depth tree moves child p ref None places o other = refl
-by_order depth tree moves child p ref (Some deed) places None other = refl
-by_order depth tree moves child p ref (Some deed) places (Some o) other = rw other
-
-by_places : (depth tree : ℕ) (moves : List (Row × Row)) (child p : Table) (ref : Reference) (deed : Option Deed) (places : Option (List ℕ)) → (p.tree == tree) ≡ false → work_by depth tree moves child ref deed (option_and_then (key_in p) places) ≡ None
-by_places depth tree moves child p ref None places other = refl
-by_places depth tree moves child p ref (Some deed) None other = refl
-by_places depth tree moves child p ref (Some deed) (Some places) other = by_order depth tree moves child p ref (Some deed) places (declared_order p places) other
-
-by_parent : (depth tree : ℕ) (moves : List (Row × Row)) (child : Table) (ref : Reference) (deed : Option Deed) (parent : Option Table) → not (unwrap_or (option_map (λ p. p.tree == tree) parent) false) ≡ true
-    → work_by depth tree moves child ref deed (option_and_then (λ t. option_and_then (key_in t) (key_places t ref.parent_columns)) parent) ≡ None
-by_parent depth tree moves child ref None parent other = refl
-by_parent depth tree moves child ref (Some deed) None other = refl
-by_parent depth tree moves child ref (Some deed) (Some p) other = by_places depth tree moves child p ref (Some deed) (key_places p ref.parent_columns) (not_so _ other)
+by_key : (depth tree : ℕ) (moves : List (Row × Row)) (child : Table) (ref : Reference) (deed : Option Deed) (key : Option ParentKey) → ((k : ParentKey) → key ≡ Some k → (k.0 == tree) ≡ false) → work_by depth tree moves child ref deed key ≡ None
+by_key depth tree moves child ref None key other = refl
+by_key depth tree moves child ref (Some deed) None other = refl
+by_key depth tree moves child ref (Some deed) (Some k) other = rw (other k refl)
 
 module _ (s : Schema) (keys : Keys) (depth tree : ℕ) (olds : List Row) where
   no_work : (child : Table) (refs : List Reference) → list_all (λ r. not (points_at s tree r)) refs ≡ true → filter_map (work_for s keys depth tree olds [] child) refs ≡ []
   no_work child [] h = refl
-  no_work child (r ∷ rs) h = rw (by_parent depth tree (pairs olds []) child r (deed_for keys true r) (find (λ t. same_name t.name r.parent) s.tables) (subst (λ o. not (unwrap_or (option_map (λ p. p.tree == tree) o) false) ≡ true) (found_by_place (λ t. same_name t.name r.parent) s.tables) (and_so _ _ h).0)) (no_work child rs (and_so _ _ h).1)
+  no_work child (r ∷ rs) h =
+      let off = λ (k : ParentKey) (is : parent_key s.tables r ≡ Some k). let t = parent_off s tree r k (and_so _ _ h).0 is in ne_eqb k.0 tree (λ e. t.2 (t.3 ∙ e)) in
+      rw (by_key depth tree (pairs olds []) child r (deed_for keys true r) (parent_key s.tables r) off) (no_work child rs (and_so _ _ h).1)
 
   no_works : (tables : List Table) → list_all (λ t. list_all (λ r. not (points_at s tree r)) t.references) tables ≡ true → flat_map (λ child. filter_map (work_for s keys depth tree olds [] child) child.references) tables ≡ []
   no_works [] h = refl

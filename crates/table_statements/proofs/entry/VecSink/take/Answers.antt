@@ -1,6 +1,6 @@
 use Rattle.std.proofs.Common.{◌≡◌, ◌-◌, true, Some, inr, refl, sym, subst, ◌∙◌, length}
 use Rattle.std.specs.Prelude.{slice_get}
-use Rattle.table_statements.proofs.Entries.{zip_more}
+use Rattle.sqlite_catalog.proofs.ListFacts.{zip_push}
 use Rattle.table_statements.proofs.Lists.{more_adjacent, adjacent_last}
 use Rattle.table_statements.proofs.entry.VecSink.take.Goals as goal
 use Rattle.table_statements.proofs.entry.VecSink.take.Goals.{in-Some+else-not-is_below, in_default}
@@ -14,7 +14,7 @@ returns-then-not-is_below-clause-refused g c =
       refl,
       λ rows h. inr (
         _,
-        zip_more g.T.Entry.is_shown rows all c.args.row.now entry h.0 c.in_ok-entry.ensures.shown,
+        zip_push g.T.Entry.is_shown rows all c.args.row.now entry h.0 c.in_ok-entry.ensures.shown,
         λ up.
             let below : true ≡ g.T.Entry.is_below c.in-Some.last.now entry = adjacent_last (λ x y. true ≡ g.T.Entry.is_below x y) all entry up c.in-Some.last.now last in
             let no = below ∙ sym c.if-not-is_below.ensures in cc,
@@ -32,4 +32,4 @@ returns-clause-taken g c rows h =
           subst (λ z. true ≡ g.T.Entry.is_below z entry) same w.if-not-is_below.ensures
       | in_default w ↦ let there = rw (w.in_default.is, c.deref.ensures.value) at c.last.ensures.value in absurd (let no = there ∙ is in cc)
     ] in
-    rw c.in_ok-push.ensures.items (zip_more g.T.Entry.is_shown rows all c.args.row.now entry h.0 c.in_ok-entry.ensures.shown, more_adjacent (λ x y. true ≡ g.T.Entry.is_below x y) all entry h.1 last)
+    rw c.in_ok-push.ensures.items (zip_push g.T.Entry.is_shown rows all c.args.row.now entry h.0 c.in_ok-entry.ensures.shown, more_adjacent (λ x y. true ≡ g.T.Entry.is_below x y) all entry h.1 last)
