@@ -1,11 +1,8 @@
 -- Making a table beside whatever tables there are.
 use Rattle.std.proofs.Common.{◌≡◌, ◌+◌, ℕ, List, [], ◌∷◌, ◌++◌, codes, Bool, true, false, cond, not, ◌&&◌, ◌||◌, Some, None, Option, Ok, refl, sym, ap, subst, ◌∙◌, IsTrue, arith, append-nil, append_assoc}
-use Rattle.std.specs.Prelude.{is_some, nat_le, length, map, suc, slice_get, option_and_then, option_map, unwrap_or}
+use Rattle.std.specs.Prelude.{is_some, nat_le, length, suc, slice_get, option_and_then, option_map, unwrap_or}
 use Rattle.std.specs.List.{AllByRecursion, list_all, list_any, position_from}
 use Rattle.std.specs.Option.{option_or}
-use Rattle.std.specs.Char.{to_ascii_lowercase}
-use Rattle.std.specs.Cmp.{eq_by_cmp_equiv}
-use Rattle.std.specs.Cmp.Lexicographic.{nat_list_cmp_total}
 use Rattle.std.proofs.lemmas.List.Folds.{find-append, list_any-append}
 use Rattle.sqlite_trees.specs.Tree.{Trees}
 use Rattle.sqlite_trees.proofs.ListLemmas.{all_both, all-append}
@@ -23,6 +20,7 @@ use Rattle.sqlite_resolve.specs.Define as define
 use Rattle.sqlite_resolve.specs.Compile.{first, planned, meaning, timed, returning, command, create_table, is_attached, creates, is_reserved, table_defined_by}
 use Rattle.sqlite_rules.proofs.ListLemmas.{test_push}
 use Rattle.sqlite_catalog.specs.Change.{created, next_tree}
+use Rattle.sqlite_catalog.proofs.StepLemmas.{same_itself}
 use Rattle.sqlite.specs.Does.{Tally, lacks_sequence}
 use Rattle.sqlite.specs.Rows.{sequence}
 use Rattle.sqlite.specs.Effect.{Database, IsDatabase}
@@ -68,10 +66,6 @@ making s text table c means command whole plain all none defined = record { mean
 
 -- ---- one more at the end of a list
 
-same_self : (a : Bytes) → same_name a a ≡ true
-unfolding same_name
-same_self a = (eq_by_cmp_equiv nat_list_cmp_total).refl (map to_ascii_lowercase a)
-
 place_in_two : {X : Type 0} (p : X → Bool) (xs ys : List X) (n : ℕ) → position_from p n (xs ++ ys) ≡ option_or (position_from p n xs) (position_from p (n + length xs) ys)
 place_in_two p [] ys n = ap (λ m. position_from p m ys) (let e : n ≡ n + 0 = omega arith in e)
 place_in_two p (x ∷ xs) ys n = go (p x) (place_in_two p xs ys (n + 1))
@@ -105,7 +99,7 @@ module _ (s : Schema) (title : Bytes) (cs : List Column) (key : List ℕ) where
   added = record (strict title cs key) { tree = next_tree s }
 
   pub new_named : table_named s title ≡ None → IsNamed (created s form) title (length s.tables) added
-  new_named none = (rw (place_in_two (λ (t : Table). same_name t.name title) s.tables (added ∷ []) 0, none, same_self title) (ap Some (let e : 0 + length s.tables ≡ length s.tables = omega arith in e)), last_there s.tables added)
+  new_named none = (rw (place_in_two (λ (t : Table). same_name t.name title) s.tables (added ∷ []) 0, none, same_itself title) (ap Some (let e : 0 + length s.tables ≡ length s.tables = omega arith in e)), last_there s.tables added)
 
   pub unused_after : (name : Bytes) → is_clear title name ≡ true → IsUnused s name → IsUnused (created s form) name
   unused_after name clear h = let b = and_so _ _ clear in (none_more (λ (t : Table). same_name t.name name) s.tables _ 0 h.0 (not_so _ b.0), none_more (λ (i : Index). same_name i.name name) s.indexes _ 0 h.1 (not_so _ b.1), h.2)

@@ -1,12 +1,10 @@
 -- A failure after some of our tables were made is a failure to make them all.
-use Rattle.std.proofs.Common.{◌≡◌, ◌⊎◌, inl, inr, ◌<◌, ◌≤◌, ◌+◌, ℕ, List, [], ◌∷◌, ◌++◌, map, Bool, true, false, Some, None, Option, refl, sym, ap, subst, ◌∙◌, arith, IsTrue, length-append, ◌&&◌, Result, Ok, Err}
-use Rattle.std.specs.Prelude.{fold, max, is_some, IfErr}
+use Rattle.std.proofs.Common.{◌≡◌, ◌⊎◌, inl, inr, ◌≤◌, ◌+◌, ℕ, List, [], ◌∷◌, ◌++◌, map, Bool, true, false, refl, sym, ap, subst, ◌∙◌, arith, IsTrue, length-append, ◌&&◌, Result, Ok, Err}
+use Rattle.std.specs.Prelude.{fold, max, IfErr}
 use Rattle.std.specs.Result.{IsErrAnd}
-use Rattle.std.specs.List.{AllByRecursion, list_all}
+use Rattle.std.specs.List.{list_all}
 use Rattle.std.proofs.lemmas.Bool.{or_left, or_right}
 use Rattle.std.proofs.lemmas.List.Folds.{list_any-append}
-use Rattle.std.proofs.lemmas.List.Sums.{fold-append}
-use Rattle.sqlite_trees.proofs.ListLemmas.{all_weaker}
 use Rattle.sqlite_rules.proofs.ListLemmas.{test_has, some_has, some_from}
 use Rattle.sqlite_schema.specs.declared.schema.Column.{Column}
 use Rattle.sqlite_schema.specs.declared.schema.Schema.{Schema}
@@ -14,6 +12,8 @@ use Rattle.sqlite_schema.specs.declared.schema.Table.{Table}
 use Rattle.sqlite_schema.specs.declared.schema.Index.{Index}
 use Rattle.sqlite_catalog.specs.Change.{created, next_tree, past_views, is_used}
 use Rattle.sqlite_catalog.specs.Listing.{automatic}
+use Rattle.sqlite_catalog.proofs.ListFacts.{most_from, most_below, most_push}
+use Rattle.sqlite_catalog.proofs.StepLemmas.{no_table, no_index, no_view, index_below}
 use Rattle.sqlite.specs.State.{State}
 use Rattle.table_statements.specs.declared.failure.Failure.{Failure}
 use Rattle.table_statements.specs.declared.failure.Failure.TheVariants.{Memory, Size, Disk}
@@ -21,16 +21,11 @@ use Rattle.table_forms.specs.Forms.{strict}
 use Rattle.table_statements.specs.Contents.{Bytes}
 use Rattle.table_making.specs.Making.{Makes, index_of, all_created, is_clear, are_apart, LacksNumbers, LacksNames, FailsToMakeThese}
 use Rattle.table_making.proofs.Creates.{IsUnused, unused_after}
-use Rattle.table_statements.proofs.Lists.{rises, all_below}
-use Rattle.table_statements.proofs.Truths.{and_so, neither}
+use Rattle.table_statements.proofs.Truths.{and_so}
 use Rattle.table_making.proofs.Stood.{Parts, table_of}
 use Rattle.table_making.proofs.MakingFailures.{none_used}
 
 -- ---- numbers
-
-bounded : {X : Type 0} (g : X → ℕ) (xs : List X) (m n : ℕ) → m ≤ n → AllByRecursion (λ x. g x < n) xs → fold (λ k x. max k (g x + 1)) m xs ≤ n
-bounded g [] m n low all = low
-bounded g (x ∷ xs) m n low all = bounded g xs (max m (g x + 1)) n (omega (arith, low, all.0)) all.1
 
 -- a table that is made takes two
 pub two_more : (s : Schema) (title : Bytes) (cs : List Column) (key : List ℕ) → next_tree (created s (strict title cs key)) ≤ next_tree s + 2
@@ -38,20 +33,15 @@ two_more s title cs key =
     let n = next_tree s in
     let table : Table = record (strict title cs key) { tree = n } in
     let tables = fold (λ k (t : Table). max k (t.tree + 1)) (past_views s) s.tables in
-    let more : fold (λ k (t : Table). max k (t.tree + 1)) (past_views s) (s.tables ++ table ∷ []) ≡ max tables (n + 1) = fold-append (λ k (t : Table). max k (t.tree + 1)) (past_views s) s.tables (table ∷ []) in
-    let low : tables ≤ n = rises (λ (i : Index). i.tree) s.indexes tables in
-    let below = all_weaker (λ (i : Index). i.tree < n) (λ i. i.tree < n + 1) (λ i h. omega (arith, h)) s.indexes (all_below (λ (i : Index). i.tree) s.indexes tables) in
-    let first = bounded (λ (i : Index). i.tree) s.indexes (max tables (n + 1)) (n + 1) (omega (arith, low)) below in
-    omega (arith, first, ap (λ m. fold (λ k (i : Index). max k (i.tree + 1)) m (created s (strict title cs key)).indexes) more, fold-append (λ k (i : Index). max k (i.tree + 1)) (max tables (n + 1)) s.indexes (automatic table 0 key (n + 1) ∷ []))
+    let low : tables ≤ n = most_from (λ (i : Index). i.tree) tables s.indexes in
+    let first = most_below (λ (i : Index). i.tree) (max tables (n + 1)) (n + 1) s.indexes (omega (arith, low)) (λ i there. omega (arith, index_below s i there)) in
+    let more = ap (λ m. fold (λ k (i : Index). max k (i.tree + 1)) m (created s (strict title cs key)).indexes) (most_push (λ (t : Table). t.tree) (past_views s) s.tables table) in
+    omega (arith, first, more, most_push (λ (i : Index). i.tree) (max tables (n + 1)) s.indexes (automatic table 0 key (n + 1)))
 
 -- ---- names
 
-none_if : {X : Type 0} (o : Option X) → is_some o ≡ false → o ≡ None
-none_if None h = refl
-none_if (Some x) h = cc
-
 unused_if : (s : Schema) (name : Bytes) → is_used s name ≡ false → IsUnused s name
-unused_if s name h = let last = neither _ _ h in let first = neither _ _ last.0 in (none_if _ first.0, none_if _ first.1, none_if _ last.1)
+unused_if s name h = (no_table s name h, no_index s name h, no_view s name h)
 
 module _ (s : Schema) (title : Bytes) (cs : List Column) (key : List ℕ) where
   abbrev after : Schema

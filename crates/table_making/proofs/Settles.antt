@@ -1,16 +1,17 @@
 -- That `meta` is made with its two settings.
-use Rattle.std.proofs.Common.{◌≡◌, ◌≢◌, ◌<◌, ◌+◌, ℕ, List, [], ◌∷◌, ◌++◌, codes, true, false, not, ◌&&◌, None, Ok, length, refl, sym, ap, subst, ◌∙◌, arith, IsTrue}
-use Rattle.std.specs.Prelude.{IsUtf8, fold, max}
+use Rattle.std.proofs.Common.{◌≡◌, ◌≢◌, ◌<◌, ℕ, List, [], ◌∷◌, ◌++◌, codes, true, false, not, ◌&&◌, None, Ok, length, refl, sym, ap, subst, ◌∙◌, arith, IsTrue}
+use Rattle.std.specs.Prelude.{IsUtf8}
 use Rattle.std.specs.FinMap as finite
 use Rattle.std.specs.List.{AllByRecursion, IsDistinct}
 use Rattle.sqlite_value.specs.Order.{Row}
 use Rattle.sqlite_value.specs.declared.value.Value.TheVariants.{Int, Text}
 use Rattle.sqlite_trees.specs.Tree.{put_row}
-use Rattle.sqlite_trees.proofs.ListLemmas.{all_both, all_weaker}
+use Rattle.sqlite_trees.proofs.ListLemmas.{all_both}
 use Rattle.sqlite_schema.specs.declared.schema.Schema.{Schema}
 use Rattle.sqlite_schema.specs.declared.schema.Table.{Table}
-use Rattle.sqlite_schema.specs.declared.schema.Index.{Index}
-use Rattle.sqlite_catalog.specs.Change.{created, next_tree, past_views}
+use Rattle.sqlite_catalog.specs.Change.{created, next_tree}
+use Rattle.sqlite_rules.proofs.ListLemmas.{all_from}
+use Rattle.sqlite_catalog.proofs.StepLemmas.{table_below}
 use Rattle.sqlite_rules.specs.Edit.{next_rowid, is_taken}
 use Rattle.sqlite.specs.Does.{lacks_sequence}
 use Rattle.sqlite.specs.Effect.{Database, IsDatabase}
@@ -31,7 +32,7 @@ use Rattle.table_statements.proofs.Members.{keyed_put}
 use Rattle.table_statements.proofs.ReadableWrites.{put_readable}
 use Rattle.table_entries.proofs.Description.{terms_of}
 use Rattle.table_entries.proofs.SettingLemmas.{insert_text, insert_is, table as settings}
-use Rattle.table_statements.proofs.Lists.{one_list, rises, all_below}
+use Rattle.table_statements.proofs.Lists.{one_list}
 use Rattle.table_statements.proofs.Frozen.{frozen_of}
 use Rattle.table_making.proofs.FrozenThen.{frozen_then}
 use Rattle.table_making.proofs.Creates.{kept_then, new_named, tree_is}
@@ -57,9 +58,7 @@ has_still a b word value has h = record { named = λ is_open. subst (λ (x : Sch
 
 -- each table has a tree below the next
 pub trees_below : (s : Schema) → AllByRecursion (λ t. t.tree < next_tree s) s.tables
-trees_below s =
-    let low = rises (λ (i : Index). i.tree) s.indexes (fold (λ n (t : Table). max n (t.tree + 1)) (past_views s) s.tables) in
-    all_weaker (λ (t : Table). t.tree < fold (λ n (u : Table). max n (u.tree + 1)) (past_views s) s.tables) (λ t. t.tree < next_tree s) (λ t h. omega (arith, low, h)) s.tables (all_below (λ (t : Table). t.tree) s.tables (past_views s))
+trees_below s = all_from (λ (t : Table). t.tree < next_tree s) s.tables (table_below s)
 
 -- so those that a setting leaves keep their rows
 put_keeps : (s : Schema) → IsFree s (codes "meta") → (word value : Bytes) (b c : State) → b.now.schema ≡ created s meta → Puts word value b c → AllByRecursion (λ t. c.now.trees t.tree ≡ b.now.trees t.tree) s.tables
