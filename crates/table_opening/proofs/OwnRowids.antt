@@ -109,9 +109,6 @@ draft order tree = record { from = chain (Inner tree ∷ []); filter = []; group
 pub scan : (order : List (Term × Key)) (tree : ℕ) → IsScan (query order tree) tree
 scan order tree = record { from = refl; group = refl; distinct = refl; whole = λ params rows. refl }
 
-one : Unit {0}
-one = tt
-
 abbrev pub first : Row → Value
 first row = column row 0
 
@@ -129,7 +126,7 @@ module _ (order : List (Term × Key)) (tree : ℕ) (db : Trees) (rows : List Row
 
 distinct_ints : (ns : List ℤ) → IsDistinct (eq_by_cmp int_cmp) ns → IsDistinct tie (map Int ns)
 unfolding IsDistinct
-distinct_ints [] h = one
+distinct_ints [] h = tt
 distinct_ints (n ∷ ns) h = (all-map (λ v. tie (Int n) v ≡ false) Int ns (all_weaker (λ m. eq_by_cmp int_cmp n m ≡ false) (λ m. tie (Int n) (Int m) ≡ false) (λ m apart. ap is_eq (value_cmp-Int n m) ∙ apart) ns h.0), distinct_ints ns h.1)
 
 ints_from : (rows : List Row) (ns : List ℤ) → map first rows ≡ map Int ns → (x : Row) → Has rows x → IsTrue (is_int (first x))

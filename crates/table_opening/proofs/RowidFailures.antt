@@ -28,7 +28,7 @@ use Rattle.table_statements.specs.Queries.{HasBegunWith}
 use Rattle.table_opening.specs.Opened.{ShowIds}
 use Rattle.table_statements.proofs.Scans.{scan_sound}
 use Rattle.table_statements.proofs.Apart.{tie, turned}
-use Rattle.table_statements.proofs.Members.{int_is}
+use Rattle.sqlite_rules.proofs.TableLemmas.{int_is}
 use Rattle.table_statements.proofs.Statements.{answer_of, Compiles}
 use Rattle.table_statements.proofs.Writes.{overlay_low}
 use Rattle.table_statements.proofs.RowByRow.{whole as all_rows}

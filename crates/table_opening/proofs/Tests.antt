@@ -1,5 +1,5 @@
 -- That the texts of each table of ours ask for the rowids and the texts of its rows.
-use Rattle.std.proofs.Common.{zero, suc, [], ◌∷◌, arith, refl}
+use Rattle.std.proofs.Common.{ℕ, ◌+◌, [], ◌∷◌, arith, refl, below_none, below_more}
 use Rattle.sqlite_value.specs.Order.{Row, column}
 use Rattle.table_forms.specs.Forms.{meta, object, refs, outs, permanent, user_root, profile, generation, runtime, piece, temp_root}
 use Rattle.table_statements.specs.Texts.{IsReadable, IsReadableRow}
@@ -34,19 +34,14 @@ abbrev shown_of : Row → Row
 shown_of r = column r 1 ∷ column r 3 ∷ column r 4 ∷ column r 5 ∷ []
 
 all_columns : (r : Row) → IsReadable (column r 2) → IsReadableRow (shown_of r) → AreOfUtf8 5 r
-all_columns r second h zero low = h 0 (omega arith)
-all_columns r second h (suc zero) low = second
-all_columns r second h (suc (suc zero)) low = h 1 (omega arith)
-all_columns r second h (suc (suc (suc zero))) low = h 2 (omega arith)
-all_columns r second h (suc (suc (suc (suc zero)))) low = h 3 (omega arith)
-all_columns r second h (suc (suc (suc (suc (suc at))))) low = absurd (omega (arith, low))
+all_columns r second h =
+    let P = λ (at : ℕ). IsReadable (column r (at + 1)) in
+    below_more P 4 (below_more P 3 (below_more P 2 (below_more P 1 (below_more P 0 (below_none P) (h 0 (omega arith))) second) (h 1 (omega arith))) (h 2 (omega arith))) (h 3 (omega arith))
 
 shown_columns : (r : Row) → AreOfUtf8 5 r → IsReadableRow (shown_of r)
-shown_columns r h zero low = h 0 (omega arith)
-shown_columns r h (suc zero) low = h 2 (omega arith)
-shown_columns r h (suc (suc zero)) low = h 3 (omega arith)
-shown_columns r h (suc (suc (suc zero))) low = h 4 (omega arith)
-shown_columns r h (suc (suc (suc (suc at)))) low = absurd (omega (arith, low))
+shown_columns r h =
+    let P = λ (at : ℕ). IsReadable (column (shown_of r) at) in
+    below_more P 3 (below_more P 2 (below_more P 1 (below_more P 0 (below_none P) (h 0 (omega arith))) (h 2 (omega arith))) (h 3 (omega arith))) (h 4 (omega arith))
 
 object_texts : Asks object.name object.columns object.primary objects.all_text objects.names objects.query
 unfolding everything
@@ -63,15 +58,10 @@ abbrev key_of : Row → Row
 key_of r = column r 1 ∷ column r 2 ∷ []
 
 whole_piece : (r : Row) → IsReadable (column r 3) → IsReadableRow (key_of r) → AreOfUtf8 3 r
-whole_piece r third h zero low = h 0 (omega arith)
-whole_piece r third h (suc zero) low = h 1 (omega arith)
-whole_piece r third h (suc (suc zero)) low = third
-whole_piece r third h (suc (suc (suc at))) low = absurd (omega (arith, low))
+whole_piece r third h = let P = λ (at : ℕ). IsReadable (column r (at + 1)) in below_more P 2 (below_more P 1 (below_more P 0 (below_none P) (h 0 (omega arith))) (h 1 (omega arith))) third
 
 key_columns : (r : Row) → AreOfUtf8 3 r → IsReadableRow (key_of r)
-key_columns r h zero low = h 0 (omega arith)
-key_columns r h (suc zero) low = h 1 (omega arith)
-key_columns r h (suc (suc at)) low = absurd (omega (arith, low))
+key_columns r h = let P = λ (at : ℕ). IsReadable (column (key_of r) at) in below_more P 1 (below_more P 0 (below_none P) (h 0 (omega arith))) (h 1 (omega arith))
 
 piece_texts : Asks piece.name piece.columns piece.primary pieces.keys_text pieces.names pieces.keys_query
 piece_texts = record { scan = pieces.scan; is = pieces.keys_is; reads = pieces.keys_read; fails = pieces.standing_fails_keys }
