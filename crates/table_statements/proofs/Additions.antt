@@ -22,6 +22,7 @@ use Rattle.sqlite_rules.specs.declared.error.Rowids.TheVariants.{Chosen}
 use Rattle.sqlite_rules.specs.Lists.{Has}
 use Rattle.sqlite_rules.specs.Cast.{cast_row}
 use Rattle.sqlite_rules.specs.Edit.{Edit, edit_of, numbered, next_rowid, IsRefused, IsOversized}
+use Rattle.sqlite_rules.proofs.ActionLemmas.{no_works as works_of_none}
 use Rattle.sqlite_rules.proofs.ListLemmas.{all_has}
 use Rattle.sqlite.specs.declared.error.Error.{Error}
 use Rattle.sqlite.specs.Effect.{Database, IsDatabase, value_rows, edit_error}
@@ -35,7 +36,7 @@ use Rattle.table_forms.specs.Standing.{Stands, tree_named}
 use Rattle.table_statements.specs.Contents.{rows_named}
 use Rattle.table_statements.specs.Calls.{IsUnderWay}
 use Rattle.table_statements.specs.Failures.{failure_of, FailsWith, IsTooLarge, HasNoRowidLeft}
-use Rattle.table_statements.proofs.Writes.{works_of_none, same_value, at_place}
+use Rattle.table_statements.proofs.Writes.{same_value, at_place}
 use Rattle.table_statements.proofs.KeptRules.{refers_still, only_ours}
 use Rattle.table_statements.proofs.NewKeys.{unique_put}
 use Rattle.table_statements.proofs.Stops.{stops_at, gives_no_stop, no_end, plain_mode, concluded}

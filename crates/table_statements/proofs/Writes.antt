@@ -1,9 +1,9 @@
 -- What an INSERT and a DELETE make of their table, whatever other tables there are.
-use Rattle.std.proofs.Common.{◌≡◌, ◌⊎◌, inl, inr, ℕ, ◌/◌, pos, negsuc, List, [], ◌∷◌, length, slice_get, true, false, Some, None, Option, Ok, Err, Result, refl, sym, ap, subst, ◌∙◌, IsTrue, ◌≢◌, Bool, cond, filter, not, ◌&&◌}
+use Rattle.std.proofs.Common.{◌≡◌, ◌⊎◌, inl, inr, ℕ, ◌/◌, pos, negsuc, List, [], ◌∷◌, length, slice_get, true, false, Some, None, Option, Ok, Err, Result, refl, sym, ap, subst, ◌∙◌, IsTrue, ◌≢◌, filter, not}
 use Rattle.sqlite_value.specs.declared.value.Value.TheVariants.{Null, Int}
 use Rattle.sqlite_value.specs.Order.{Row}
 use Rattle.sqlite_trees.specs.Tree.{Trees}
-use Rattle.sqlite_trees.proofs.ListLemmas.{all-slice_get, flat_map_none}
+use Rattle.sqlite_trees.proofs.ListLemmas.{all-slice_get}
 use Rattle.sqlite_sql.specs.Term.{Term, lit, col}
 use Rattle.sqlite_sql.specs.Query.{Query, inner, end, IsAnswer}
 use Rattle.sqlite_sql.specs.Program.{overlay}
@@ -15,6 +15,7 @@ use Rattle.sqlite_schema.specs.declared.command.Command.{Command}
 use Rattle.sqlite_schema.specs.declared.command.Command.TheVariants.{Insert, Delete}
 use Rattle.sqlite_rules.specs.Edit.{Edit, edit_of, edited, Applies, without_all, taken_by}
 use Rattle.sqlite_rules.specs.Calls.{ids_of}
+use Rattle.sqlite_rules.proofs.ActionLemmas.{no_works as works_of_none}
 use Rattle.sqlite_rules.specs.declared.error.Rowids.TheVariants.{Chosen, Given}
 use Rattle.sqlite.specs.Does.{Tally, Does, AtPlace}
 use Rattle.sqlite.specs.Rows.{Part, Written, stamped}
@@ -30,7 +31,7 @@ use Rattle.sqlite_schema.specs.declared.schema.Keys.{Keys}
 use Rattle.sqlite_schema.specs.declared.schema.Reference.{Reference}
 use Rattle.sqlite_schema.specs.Rules.{ParentKey, parent_key}
 use Rattle.sqlite_rules.specs.declared.action.Deed.{Deed}
-use Rattle.sqlite_rules.specs.Action.{Work, work_by, work_for, works, deed_for, pairs}
+use Rattle.sqlite_rules.specs.Action.{work_by, work_for, works, deed_for, pairs}
 use Rattle.table_forms.specs.Standing.{points_at, is_unreferred}
 use Rattle.table_statements.specs.Frozen.{KeepsUnshown}
 use Rattle.table_statements.proofs.Truths.{and_so}
@@ -75,24 +76,6 @@ rowids_where tree filter = record {
 }
 
 -- ---- no foreign key acts
-
-never : (b : Bool) (w : Work) → ◌≡◌ {A = Option Work} (cond (b && false) (Some w) None) None
-never true w = refl
-never false w = refl
-
-by_none : (depth tree : ℕ) (child : Table) (ref : Reference) (deed : Option Deed) (key : Option ParentKey) → work_by depth tree [] child ref deed key ≡ None
-by_none depth tree child ref None key = refl
-by_none depth tree child ref (Some deed) None = refl
-by_none depth tree child ref (Some deed) (Some key) = never (key.0 == tree) _
-
-all_none : {X Y : Type 0} (f : X → Option Y) (xs : List X) → ((x : X) → f x ≡ None) → filter_map f xs ≡ []
-all_none f [] none = refl
-all_none f (x ∷ xs) none = rw (none x) (all_none f xs none)
-
--- an INSERT takes no row, so no key acts, whoever refers to the table
-pub works_of_none : (s : Schema) (keys : Keys) (depth tree : ℕ) (news : List Row) → works s keys depth tree [] news ≡ []
-works_of_none s keys depth tree news =
-    flat_map_none (λ (child : Table). filter_map (work_for s keys depth tree [] news child) child.references) (λ child. all_none (work_for s keys depth tree [] news child) child.references (λ ref. by_none depth tree child ref _ _)) s.tables
 
 by_key : (depth tree : ℕ) (moves : List (Row × Row)) (child : Table) (ref : Reference) (deed : Option Deed) (key : Option ParentKey) → ((k : ParentKey) → key ≡ Some k → (k.0 == tree) ≡ false) → work_by depth tree moves child ref deed key ≡ None
 by_key depth tree moves child ref None key other = refl
