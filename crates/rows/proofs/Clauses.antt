@@ -1,5 +1,5 @@
 -- What a call on a described table promises, by what its one statement gave. The disk is clean after the call, and so it was before.
-use Rattle.std.proofs.Common.{◌≡◌, ℕ, ◌+◌, List, Bool, IsTrue, true, ◌⊎◌, Ok, Err, Result, IfOk, Vec, Global, map, length, None, arith, not, sym, subst}
+use Rattle.std.proofs.Common.{◌≡◌, ℕ, ◌+◌, List, Bool, IsTrue, true, ◌⊎◌, Ok, Err, Result, IfOk, Vec, Global, map, length, None, arith, not, sym, subst, ◌∙◌}
 use Rattle.std.specs.Prelude.{IfErr, OnOk, IsSome}
 use Rattle.std.specs.Ordering.{is_lt}
 use Rattle.std.specs.FinMap as finite
@@ -22,32 +22,49 @@ use Rattle.table_statements.proofs.Sizes.{addition_failed}
 use Rattle.table_statements.proofs.Statements.{Selects}
 use Rattle.table_statements.proofs.Steps.{ready_after}
 use Rattle.table_statements.proofs.WriteFailures.{removal_failed}
-use Rattle.table_entries.proofs.Description.{Description, Addition, Removal, Reading, Selection, form, adds, adds_not, removes, removes_not, selects, selects_all, selects_not, never_amiss}
+use Rattle.table_entries.proofs.Alike.{made, all_made}
+use Rattle.table_entries.proofs.Description.{Description, Addition, Removal, Part, PartReading, Reading, Selection, form, adds, adds_not, removes, removes_not, selects, selects_not, never_amiss, told_as, with_all, keys_of}
 
 pub early : {old new : State} → Survives old new (λ _. ⊥) → HasCleanDisk new → HasCleanDisk old
 early {old} {new} survives clean = omega (arith, survives.clean, clean)
 
 -- ---- reading
 
-module _ {K X T : Type 0} (d : Description K X) {ShowsItem : Row → T → Type 0} {item : T → K × X} {IsLegible : Row → Type 0} (q : Reading d ShowsItem item IsLegible) {old new : State} {text : List ℕ} {params : Row} {test : K → Bool} (s : Selection d q text params test)
-    (survives : Survives old new (λ _. ⊥)) (ready : HasCleanDisk old → IsTrue old.is_open → IsReady old) (own : HasCleanDisk old → IsTrue old.is_open → d.IsOwn old.now) (clean : HasCleanDisk new) where
-  abbrev before : HasCleanDisk old
-  before = early survives clean
+-- the keys of what was read rise
+abbrev pub Rises : {K X Y T : Type 0} → Description K X → (T → K × Y) → Result (Vec T Global) Failure → Type 0
+Rises d item r = IfOk r (λ all. AllAdjacentBelow (λ x y. true ≡ is_lt (d.order (item x).0 (item y).0)) all.items (length all.items))
 
-  pub reads : (r : Result (Vec T Global) Failure) → Selects ShowsItem old new text params r → IfOk r (λ all. AllAdjacentBelow (λ x y. true ≡ is_lt (d.order (item x).0 (item y).0)) all.items (length all.items))
-      → IfOk r (λ all. IsUnchanged old new × (map item all.items ≡ finite.entries (finite.retain_keys (d.of (contents_of old.now)) test)))
-  reads = selects d q old new s (ready before) (own before)
+module _ {K X Y T : Type 0} {d : Description K X} {p : Part d Y} {ShowsItem : Row → T → Type 0} {item : T → K × Y} {IsLegible : Row → Type 0} {q : PartReading d p ShowsItem item IsLegible} {old new : State} {text : List ℕ} {params : Row} where
+  -- what a read of some of the keys, or of all, answers of the part that it shows
+  pub reads_part : {test : K → Bool} → Selection d q text params test → Survives old new (λ _. ⊥) → (HasCleanDisk old → IsTrue old.is_open → IsReady old) → (HasCleanDisk old → IsTrue old.is_open → d.IsOwn old.now) → HasCleanDisk new
+      → (r : Result (Vec T Global) Failure) → Selects ShowsItem old new text params r → Rises d item r → IfOk r (λ all. IsUnchanged old new × (map item all.items ≡ map (made d.order p.of) (finite.entries (finite.retain_keys (d.of (contents_of old.now)) test))))
+  reads_part s survives ready own clean = selects d q old new s (ready (early survives clean)) (own (early survives clean))
 
-  pub fails_to_read : (r : Result (Vec T Global) Failure)
-      → IfErr r (λ f. IsQueryFailure text params old new f ⊎ ((rows : List Row) × HasBegunWith text params old new rows × ((f ≡ Memory) ⊎ ((f ≡ Disk) × IsAmiss IsLegible ShowsItem (λ x y. is_lt (d.order (item x).0 (item y).0)) rows))))
-      → IfErr r (FailsFor old new)
-  fails_to_read r = select_fails r old new text params _ (selects_not d q old new s (λ up. d.within old.now (ready before up).ours (own before up))) (never_amiss d q old new s (ready before) (own before))
+  pub reads_all_parts : Selection d q text params (λ _. true) → Survives old new (λ _. ⊥) → (HasCleanDisk old → IsTrue old.is_open → IsReady old) → (HasCleanDisk old → IsTrue old.is_open → d.IsOwn old.now) → HasCleanDisk new
+      → (r : Result (Vec T Global) Failure) → Selects ShowsItem old new text params r → Rises d item r → IfOk r (λ all. IsUnchanged old new × (map item all.items ≡ map (made d.order p.of) (finite.entries (d.of (contents_of old.now)))))
+  reads_all_parts s survives ready own clean r got up = told_as r _ item item _ _ (λ ts is. is ∙ with_all d (d.of (contents_of old.now)) p.of) (reads_part s survives ready own clean r got up)
 
-module _ {K X T : Type 0} (d : Description K X) {ShowsItem : Row → T → Type 0} {item : T → K × X} {IsLegible : Row → Type 0} (q : Reading d ShowsItem item IsLegible) {old new : State} {text : List ℕ} {params : Row} (s : Selection d q text params (λ _. true))
-    (survives : Survives old new (λ _. ⊥)) (ready : HasCleanDisk old → IsTrue old.is_open → IsReady old) (own : HasCleanDisk old → IsTrue old.is_open → d.IsOwn old.now) (clean : HasCleanDisk new) where
-  pub reads_all : (r : Result (Vec T Global) Failure) → Selects ShowsItem old new text params r → IfOk r (λ all. AllAdjacentBelow (λ x y. true ≡ is_lt (d.order (item x).0 (item y).0)) all.items (length all.items))
-      → IfOk r (λ all. IsUnchanged old new × (map item all.items ≡ finite.entries (d.of (contents_of old.now))))
-  reads_all = selects_all d q old new s (ready (early survives clean)) (own (early survives clean))
+  -- of the keys alone
+  pub reads_keys : Selection d q text params (λ _. true) → Survives old new (λ _. ⊥) → (HasCleanDisk old → IsTrue old.is_open → IsReady old) → (HasCleanDisk old → IsTrue old.is_open → d.IsOwn old.now) → HasCleanDisk new
+      → (r : Result (Vec T Global) Failure) → Selects ShowsItem old new text params r → Rises d item r → IfOk r (λ all. IsUnchanged old new × (map (λ t. (item t).0) all.items ≡ finite.keys (d.of (contents_of old.now))))
+  reads_keys s survives ready own clean r got up = told_as r _ item (λ t. (item t).0) _ _ (keys_of d (d.of (contents_of old.now)) p.of item) (reads_all_parts s survives ready own clean r got up)
+
+  -- why it fails
+  pub fails_to_read : {test : K → Bool} → Selection d q text params test → Survives old new (λ _. ⊥) → (HasCleanDisk old → IsTrue old.is_open → IsReady old) → (HasCleanDisk old → IsTrue old.is_open → d.IsOwn old.now) → HasCleanDisk new
+      → (r : Result (Vec T Global) Failure) → IfErr r (λ f. IsQueryFailure text params old new f ⊎ ((rows : List Row) × HasBegunWith text params old new rows × ((f ≡ Memory) ⊎ ((f ≡ Disk) × IsAmiss IsLegible ShowsItem (λ x y. is_lt (d.order (item x).0 (item y).0)) rows)))) → IfErr r (FailsFor old new)
+  fails_to_read s survives ready own clean r =
+      let before = early survives clean in
+      select_fails r old new text params _ (selects_not d q old new s (λ up. d.within old.now (ready before up).ours (own before up))) (never_amiss d q old new s (ready before) (own before))
+
+-- of entries as they are
+module _ {K X T : Type 0} {d : Description K X} {ShowsItem : Row → T → Type 0} {item : T → K × X} {IsLegible : Row → Type 0} {q : Reading d ShowsItem item IsLegible} {old new : State} {text : List ℕ} {params : Row} where
+  pub reads : {test : K → Bool} → Selection d q text params test → Survives old new (λ _. ⊥) → (HasCleanDisk old → IsTrue old.is_open → IsReady old) → (HasCleanDisk old → IsTrue old.is_open → d.IsOwn old.now) → HasCleanDisk new
+      → (r : Result (Vec T Global) Failure) → Selects ShowsItem old new text params r → Rises d item r → IfOk r (λ all. IsUnchanged old new × (map item all.items ≡ finite.entries (finite.retain_keys (d.of (contents_of old.now)) test)))
+  reads s survives ready own clean r got up = told_as r _ item item _ _ (λ ts is. is ∙ all_made d.order _) (reads_part s survives ready own clean r got up)
+
+  pub reads_all : Selection d q text params (λ _. true) → Survives old new (λ _. ⊥) → (HasCleanDisk old → IsTrue old.is_open → IsReady old) → (HasCleanDisk old → IsTrue old.is_open → d.IsOwn old.now) → HasCleanDisk new
+      → (r : Result (Vec T Global) Failure) → Selects ShowsItem old new text params r → Rises d item r → IfOk r (λ all. IsUnchanged old new × (map item all.items ≡ finite.entries (d.of (contents_of old.now))))
+  reads_all s survives ready own clean r got up = told_as r _ item item _ _ (λ ts is. is ∙ all_made d.order _) (reads_all_parts s survives ready own clean r got up)
 
 -- what a connection shows stays, so it is ready as before
 module _ {old new : State} (survives : Survives old new (λ _. ⊥)) (ready : HasCleanDisk old → IsTrue old.is_open → IsReady old) (same : HasCleanDisk new → (IsTrue old.is_open → old.now ≡ old.committed) → KeepsShown old new) (clean : HasCleanDisk new) where

@@ -27,6 +27,7 @@ use Rattle.table_statements.specs.Calls.{IsReady, IsUnderWay}
 use Rattle.table_statements.proofs.ReadFailures.{understood_read}
 use Rattle.table_statements.proofs.Rising.{select_fails}
 use Rattle.table_statements.proofs.Statements.{Selects}
+use Rattle.table_entries.proofs.Alike.{all_made}
 use Rattle.table_entries.proofs.Description.{Description, Reading, Selection, selects, selects_not, never_amiss}
 
 -- ---- a list, up to one of its items
@@ -124,7 +125,7 @@ module _ {K X T : Type 0} (d : Description K X) {ShowsItem : Row → T → Type 
   pub selects_within : (r : Result (Vec T Global) Failure) → Selects ShowsItem old new text params r → IfOk r (λ all. AllAdjacentBelow (λ x y. true ≡ is_lt (d.order (item x).0 (item y).0)) all.items (length all.items))
       → IfOk r (λ all. IsUnchanged old new × (map item all.items ≡ finite.entries (finite.retain_keys (d.of (contents_of old.now)) test)))
   selects_within (Err f) got up = tt
-  selects_within (Ok all) got up = (got.1.1.1, (selects d q (settled old) (settled new) s ready own (Ok all) (selects_alike text params s.reads old new ShowsItem (Ok all) got) up).1)
+  selects_within (Ok all) got up = (got.1.1.1, (selects d q (settled old) (settled new) s ready own (Ok all) (selects_alike text params s.reads old new ShowsItem (Ok all) got) up).1 ∙ all_made d.order _)
 
   -- why they aren't read
   pub selects_within_not : (r : Result (Vec T Global) Failure)

@@ -1,11 +1,12 @@
 -- Two maps of the same rows: the values of one are made of those of the other.
-use Rattle.std.proofs.Common.{◌≡◌, inl, inr, List, [], ◌∷◌, length, arith, map, filter, Bool, true, Less, Equal, Greater, Ordering, refl, ap, sym, ◌∙◌}
+use Rattle.std.proofs.Common.{◌≡◌, inl, inr, List, [], ◌∷◌, length, arith, map, filter, cond, Bool, true, false, Less, Equal, Greater, Ordering, refl, ap, sym, ◌∙◌}
 use Rattle.std.specs.Cmp.{IsTotalOrder}
 use Rattle.std.specs.FinMap as finite
-use Rattle.std.specs.FinMap.Entries.{by_order, put}
+use Rattle.std.specs.FinMap.Entries.{by_order, put, where_key}
 use Rattle.sqlite_value.specs.Order.{Row}
 use Rattle.sqlite_rules.specs.Lists.{Has}
 use Rattle.table_statements.specs.Contents.{map_of}
+use Rattle.table_statements.proofs.Members.{made_where}
 
 module _ {K X Y : Type 0} (R : K → K → Ordering) (f : X → Y) where
   abbrev pub made : K × X → K × Y
@@ -34,15 +35,33 @@ module _ {K X Y : Type 0} (R : K → K → Ordering) (f : X → Y) where
       finite.entries-insert o (finite.from_entries {R = R} (map made es)) e.0 (f e.1) ∙ ap (put R e.0 (f e.1)) (entries_made o es) ∙ put_made e.0 e.1 (finite.entries (finite.from_entries {R = R} es))
       ∙ ap (map made) (sym (finite.entries-insert o (finite.from_entries {R = R} es) e.0 e.1))
 
-  module _ (kind : Row → Bool) (entry : Row → K × X) (kind' : Row → Bool) (entry' : Row → K × Y) where
-    rows_made : (rows : List Row) → ((r : Row) → Has rows r → (kind r ≡ true) × (kind' r ≡ true) × (entry' r ≡ made (entry r))) → map entry' (filter kind' rows) ≡ map made (map entry (filter kind rows))
+  -- a test of keys passes the same
+  where_made : (test : K → Bool) (es : List (K × X)) → where_key R test (map made es) ≡ map made (where_key R test es)
+  where_made test [] = refl
+  where_made test (e ∷ es) = go (test e.0) (where_made test es)
+    where
+      go : (b : Bool) → where_key R test (map made es) ≡ map made (where_key R test es)
+          → cond b (made e ∷ where_key R test (map made es)) (where_key R test (map made es)) ≡ map made (cond b (e ∷ where_key R test es) (where_key R test es))
+      go true later = ap (λ l. made e ∷ l) later
+      go false later = later
+
+  module _ (kind has : Row → Bool) (entry : Row → K × X) where
+    rows_made : (rows : List Row) → ((r : Row) → Has rows r → (kind r ≡ true) × (has r ≡ true)) → map (λ r. made (entry r)) (filter has rows) ≡ map made (map entry (filter kind rows))
     rows_made [] alike = refl
     rows_made (r ∷ rows) alike =
         let own = alike r (inl refl) in
-        rw (own.0, own.1, own.2) (ap (λ l. made (entry r) ∷ l) (rows_made rows (λ x h. alike x (inr h))))
+        rw (own.0, own.1) (ap (λ l. made (entry r) ∷ l) (rows_made rows (λ x h. alike x (inr h))))
 
-    -- the map of the same rows
-    pub map_made : IsTotalOrder R → (rows : List Row) → ((r : Row) → Has rows r → (kind r ≡ true) × (kind' r ≡ true) × (entry' r ≡ made (entry r)))
-        → finite.entries (map_of R kind' entry' rows) ≡ map made (finite.entries (map_of R kind entry rows))
+    -- the same of the rows of a part of the keys
+    pub part_made : IsTotalOrder R → finite.IsAntisymmetric R → (test : K → Bool) (rows : List Row) → ((r : Row) → Has rows r → (kind r ≡ true) × (has r ≡ true))
+        → finite.entries (finite.retain_keys (map_of R has (λ r. made (entry r)) rows) test) ≡ map made (finite.entries (finite.retain_keys (map_of R kind entry rows) test))
     unfolding map_of
-    map_made o rows alike = ap (λ l. finite.entries (finite.from_entries {R = R} l)) (rows_made rows alike) ∙ entries_made o (map entry (filter kind rows))
+    part_made o same test rows alike =
+        let es = map entry (filter kind rows) in
+        ap finite.entries (sym (made_where o same test (map (λ r. made (entry r)) (filter has rows))) ∙ ap (λ l. finite.from_entries {R = R} (where_key R test l)) (rows_made rows alike) ∙ ap (finite.from_entries {R = R}) (where_made test es))
+        ∙ entries_made o (where_key R test es) ∙ ap (λ m. map made (finite.entries m)) (made_where o same test es)
+
+-- where nothing is left out, it is the same list
+pub all_made : {K X : Type 0} (R : K → K → Ordering) (es : List (K × X)) → map (made R (λ x. x)) es ≡ es
+all_made R [] = refl
+all_made R (e ∷ es) = ap (λ l. e ∷ l) (all_made R es)

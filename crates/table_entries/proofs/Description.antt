@@ -39,14 +39,15 @@ use Rattle.table_statements.proofs.Truths.{free_of}
 use Rattle.table_statements.proofs.Means.{IsMeant, means_command}
 use Rattle.table_statements.proofs.Writes.{SetsRows, inserts_in, rowids_where}
 use Rattle.table_statements.proofs.Members.{keyed_put}
-use Rattle.table_statements.proofs.Entries.{put_map}
+use Rattle.table_statements.proofs.Entries.{put_map, map-map, all_kept}
 use Rattle.table_statements.proofs.ReadableWrites.{put_readable}
-use Rattle.table_statements.proofs.Scans.{shows}
-use Rattle.table_statements.proofs.Statements.{Compiles, Selects, reads_part, deletes_part, whole_map}
+use Rattle.table_statements.proofs.Scans.{IsScan, shows}
+use Rattle.table_statements.proofs.Statements.{Compiles, Selects, reads_part, deletes_part}
 use Rattle.table_statements.proofs.ReadFailures.{standing_read_fails}
 use Rattle.table_statements.proofs.Rising.{AreKept, shown_well}
 use Rattle.table_statements.proofs.Additions.{IsNewKey, insert_fails}
 use Rattle.table_statements.proofs.Removals.{delete_fails}
+use Rattle.table_entries.proofs.Alike.{made, part_made}
 use Rattle.table_entries.proofs.Places.{changed, own_rows, ours_kept}
 use Rattle.table_entries.proofs.Ordered.{Place, outputs_of, query_on, names_on, scan_of, whole}
 use Rattle.table_entries.proofs.MappedRows.{HasOneRowEach}
@@ -194,48 +195,79 @@ module _ {K X : Type 0} (d : Description K X) (old new : State) (under : IsUnder
 
 -- ---- reading
 
--- how a query shows an entry, by which columns and in the order of how many of them, and which of its rows can be read as one
-pub record Reading {K X T : Type 0} (d : Description K X) (ShowsItem : Row → T → Type 0) (item : T → K × X) (IsLegible : Row → Type 0) : Type 0 where
+-- a part of what an entry holds beside its key, and which rows have what it is made of
+pub record Part {K X : Type 0} (d : Description K X) (Y : Type 0) : Type 0 where
+  pub of : X → Y
+  pub has : Row → Bool
+  pub enough : (r : Row) → d.kind r ≡ true → has r ≡ true
+
+-- all of it
+abbrev pub entire : {K X : Type 0} → (d : Description K X) → Part d X
+entire d = record { of = λ x. x; has = d.kind; enough = λ r kind. kind }
+
+-- how a query shows the key and a part of an entry, by which columns and in the order of how many of them, and which of its rows can be read as one
+pub record PartReading {K X Y T : Type 0} (d : Description K X) (p : Part d Y) (ShowsItem : Row → T → Type 0) (item : T → K × Y) (IsLegible : Row → Type 0) : Type 0 where
   pub shown : List Place
   pub by : ℕ
-  pub fits : (params : Row) (filter : List Term) (tree : ℕ) (r : Row) (t : T) → ShowsItem (shows (query_on shown by filter tree) params r) t → (d.kind r ≡ true) × (d.entry r ≡ item t)
+  pub fits : (params : Row) (filter : List Term) (tree : ℕ) (r : Row) (t : T) → ShowsItem (shows (query_on shown by filter tree) params r) t → (p.has r ≡ true) × (made d.order p.of (d.entry r) ≡ item t)
   pub legible : (params : Row) (filter : List Term) (tree : ℕ) (r : Row) → d.kind r ≡ true → ((at : ℕ) → at < length d.columns → IsReadable (column r (at + 1))) → IsLegible (shows (query_on shown by filter tree) params r)
   pub orders : (params : Row) (filter : List Term) (tree : ℕ) (a b : Row) → d.kind a ≡ true → d.kind b ≡ true
       → (let query = query_on shown by filter tree in output_cmp query (output query (params ∷ a ∷ [])) (output query (params ∷ b ∷ []))) ≡ d.order (d.entry a).0 (d.entry b).0
 
+-- how it shows an entry
+abbrev pub Reading : {K X T : Type 0} → Description K X → (Row → T → Type 0) → (T → K × X) → (Row → Type 0) → Type 0
+Reading d ShowsItem item IsLegible = PartReading d (entire d) ShowsItem item IsLegible
+
 -- a text, with what it is given, that shows the rows whose keys pass the test
-pub record Selection {K X T : Type 0} (d : Description K X) {ShowsItem : Row → T → Type 0} {item : T → K × X} {IsLegible : Row → Type 0} (q : Reading d ShowsItem item IsLegible) (text : List ℕ) (params : Row) (test : K → Bool) : Type 0 where
+pub record Selection {K X Y T : Type 0} (d : Description K X) {p : Part d Y} {ShowsItem : Row → T → Type 0} {item : T → K × Y} {IsLegible : Row → Type 0} (q : PartReading d p ShowsItem item IsLegible) (text : List ℕ) (params : Row) (test : K → Bool) : Type 0 where
   pub filter : List Term
   pub is : Compiles d.name d.columns d.key text (length params) (λ at tree. Select (whole (query_on q.shown q.by filter) tree) (names_on q.shown))
-  pub said : (r : Row) → d.kind r ≡ true → list_all (holds (params ∷ r ∷ [])) filter ≡ test (d.entry r).0
+  pub said : (r : Row) → p.has r ≡ true → list_all (holds (params ∷ r ∷ [])) filter ≡ test (d.entry r).0
   pub reads : IsSelect text
   pub accepts : (s : Schema) (at tree : ℕ) → IsKnown s d.name at (record (form d) { tree = tree }) → accepts_program s [] (query_on q.shown q.by filter tree) params ≡ true
 
-module _ {K X T : Type 0} (d : Description K X) {ShowsItem : Row → T → Type 0} {item : T → K × X} {IsLegible : Row → Type 0} (q : Reading d ShowsItem item IsLegible) (old new : State) {text : List ℕ} {params : Row} {test : K → Bool} (s : Selection d q text params test) where
-  -- the entries of this part of the keys, in order
+module _ {K X Y T : Type 0} (d : Description K X) {p : Part d Y} {ShowsItem : Row → T → Type 0} {item : T → K × Y} {IsLegible : Row → Type 0} (q : PartReading d p ShowsItem item IsLegible) (old new : State) {text : List ℕ} {params : Row} {test : K → Bool} (s : Selection d q text params test) where
+  abbrev scan : (tree : ℕ) → IsScan (query_on q.shown q.by s.filter tree) tree
+  scan = scan_of (outputs_of q.shown) (take q.by q.shown) s.filter
+
+  -- that part of the entries of these keys, in order
   pub selects : (IsTrue old.is_open → IsReady old) → (IsTrue old.is_open → d.IsOwn old.now) → (r : Result (Vec T Global) Failure) → Selects ShowsItem old new text params r → IfOk r (λ all. AllAdjacentBelow (λ x y. true ≡ is_lt (d.order (item x).0 (item y).0)) all.items (length all.items))
-      → IfOk r (λ all. IsUnchanged old new × (map item all.items ≡ finite.entries (finite.retain_keys (d.of (contents_of old.now)) test)))
+      → IfOk r (λ all. IsUnchanged old new × (map item all.items ≡ map (made d.order p.of) (finite.entries (finite.retain_keys (d.of (contents_of old.now)) test))))
   selects ready own (Err f) got up = tt
   selects ready own (Ok all) got up =
       let is_open = got.1.1.1.0.was_open in
-      let here = d.within old.now (ready is_open).ours (own is_open) in
-      subst (λ m. IsUnchanged old new × (map item all.items ≡ finite.entries (finite.retain_keys m test))) (sym (d.held old.now here))
-      (reads_part d.name d.columns d.key d.total d.same d.kind d.entry old new (λ _. d.stands old.now.schema here) ready text params (names_on q.shown) (query_on q.shown q.by s.filter) (scan_of (outputs_of q.shown) (take q.by q.shown) s.filter) test
-      (λ tree row is. s.said row is) ShowsItem item (q.fits params s.filter) s.is (Ok all) got up)
+      let ours = (ready is_open).ours in
+      let here = d.within old.now ours (own is_open) in
+      let it = reads_part d.name d.columns d.key d.total d.same p.has (λ r. made d.order p.of (d.entry r)) old new (λ _. d.stands old.now.schema here) ready text params (names_on q.shown) (query_on q.shown q.by s.filter) scan test (λ tree r has. s.said r has) ShowsItem item (q.fits params s.filter) s.is (Ok all) got up in
+      let typed = (d.kept old.now ours (own is_open)).typed in (
+        it.0,
+        it.1 ∙ part_made d.order p.of d.kind p.has d.entry d.total d.same test (rows_named old.now d.name) (λ r there. (typed r there, p.enough r (typed r there)))
+            ∙ ap (λ m. map (made d.order p.of) (finite.entries (finite.retain_keys m test))) (sym (d.held old.now here)),
+      )
 
   -- why they aren't read
   pub selects_not : (IsTrue old.is_open → d.IsIn old.now.schema) → (e : Error) → FailsToQuery text params old new e → FailsWith old new ⊥ (IsSome old.step_limit) (failure_of e)
-  selects_not here = standing_read_fails d.name d.columns d.key old new (λ up. d.stands old.now.schema (here up)) text params (names_on q.shown) (query_on q.shown q.by s.filter) (scan_of (outputs_of q.shown) (take q.by q.shown) s.filter) s.is s.reads s.accepts
+  selects_not here = standing_read_fails d.name d.columns d.key old new (λ up. d.stands old.now.schema (here up)) text params (names_on q.shown) (query_on q.shown q.by s.filter) scan s.is s.reads s.accepts
 
   -- what is shown can be read, and rises
   pub never_amiss : (IsTrue old.is_open → IsReady old) → (IsTrue old.is_open → d.IsOwn old.now) → (rows : List Row) → HasBegunWith text params old new rows → ¬ IsAmiss IsLegible ShowsItem (λ x y. is_lt (d.order (item x).0 (item y).0)) rows
   never_amiss ready own rows begun =
       let mine = own begun.1.0.was_open in
-      shown_well d.name d.columns d.key d.same d.kind (λ r. (d.entry r).0) (length d.columns) old new ready (λ _. d.stands old.now.schema (d.within old.now (ready begun.1.0.was_open).ours mine)) (λ ours. d.kept old.now ours mine) text params (names_on q.shown) (query_on q.shown q.by s.filter) (scan_of (outputs_of q.shown) (take q.by q.shown) s.filter) s.is (q.orders params s.filter)
+      shown_well d.name d.columns d.key d.same d.kind (λ r. (d.entry r).0) (length d.columns) old new ready (λ _. d.stands old.now.schema (d.within old.now (ready begun.1.0.was_open).ours mine)) (λ ours. d.kept old.now ours mine) text params (names_on q.shown) (query_on q.shown q.by s.filter) scan s.is (q.orders params s.filter)
       ShowsItem (λ t. (item t).0) (λ tree row t h. ap (λ e. e.0) (q.fits params s.filter tree row t h).1) IsLegible (q.legible params s.filter) rows begun
 
-module _ {K X T : Type 0} (d : Description K X) {ShowsItem : Row → T → Type 0} {item : T → K × X} {IsLegible : Row → Type 0} (q : Reading d ShowsItem item IsLegible) (old new : State) {text : List ℕ} {params : Row} (s : Selection d q text params (λ _. true)) where
-  -- all entries, in order
-  pub selects_all : (IsTrue old.is_open → IsReady old) → (IsTrue old.is_open → d.IsOwn old.now) → (r : Result (Vec T Global) Failure) → Selects ShowsItem old new text params r → IfOk r (λ all. AllAdjacentBelow (λ x y. true ≡ is_lt (d.order (item x).0 (item y).0)) all.items (length all.items))
-      → IfOk r (λ all. IsUnchanged old new × (map item all.items ≡ finite.entries (d.of (contents_of old.now))))
-  selects_all ready own r got up = whole_map d.total d.same item r (IsUnchanged old new) (d.of (contents_of old.now)) (selects d q old new s ready own r got up)
+-- ---- in other words
+
+-- one equation for another
+pub told_as : {T Y Z : Type 0} (r : Result (Vec T Global) Failure) (P : Type 0) (f : T → Y) (g : T → Z) (a : List Y) (b : List Z) → ((ts : List T) → map f ts ≡ a → map g ts ≡ b) → IfOk r (λ all. P × (map f all.items ≡ a)) → IfOk r (λ all. P × (map g all.items ≡ b))
+told_as (Err e) P f g a b leads h = tt
+told_as (Ok all) P f g a b leads h = (h.0, leads all.items h.1)
+
+module _ {K X Y : Type 0} (d : Description K X) (m : finite.FinMap d.order X) where
+  -- where no key is left out
+  pub with_all : (of : X → Y) → map (made d.order of) (finite.entries (finite.retain_keys m (λ _. true))) ≡ map (made d.order of) (finite.entries m)
+  with_all of = ap (λ x. map (made d.order of) (finite.entries x)) (all_kept d.total d.same m)
+
+  -- the keys alone
+  pub keys_of : {T : Type 0} (of : X → Y) (item : T → K × Y) (ts : List T) → map item ts ≡ map (made d.order of) (finite.entries m) → map (λ t. (item t).0) ts ≡ finite.keys m
+  keys_of of item ts is = sym (map-map (λ (e : K × Y). e.0) item ts) ∙ ap (map (λ (e : K × Y). e.0)) is ∙ map-map (λ (e : K × Y). e.0) (made d.order of) (finite.entries m)

@@ -1,35 +1,29 @@
 -- The table of objects, described once, and what the texts of its statements mean.
-use Rattle.std.proofs.Common.{◌≡◌, ℕ, List, [], ◌∷◌, ◌++◌, inl, arith, vec_len, codes, Bool, true, ◌&&◌, Some, None, Option, Ok, Result, Err, IfOk, Vec, Global, String, map, length, refl, sym, ap, subst, ◌∙◌, IsTrue}
-use Rattle.std.specs.Prelude.{string_bytes, ◌<◌, ◌↔◌, IsSome, IsUtf8, is_some}
+use Rattle.std.proofs.Common.{◌≡◌, ℕ, List, [], ◌∷◌, ◌++◌, inl, arith, vec_len, codes, true, ◌&&◌, Some, None, Option, Vec, Global, String, map, length, refl, sym, subst, ◌∙◌}
+use Rattle.std.specs.Prelude.{◌<◌, ◌↔◌, IsSome, IsUtf8, is_some}
 use Rattle.std.specs.Option.{option_to_list}
 use Rattle.sqlite_rules.proofs.ListLemmas.{has_right}
 use Rattle.sqlite_rules.proofs.ProbeLemmas.{mapped_has}
 use Rattle.sqlite_rules.specs.Lists.{Has}
-use Rattle.std.specs.Ordering.{eq_by_cmp, is_lt}
-use Rattle.std.specs.List.{list_all, AllAdjacentBelow, AllByRecursion}
+use Rattle.std.specs.Ordering.{eq_by_cmp}
+use Rattle.std.specs.List.{list_all, AllByRecursion}
 use Rattle.std.specs.FinMap as finite
 use Rattle.sqlite_value.specs.declared.value.Value.{Value}
 use Rattle.sqlite_value.specs.declared.value.Value.TheVariants.{Null, Int, Real, Text, Blob}
 use Rattle.sqlite_value.specs.declared.keys.Collation.TheVariants.{Binary}
 use Rattle.sqlite_value.specs.Order.{Row, column, bytes}
 use Rattle.sqlite_sql.specs.Term.{Term, col, holds}
-use Rattle.sqlite_sql.specs.Query.{Query}
 use Rattle.sqlite_schema.specs.declared.command.Command.TheVariants.{Delete, Select}
 use Rattle.sqlite_resolve.specs.Lowering.{max_budget}
 use Rattle.sqlite_resolve.specs.Write.{over}
 use Rattle.sqlite_rules.specs.Edit.{next_rowid}
 use Rattle.sqlite_tied.specs.Compute.{everything}
-use Rattle.sqlite.specs.declared.error.Error.{Error}
-use Rattle.sqlite.specs.State.{State, FailsToQuery, IsUnchanged}
-use Rattle.table_statements.specs.declared.failure.Failure.{Failure}
 use Rattle.table_entries.specs.declared.objects.Object.{Object}
 use Rattle.table_forms.specs.Forms.{object}
 use Rattle.table_forms.specs.Standing.{HasTables}
-use Rattle.table_statements.specs.Contents.{Bytes, Stored, map_of, rows_named, contents_of, texts_cmp, is_text, is_blob, is_object, object_of, text_if_any, is_text_or_null}
+use Rattle.table_statements.specs.Contents.{Bytes, Stored, rows_named, texts_cmp, is_text, is_blob, is_object, object_of, text_if_any, is_text_or_null}
 use Rattle.table_statements.specs.Queries.{IsSelect}
-use Rattle.table_statements.specs.Calls.{IsReady, HasSettledTables, IsOurs}
 use Rattle.table_entries.specs.Entries.{stored_of, ShowsObject, IsStored, stored, IsObjectRow}
-use Rattle.table_statements.specs.Reading.{ShowsText}
 use Rattle.table_statements.proofs.Orders.{texts_total, texts_antisymmetric}
 use Rattle.table_statements.proofs.Truths.{cast_null, and_so, and_one, text_test}
 use Rattle.table_entries.proofs.Optional.{IsKept, given, kept_given, bound_given, read_given, option_fits}
@@ -37,14 +31,9 @@ use Rattle.table_statements.proofs.Means.{insert_means, delete_means, plain_stat
 use Rattle.table_entries.proofs.Conditions.{where_one, equals, select_context, filter_in}
 use Rattle.table_entries.proofs.Ordered.{Place, IsColumn, outputs_of, query_on, names_on, whole, selects}
 use Rattle.table_statements.proofs.Writes.{rowids_where}
-use Rattle.table_statements.proofs.Scans.{IsScan, shows}
-use Rattle.table_statements.proofs.Entries.{map-map}
 use Rattle.table_entries.proofs.ContentsLemmas.{object_set}
-use Rattle.table_statements.specs.Failures.{failure_of, FailsWith}
-use Rattle.table_statements.proofs.ReadFailures.{read_fails}
-use Rattle.table_statements.proofs.Statements.{Compiles, Selects, reads_part, whole_map}
-use Rattle.table_entries.proofs.Typed.{objects_typed, base_is}
-use Rattle.table_entries.proofs.Alike.{map_made}
+use Rattle.table_statements.proofs.Statements.{Compiles}
+use Rattle.table_entries.proofs.Typed.{base_is}
 use Rattle.table_entries.proofs.One.{one_is, none_is}
 use Rattle.sqlite.specs.Values.{bound_value}
 use Rattle.table_entries.proofs.KeyOrders.{by_text}
@@ -187,59 +176,6 @@ of_is =
 pub of : (base : List ℕ) → Selection table reading of_text (Text base ∷ []) (λ k. eq_by_cmp texts_cmp k base)
 of base = record { filter = of_one; is = of_is; said = said_one base; reads = of_read; accepts = λ s at tree known. rw (known.low, known.by_tree) refl }
 
--- ---- reading their keys alone
-
-abbrev pub key_places : List Place
-key_places = (codes "base", 0) ∷ []
-
-pub key_places_are : AllByRecursion (IsColumn object.name object.columns object.primary) key_places
-unfolding everything
-key_places_are = ((refl, (_, refl, refl, refl)), tt)
-
-abbrev pub keys_query : ℕ → Query
-keys_query = query_on key_places 1 []
-
-abbrev pub keys_text : List ℕ
-keys_text = codes "SELECT base FROM object ORDER BY base"
-
-pub keys_read : IsSelect keys_text
-unfolding everything
-keys_read = (_, _, _, _, _, refl)
-
-pub keys_is : Compiles object.name object.columns object.primary keys_text 0 (λ at tree. Select (whole keys_query tree) (names_on key_places))
-unfolding everything keys_read
-keys_is =
-    selects object.name object.columns object.primary keys_text key_places 1 key_places_are keys_read (refl, refl, refl, refl, refl, refl, refl, refl, refl, refl, refl, refl, refl, λ s. refl) ((_, _, refl, refl), tt) (((refl, refl, refl, refl), refl, refl), tt) [] (Some Binary) 99999 (refl, tt) (refl, tt)
-    (λ s at tree known. refl) (λ s at tree known. rw (known.low, known.by_tree)) refl refl
-
-abbrev has_key : Row → Bool
-has_key row = is_text (column row 1)
-
-abbrev key_in : Row → Bytes × Unit {0}
-key_in row = (bytes (column row 1), tt)
-
-abbrev key_of : String Global → Bytes × Unit {0}
-key_of key = (string_bytes key, tt)
-
-key_fits : (tree : ℕ) (r : Row) (t : String Global) → ShowsText (shows (keys_query tree) [] r) t → (has_key r ≡ true) × (key_in r ≡ key_of t)
-key_fits tree r t h = (λ i. is_text (h i), λ i. (bytes (h i), tt))
-
--- the paths of all rows are those of the objects
-module _ (old : State) (ours : IsOurs old.now) where
-  paths : finite.entries (map_of texts_cmp has_key key_in (rows_named old.now object.name)) ≡ map (λ e. (e.0, tt)) (finite.entries (contents_of old.now).objects)
-  paths = map_made texts_cmp (λ (x : Stored). tt) is_object object_of has_key key_in texts_total (rows_named old.now object.name) (λ r there.
-      let kind = objects_typed old.now ours.sound ours.has.1.0 r there in (kind, (and_so _ _ (and_so _ _ (and_so _ _ (and_so _ _ kind).0).0).0).0, refl))
-
-pub reads_keys : (old new : State) (r : Result (Vec (String Global) Global) Failure) → (IsTrue old.is_open → IsReady old) → Selects ShowsText old new keys_text [] r → IfOk r (λ all. AllAdjacentBelow (λ x y. true ≡ is_lt (texts_cmp (string_bytes x) (string_bytes y))) all.items (length all.items))
-    → IfOk r (λ all. IsUnchanged old new × (map string_bytes all.items ≡ finite.keys (contents_of old.now).objects))
-reads_keys old new (Err e) ready selects up = tt
-reads_keys old new (Ok all) ready selects up =
-    let got = whole_map texts_total texts_antisymmetric key_of (Ok all) (IsUnchanged old new) (map_of texts_cmp has_key key_in (rows_named old.now object.name))
-    (reads_part object.name object.columns object.primary texts_total texts_antisymmetric has_key key_in old new (λ has. has.1.0) ready keys_text [] (codes "base" ∷ []) keys_query (λ tree. record { from = refl; group = refl; distinct = refl; whole = λ params rows. refl }) (λ _. true) (λ tree r kind. refl) ShowsText key_of key_fits keys_is (Ok all) selects up) in
-    let ours = (ready got.0.0.was_open).ours in
-    let same : map key_of all.items ≡ map (λ e. (e.0, tt)) (finite.entries (contents_of old.now).objects) = got.1 ∙ paths old ours in
-    (got.0, sym (map-map (λ (e : Bytes × Unit {0}). e.0) key_of all.items) ∙ ap (map (λ (e : Bytes × Unit {0}). e.0)) same ∙ map-map (λ (e : Bytes × Unit {0}). e.0) (λ (e : Bytes × Stored). (e.0, tt)) (finite.entries (contents_of old.now).objects))
-
 -- ---- the one of a path
 
 none_of : (objects : finite.FinMap texts_cmp Stored) (base : Bytes) (all : List Object) → map stored_of all ≡ finite.entries (finite.retain_keys objects (λ k. eq_by_cmp texts_cmp k base)) → (0 < length all → ⊥) → finite.get objects base ≡ None
@@ -253,12 +189,3 @@ last_is objects base all rest (Some x) read is some =
     let there : Has all.items x = subst (λ l. Has l x) (sym is) (has_right rest (x ∷ []) x (inl refl)) in
     one_is texts_total texts_antisymmetric objects base (stored_of x).0 (stored_of x).1 (subst (λ l. Has l (stored_of x)) read (mapped_has stored_of all.items x there))
 last_is objects base all rest None read is some = none_of objects base all.items read (λ more. absurd (let e = some.1 (omega (arith, all.ok.0, more)) in cc))
-
--- ---- why they aren't read
-
-pub keys_scan : (tree : ℕ) → IsScan (keys_query tree) tree
-keys_scan tree = record { from = refl; group = refl; distinct = refl; whole = λ params rows. refl }
-
-pub fails_keys : (old new : State) → HasSettledTables old → (e : Error) → FailsToQuery keys_text [] old new e → FailsWith old new ⊥ (IsSome old.step_limit) (failure_of e)
-unfolding everything
-fails_keys old new rests = read_fails object.name object.columns object.primary old new rests (λ has. has.1.0) keys_text [] (codes "base" ∷ []) keys_query keys_scan keys_is keys_read (λ s at tree known. rw (known.low, known.by_tree) refl)

@@ -15,7 +15,7 @@ use Rattle.table_statements.proofs.Scans.{IsScan}
 use Rattle.table_statements.proofs.Statements.{Compiles}
 use Rattle.table_statements.proofs.ReadFailures.{standing_read_fails}
 use Rattle.table_entries.proofs.Ordered.{outputs_of, query_on, names_on, scan_of}
-use Rattle.table_entries.proofs.Description.{Description, Reading, Selection}
+use Rattle.table_entries.proofs.Description.{Description, Part, PartReading, Selection}
 
 -- an error of a query of this text is one of the disk, or of a limit on steps
 abbrev pub QueryFails : List ℕ → State → State → Type 0
@@ -28,8 +28,8 @@ pub record Asks (name : List ℕ) (columns : List Column) (key : List ℕ) (text
   pub reads : IsSelect text
   pub fails : (old new : State) → (IsTrue old.is_open → Stands old.now.schema (strict name columns key)) → QueryFails text old new
 
--- as the read of all its entries asks
-pub asks_all : {K X T : Type 0} (d : Description K X) {ShowsItem : Row → T → Type 0} {item : T → K × X} {IsLegible : Row → Type 0} (q : Reading d ShowsItem item IsLegible) {text : List ℕ} {test : K → Bool} (s : Selection d q text [] test)
+-- as the read of all its entries asks, or of a part of each
+pub asks_all : {K X Y T : Type 0} (d : Description K X) {p : Part d Y} {ShowsItem : Row → T → Type 0} {item : T → K × Y} {IsLegible : Row → Type 0} (q : PartReading d p ShowsItem item IsLegible) {text : List ℕ} {test : K → Bool} (s : Selection d q text [] test)
     → Compiles d.name d.columns d.key text 0 (λ at tree. Select (record { lets = []; body = query_on q.shown q.by [] tree }) (names_on q.shown)) → Asks d.name d.columns d.key text (names_on q.shown) (query_on q.shown q.by [])
 asks_all d q {text} s is = record {
   scan = scan_of (outputs_of q.shown) (take q.by q.shown) [];

@@ -4,9 +4,9 @@ use Rattle.sqlite_value.specs.Order.{Row, column}
 use Rattle.table_forms.specs.Forms.{meta, object, refs, outs, permanent, user_root, profile, generation, runtime, piece, temp_root}
 use Rattle.table_statements.specs.Texts.{IsReadable, IsReadableRow}
 use Rattle.table_statements.proofs.Truths.{and_so}
-use Rattle.table_statements.proofs.ReadFailures.{standing_read_fails}
 use Rattle.table_entries.proofs.SettingLemmas as settings
-use Rattle.table_entries.proofs.ListingLemmas as objects
+use Rattle.table_entries.proofs.ObjectLemmas as objects
+use Rattle.table_entries.proofs.ListingLemmas as listing
 use Rattle.table_entries.proofs.ReferenceLemmas as references
 use Rattle.table_entries.proofs.OutputLemmas as outputs
 use Rattle.table_entries.proofs.PermanentRootLemmas as permanent_roots
@@ -14,16 +14,16 @@ use Rattle.table_entries.proofs.UserRootLemmas as user_roots
 use Rattle.table_entries.proofs.ProfileLemmas as profiles
 use Rattle.table_entries.proofs.GenerationLemmas as generations
 use Rattle.table_entries.proofs.RuntimeRootLemmas as runtime_roots
-use Rattle.table_entries.proofs.PieceKeyLemmas as pieces
+use Rattle.table_entries.proofs.PieceLemmas as pieces
+use Rattle.table_entries.proofs.PieceKeyLemmas as piece_keys
 use Rattle.table_entries.proofs.TempRootLemmas as temp_roots
 use Rattle.table_entries.proofs.Typed.{objects_typed, pieces_typed}
 use Rattle.table_entries.proofs.ReadableValues.{blob_readable}
-use Rattle.sqlite_tied.specs.Compute.{everything}
 use Rattle.table_forms.specs.declared.our_table.OurTable.{OurTable}
 use Rattle.table_forms.specs.declared.our_table.OurTable.TheVariants.{Meta, Object, Refs, Outs, Permanent, UserRoot, Profile, Generation, Runtime, Piece, TempRoot}
 use Rattle.table_forms.specs.OurTables.{form}
 use Rattle.table_opening.specs.Tables.{rowids_text, texts_text}
-use Rattle.table_opening.proofs.Asking.{Asks, asks_all}
+use Rattle.table_opening.proofs.Asking.{asks_all}
 use Rattle.table_opening.proofs.ReadableRows.{AreOfUtf8, all_cells}
 use Rattle.table_opening.proofs.OurRowids.{our_rowids}
 use Rattle.table_opening.proofs.Tested.{AreTests, tests_by}
@@ -43,15 +43,6 @@ shown_columns r h =
     let P = λ (at : ℕ). IsReadable (column (shown_of r) at) in
     below_more P 3 (below_more P 2 (below_more P 1 (below_more P 0 (below_none P) (h 0 (omega arith))) (h 2 (omega arith))) (h 3 (omega arith))) (h 4 (omega arith))
 
-object_texts : Asks object.name object.columns object.primary objects.all_text objects.names objects.query
-unfolding everything
-object_texts = record {
-  scan = objects.scan;
-  is = objects.all_is;
-  reads = objects.all_read;
-  fails = λ old new stands. standing_read_fails object.name object.columns object.primary old new stands objects.all_text [] objects.names objects.query objects.scan objects.all_is objects.all_read (λ s at tree known. rw (known.low, known.by_tree) refl);
-}
-
 -- ---- the pieces, whose bytes are not shown
 
 abbrev key_of : Row → Row
@@ -63,14 +54,11 @@ whole_piece r third h = let P = λ (at : ℕ). IsReadable (column r (at + 1)) in
 key_columns : (r : Row) → AreOfUtf8 3 r → IsReadableRow (key_of r)
 key_columns r h = let P = λ (at : ℕ). IsReadable (column (key_of r) at) in below_more P 1 (below_more P 0 (below_none P) (h 0 (omega arith))) (h 1 (omega arith))
 
-piece_texts : Asks piece.name piece.columns piece.primary pieces.keys_text pieces.names pieces.keys_query
-piece_texts = record { scan = pieces.scan; is = pieces.keys_is; reads = pieces.keys_read; fails = pieces.standing_fails_keys }
-
 -- ---- each table
 
 pub tests_of : (t : OurTable) → AreTests (form t) (rowids_text t) (texts_text t)
 tests_of Meta = tests_by meta.name meta.columns meta.primary _ (our_rowids Meta) (asks_all settings.table settings.reading settings.all settings.all_is) (λ tree. refl) (λ db sound stands tree r there. all_cells 2 r)
-tests_of Object = tests_by object.name object.columns object.primary _ (our_rowids Object) object_texts (λ tree. refl)
+tests_of Object = tests_by object.name object.columns object.primary _ (our_rowids Object) (asks_all objects.table listing.listing listing.all listing.all_is) (λ tree. refl)
     (λ db sound stands tree r there. (all_columns r (blob_readable (column r 2) (and_so _ _ (and_so _ _ (and_so _ _ (and_so _ _ (objects_typed db sound stands r there)).0).0).0).1), shown_columns r))
 tests_of Refs = tests_by refs.name refs.columns refs.primary _ (our_rowids Refs) (asks_all references.table references.reading references.all references.all_is) (λ tree. refl) (λ db sound stands tree r there. all_cells 2 r)
 tests_of Outs = tests_by outs.name outs.columns outs.primary _ (our_rowids Outs) (asks_all outputs.table outputs.reading outputs.all outputs.all_is) (λ tree. refl) (λ db sound stands tree r there. all_cells 3 r)
@@ -79,6 +67,6 @@ tests_of UserRoot = tests_by user_root.name user_root.columns user_root.primary 
 tests_of Profile = tests_by profile.name profile.columns profile.primary _ (our_rowids Profile) (asks_all profiles.table profiles.reading profiles.all profiles.all_is) (λ tree. refl) (λ db sound stands tree r there. all_cells 3 r)
 tests_of Generation = tests_by generation.name generation.columns generation.primary _ (our_rowids Generation) (asks_all generations.table generations.reading generations.all generations.all_is) (λ tree. refl) (λ db sound stands tree r there. all_cells 4 r)
 tests_of Runtime = tests_by runtime.name runtime.columns runtime.primary _ (our_rowids Runtime) (asks_all runtime_roots.table runtime_roots.reading runtime_roots.all runtime_roots.all_is) (λ tree. refl) (λ db sound stands tree r there. all_cells 2 r)
-tests_of Piece = tests_by piece.name piece.columns piece.primary _ (our_rowids Piece) piece_texts (λ tree. refl)
+tests_of Piece = tests_by piece.name piece.columns piece.primary _ (our_rowids Piece) (asks_all pieces.table piece_keys.reading piece_keys.keys piece_keys.keys_is) (λ tree. refl)
     (λ db sound stands tree r there. (whole_piece r (blob_readable (column r 3) (and_so _ _ (pieces_typed db sound stands r there)).1), key_columns r))
 tests_of TempRoot = tests_by temp_root.name temp_root.columns temp_root.primary _ (our_rowids TempRoot) (asks_all temp_roots.table temp_roots.reading temp_roots.all temp_roots.all_is) (λ tree. refl) (λ db sound stands tree r there. all_cells 3 r)

@@ -1,12 +1,12 @@
-use Rattle.table_entries.proofs.SettingLemmas.{table, reading, of_read, of}
+use Rattle.table_entries.proofs.SettingLemmas.{of_read, of}
 use Rattle.rows.proofs.Clauses.{reads, fails_to_read, shows_same, still_ready}
 use Rattle.rows.proofs.meta.of.Goals as goal
 
 pub returns-clause-reads : goal.returns-clause-reads
-returns-clause-reads g c clean = reads table reading (of c.args.word.now) c.select.ensures.survives c.requires.ready (λ early up. tt) clean c.select.result (rw c.params-to_sql.ensures at (c.select.ensures.shown clean)) (c.select.ensures.rises clean)
+returns-clause-reads g c clean = reads (of c.args.word.now) c.select.ensures.survives c.requires.ready (λ early up. tt) clean c.select.result (rw c.params-to_sql.ensures at (c.select.ensures.shown clean)) (c.select.ensures.rises clean)
 
 pub returns-clause-cause : goal.returns-clause-cause
-returns-clause-cause g c clean = fails_to_read table reading (of c.args.word.now) c.select.ensures.survives c.requires.ready (λ early up. tt) clean c.select.result (rw c.params-to_sql.ensures at (c.select.ensures.cause clean))
+returns-clause-cause g c clean = fails_to_read (of c.args.word.now) c.select.ensures.survives c.requires.ready (λ early up. tt) clean c.select.result (rw c.params-to_sql.ensures at (c.select.ensures.cause clean))
 
 pub select-requires : goal.select-requires
 select-requires g c = of_read

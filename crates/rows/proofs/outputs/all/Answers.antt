@@ -1,12 +1,12 @@
-use Rattle.table_entries.proofs.OutputLemmas.{table, reading, all_read, all}
+use Rattle.table_entries.proofs.OutputLemmas.{all_read, all}
 use Rattle.rows.proofs.Clauses.{reads_all, fails_to_read, shows_same, still_ready}
 use Rattle.rows.proofs.outputs.all.Goals as goal
 
 pub returns-clause-reads : goal.returns-clause-reads
-returns-clause-reads g c clean = reads_all table reading all c.select.ensures.survives c.requires.ready (λ early up. tt) clean c.select.result (c.select.ensures.shown clean) (c.select.ensures.rises clean)
+returns-clause-reads g c clean = reads_all all c.select.ensures.survives c.requires.ready (λ early up. tt) clean c.select.result (c.select.ensures.shown clean) (c.select.ensures.rises clean)
 
 pub returns-clause-cause : goal.returns-clause-cause
-returns-clause-cause g c clean = fails_to_read table reading all c.select.ensures.survives c.requires.ready (λ early up. tt) clean c.select.result (c.select.ensures.cause clean)
+returns-clause-cause g c clean = fails_to_read all c.select.ensures.survives c.requires.ready (λ early up. tt) clean c.select.result (c.select.ensures.cause clean)
 
 pub select-requires : goal.select-requires
 select-requires g c = all_read

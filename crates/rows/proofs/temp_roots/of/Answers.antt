@@ -1,14 +1,14 @@
 use Rattle.std.proofs.Common.{pos}
 use Rattle.table_forms.specs.Forms.{temp_root}
-use Rattle.table_entries.proofs.TempRootLemmas.{table, reading, of_read, of}
+use Rattle.table_entries.proofs.TempRootLemmas.{of_read, of}
 use Rattle.rows.proofs.Clauses.{reads, fails_to_read, shows_same, still_ready, still_stands}
 use Rattle.rows.proofs.temp_roots.of.Goals as goal
 
 pub returns-clause-reads : goal.returns-clause-reads
-returns-clause-reads g c clean = reads table reading (of c.args.owner.now (pos c.args.session)) c.select.ensures.survives c.requires.ready c.requires.stands clean c.select.result (rw (c.params-to_sql.ensures, c.params-to_sql-2.ensures) at (c.select.ensures.shown clean)) (c.select.ensures.rises clean)
+returns-clause-reads g c clean = reads (of c.args.owner.now (pos c.args.session)) c.select.ensures.survives c.requires.ready c.requires.stands clean c.select.result (rw (c.params-to_sql.ensures, c.params-to_sql-2.ensures) at (c.select.ensures.shown clean)) (c.select.ensures.rises clean)
 
 pub returns-clause-cause : goal.returns-clause-cause
-returns-clause-cause g c clean = fails_to_read table reading (of c.args.owner.now (pos c.args.session)) c.select.ensures.survives c.requires.ready c.requires.stands clean c.select.result (rw (c.params-to_sql.ensures, c.params-to_sql-2.ensures) at (c.select.ensures.cause clean))
+returns-clause-cause g c clean = fails_to_read (of c.args.owner.now (pos c.args.session)) c.select.ensures.survives c.requires.ready c.requires.stands clean c.select.result (rw (c.params-to_sql.ensures, c.params-to_sql-2.ensures) at (c.select.ensures.cause clean))
 
 pub select-requires : goal.select-requires
 select-requires g c = of_read
