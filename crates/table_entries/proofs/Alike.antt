@@ -46,14 +46,16 @@ module _ {K X Y : Type 0} (R : K → K → Ordering) (f : X → Y) where
       go false later = later
 
   module _ (kind has : Row → Bool) (entry : Row → K × X) where
-    rows_made : (rows : List Row) → ((r : Row) → Has rows r → (kind r ≡ true) × (has r ≡ true)) → map (λ r. made (entry r)) (filter has rows) ≡ map made (map entry (filter kind rows))
+    rows_made : (rows : List Row) → ((r : Row) → Has rows r → has r ≡ kind r) → map (λ r. made (entry r)) (filter has rows) ≡ map made (map entry (filter kind rows))
     rows_made [] alike = refl
-    rows_made (r ∷ rows) alike =
-        let own = alike r (inl refl) in
-        rw (own.0, own.1) (ap (λ l. made (entry r) ∷ l) (rows_made rows (λ x h. alike x (inr h))))
+    rows_made (r ∷ rows) alike = rw (alike r (inl refl)) (go (kind r) (rows_made rows (λ x h. alike x (inr h))))
+      where
+        go : (b : Bool) → map (λ r. made (entry r)) (filter has rows) ≡ map made (map entry (filter kind rows)) → map (λ r. made (entry r)) (cond b (r ∷ filter has rows) (filter has rows)) ≡ map made (map entry (cond b (r ∷ filter kind rows) (filter kind rows)))
+        go true later = ap (λ l. made (entry r) ∷ l) later
+        go false later = later
 
     -- the same of the rows of a part of the keys
-    pub part_made : IsTotalOrder R → finite.IsAntisymmetric R → (test : K → Bool) (rows : List Row) → ((r : Row) → Has rows r → (kind r ≡ true) × (has r ≡ true))
+    pub part_made : IsTotalOrder R → finite.IsAntisymmetric R → (test : K → Bool) (rows : List Row) → ((r : Row) → Has rows r → has r ≡ kind r)
         → finite.entries (finite.retain_keys (map_of R has (λ r. made (entry r)) rows) test) ≡ map made (finite.entries (finite.retain_keys (map_of R kind entry rows) test))
     unfolding map_of
     part_made o same test rows alike =

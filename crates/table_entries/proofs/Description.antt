@@ -20,6 +20,7 @@ use Rattle.sqlite_schema.specs.declared.command.Command.TheVariants.{Insert, Del
 use Rattle.sqlite_schema.specs.Rules.{are_typed, are_present}
 use Rattle.sqlite_typing.specs.Types.{accepts_terms, accepts_program}
 use Rattle.sqlite_rules.specs.Cast.{cast_row}
+use Rattle.sqlite_rules.specs.Lists.{Has}
 use Rattle.sqlite_rules.specs.Edit.{Edit, edit_of, edited, Applies, numbered, next_rowid, is_taken}
 use Rattle.sqlite_rules.specs.declared.error.Rowids.TheVariants.{Chosen}
 use Rattle.sqlite.specs.Rows.{stamped}
@@ -195,15 +196,19 @@ module _ {K X : Type 0} (d : Description K X) (old new : State) (under : IsUnder
 
 -- ---- reading
 
--- a part of what an entry holds beside its key, and which rows have what it is made of
+-- a part of what an entry holds beside its key, and which rows have what it is made of, as each row of the table has
 pub record Part {K X : Type 0} (d : Description K X) (Y : Type 0) : Type 0 where
   pub of : X → Y
   pub has : Row → Bool
-  pub enough : (r : Row) → d.kind r ≡ true → has r ≡ true
+  pub alike : (db : Database) → IsOurs db → d.IsOwn db → (r : Row) → Has (rows_named db d.name) r → has r ≡ d.kind r
 
 -- all of it
 abbrev pub entire : {K X : Type 0} → (d : Description K X) → Part d X
-entire d = record { of = λ x. x; has = d.kind; enough = λ r kind. kind }
+entire d = record { of = λ x. x; has = d.kind; alike = λ db ours mine r there. refl }
+
+-- one that a row of the table's kind has, since each row of the table is of that kind
+abbrev pub part : {K X Y : Type 0} → (d : Description K X) → (X → Y) → (has : Row → Bool) → ((r : Row) → d.kind r ≡ true → has r ≡ true) → Part d Y
+part d of has enough = record { of = of; has = has; alike = λ db ours mine r there. enough r ((d.kept db ours mine).typed r there) ∙ sym ((d.kept db ours mine).typed r there) }
 
 -- how a query shows the key and a part of an entry, by which columns and in the order of how many of them, and which of its rows can be read as one
 pub record PartReading {K X Y T : Type 0} (d : Description K X) (p : Part d Y) (ShowsItem : Row → T → Type 0) (item : T → K × Y) (IsLegible : Row → Type 0) : Type 0 where
@@ -238,12 +243,11 @@ module _ {K X Y T : Type 0} (d : Description K X) {p : Part d Y} {ShowsItem : Ro
       let is_open = got.1.1.1.0.was_open in
       let ours = (ready is_open).ours in
       let here = d.within old.now ours (own is_open) in
-      let it = reads_part d.name d.columns d.key d.total d.same p.has (λ r. made d.order p.of (d.entry r)) old new (λ _. d.stands old.now.schema here) ready text params (names_on q.shown) (query_on q.shown q.by s.filter) scan test (λ tree r has. s.said r has) ShowsItem item (q.fits params s.filter) s.is (Ok all) got up in
-      let typed = (d.kept old.now ours (own is_open)).typed in (
-        it.0,
-        it.1 ∙ part_made d.order p.of d.kind p.has d.entry d.total d.same test (rows_named old.now d.name) (λ r there. (typed r there, p.enough r (typed r there)))
-            ∙ ap (λ m. map (made d.order p.of) (finite.entries (finite.retain_keys m test))) (sym (d.held old.now here)),
-      )
+      let read =
+      reads_part d.name d.columns d.key d.total d.same p.has (λ r. made d.order p.of (d.entry r)) old new (λ _. d.stands old.now.schema here) ready text params (names_on q.shown)
+      (query_on q.shown q.by s.filter) scan test (λ tree r has. s.said r has) ShowsItem item (q.fits params s.filter) s.is (Ok all) got up in
+      let of_rows = part_made d.order p.of d.kind p.has d.entry d.total d.same test (rows_named old.now d.name) (p.alike old.now ours (own is_open)) in
+      (read.0, read.1 ∙ of_rows ∙ ap (λ m. map (made d.order p.of) (finite.entries (finite.retain_keys m test))) (sym (d.held old.now here)))
 
   -- why they aren't read
   pub selects_not : (IsTrue old.is_open → d.IsIn old.now.schema) → (e : Error) → FailsToQuery text params old new e → FailsWith old new ⊥ (IsSome old.step_limit) (failure_of e)

@@ -3,7 +3,7 @@ use Rattle.std.proofs.Common.{◌≡◌, ℕ, List, [], ◌∷◌, codes, Bool, 
 use Rattle.std.specs.Prelude.{string_bytes}
 use Rattle.std.specs.List.{AllByRecursion}
 use Rattle.sqlite_value.specs.declared.keys.Collation.TheVariants.{Binary}
-use Rattle.sqlite_value.specs.Order.{Row, column, bytes}
+use Rattle.sqlite_value.specs.Order.{column, bytes}
 use Rattle.sqlite_schema.specs.declared.command.Command.TheVariants.{Select}
 use Rattle.sqlite_tied.specs.Compute.{everything}
 use Rattle.table_forms.specs.Forms.{object}
@@ -13,7 +13,7 @@ use Rattle.table_statements.specs.Reading.{ShowsText, IsTextRow}
 use Rattle.table_entries.specs.Entries.{listed_of, ShowsListed, IsListedRow}
 use Rattle.table_statements.proofs.Statements.{Compiles}
 use Rattle.table_statements.proofs.Truths.{and_so}
-use Rattle.table_entries.proofs.Description.{Part, PartReading, Selection}
+use Rattle.table_entries.proofs.Description.{Part, part, PartReading, Selection}
 use Rattle.table_entries.proofs.KeyOrders.{by_text}
 use Rattle.table_entries.proofs.Legible.{listed_row, path_row}
 use Rattle.table_entries.proofs.ObjectLemmas.{table}
@@ -30,9 +30,6 @@ pub places_are : AllByRecursion (IsColumn object.name object.columns object.prim
 unfolding everything
 places_are = ((refl, (_, refl, refl, refl)), ((refl, (_, refl, refl, refl)), ((refl, (_, refl, refl, refl)), ((refl, (_, refl, refl, refl)), tt))))
 
-abbrev is_listed : Row → Bool
-is_listed row = is_text (column row 1) && is_blob (column row 3) && is_text_or_null (column row 4) && is_text_or_null (column row 5)
-
 pub all_but_second : (a b c d e : Bool) → (a && b && c && d && e) ≡ true → (a && c && d && e) ≡ true
 all_but_second a b c d e h =
     let four = and_so (a && b && c && d) e h in
@@ -43,11 +40,9 @@ all_but_second a b c d e h =
 
 -- what is known of an object without its archive
 abbrev pub description : Part table Described
-description = record {
-  of = λ o. record { hash = o.hash; deriver = o.deriver; ca = o.ca };
-  has = is_listed;
-  enough = λ r kind. all_but_second (is_text (column r 1)) (is_blob (column r 2)) (is_blob (column r 3)) (is_text_or_null (column r 4)) (is_text_or_null (column r 5)) kind;
-}
+description =
+    part table (λ o. record { hash = o.hash; deriver = o.deriver; ca = o.ca }) (λ r. is_text (column r 1) && is_blob (column r 3) && is_text_or_null (column r 4) && is_text_or_null (column r 5))
+    (λ r kind. all_but_second (is_text (column r 1)) (is_blob (column r 2)) (is_blob (column r 3)) (is_text_or_null (column r 4)) (is_text_or_null (column r 5)) kind)
 
 abbrev pub listing : PartReading table description ShowsListed listed_of IsListedRow
 listing = record {
@@ -84,7 +79,7 @@ unfolding everything
 key_places_are = ((refl, (_, refl, refl, refl)), tt)
 
 abbrev pub nothing : Part table (Unit {0})
-nothing = record { of = λ o. tt; has = λ r. is_text (column r 1); enough = base_is }
+nothing = part table (λ o. tt) (λ r. is_text (column r 1)) base_is
 
 abbrev pub keys_reading : PartReading table nothing ShowsText (λ s. (string_bytes s, tt)) IsTextRow
 keys_reading = record {

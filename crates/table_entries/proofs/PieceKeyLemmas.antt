@@ -13,7 +13,7 @@ use Rattle.table_statements.specs.Queries.{IsSelect}
 use Rattle.table_entries.specs.Entries.{numbered_in, ShowsPieceKey, IsPieceKeyRow}
 use Rattle.table_statements.proofs.Statements.{Compiles}
 use Rattle.table_statements.proofs.Truths.{and_so}
-use Rattle.table_entries.proofs.Description.{Part, PartReading, Selection}
+use Rattle.table_entries.proofs.Description.{Part, part, PartReading, Selection}
 use Rattle.table_entries.proofs.KeyOrders.{by_numbered}
 use Rattle.table_entries.proofs.Legible.{piece_key_row}
 use Rattle.table_entries.proofs.Ordered.{Place, IsColumn, query_on, names_on, whole, selects}
@@ -27,7 +27,7 @@ unfolding everything
 places_are = ((refl, (_, refl, refl, refl)), ((refl, (_, refl, refl, refl)), tt))
 
 abbrev pub nothing : Part table (Unit {0})
-nothing = record { of = λ x. tt; has = λ r. is_text (column r 1) && is_int (column r 2); enough = λ r kind. (and_so _ _ kind).0 }
+nothing = part table (λ x. tt) (λ r. is_text (column r 1) && is_int (column r 2)) (λ r kind. (and_so _ _ kind).0)
 
 abbrev pub reading : PartReading table nothing ShowsPieceKey (λ e. (numbered_in e, tt)) IsPieceKeyRow
 reading = record {
