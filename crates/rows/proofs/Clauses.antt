@@ -1,5 +1,5 @@
 -- What a call on a described table promises, by what its one statement gave. The disk is clean after the call, and so it was before.
-use Rattle.std.proofs.Common.{◌≡◌, ℕ, ◌+◌, List, Bool, IsTrue, true, ◌⊎◌, Ok, Err, Result, IfOk, Vec, Global, map, length, None, arith, not, sym, subst, ◌∙◌}
+use Rattle.std.proofs.Common.{◌≡◌, ℕ, List, Bool, IsTrue, true, ◌⊎◌, Ok, Result, IfOk, Vec, Global, map, length, None, arith, not, sym, subst, ◌∙◌}
 use Rattle.std.specs.Prelude.{IfErr, OnOk, IsSome}
 use Rattle.std.specs.Ordering.{is_lt}
 use Rattle.std.specs.FinMap as finite

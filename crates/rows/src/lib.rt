@@ -9,6 +9,7 @@ pub mod outputs;
 pub mod permanent;
 pub mod pieces;
 pub mod profiles;
+mod reading;
 pub mod references;
 pub mod runtime;
 pub mod temp_roots;

@@ -13,11 +13,12 @@ ghost use Rattle.table_statements.specs.Contents.{texts_cmp, contents_of, withou
 ghost use Rattle.table_entries.specs.Entries.{text_or_null, stored_of, listed_of, IsStored, stored};
 
 pub use crate::getting_within::get_within;
+use crate::reading;
 use sqlite::{Alter, Connection, Transaction, params};
 use std::alloc::Global;
 pub use table_entries::objects::{Listed, Object};
 use table_statements::failure::Failure;
-use table_statements::{reading, statement};
+use table_statements::statement;
 
 /// All objects without their archives, in the order of their bases.
 pub fn all<S: Alter>(alloc: Global, conn: &mut Connection<S>) -> Result<Vec<Listed>, Failure>

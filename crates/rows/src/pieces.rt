@@ -12,11 +12,12 @@ ghost use Rattle.table_statements.specs.Calls.{IsUnderWay, Changes, IsReady, Kee
 ghost use Rattle.table_statements.specs.Contents.{texts_cmp, contents_of};
 ghost use Rattle.table_entries.specs.Entries.{piece_in, numbered_in};
 
+use crate::reading;
 use sqlite::{Alter, Connection, Transaction, params};
 use std::alloc::Global;
 pub use table_entries::pieces::{Piece, PieceKey};
 use table_statements::failure::Failure;
-use table_statements::{reading, statement};
+use table_statements::statement;
 
 /// Which pieces there are, in the order of their bases and then of their numbers. It copies no bytes of theirs.
 pub fn keys<S: Alter>(alloc: Global, conn: &mut Connection<S>) -> Result<Vec<PieceKey>, Failure>

@@ -12,11 +12,12 @@ ghost use Rattle.table_statements.specs.Calls.{IsUnderWay, Changes, IsReady, Kee
 ghost use Rattle.table_statements.specs.Contents.{texts_cmp, contents_of};
 ghost use Rattle.table_entries.specs.Entries.{runtime_of};
 
+use crate::reading;
 use sqlite::{Alter, Connection, Transaction, params};
 use std::alloc::Global;
 pub use table_entries::runtime::RuntimeRoot;
 use table_statements::failure::Failure;
-use table_statements::{reading, statement};
+use table_statements::statement;
 
 /// All runtime roots, in order.
 pub fn all<S: Alter>(alloc: Global, conn: &mut Connection<S>) -> Result<Vec<RuntimeRoot>, Failure>

@@ -1,6 +1,5 @@
-use Rattle.table_forms.specs.Forms.{piece}
 use Rattle.table_entries.proofs.PieceLemmas.{all_read, all}
-use Rattle.rows.proofs.Clauses.{reads_all, fails_to_read, shows_same, still_ready, still_stands}
+use Rattle.rows.proofs.Clauses.{reads_all, fails_to_read}
 use Rattle.rows.proofs.pieces.all.Goals as goal
 
 pub returns-clause-reads : goal.returns-clause-reads
@@ -9,14 +8,5 @@ returns-clause-reads g c clean = reads_all all c.select.ensures.survives c.requi
 pub returns-clause-cause : goal.returns-clause-cause
 returns-clause-cause g c clean = fails_to_read all c.select.ensures.survives c.requires.ready c.requires.stands clean c.select.result (c.select.ensures.cause clean)
 
-pub select-requires : goal.select-requires
-select-requires g c = all_read
-
-pub returns-clause-same : goal.returns-clause-same
-returns-clause-same g c = shows_same c.select.ensures.survives c.requires.ready c.select.ensures.same
-
-pub returns-clause-ready : goal.returns-clause-ready
-returns-clause-ready g c = still_ready c.select.ensures.survives c.requires.ready c.select.ensures.same
-
-pub returns-clause-stands : goal.returns-clause-stands
-returns-clause-stands g c clean = still_stands c.select.ensures.survives c.requires.ready c.select.ensures.same clean piece c.requires.stands
+pub select-requires-clause-reads : goal.select-requires-clause-reads
+select-requires-clause-reads g c = all_read

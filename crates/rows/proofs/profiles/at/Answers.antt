@@ -1,5 +1,5 @@
 use Rattle.table_entries.proofs.ProfileLemmas.{at_read, at}
-use Rattle.rows.proofs.Clauses.{reads, fails_to_read, shows_same, still_ready}
+use Rattle.rows.proofs.Clauses.{reads, fails_to_read}
 use Rattle.rows.proofs.profiles.at.Goals as goal
 
 pub returns-clause-reads : goal.returns-clause-reads
@@ -8,11 +8,5 @@ returns-clause-reads g c clean = reads (at c.args.owner.now c.args.name.now) c.s
 pub returns-clause-cause : goal.returns-clause-cause
 returns-clause-cause g c clean = fails_to_read (at c.args.owner.now c.args.name.now) c.select.ensures.survives c.requires.ready (λ early up. tt) clean c.select.result (rw (c.params-to_sql.ensures, c.params-to_sql-2.ensures) at (c.select.ensures.cause clean))
 
-pub select-requires : goal.select-requires
-select-requires g c = at_read
-
-pub returns-clause-same : goal.returns-clause-same
-returns-clause-same g c = shows_same c.select.ensures.survives c.requires.ready c.select.ensures.same
-
-pub returns-clause-ready : goal.returns-clause-ready
-returns-clause-ready g c = still_ready c.select.ensures.survives c.requires.ready c.select.ensures.same
+pub select-requires-clause-reads : goal.select-requires-clause-reads
+select-requires-clause-reads g c = at_read

@@ -1,7 +1,6 @@
 use Rattle.std.proofs.Common.{pos}
-use Rattle.table_forms.specs.Forms.{temp_root}
 use Rattle.table_entries.proofs.TempRootLemmas.{of_read, of}
-use Rattle.rows.proofs.Clauses.{reads, fails_to_read, shows_same, still_ready, still_stands}
+use Rattle.rows.proofs.Clauses.{reads, fails_to_read}
 use Rattle.rows.proofs.temp_roots.of.Goals as goal
 
 pub returns-clause-reads : goal.returns-clause-reads
@@ -10,14 +9,5 @@ returns-clause-reads g c clean = reads (of c.args.owner.now (pos c.args.session)
 pub returns-clause-cause : goal.returns-clause-cause
 returns-clause-cause g c clean = fails_to_read (of c.args.owner.now (pos c.args.session)) c.select.ensures.survives c.requires.ready c.requires.stands clean c.select.result (rw (c.params-to_sql.ensures, c.params-to_sql-2.ensures) at (c.select.ensures.cause clean))
 
-pub select-requires : goal.select-requires
-select-requires g c = of_read
-
-pub returns-clause-same : goal.returns-clause-same
-returns-clause-same g c = shows_same c.select.ensures.survives c.requires.ready c.select.ensures.same
-
-pub returns-clause-ready : goal.returns-clause-ready
-returns-clause-ready g c = still_ready c.select.ensures.survives c.requires.ready c.select.ensures.same
-
-pub returns-clause-stands : goal.returns-clause-stands
-returns-clause-stands g c clean = still_stands c.select.ensures.survives c.requires.ready c.select.ensures.same clean temp_root c.requires.stands
+pub select-requires-clause-reads : goal.select-requires-clause-reads
+select-requires-clause-reads g c = of_read
