@@ -28,46 +28,69 @@ use Rattle.table_entries.proofs.Description.{Description, Addition, Removal, Par
 pub early : {old new : State} → Survives old new (λ _. ⊥) → HasCleanDisk new → HasCleanDisk old
 early {old} {new} survives clean = omega (arith, survives.clean, clean)
 
+-- the connection was ready, and the table as its description asks
+abbrev pub WasReady : State → Type 0
+WasReady old = HasCleanDisk old → IsTrue old.is_open → IsReady old
+
+abbrev pub WasOwn : {K X : Type 0} → Description K X → State → Type 0
+WasOwn d old = HasCleanDisk old → IsTrue old.is_open → d.IsOwn old.now
+
 -- ---- reading
 
 -- the keys of what was read rise
 abbrev pub Rises : {K X Y T : Type 0} → Description K X → (T → K × Y) → Result (Vec T Global) Failure → Type 0
 Rises d item r = IfOk r (λ all. AllAdjacentBelow (λ x y. true ≡ is_lt (d.order (item x).0 (item y).0)) all.items (length all.items))
 
-module _ {K X Y T : Type 0} {d : Description K X} {p : Part d Y} {ShowsItem : Row → T → Type 0} {item : T → K × Y} {IsLegible : Row → Type 0} {q : PartReading d p ShowsItem item IsLegible} {old new : State} {text : List ℕ} {params : Row} where
+-- what is amiss with the rows that were shown: one can't be read, or their keys don't rise
+abbrev pub Amiss : {K X Y T : Type 0} → Description K X → (Row → T → Type 0) → (T → K × Y) → (Row → Type 0) → List Row → Type 0
+Amiss d ShowsItem item IsLegible = IsAmiss IsLegible ShowsItem (λ x y. is_lt (d.order (item x).0 (item y).0))
+
+-- why there is no answer
+abbrev pub IsReadFailure : State → State → List ℕ → Row → (List Row → Type 0) → Failure → Type 0
+IsReadFailure old new text params Bad f = IsQueryFailure text params old new f ⊎ ((rows : List Row) × HasBegunWith text params old new rows × ((f ≡ Memory) ⊎ ((f ≡ Disk) × Bad rows)))
+
+module _ {K X Y T : Type 0} {d : Description K X} {p : Part d Y} {ShowsItem : Row → T → Type 0} {item : T → K × Y} {IsLegible : Row → Type 0}
+    {q : PartReading d p ShowsItem item IsLegible} {old new : State} {text : List ℕ} {params : Row} where
   -- what a read of some of the keys, or of all, answers of the part that it shows
-  pub reads_part : {test : K → Bool} → Selection d q text params test → Survives old new (λ _. ⊥) → (HasCleanDisk old → IsTrue old.is_open → IsReady old) → (HasCleanDisk old → IsTrue old.is_open → d.IsOwn old.now) → HasCleanDisk new
-      → (r : Result (Vec T Global) Failure) → Selects ShowsItem old new text params r → Rises d item r → IfOk r (λ all. IsUnchanged old new × (map item all.items ≡ map (made d.order p.of) (finite.entries (finite.retain_keys (d.of (contents_of old.now)) test))))
+  pub reads_part : {test : K → Bool} → Selection d q text params test → Survives old new (λ _. ⊥) → WasReady old → WasOwn d old → HasCleanDisk new
+      → (r : Result (Vec T Global) Failure) → Selects ShowsItem old new text params r → Rises d item r
+      → IfOk r (λ all. IsUnchanged old new × (map item all.items ≡ map (made d.order p.of) (finite.entries (finite.retain_keys (d.of (contents_of old.now)) test))))
   reads_part s survives ready own clean = selects d q old new s (ready (early survives clean)) (own (early survives clean))
 
-  pub reads_all_parts : Selection d q text params (λ _. true) → Survives old new (λ _. ⊥) → (HasCleanDisk old → IsTrue old.is_open → IsReady old) → (HasCleanDisk old → IsTrue old.is_open → d.IsOwn old.now) → HasCleanDisk new
-      → (r : Result (Vec T Global) Failure) → Selects ShowsItem old new text params r → Rises d item r → IfOk r (λ all. IsUnchanged old new × (map item all.items ≡ map (made d.order p.of) (finite.entries (d.of (contents_of old.now)))))
+  pub reads_all_parts : Selection d q text params (λ _. true) → Survives old new (λ _. ⊥) → WasReady old → WasOwn d old → HasCleanDisk new
+      → (r : Result (Vec T Global) Failure) → Selects ShowsItem old new text params r → Rises d item r
+      → IfOk r (λ all. IsUnchanged old new × (map item all.items ≡ map (made d.order p.of) (finite.entries (d.of (contents_of old.now)))))
   reads_all_parts s survives ready own clean r got up = told_as r _ item item _ _ (λ ts is. is ∙ with_all d (d.of (contents_of old.now)) p.of) (reads_part s survives ready own clean r got up)
 
   -- of the keys alone
-  pub reads_keys : Selection d q text params (λ _. true) → Survives old new (λ _. ⊥) → (HasCleanDisk old → IsTrue old.is_open → IsReady old) → (HasCleanDisk old → IsTrue old.is_open → d.IsOwn old.now) → HasCleanDisk new
-      → (r : Result (Vec T Global) Failure) → Selects ShowsItem old new text params r → Rises d item r → IfOk r (λ all. IsUnchanged old new × (map (λ t. (item t).0) all.items ≡ finite.keys (d.of (contents_of old.now))))
-  reads_keys s survives ready own clean r got up = told_as r _ item (λ t. (item t).0) _ _ (keys_of d (d.of (contents_of old.now)) p.of item) (reads_all_parts s survives ready own clean r got up)
+  pub reads_keys : Selection d q text params (λ _. true) → Survives old new (λ _. ⊥) → WasReady old → WasOwn d old → HasCleanDisk new
+      → (r : Result (Vec T Global) Failure) → Selects ShowsItem old new text params r → Rises d item r
+      → IfOk r (λ all. IsUnchanged old new × (map (λ t. (item t).0) all.items ≡ finite.keys (d.of (contents_of old.now))))
+  reads_keys s survives ready own clean r got up =
+      told_as r _ item (λ t. (item t).0) _ _ (keys_of d (d.of (contents_of old.now)) p.of item) (reads_all_parts s survives ready own clean r got up)
 
   -- why it fails
-  pub fails_to_read : {test : K → Bool} → Selection d q text params test → Survives old new (λ _. ⊥) → (HasCleanDisk old → IsTrue old.is_open → IsReady old) → (HasCleanDisk old → IsTrue old.is_open → d.IsOwn old.now) → HasCleanDisk new
-      → (r : Result (Vec T Global) Failure) → IfErr r (λ f. IsQueryFailure text params old new f ⊎ ((rows : List Row) × HasBegunWith text params old new rows × ((f ≡ Memory) ⊎ ((f ≡ Disk) × IsAmiss IsLegible ShowsItem (λ x y. is_lt (d.order (item x).0 (item y).0)) rows)))) → IfErr r (FailsFor old new)
+  pub fails_to_read : {test : K → Bool} → Selection d q text params test → Survives old new (λ _. ⊥) → WasReady old → WasOwn d old → HasCleanDisk new
+      → (r : Result (Vec T Global) Failure) → IfErr r (IsReadFailure old new text params (Amiss d ShowsItem item IsLegible)) → IfErr r (FailsFor old new)
   fails_to_read s survives ready own clean r =
       let before = early survives clean in
       select_fails r old new text params _ (selects_not d q old new s (λ up. d.within old.now (ready before up).ours (own before up))) (never_amiss d q old new s (ready before) (own before))
 
 -- of entries as they are
-module _ {K X T : Type 0} {d : Description K X} {ShowsItem : Row → T → Type 0} {item : T → K × X} {IsLegible : Row → Type 0} {q : Reading d ShowsItem item IsLegible} {old new : State} {text : List ℕ} {params : Row} where
-  pub reads : {test : K → Bool} → Selection d q text params test → Survives old new (λ _. ⊥) → (HasCleanDisk old → IsTrue old.is_open → IsReady old) → (HasCleanDisk old → IsTrue old.is_open → d.IsOwn old.now) → HasCleanDisk new
-      → (r : Result (Vec T Global) Failure) → Selects ShowsItem old new text params r → Rises d item r → IfOk r (λ all. IsUnchanged old new × (map item all.items ≡ finite.entries (finite.retain_keys (d.of (contents_of old.now)) test)))
+module _ {K X T : Type 0} {d : Description K X} {ShowsItem : Row → T → Type 0} {item : T → K × X} {IsLegible : Row → Type 0}
+    {q : Reading d ShowsItem item IsLegible} {old new : State} {text : List ℕ} {params : Row} where
+  pub reads : {test : K → Bool} → Selection d q text params test → Survives old new (λ _. ⊥) → WasReady old → WasOwn d old → HasCleanDisk new
+      → (r : Result (Vec T Global) Failure) → Selects ShowsItem old new text params r → Rises d item r
+      → IfOk r (λ all. IsUnchanged old new × (map item all.items ≡ finite.entries (finite.retain_keys (d.of (contents_of old.now)) test)))
   reads s survives ready own clean r got up = told_as r _ item item _ _ (λ ts is. is ∙ all_made d.order _) (reads_part s survives ready own clean r got up)
 
-  pub reads_all : Selection d q text params (λ _. true) → Survives old new (λ _. ⊥) → (HasCleanDisk old → IsTrue old.is_open → IsReady old) → (HasCleanDisk old → IsTrue old.is_open → d.IsOwn old.now) → HasCleanDisk new
-      → (r : Result (Vec T Global) Failure) → Selects ShowsItem old new text params r → Rises d item r → IfOk r (λ all. IsUnchanged old new × (map item all.items ≡ finite.entries (d.of (contents_of old.now))))
+  pub reads_all : Selection d q text params (λ _. true) → Survives old new (λ _. ⊥) → WasReady old → WasOwn d old → HasCleanDisk new
+      → (r : Result (Vec T Global) Failure) → Selects ShowsItem old new text params r → Rises d item r
+      → IfOk r (λ all. IsUnchanged old new × (map item all.items ≡ finite.entries (d.of (contents_of old.now))))
   reads_all s survives ready own clean r got up = told_as r _ item item _ _ (λ ts is. is ∙ all_made d.order _) (reads_all_parts s survives ready own clean r got up)
 
 -- what a connection shows stays, so it is ready as before
-module _ {old new : State} (survives : Survives old new (λ _. ⊥)) (ready : HasCleanDisk old → IsTrue old.is_open → IsReady old) (same : HasCleanDisk new → (IsTrue old.is_open → old.now ≡ old.committed) → KeepsShown old new) (clean : HasCleanDisk new) where
+module _ {old new : State} (survives : Survives old new (λ _. ⊥)) (ready : WasReady old) (same : HasCleanDisk new → (IsTrue old.is_open → old.now ≡ old.committed) → KeepsShown old new) (clean : HasCleanDisk new) where
   pub shows_same : KeepsShown old new
   shows_same = same clean (λ up. (ready (early survives clean) up).settled)
 
@@ -79,8 +102,8 @@ module _ {old new : State} (survives : Survives old new (λ _. ⊥)) (ready : Ha
 
 -- ---- one entry more
 
-module _ {K X : Type 0} (d : Description K X) {old new : State} {text : List ℕ} {params values : Row} {k : K} {x : X} (a : Addition d text params values k x)
-    (survives : Survives old new (λ _. ⊥)) (under : HasCleanDisk old → IsUnderWay old) (own : HasCleanDisk old → IsTrue old.is_open → d.IsOwn old.now) (clean : HasCleanDisk new) where
+module _ {K X : Type 0} {d : Description K X} {old new : State} {text : List ℕ} {params values : Row} {k : K} {x : X} (a : Addition d text params values k x)
+    (survives : Survives old new (λ _. ⊥)) (under : HasCleanDisk old → IsUnderWay old) (own : WasOwn d old) (clean : HasCleanDisk new) where
   abbrev Ran : Result (Unit {0}) Failure → Type 0
   Ran r = OnOk r ((count : ℕ) × ExecutesInside 0 text params old new (Ok count))
 
@@ -95,8 +118,8 @@ module _ {K X : Type 0} (d : Description K X) {old new : State} {text : List ℕ
 
 -- ---- those of a part of the keys gone
 
-module _ {K X : Type 0} (d : Description K X) {old new : State} {text : List ℕ} {params : Row} {test : K → Bool} (r : Removal d text params test)
-    (survives : Survives old new (λ _. ⊥)) (under : HasCleanDisk old → IsUnderWay old) (own : HasCleanDisk old → IsTrue old.is_open → d.IsOwn old.now) (clean : HasCleanDisk new) where
+module _ {K X : Type 0} {d : Description K X} {old new : State} {text : List ℕ} {params : Row} {test : K → Bool} (r : Removal d text params test)
+    (survives : Survives old new (λ _. ⊥)) (under : HasCleanDisk old → IsUnderWay old) (own : WasOwn d old) (clean : HasCleanDisk new) where
   pub takes : (result : Result (Unit {0}) Failure) → OnOk result ((count : ℕ) × ExecutesInside 0 text params old new (Ok count)) → OnOk result (Changes old new (λ c. d.put c (finite.retain_keys (d.of c) (λ k. not (test k)))))
   takes result = on_ok result _ _ (λ ran. removes d old new (under (early survives clean)) (own (early survives clean)) r ran.0 ran.1)
 

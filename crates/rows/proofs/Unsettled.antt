@@ -1,9 +1,8 @@
 -- Reads inside a transaction. What a query shows of a connection is the same as if all had been committed, so what is proved of a connection that is ready holds inside a transaction too.
-use Rattle.std.proofs.Common.{◌≡◌, ◌⊎◌, inl, inr, ℕ, ◌+◌, ◌<◌, ◌∷◌, ◌++◌, ◌∙◌, take, drop, get_or, List, [], Bool, IsTrue, true, None, Ok, Err, Result, IfOk, Vec, Global, map, length, refl, sym, ap, subst, append-nil}
+use Rattle.std.proofs.Common.{◌≡◌, ◌⊎◌, inl, inr, ℕ, ◌+◌, ◌<◌, ◌∷◌, ◌++◌, ◌∙◌, take, drop, get_or, List, [], Bool, IsTrue, None, Ok, Err, Result, IfOk, Vec, Global, map, length, refl, sym, ap, subst, append-nil}
 use Rattle.std.specs.Prelude.{IfErr, OnErr, IsSome}
 use Rattle.std.proofs.lemmas.List.{take_more, take-append-drop}
-use Rattle.std.specs.List.{AllZip, AllAdjacentBelow}
-use Rattle.std.specs.Ordering.{is_lt}
+use Rattle.std.specs.List.{AllZip}
 use Rattle.std.specs.FinMap as finite
 use Rattle.sqlite_value.specs.Order.{Row}
 use Rattle.sqlite_sql.proofs.ProgramLemmas.{computes_weaker}
@@ -16,12 +15,11 @@ use Rattle.sqlite.specs.Clock.{timed}
 use Rattle.sqlite.specs.declared.error.Error.{Error}
 use Rattle.sqlite.specs.Effect.{Database, Reads, ReadsFirst}
 use Rattle.sqlite.specs.Listing.{understood}
-use Rattle.sqlite.specs.State.{State, Shown, ShowsRows, Begins, IsUnchanged, IsStatement, IsTooLate, FailsToQuery}
+use Rattle.sqlite.specs.State.{State, HasCleanDisk, Survives, Shown, ShowsRows, Begins, IsUnchanged, IsStatement, IsTooLate, FailsToQuery}
 use Rattle.table_statements.specs.declared.failure.Failure.{Failure}
 use Rattle.table_statements.specs.declared.failure.Failure.TheVariants.{Memory, Disk}
 use Rattle.table_statements.specs.Contents.{contents_of}
 use Rattle.table_statements.specs.Queries.{IsSelect, HasBegunWith, IsAnswered}
-use Rattle.table_statements.specs.Reading.{IsAmiss}
 use Rattle.table_statements.specs.Failures.{IsQueryFailure, FailsFor}
 use Rattle.table_statements.specs.Calls.{IsReady, IsUnderWay}
 use Rattle.table_statements.proofs.ReadFailures.{understood_read}
@@ -29,6 +27,7 @@ use Rattle.table_statements.proofs.Rising.{select_fails}
 use Rattle.table_statements.proofs.Statements.{Selects}
 use Rattle.table_entries.proofs.Alike.{all_made}
 use Rattle.table_entries.proofs.Description.{Description, Reading, Selection, selects, selects_not, never_amiss}
+use Rattle.rows.proofs.Clauses.{WasOwn, Rises, Amiss, IsReadFailure, early}
 
 -- ---- a list, up to one of its items
 
@@ -116,21 +115,23 @@ module _ (text : List ℕ) (params : Row) (reads : IsSelect text) (old new : Sta
 
 -- ---- what is read of a described table
 
-module _ {K X T : Type 0} (d : Description K X) {ShowsItem : Row → T → Type 0} {item : T → K × X} {IsLegible : Row → Type 0} (q : Reading d ShowsItem item IsLegible) (old new : State) {text : List ℕ} {params : Row} {test : K → Bool} (s : Selection d q text params test)
-    (under : IsUnderWay old) (own : IsTrue old.is_open → d.IsOwn old.now) where
+module _ {K X T : Type 0} {d : Description K X} {ShowsItem : Row → T → Type 0} {item : T → K × X} {IsLegible : Row → Type 0}
+    {q : Reading d ShowsItem item IsLegible} {old new : State} {text : List ℕ} {params : Row} {test : K → Bool} (s : Selection d q text params test)
+    (survives : Survives old new (λ _. ⊥)) (under : HasCleanDisk old → IsUnderWay old) (own : WasOwn d old) (clean : HasCleanDisk new) where
   ready : IsTrue old.is_open → IsReady (settled old)
-  ready up = record { ours = under.ours up; settled = refl }
+  ready up = record { ours = (under (early survives clean)).ours up; settled = refl }
 
   -- the entries of this part of the keys, in order
-  pub selects_within : (r : Result (Vec T Global) Failure) → Selects ShowsItem old new text params r → IfOk r (λ all. AllAdjacentBelow (λ x y. true ≡ is_lt (d.order (item x).0 (item y).0)) all.items (length all.items))
+  pub selects_within : (r : Result (Vec T Global) Failure) → Selects ShowsItem old new text params r → Rises d item r
       → IfOk r (λ all. IsUnchanged old new × (map item all.items ≡ finite.entries (finite.retain_keys (d.of (contents_of old.now)) test)))
   selects_within (Err f) got up = tt
-  selects_within (Ok all) got up = (got.1.1.1, (selects d q (settled old) (settled new) s ready own (Ok all) (selects_alike text params s.reads old new ShowsItem (Ok all) got) up).1 ∙ all_made d.order _)
+  selects_within (Ok all) got up =
+      let read = selects d q (settled old) (settled new) s ready (own (early survives clean)) (Ok all) (selects_alike text params s.reads old new ShowsItem (Ok all) got) up in
+      (got.1.1.1, read.1 ∙ all_made d.order _)
 
   -- why they aren't read
-  pub selects_within_not : (r : Result (Vec T Global) Failure)
-      → IfErr r (λ f. IsQueryFailure text params old new f ⊎ ((rows : List Row) × HasBegunWith text params old new rows × ((f ≡ Memory) ⊎ ((f ≡ Disk) × IsAmiss IsLegible ShowsItem (λ x y. is_lt (d.order (item x).0 (item y).0)) rows))))
-      → IfErr r (FailsFor old new)
-  selects_within_not r why =
-      select_fails r old new text params (IsAmiss IsLegible ShowsItem (λ x y. is_lt (d.order (item x).0 (item y).0))) (selects_not d q old new s (λ up. d.within old.now (under.ours up) (own up)))
-      (λ rows begun. never_amiss d q (settled old) (settled new) s ready own rows (begun_alike text params s.reads old new rows begun)) why
+  pub fails_within : (r : Result (Vec T Global) Failure) → IfErr r (IsReadFailure old new text params (Amiss d ShowsItem item IsLegible)) → IfErr r (FailsFor old new)
+  fails_within r =
+      let before = early survives clean in
+      select_fails r old new text params _ (selects_not d q old new s (λ up. d.within old.now ((under before).ours up) (own before up)))
+      (λ rows begun. never_amiss d q (settled old) (settled new) s ready (own before) rows (begun_alike text params s.reads old new rows begun))

@@ -1,4 +1,5 @@
 //! The generations of profiles.
+#![tactic(auto, using(table_entries::proofs::GenerationLemmas::all_read, table_entries::proofs::GenerationLemmas::of_read))]
 
 ghost use Rattle.std.specs.Prelude.{IsSome, ◌∷◌, [], ◌≡◌, ◌&&◌, IfOk, IfErr, OnOk, OnErr, IsTrue, None, map, not, pos, false};
 ghost use Rattle.sqlite_value.specs.declared.value.Value.TheVariants.{Int, Text};

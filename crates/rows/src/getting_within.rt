@@ -1,4 +1,5 @@
 //! An object inside a transaction.
+#![tactic(auto, using(table_entries::proofs::ObjectLemmas::of_read))]
 
 ghost use Rattle.std.specs.Prelude.{◌≡◌, IfOk, IfErr, OnErr, map};
 ghost use Rattle.std.specs.Ordering.{eq_by_cmp};

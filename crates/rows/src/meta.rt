@@ -1,4 +1,5 @@
 //! The settings of the database: each a word and its value.
+#![tactic(auto, using(table_entries::proofs::SettingLemmas::all_read, table_entries::proofs::SettingLemmas::of_read))]
 
 ghost use Rattle.std.specs.Prelude.{IsSome, ◌∷◌, [], ◌≡◌, IfOk, IfErr, OnOk, OnErr, IsTrue, None, map, not, false};
 ghost use Rattle.sqlite_value.specs.declared.value.Value.TheVariants.{Text};

@@ -1,4 +1,5 @@
 //! The objects, with their archives.
+#![tactic(auto, using(table_entries::proofs::ListingLemmas::all_read, table_entries::proofs::ListingLemmas::keys_read, table_entries::proofs::ObjectLemmas::of_read))]
 
 ghost use Rattle.std.specs.Prelude.{IsSome, ◌∷◌, [], ◌≡◌, IfOk, IfErr, OnOk, OnErr, IsTrue, None, map, not, string_bytes, false};
 ghost use Rattle.sqlite_value.specs.declared.value.Value.TheVariants.{Text, Blob};

@@ -1,4 +1,5 @@
 //! The pieces of archives, where there is a table of them.
+#![tactic(auto, using(table_entries::proofs::PieceLemmas::all_read, table_entries::proofs::PieceKeyLemmas::keys_read, table_entries::proofs::PieceLemmas::of_read))]
 
 ghost use Rattle.std.specs.Prelude.{IsSome, ◌∷◌, [], ◌≡◌, IfOk, IfErr, OnOk, OnErr, IsTrue, None, map, not, pos, false};
 ghost use Rattle.sqlite_value.specs.declared.value.Value.TheVariants.{Int, Text, Blob};

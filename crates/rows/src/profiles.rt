@@ -1,4 +1,5 @@
 //! The profiles, each with the number of its current generation.
+#![tactic(auto, using(table_entries::proofs::ProfileLemmas::all_read, table_entries::proofs::ProfileLemmas::at_read, table_entries::proofs::ProfileLemmas::of_read))]
 
 ghost use Rattle.std.specs.Prelude.{IsSome, ◌∷◌, [], ◌≡◌, ◌&&◌, IfOk, IfErr, OnOk, OnErr, IsTrue, None, map, not, pos, false};
 ghost use Rattle.sqlite_value.specs.declared.value.Value.TheVariants.{Int, Text};

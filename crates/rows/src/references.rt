@@ -1,4 +1,5 @@
 //! The references: which path an object refers to.
+#![tactic(auto, using(table_entries::proofs::ReferenceLemmas::all_read, table_entries::proofs::ReferenceLemmas::of_read))]
 
 ghost use Rattle.std.specs.Prelude.{IsSome, ◌∷◌, [], ◌≡◌, IfOk, IfErr, OnOk, OnErr, IsTrue, None, map, not, false};
 ghost use Rattle.sqlite_value.specs.declared.value.Value.TheVariants.{Text};

@@ -1,4 +1,5 @@
 //! The runtime roots.
+#![tactic(auto, using(table_entries::proofs::RuntimeRootLemmas::all_read, table_entries::proofs::RuntimeRootLemmas::of_read))]
 
 ghost use Rattle.std.specs.Prelude.{IsSome, ◌∷◌, [], ◌≡◌, IfOk, IfErr, OnOk, OnErr, IsTrue, None, map, not, false};
 ghost use Rattle.sqlite_value.specs.declared.value.Value.TheVariants.{Text};

@@ -1,4 +1,5 @@
 //! The temporary roots of sessions, where there is a table of them.
+#![tactic(auto, using(table_entries::proofs::TempRootLemmas::all_read, table_entries::proofs::TempRootLemmas::of_read))]
 
 ghost use Rattle.std.specs.Prelude.{IsSome, ◌∷◌, [], ◌≡◌, ◌&&◌, IfOk, IfErr, OnOk, OnErr, IsTrue, None, map, not, pos, false};
 ghost use Rattle.sqlite_value.specs.declared.value.Value.TheVariants.{Int, Text};

@@ -1,4 +1,5 @@
 //! The roots of users.
+#![tactic(auto, using(table_entries::proofs::UserRootLemmas::all_read, table_entries::proofs::UserRootLemmas::at_read, table_entries::proofs::UserRootLemmas::of_read))]
 
 ghost use Rattle.std.specs.Prelude.{IsSome, ◌∷◌, [], ◌≡◌, ◌&&◌, IfOk, IfErr, OnOk, OnErr, IsTrue, None, map, not, false};
 ghost use Rattle.sqlite_value.specs.declared.value.Value.TheVariants.{Text};

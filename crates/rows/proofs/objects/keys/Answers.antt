@@ -1,4 +1,4 @@
-use Rattle.table_entries.proofs.ListingLemmas.{keys_read, keys}
+use Rattle.table_entries.proofs.ListingLemmas.{keys}
 use Rattle.rows.proofs.Clauses.{reads_keys, fails_to_read}
 use Rattle.rows.proofs.objects.keys.Goals as goal
 
@@ -7,6 +7,3 @@ returns-clause-reads g c clean = reads_keys keys c.select.ensures.survives c.req
 
 pub returns-clause-cause : goal.returns-clause-cause
 returns-clause-cause g c clean = fails_to_read keys c.select.ensures.survives c.requires.ready (λ early up. tt) clean c.select.result (c.select.ensures.cause clean)
-
-pub select-requires-clause-reads : goal.select-requires-clause-reads
-select-requires-clause-reads g c = keys_read

@@ -1,4 +1,4 @@
-use Rattle.table_entries.proofs.ObjectLemmas.{of_read, of}
+use Rattle.table_entries.proofs.ObjectLemmas.{of}
 use Rattle.rows.proofs.Clauses.{reads, fails_to_read}
 use Rattle.rows.proofs.objects.of.Goals as goal
 
@@ -7,6 +7,3 @@ returns-clause-reads g c clean = reads (of c.args.base.now) c.select.ensures.sur
 
 pub returns-clause-cause : goal.returns-clause-cause
 returns-clause-cause g c clean = fails_to_read (of c.args.base.now) c.select.ensures.survives c.requires.ready (λ early up. tt) clean c.select.result (rw c.params-to_sql.ensures at (c.select.ensures.cause clean))
-
-pub select-requires-clause-reads : goal.select-requires-clause-reads
-select-requires-clause-reads g c = of_read

@@ -1,4 +1,4 @@
-use Rattle.table_entries.proofs.PermanentRootLemmas.{all_read, all}
+use Rattle.table_entries.proofs.PermanentRootLemmas.{all}
 use Rattle.rows.proofs.Clauses.{reads_all, fails_to_read}
 use Rattle.rows.proofs.permanent.all.Goals as goal
 
@@ -7,6 +7,3 @@ returns-clause-reads g c clean = reads_all all c.select.ensures.survives c.requi
 
 pub returns-clause-cause : goal.returns-clause-cause
 returns-clause-cause g c clean = fails_to_read all c.select.ensures.survives c.requires.ready (λ early up. tt) clean c.select.result (c.select.ensures.cause clean)
-
-pub select-requires-clause-reads : goal.select-requires-clause-reads
-select-requires-clause-reads g c = all_read

@@ -1,5 +1,5 @@
 use Rattle.std.proofs.Common.{pos}
-use Rattle.table_entries.proofs.TempRootLemmas.{of_read, of}
+use Rattle.table_entries.proofs.TempRootLemmas.{of}
 use Rattle.rows.proofs.Clauses.{reads, fails_to_read}
 use Rattle.rows.proofs.temp_roots.of.Goals as goal
 
@@ -8,6 +8,3 @@ returns-clause-reads g c clean = reads (of c.args.owner.now (pos c.args.session)
 
 pub returns-clause-cause : goal.returns-clause-cause
 returns-clause-cause g c clean = fails_to_read (of c.args.owner.now (pos c.args.session)) c.select.ensures.survives c.requires.ready c.requires.stands clean c.select.result (rw (c.params-to_sql.ensures, c.params-to_sql-2.ensures) at (c.select.ensures.cause clean))
-
-pub select-requires-clause-reads : goal.select-requires-clause-reads
-select-requires-clause-reads g c = of_read

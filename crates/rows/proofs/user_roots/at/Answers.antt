@@ -1,4 +1,4 @@
-use Rattle.table_entries.proofs.UserRootLemmas.{at_read, at}
+use Rattle.table_entries.proofs.UserRootLemmas.{at}
 use Rattle.rows.proofs.Clauses.{reads, fails_to_read}
 use Rattle.rows.proofs.user_roots.at.Goals as goal
 
@@ -7,6 +7,3 @@ returns-clause-reads g c clean = reads (at c.args.owner.now c.args.name.now) c.s
 
 pub returns-clause-cause : goal.returns-clause-cause
 returns-clause-cause g c clean = fails_to_read (at c.args.owner.now c.args.name.now) c.select.ensures.survives c.requires.ready (λ early up. tt) clean c.select.result (rw (c.params-to_sql.ensures, c.params-to_sql-2.ensures) at (c.select.ensures.cause clean))
-
-pub select-requires-clause-reads : goal.select-requires-clause-reads
-select-requires-clause-reads g c = at_read
