@@ -29,8 +29,7 @@ use Rattle.sqlite.specs.Effect.{RefusesQuery, RefusesToRead}
 use Rattle.sqlite.specs.Listing.{understood, reads_listing, listing_schema, is_select, if_select, IsSourceOf}
 use Rattle.sqlite.specs.State.{State, Fails, IsUnchanged, IsStatement, IsNoStatement, IsNotRun, FailsToQuery, FailsToShow, IsTooLate}
 use Rattle.table_forms.specs.Forms.{strict}
-use Rattle.table_forms.specs.Standing.{IsKnown, Stands, HasTables, tree_named}
-use Rattle.table_statements.specs.Calls.{HasSettledTables}
+use Rattle.table_forms.specs.Standing.{IsKnown, Stands, tree_named}
 use Rattle.table_statements.specs.Queries.{parsed, IsSelect}
 use Rattle.table_statements.specs.Failures.{failure_of, FailsWith}
 use Rattle.table_statements.proofs.Means.{IsMeant}
@@ -145,10 +144,3 @@ standing_read_fails name columns key old new at text params names query scan is 
 
     stands : IsUnchanged old new → Stands old.now.schema (strict name columns key)
     stands same = at same.0.was_open
-
--- an error of a query over one table of ours
-pub read_fails : (name : List ℕ) (columns : List Column) (key : List ℕ) (old new : State) → HasSettledTables old → (HasTables old.now.schema → Stands old.now.schema (strict name columns key)) → (text : List ℕ) (params : Row) (names : List (List ℕ)) (query : ℕ → Query) → ((tree : ℕ) → IsScan (query tree) tree)
-    → Compiles name columns key text (length params) (λ at tree. Select (record { lets = []; body = query tree }) names) → IsSelect text
-    → ((s : Schema) (at tree : ℕ) → IsKnown s name at (record (strict name columns key) { tree = tree }) → accepts_program s [] (query tree) params ≡ true)
-    → (e : Error) → FailsToQuery text params old new e → FailsWith old new ⊥ (IsSome old.step_limit) (failure_of e)
-read_fails name columns key old new rests at = standing_read_fails name columns key old new (λ up. at (rests.has up))

@@ -29,7 +29,7 @@ use Rattle.table_statements.proofs.Orders.{rises_by}
 use Rattle.table_statements.proofs.Means.{IsMeant, means_command}
 use Rattle.table_statements.proofs.Writes.{SetsRows, deletes_in, rowids_where, overlay_low}
 use Rattle.table_statements.proofs.Scans.{IsScan, shows}
-use Rattle.table_statements.proofs.Entries.{part_listed, all_kept, left_map}
+use Rattle.table_statements.proofs.Entries.{part_listed, left_map}
 use Rattle.table_statements.proofs.Members.{keyed_left}
 use Rattle.table_statements.proofs.ReadableWrites.{left_readable}
 
@@ -47,12 +47,6 @@ answer_of name columns key old new text params query is stands rows shown =
 -- the entries that were read, with the rows that show them
 abbrev pub Selects : {T : Type 0} → (Row → T → Type 0) → State → State → List ℕ → Row → Result (Vec T Global) Failure → Type 0
 Selects ShowsItem old new text params r = IfOk r (λ all. (rows : List Row) × IsAnswered text params old new rows × AllZip ShowsItem rows all.items)
-
--- where no key is left out
-pub whole_map : {K X T : Type 0} {R : K → K → Ordering} (o : IsTotalOrder R) (same : finite.IsAntisymmetric R) (item : T → K × X) (r : Result (Vec T Global) Failure) (P : Type 0) (m : finite.FinMap R X)
-    → IfOk r (λ all. P × (map item all.items ≡ finite.entries (finite.retain_keys m (λ _. true)))) → IfOk r (λ all. P × (map item all.items ≡ finite.entries m))
-whole_map o same item (Err e) P m h = tt
-whole_map o same item (Ok all) P m h = (h.0, h.1 ∙ ap finite.entries (all_kept o same m))
 
 module _ (name : List ℕ) (columns : List Column) (key : List ℕ) {K X : Type 0} {R : K → K → Ordering} (o : IsTotalOrder R) (same : finite.IsAntisymmetric R) (kind : Row → Bool) (entry : Row → K × X) (old new : State)
     (at : HasTables old.now.schema → Stands old.now.schema (strict name columns key)) where

@@ -1,12 +1,8 @@
--- That a transaction goes on after a call, what is so of a connection that is ready, and that a further table still stands.
-use Rattle.std.specs.Prelude.{IsTrue}
+-- That a transaction goes on after a call, and that a further table still stands.
 use Rattle.sqlite.specs.State.{State}
 use Rattle.table_forms.specs.Forms.{piece, temp_root}
 use Rattle.table_statements.specs.Contents.{Contents}
-use Rattle.table_statements.specs.Calls.{IsReady, HasSettledTables, Changes, HasFurther, KeepsFurther}
-
-pub ready_settled : (s : State) → (IsTrue s.is_open → IsReady s) → HasSettledTables s
-ready_settled s h = record { has = λ is_open. (h is_open).ours.has; settled = λ is_open. (h is_open).settled }
+use Rattle.table_statements.specs.Calls.{Changes, HasFurther, KeepsFurther}
 
 pub piece_after : (old new : State) (change : Contents → Contents) → Changes old new change → HasFurther old.now piece → HasFurther new.now piece
 unfolding KeepsFurther
