@@ -1,33 +1,36 @@
--- What a condition means that compares columns with parameters.
-use Rattle.std.proofs.Common.{◌≡◌, ℕ, zero, suc, List, [], ◌∷◌, Some, None, Option, true, false, Ok, Err, Result}
-use Rattle.std.specs.Prelude.{nat_lt, ◌-◌, unwrap_or}
-use Rattle.sqlite_value.specs.declared.keys.Collation.{Collation}
+-- What a condition means that says that the first columns of a table equal the parameters.
+use Rattle.std.proofs.Common.{Bool, List, None, Ok, Option, Some, [], add-one, arith, false, length, refl, slice_get, subst, suc, take, true, ℕ, ◌&&◌, ◌+◌, ◌∙◌, ◌∷◌, ◌≡◌}
+use Rattle.std.proofs.lemmas.Bool.{ltb-true}
+use Rattle.std.specs.List.{AllByRecursion, list_all}
+use Rattle.std.specs.Prelude.{if◌then◌else◌, nat_lt, unwrap_or, ◌-◌, ◌==◌}
 use Rattle.sqlite_value.specs.declared.keys.Collation.TheVariants.{Binary}
-use Rattle.sqlite_ast.specs.declared.Expr.{Expr, out-Expr}
-use Rattle.sqlite_ast.specs.declared.Expr.TheOpen.{Expr-F}
+use Rattle.sqlite_value.specs.declared.keys.Collation.{Collation}
 use Rattle.sqlite_ast.specs.declared.Binary.TheVariants as binary
+use Rattle.sqlite_ast.specs.declared.Expr.TheOpen.{Expr-F}
+use Rattle.sqlite_ast.specs.declared.Expr.TheVariants as expr
+use Rattle.sqlite_ast.specs.declared.Expr.{Expr, out-Expr}
+use Rattle.sqlite_schema.specs.declared.schema.Column.{Column}
+use Rattle.sqlite_schema.specs.declared.schema.Schema.{Schema}
 use Rattle.sqlite_sql.specs.Term.{Term, col, op2}
 use Rattle.sqlite_sql.specs.declared.ops.BinaryOp.TheVariants as by
 use Rattle.sqlite_sql.specs.declared.ops.CompareOp.TheVariants as compare
-use Rattle.sqlite_resolve.specs.Scope.{Name, Context, column_at, find as found_in}
-use Rattle.sqlite_resolve.specs.declared.scope.Found.TheVariants as found_as
-use Rattle.sqlite_resolve.specs.declared.state.State.{State}
-use Rattle.sqlite_resolve.specs.Expr.{lower, lower_to, node, opened, operation, both, combine, wanted_truth, tests_truth, tests_alias, passes}
-use Rattle.sqlite_resolve.specs.Compare.{compared}
-use Rattle.sqlite_resolve.specs.Lowering.{spend, begin, finish, chosen, first_found, either}
-use Rattle.sqlite_resolve.specs.Body.{tests, within}
-use Rattle.sqlite_resolve.specs.Select.{outermost}
-use Rattle.sqlite_resolve.specs.declared.scope.Output.{Output}
-use Rattle.sqlite_schema.specs.declared.schema.Schema.{Schema}
+use Rattle.sqlite_resolve.specs.Body.{tests}
+use Rattle.sqlite_resolve.specs.Compare.{affinity_of, compared, converted, is_parameter, may_be_text, of_column, of_declared, spelled}
+use Rattle.sqlite_resolve.specs.Expr.{both, combine, lower, lower_to, node, opened, operation, passes, tests_alias, tests_truth, wanted_truth}
+use Rattle.sqlite_resolve.specs.Lowering.{begin, chosen, either, finish, first_found, spend}
+use Rattle.sqlite_resolve.specs.Scope.{Context, Name}
 use Rattle.sqlite_resolve.specs.Terms.{conjuncts}
-use Rattle.sqlite_resolve.specs.Compile.{first}
-use Rattle.sqlite_resolve.specs.declared.error.CompileError.{CompileError}
-use Rattle.sqlite_ast.specs.declared.Statement.{Statement}
-use Rattle.sqlite_ast.specs.declared.Statement.TheVariants as written
-use Rattle.sqlite_ast.specs.declared.Core.{out-Core}
-use Rattle.sqlite_ast.specs.declared.Select.{out-Select}
-use Rattle.sqlite_syntax.specs.declared.statement.Parsed.{Parsed}
-use Rattle.table_statements.proofs.Means.{plain_state, lower_to_column}
+use Rattle.sqlite_resolve.specs.declared.compare.Affinity.TheVariants as affinity
+use Rattle.sqlite_resolve.specs.declared.compare.Affinity.{Affinity}
+use Rattle.sqlite_resolve.specs.declared.scope.Output.{Output}
+use Rattle.sqlite_trees.proofs.ListLemmas.{all-slice_get}
+use Rattle.sqlite_tied.specs.Compute.{everything}
+use Rattle.table_forms.specs.Forms.{strict}
+use Rattle.table_statements.proofs.Means.{lower_to_column, plain_state}
+use Rattle.table_statements.proofs.Truths.{and_so}
+use Rattle.table_entries.proofs.Ordered.{IsColumn, Place, column, context, found, fronts}
+
+-- ---- what an expression stands for
 
 parameter_is : (n : ℕ) (cx : Context) (e : Expr) (j : ℕ) (last : Option Collation) (budget : ℕ) → out-Expr e ≡ Expr-F.Parameter j → nat_lt 1 budget ≡ true
     → lower_to (suc n) cx e (plain_state budget last) ≡ Ok (col 0 (j - 1), plain_state (budget - 1) None)
@@ -47,74 +50,154 @@ and_is : (n : ℕ) (cx : Context) (e a b : Expr) (x y : Term) (c d last : Option
 unfolding lower_to node opened operation both combine wanted_truth tests_truth tests_alias chosen first_found spend begin finish passes
 and_is n cx e a b x y c d last budget k m is enough one two = rw (enough, is, one, two)
 
--- a column equals a parameter, which the two sides of an expression say
-pub record Compares (cx : Context) (left right : Expr) (name : Name) (at place j : ℕ) (t r : Term) : Type 0 where
-  pub left_is : out-Expr left ≡ Expr-F.Column None name
-  pub right_is : out-Expr right ≡ Expr-F.Parameter j
-  pub found : found_in cx None name ≡ Ok (found_as.Column 1 at place)
-  pub column : column_at cx.schema 1 at place ≡ Ok (t, record { collation = Some Binary; is_written = false })
-  pub compare : compared cx (by.Compare compare.Eq Binary) t (col 0 (j - 1)) ≡ r
-
-compares_to : (n : ℕ) (cx : Context) (e left right : Expr) (name : Name) (at place j : ℕ) (t r : Term) (last : Option Collation) (budget : ℕ) → out-Expr e ≡ Expr-F.Binary binary.Eq left right → Compares cx left right name at place j t r
-    → nat_lt 1 budget ≡ true → nat_lt 1 (budget - 1) ≡ true → nat_lt 1 (budget - 1 - 1) ≡ true
-    → lower_to (suc (suc n)) cx e (plain_state budget last) ≡ Ok (r, plain_state (budget - 1 - 1 - 1) None)
-compares_to n cx e left right name at place j t r last budget is it one two three =
-    equal_is (suc n) cx e left right t (col 0 (j - 1)) r (Some Binary) None last budget (budget - 1 - 1) (budget - 1 - 1 - 1) is one
-    (lower_to_column n cx left name at place t (Some Binary) None (budget - 1) it.left_is it.found it.column two)
-    (parameter_is n cx right j (Some Binary) (budget - 1 - 1) it.right_is three) it.compare
-
-tests_are : (cx : Context) (filter : Option Expr) (e : Expr) (t : Term) (s0 s1 : State) → filter ≡ Some e → lower cx e s0 ≡ Ok (t, s1) → tests lower cx [] filter s0 ≡ Ok (conjuncts t, s1)
-unfolding tests
-tests_are cx filter e t s0 s1 is lowered = rw (is, lowered)
-
--- where the condition of a SELECT of one table stands
-abbrev pub select_context : Schema → Name → ℕ → List Output → Context
-select_context s name at shown = within (outermost s) (record { tables = record { name = name; table = at; slot = 1; shared = [] } ∷ []; shown = shown }) false
-
 abbrev pub equals : Term → Term → Term
 equals = op2 (by.Compare compare.Eq Binary)
 
-abbrev filter_of : Statement → Option Expr
-filter_of (written.Select s) = (out-Core (out-Select s).first).filter
-filter_of (written.Delete name test shown) = test
-filter_of _ = None
+-- ---- that columns equal parameters
 
-abbrev filter_from : Result Parsed CompileError → Option Expr
-filter_from (Ok p) = filter_of p.statement
-filter_from (Err e) = None
+-- a column equals a parameter, which is counted from 1
+abbrev pub compares : Place → ℕ → Expr
+compares c j = expr.Binary binary.Eq (expr.Column None c.0) (expr.Parameter j)
 
--- the condition that a text has
-abbrev pub filter_in : List ℕ → Option Expr
-filter_in text = filter_from (first text)
+-- so each of these columns does, the last of which stands first here
+abbrev compares_all : Place → List Place → Expr
+compares_all c [] = compares c 1
+compares_all c (d ∷ ds) = expr.Binary binary.And (compares_all d ds) (compares c (length (d ∷ ds) + 1))
 
--- so many of the budgets from this one on, each one less, are above 1
-abbrev pub AreAbove : ℕ → ℕ → Type 0
-AreAbove zero budget = Unit {0}
-AreAbove (suc n) budget = (nat_lt 1 budget ≡ true) × AreAbove n (budget - 1)
+abbrev pub condition : List Place → Option Expr
+condition [] = None
+condition (c ∷ cs) = Some (compares_all c cs)
 
--- one comparison
-pub where_one : (cx : Context) (filter : Option Expr) {e : Expr} → filter ≡ Some e → {a b : Expr} → out-Expr e ≡ Expr-F.Binary binary.Eq a b → (n : Name) (at p j : ℕ) (t r : Term) (last : Option Collation) (budget : ℕ) → Compares cx a b n at p j t r
-    → nat_lt 1 budget ≡ true → nat_lt 1 (budget - 1) ≡ true → nat_lt 1 (budget - 1 - 1) ≡ true
-    → tests lower cx [] filter (plain_state budget last) ≡ Ok (conjuncts r, plain_state (budget - 1 - 1 - 1) None)
-where_one cx filter {e} is {a} {b} split n at p j t r last budget it one two three = tests_are cx filter e r _ _ is (compares_to 698 cx e a b n at p j t r last budget split it one two three)
+-- a list from its end, before another
+abbrev turned : List Place → List Place → List Place
+turned [] done = done
+turned (c ∷ cs) done = turned cs (c ∷ done)
 
--- two
-pub where_two : (cx : Context) (filter : Option Expr) {e : Expr} → filter ≡ Some e → {f g : Expr} → out-Expr e ≡ Expr-F.Binary binary.And f g → {a b : Expr} → out-Expr f ≡ Expr-F.Binary binary.Eq a b → {c d : Expr} → out-Expr g ≡ Expr-F.Binary binary.Eq c d
-    → (n m : Name) (at p q : ℕ) (t u r s : Term) (last : Option Collation) (budget : ℕ) → Compares cx a b n at p 1 t r → Compares cx c d m at q 2 u s
-    → AreAbove 7 budget → tests lower cx [] filter (plain_state budget last) ≡ Ok (conjuncts (op2 by.And r s), plain_state (budget - 1 - 1 - 1 - 1 - 1 - 1 - 1) None)
-where_two cx filter {e} is {f} {g} both {a} {b} left {c} {d} right n m at p q t u r s last budget one two enough =
-    tests_are cx filter e (op2 by.And r s) _ _ is (and_is 699 cx e f g r s None None last budget _ _ both enough.0
-    (compares_to 697 cx f a b n at p 1 t r None (budget - 1) left one enough.1.0 enough.1.1.0 enough.1.1.1.0)
-    (compares_to 697 cx g c d m at q 2 u s None (budget - 1 - 1 - 1 - 1) right two enough.1.1.1.1.0 enough.1.1.1.1.1.0 enough.1.1.1.1.1.1.0))
+-- the first of them, the last of which stands first here
+abbrev pub first_of_them : List Place → ℕ → List Place
+first_of_them cs m = turned (take m cs) []
 
--- three
-pub where_three : (cx : Context) (filter : Option Expr) {e : Expr} → filter ≡ Some e → {f g : Expr} → out-Expr e ≡ Expr-F.Binary binary.And f g → {h i : Expr} → out-Expr f ≡ Expr-F.Binary binary.And h i
-    → {a b : Expr} → out-Expr h ≡ Expr-F.Binary binary.Eq a b → {c d : Expr} → out-Expr i ≡ Expr-F.Binary binary.Eq c d → {k l : Expr} → out-Expr g ≡ Expr-F.Binary binary.Eq k l
-    → (n m w : Name) (at p q v : ℕ) (t u x r s y : Term) (last : Option Collation) (budget : ℕ) → Compares cx a b n at p 1 t r → Compares cx c d m at q 2 u s → Compares cx k l w at v 3 x y
-    → AreAbove 11 budget → tests lower cx [] filter (plain_state budget last) ≡ Ok (conjuncts (op2 by.And (op2 by.And r s) y), plain_state (budget - 1 - 1 - 1 - 1 - 1 - 1 - 1 - 1 - 1 - 1 - 1) None)
-where_three cx filter {e} is {f} {g} outer {h} {i} inner {a} {b} first {c} {d} second {k} {l} third n m w at p q v t u x r s y last budget one two three enough =
-    tests_are cx filter e (op2 by.And (op2 by.And r s) y) _ _ is (and_is 699 cx e f g (op2 by.And r s) y None None last budget _ _ outer enough.0
-    (and_is 698 cx f h i r s None None None (budget - 1) _ _ inner enough.1.0
-    (compares_to 696 cx h a b n at p 1 t r None (budget - 1 - 1) first one enough.1.1.0 enough.1.1.1.0 enough.1.1.1.1.0)
-    (compares_to 696 cx i c d m at q 2 u s None (budget - 1 - 1 - 1 - 1 - 1) second two enough.1.1.1.1.1.0 enough.1.1.1.1.1.1.0 enough.1.1.1.1.1.1.1.0))
-    (compares_to 697 cx g k l w at v 3 x y None (budget - 1 - 1 - 1 - 1 - 1 - 1 - 1 - 1) third three enough.1.1.1.1.1.1.1.1.0 enough.1.1.1.1.1.1.1.1.1.0 enough.1.1.1.1.1.1.1.1.1.1.0))
+turned_all : (P : Place → Type 0) (cs done : List Place) → AllByRecursion P cs → AllByRecursion P done → AllByRecursion P (turned cs done)
+turned_all P [] done h k = k
+turned_all P (c ∷ cs) done h k = turned_all P cs (c ∷ done) h.1 (h.0, k)
+
+pub first_all : (P : Place → Type 0) (cs : List Place) (m : ℕ) → AllByRecursion P cs → AllByRecursion P (first_of_them cs m)
+first_all P cs m h = turned_all P (take m cs) [] (fronts P m cs h) tt
+
+-- the terms of such a comparison, and of all of them
+abbrev test_of : Place → ℕ → Term
+test_of c j = equals (col 1 (c.1 + 1)) (col 0 (j - 1))
+
+abbrev whole_test : Place → List Place → Term
+whole_test c [] = test_of c 1
+whole_test c (d ∷ ds) = op2 by.And (whole_test d ds) (test_of c (length (d ∷ ds) + 1))
+
+abbrev pub filter_by : List Place → List Term
+filter_by [] = []
+filter_by (c ∷ cs) = conjuncts (whole_test c cs)
+
+-- what is left of a budget, and whether it suffices
+abbrev left_after : List Place → ℕ → ℕ
+left_after [] budget = budget - 1 - 1 - 1
+left_after (d ∷ ds) budget = left_after ds (budget - 1) - 1 - 1 - 1
+
+abbrev suffices_once : ℕ → Bool
+suffices_once budget = nat_lt 1 budget && (nat_lt 1 (budget - 1) && nat_lt 1 (budget - 1 - 1))
+
+abbrev suffices : List Place → ℕ → Bool
+suffices [] budget = suffices_once budget
+suffices (d ∷ ds) budget = nat_lt 1 budget && (suffices ds (budget - 1) && suffices_once (left_after ds (budget - 1)))
+
+abbrev pub left_by : List Place → ℕ → ℕ
+left_by [] budget = budget
+left_by (c ∷ cs) budget = left_after cs budget
+
+abbrev pub last_by : List Place → Option Collation → Option Collation
+last_by [] last = last
+last_by (c ∷ cs) last = None
+
+abbrev pub suffices_for : List Place → ℕ → Bool
+suffices_for [] budget = true
+suffices_for (c ∷ cs) budget = suffices cs budget && nat_lt (length cs) 698
+
+-- so many levels deeper
+abbrev deeper : List Place → ℕ → ℕ
+deeper [] n = n
+deeper (d ∷ ds) n = suc (deeper ds n)
+
+deeper_is : (ds : List Place) (n : ℕ) → deeper ds n ≡ length ds + n
+deeper_is [] n = omega arith
+deeper_is (d ∷ ds) n = let e = deeper_is ds n in omega (arith, e)
+
+-- a column is compared with a parameter as it is, as each of a STRICT table is
+abbrev is_firm : Affinity → Bool
+is_firm affinity.Loose = false
+is_firm _ = true
+
+abbrev pub are_firm : List Column → Bool
+are_firm = list_all (λ k. is_firm (of_declared k))
+
+converted_so : (x : Affinity) → is_firm x ≡ true → (at j : ℕ) → op2 (by.Compare compare.Eq Binary) (converted x affinity.None (col 1 at)) (converted affinity.None x (col 0 j)) ≡ equals (col 1 at) (col 0 j)
+unfolding converted spelled may_be_text is_parameter
+converted_so affinity.Numeric h at j = refl
+converted_so affinity.Loose h at j = cc
+converted_so affinity.Text h at j = refl
+converted_so affinity.Blob h at j = refl
+converted_so affinity.None h at j = refl
+
+firm_at : (ks : List Column) (at : ℕ) (k : Column) → are_firm ks ≡ true → slice_get ks at ≡ Some k → is_firm (of_declared k) ≡ true
+firm_at ks at k h there = all-slice_get (λ k. is_firm (of_declared k) ≡ true) ks at k there (each ks h)
+  where
+    each : (ks : List Column) → are_firm ks ≡ true → AllByRecursion (λ k. is_firm (of_declared k) ≡ true) ks
+    each [] h = tt
+    each (k ∷ ks) h = let b = and_so _ _ h in (b.0, each ks b.1)
+
+module _ (name : Name) (columns : List Column) (key : List ℕ) (firm : are_firm columns ≡ true)
+    (s : Schema) (at tree : ℕ) (there : slice_get s.tables at ≡ Some (record (strict name columns key) { tree = tree })) (results : List Output) where
+  abbrev cx : Context
+  cx = context name columns key s at results false
+
+  affinity_is : (c : Place) (is : IsColumn name columns key c) → affinity_of cx (col 1 (c.1 + 1)) ≡ of_declared is.1.0
+  unfolding affinity_of of_column
+  affinity_is c is = rw (add-one c.1, there, is.1.1)
+
+  no_affinity : (j : ℕ) → affinity_of cx (col 0 j) ≡ affinity.None
+  unfolding affinity_of of_column
+  no_affinity j = elim (j == 0) as (λ b. (if b then affinity.None else affinity.None) ≡ affinity.None) [ true ↦ refl | false ↦ refl ]
+
+  compared_so : (c : Place) → IsColumn name columns key c → (j : ℕ) → compared cx (by.Compare compare.Eq Binary) (col 1 (c.1 + 1)) (col 0 j) ≡ equals (col 1 (c.1 + 1)) (col 0 j)
+  unfolding compared
+  compared_so c is j = rw (affinity_is c is, no_affinity j) (converted_so (of_declared is.1.0) (firm_at columns c.1 is.1.0 firm is.1.1) (c.1 + 1) j)
+
+  one_so : (n : ℕ) (c : Place) → IsColumn name columns key c → (j : ℕ) (last : Option Collation) (budget : ℕ) → suffices_once budget ≡ true
+      → lower_to (suc (suc n)) cx (compares c j) (plain_state budget last) ≡ Ok (test_of c j, plain_state (budget - 1 - 1 - 1) None)
+  unfolding everything
+  one_so n c is j last budget enough =
+      let b = and_so _ _ enough in
+      let d = and_so _ _ b.1 in
+      let lowered = lower_to_column n cx (expr.Column None c.0) c.0 at c.1 (col 1 (c.1 + 1)) (Some Binary) None (budget - 1) refl (found name columns key s at tree there results false c is) (column name columns key s at tree there c is) d.0 in
+      equal_is (suc n) cx (compares c j) (expr.Column None c.0) (expr.Parameter j) (col 1 (c.1 + 1)) (col 0 (j - 1)) (test_of c j) (Some Binary) None last budget (budget - 1 - 1) (budget - 1 - 1 - 1) refl b.0
+      lowered (parameter_is n cx (expr.Parameter j) j (Some Binary) (budget - 1 - 1) refl d.1) (compared_so c is (j - 1))
+
+  all_so : (n : ℕ) (c : Place) (ds : List Place) → IsColumn name columns key c → AllByRecursion (IsColumn name columns key) ds → (last : Option Collation) (budget : ℕ) → suffices ds budget ≡ true
+      → lower_to (suc (suc (deeper ds n))) cx (compares_all c ds) (plain_state budget last) ≡ Ok (whole_test c ds, plain_state (left_after ds budget) None)
+  unfolding everything
+  all_so n c [] is are last budget enough = one_so n c is 1 last budget enough
+  all_so n c (d ∷ ds) is are last budget enough =
+      let b = and_so _ _ enough in
+      let f = and_so _ _ b.1 in
+      and_is (suc (suc (deeper ds n))) cx (compares_all c (d ∷ ds)) (compares_all d ds) (compares c (length (d ∷ ds) + 1)) (whole_test d ds) (test_of c (length (d ∷ ds) + 1)) None None last budget (left_after ds (budget - 1)) (left_after (d ∷ ds) budget) refl b.0
+      (all_so n d ds are.0 are.1 None (budget - 1) f.0)
+      (one_so (deeper ds n) c is (length (d ∷ ds) + 1) None (left_after ds (budget - 1)) f.1)
+
+  -- in any schema in which the table stands, such a condition is these tests
+  pub tested : (cs : List Place) → AllByRecursion (IsColumn name columns key) cs → (last : Option Collation) (budget : ℕ) → suffices_for cs budget ≡ true
+      → tests lower cx [] (condition cs) (plain_state budget last) ≡ Ok (filter_by cs, plain_state (left_by cs budget) (last_by cs last))
+  unfolding tests
+  tested [] are last budget enough = refl
+  tested (c ∷ cs) are last budget enough =
+      let b = and_so (suffices cs budget) (nat_lt (length cs) 698) enough in
+      let depth : deeper cs (698 - length cs) ≡ 698 = deeper_is cs (698 - length cs) ∙ omega (arith, ltb-true _ _ b.1) in
+      let lowered : lower cx (compares_all c cs) (plain_state budget last) ≡ Ok (whole_test c cs, plain_state (left_after cs budget) None) =
+      subst (λ n. lower_to (suc (suc n)) cx (compares_all c cs) (plain_state budget last) ≡ Ok (whole_test c cs, plain_state (left_after cs budget) None)) depth (all_so (698 - length cs) c cs are.0 are.1 last budget b.0) in
+      rw lowered

@@ -1,15 +1,10 @@
 -- The table of generations, described once, and what the texts of its statements mean.
-use Rattle.std.proofs.Common.{◌≡◌, ℕ, ℤ, List, [], ◌∷◌, codes, true, ◌&&◌, Some, None, refl}
+use Rattle.std.proofs.Common.{ℕ, ℤ, List, [], ◌∷◌, codes, true, ◌&&◌, refl}
 use Rattle.std.specs.Ordering.{eq_by_cmp, int_cmp}
-use Rattle.std.specs.List.{AllByRecursion, list_all}
+use Rattle.std.specs.List.{AllByRecursion}
 use Rattle.sqlite_value.specs.declared.value.Value.TheVariants.{Int, Text}
-use Rattle.sqlite_value.specs.declared.keys.Collation.TheVariants.{Binary}
-use Rattle.sqlite_value.specs.Order.{Row, column, bytes}
+use Rattle.sqlite_value.specs.Order.{bytes}
 use Rattle.sqlite_trees.specs.View.{is_int}
-use Rattle.sqlite_sql.specs.Term.{Term, col, holds}
-use Rattle.sqlite_schema.specs.declared.command.Command.TheVariants.{Delete, Select}
-use Rattle.sqlite_resolve.specs.Lowering.{max_budget}
-use Rattle.sqlite_resolve.specs.Write.{over}
 use Rattle.sqlite_rules.specs.Edit.{next_rowid, id_in}
 use Rattle.sqlite_tied.specs.Compute.{everything}
 use Rattle.table_forms.specs.Forms.{generation}
@@ -18,13 +13,11 @@ use Rattle.table_statements.specs.Contents.{texts_cmp, triple_cmp, is_text, is_g
 use Rattle.table_statements.specs.Queries.{IsSelect}
 use Rattle.table_entries.specs.Entries.{generation_in, ShowsGeneration, IsGenerationRow}
 use Rattle.table_statements.proofs.Orders.{triple_total, triple_antisymmetric}
-use Rattle.table_statements.proofs.Truths.{cast_null, cast_int, and_so, text_test, int_test, both_tests, all_tests}
-use Rattle.table_statements.proofs.Means.{insert_means, delete_means, plain_state}
-use Rattle.table_entries.proofs.Conditions.{where_two, where_three, equals, select_context, filter_in}
-use Rattle.table_entries.proofs.Ordered.{Place, IsColumn, outputs_of, query_on, names_on, whole, selects}
-use Rattle.table_statements.proofs.Writes.{rowids_where}
+use Rattle.table_statements.proofs.Truths.{cast_null, cast_int, and_so}
+use Rattle.table_statements.proofs.Means.{insert_means}
+use Rattle.table_entries.proofs.Ordered.{Place, IsColumn}
 use Rattle.table_entries.proofs.ContentsLemmas.{generation_set}
-use Rattle.table_statements.proofs.Statements.{Compiles}
+use Rattle.table_entries.proofs.Parts.{IsAsked, added, part, removed, said_two, said_three}
 use Rattle.table_entries.proofs.KeyOrders.{by_triple}
 use Rattle.table_entries.proofs.Legible.{generation_row}
 use Rattle.table_entries.proofs.FreeKeys.{free_three}
@@ -67,51 +60,9 @@ unfolding everything
 insert_is s at tree found = (_, insert_means insert_text refl s at (codes "generation") generation.columns generation.primary tree _ found refl, refl, refl, refl, refl, refl)
 
 pub addition : (owner : List ℕ) (name : List ℕ) (number : ℤ) (target : List ℕ) → Addition table insert_text (Text owner ∷ Text name ∷ Int number ∷ Text target ∷ []) (Text owner ∷ Text name ∷ Int number ∷ Text target ∷ []) (owner, name, number) target
-addition owner name number target = record {
-  is = insert_is;
-  accepts = refl;
-  made = λ rows. rw (cast_null, cast_int number) refl;
-  typed = refl;
-  present = λ id. refl;
-  kind = λ id. refl;
-  entry = λ id. refl;
-  fresh = λ db ours mine none. free_three is_generation (rows_named db generation.name) (generation_kept db ours).typed generation_of (λ r. refl) (λ r is. let whole = and_so _ _ (and_so _ _ is).0 in let pair = and_so _ _ whole.0 in (pair.0, pair.1, whole.1)) owner name number none (Int (next_rowid (rows_named db generation.name))) (Text target ∷ []);
-}
-
--- ---- of the first two of the key
-
-abbrev pub of_two : List Term
-of_two = equals (col 1 1) (col 0 0) ∷ equals (col 1 2) (col 0 1) ∷ []
-
-said_two : (owner : List ℕ) (name : List ℕ) (r : Row) → is_generation r ≡ true → list_all (holds ((Text owner ∷ Text name ∷ []) ∷ r ∷ [])) of_two ≡ (let k = (generation_of r).0 in eq_by_cmp texts_cmp k.0 owner && eq_by_cmp texts_cmp k.1 name)
-said_two owner name r kind = both_tests _ _ _ _ (text_test (column r 1) owner (and_so _ _ (and_so _ _ (and_so _ _ kind).0).0).0) (text_test (column r 2) name (and_so _ _ (and_so _ _ (and_so _ _ kind).0).0).1)
-
--- ---- of a whole key
-
-abbrev pub of_three : List Term
-of_three = equals (col 1 1) (col 0 0) ∷ equals (col 1 2) (col 0 1) ∷ equals (col 1 3) (col 0 2) ∷ []
-
-said_three : (owner : List ℕ) (name : List ℕ) (number : ℤ) (r : Row) → is_generation r ≡ true → list_all (holds ((Text owner ∷ Text name ∷ Int number ∷ []) ∷ r ∷ [])) of_three ≡ (let k = (generation_of r).0 in eq_by_cmp texts_cmp k.0 owner && (eq_by_cmp texts_cmp k.1 name && eq_by_cmp int_cmp k.2 number))
-said_three owner name number r kind = all_tests _ _ _ _ _ _ (text_test (column r 1) owner (and_so _ _ (and_so _ _ (and_so _ _ kind).0).0).0) (text_test (column r 2) name (and_so _ _ (and_so _ _ (and_so _ _ kind).0).0).1) (int_test (column r 3) number (and_so _ _ (and_so _ _ kind).0).1)
-
--- ---- those gone
-
-abbrev pub delete_text : List ℕ
-delete_text = codes "DELETE FROM generation WHERE owner = ?1 AND name = ?2 AND num = ?3"
-
-pub delete_is : Compiles generation.name generation.columns generation.primary delete_text 3 (λ at tree. Delete at (record { lets = []; body = rowids_where tree of_three }))
-unfolding everything
-delete_is s at tree known =
-    let there = known.named.1 in
-    (_, delete_means delete_text refl s at (codes "generation") generation.columns generation.primary tree of_three (plain_state 99989 None) _ known.named (where_three (over s at (codes "generation")) (filter_in delete_text) refl refl refl refl refl refl (codes "owner") (codes "name") (codes "num") at 0 1 2 (col 1 1) (col 1 2) (col 1 3) (equals (col 1 1) (col 0 0)) (equals (col 1 2) (col 0 1)) (equals (col 1 3) (col 0 2)) None max_budget (record { left_is = refl; right_is = refl; found = rw there; column = rw there; compare = rw there }) (record { left_is = refl; right_is = refl; found = rw there; column = rw there; compare = rw there }) (record { left_is = refl; right_is = refl; found = rw there; column = rw there; compare = rw there }) (refl, (refl, (refl, (refl, (refl, (refl, (refl, (refl, (refl, (refl, (refl, tt)))))))))))) (rw (known.low, known.by_tree)), refl, refl, refl, refl, refl)
-
-pub removal : (owner : List ℕ) (name : List ℕ) (number : ℤ) → Removal table delete_text (Text owner ∷ Text name ∷ Int number ∷ []) (λ k. eq_by_cmp texts_cmp k.0 owner && (eq_by_cmp texts_cmp k.1 name && eq_by_cmp int_cmp k.2 number))
-removal owner name number = record {
-  filter = of_three;
-  is = delete_is;
-  said = said_three owner name number;
-  accepts = λ s at tree known. rw (known.low, known.by_tree) refl;
-}
+addition owner name number target =
+    added table insert_is (λ rows. rw (cast_null, cast_int number) refl) (refl, refl, λ id. (refl, refl, refl))
+    (λ db ours mine none. free_three is_generation (rows_named db generation.name) (generation_kept db ours).typed generation_of (λ r. refl) (λ r is. let whole = and_so _ _ (and_so _ _ is).0 in let pair = and_so _ _ whole.0 in (pair.0, pair.1, whole.1)) owner name number none (Int (next_rowid (rows_named db generation.name))) (Text target ∷ []))
 
 -- ---- reading them
 
@@ -134,31 +85,37 @@ reading = record {
 abbrev pub all_text : List ℕ
 all_text = codes "SELECT owner, name, num, target FROM generation ORDER BY owner, name, num"
 
-pub all_read : IsSelect all_text
+pub all_asked : IsAsked table reading all_text []
 unfolding everything
-all_read = (_, _, _, _, _, refl)
+all_asked = ((_, _, _, _, refl, refl, refl), refl, λ s at tree known. (rw (known.low, known.by_tree), rw (known.low, known.by_tree) refl))
 
-pub all_is : Compiles generation.name generation.columns generation.primary all_text 0 (λ at tree. Select (whole (query_on places 3 []) tree) (names_on places))
-unfolding everything all_read
-all_is =
-    selects generation.name generation.columns generation.primary all_text places 3 places_are all_read (refl, refl, refl, refl, refl, refl, refl, refl, refl, refl, refl, refl, refl, λ s. refl) ((_, _, refl, refl), ((_, _, refl, refl), ((_, _, refl, refl), ((_, _, refl, refl), tt)))) (((refl, refl, refl, refl), refl, refl), (((refl, refl, refl, refl), refl, refl), (((refl, refl, refl, refl), refl, refl), tt))) [] (Some Binary) 99996 (refl, (refl, (refl, (refl, tt)))) (refl, (refl, (refl, tt)))
-    (λ s at tree known. refl) (λ s at tree known. rw (known.low, known.by_tree)) refl refl
-
-pub all : Selection table reading all_text [] (λ _. true)
-all = record { filter = []; is = all_is; said = λ r kind. refl; reads = all_read; accepts = λ s at tree known. rw (known.low, known.by_tree) refl }
+abbrev pub all : Selection table reading all_text [] (λ _. true)
+all = part table reading places_are refl all_text [] all_asked (λ r kind. refl)
 
 abbrev pub of_text : List ℕ
 of_text = codes "SELECT owner, name, num, target FROM generation WHERE owner = ?1 AND name = ?2 ORDER BY owner, name, num"
 
-pub of_read : IsSelect of_text
-unfolding everything
-of_read = (_, _, _, _, _, refl)
-
-pub of_is : Compiles generation.name generation.columns generation.primary of_text 2 (λ at tree. Select (whole (query_on places 3 of_two) tree) (names_on places))
-unfolding everything of_read
-of_is =
-    selects generation.name generation.columns generation.primary of_text places 3 places_are of_read (refl, refl, refl, refl, refl, refl, refl, refl, refl, refl, refl, refl, refl, λ s. refl) ((_, _, refl, refl), ((_, _, refl, refl), ((_, _, refl, refl), ((_, _, refl, refl), tt)))) (((refl, refl, refl, refl), refl, refl), (((refl, refl, refl, refl), refl, refl), (((refl, refl, refl, refl), refl, refl), tt))) of_two None 99989 (refl, (refl, (refl, (refl, tt)))) (refl, (refl, (refl, tt)))
-    (λ s at tree known. let there = known.named.1 in where_two (select_context s generation.name at (outputs_of places)) (filter_in of_text) refl refl refl refl (codes "owner") (codes "name") at 0 1 (col 1 1) (col 1 2) (equals (col 1 1) (col 0 0)) (equals (col 1 2) (col 0 1)) (Some Binary) 99996 (record { left_is = refl; right_is = refl; found = rw there; column = rw there; compare = rw there }) (record { left_is = refl; right_is = refl; found = rw there; column = rw there; compare = rw there }) (refl, (refl, (refl, (refl, (refl, (refl, (refl, tt)))))))) (λ s at tree known. rw (known.low, known.by_tree)) refl refl
-
 pub of : (owner : List ℕ) (name : List ℕ) → Selection table reading of_text (Text owner ∷ Text name ∷ []) (λ k. eq_by_cmp texts_cmp k.0 owner && eq_by_cmp texts_cmp k.1 name)
-of owner name = record { filter = of_two; is = of_is; said = said_two owner name; reads = of_read; accepts = λ s at tree known. rw (known.low, known.by_tree) refl }
+unfolding everything
+of owner name =
+    part table reading places_are refl of_text (Text owner ∷ Text name ∷ []) ((_, _, _, _, refl, refl, refl), refl, λ s at tree known. (rw (known.low, known.by_tree), rw (known.low, known.by_tree) refl))
+    (λ r kind. said_two (Text owner) (Text name) r ((and_so _ _ (and_so _ _ (and_so _ _ kind).0).0).0, (and_so _ _ (and_so _ _ (and_so _ _ kind).0).0).1))
+
+-- ---- those gone
+
+abbrev pub delete_text : List ℕ
+delete_text = codes "DELETE FROM generation WHERE owner = ?1 AND name = ?2 AND num = ?3"
+
+pub removal : (owner : List ℕ) (name : List ℕ) (number : ℤ) → Removal table delete_text (Text owner ∷ Text name ∷ Int number ∷ []) (λ k. eq_by_cmp texts_cmp k.0 owner && (eq_by_cmp texts_cmp k.1 name && eq_by_cmp int_cmp k.2 number))
+unfolding everything
+removal owner name number =
+    removed table places places_are refl delete_text (Text owner ∷ Text name ∷ Int number ∷ []) ((_, _, _, _, refl, refl, refl), refl, λ s at tree known. (rw (known.low, known.by_tree), rw (known.low, known.by_tree) refl))
+    (λ r kind. said_three (Text owner) (Text name) (Int number) r ((and_so _ _ (and_so _ _ (and_so _ _ kind).0).0).0, (and_so _ _ (and_so _ _ (and_so _ _ kind).0).0).1, (and_so _ _ (and_so _ _ kind).0).1))
+
+-- ---- they are SELECTs
+
+pub all_read : IsSelect all_text
+all_read = all.reads
+
+pub of_read : IsSelect of_text
+of_read = (of [] []).reads

@@ -15,6 +15,7 @@ pub mod TempRootLemmas
 pub mod Alike
 pub mod Ordered
 pub mod Conditions
+pub mod Parts
 pub mod ContentsLemmas
 pub mod One
 pub mod Optional

@@ -6,16 +6,11 @@ use Rattle.sqlite_rules.proofs.ListLemmas.{has_right}
 use Rattle.sqlite_rules.proofs.ProbeLemmas.{mapped_has}
 use Rattle.sqlite_rules.specs.Lists.{Has}
 use Rattle.std.specs.Ordering.{eq_by_cmp}
-use Rattle.std.specs.List.{list_all, AllByRecursion}
+use Rattle.std.specs.List.{AllByRecursion}
 use Rattle.std.specs.FinMap as finite
 use Rattle.sqlite_value.specs.declared.value.Value.{Value}
 use Rattle.sqlite_value.specs.declared.value.Value.TheVariants.{Null, Int, Real, Text, Blob}
-use Rattle.sqlite_value.specs.declared.keys.Collation.TheVariants.{Binary}
 use Rattle.sqlite_value.specs.Order.{Row, column, bytes}
-use Rattle.sqlite_sql.specs.Term.{Term, col, holds}
-use Rattle.sqlite_schema.specs.declared.command.Command.TheVariants.{Delete, Select}
-use Rattle.sqlite_resolve.specs.Lowering.{max_budget}
-use Rattle.sqlite_resolve.specs.Write.{over}
 use Rattle.sqlite_rules.specs.Edit.{next_rowid}
 use Rattle.sqlite_tied.specs.Compute.{everything}
 use Rattle.table_entries.specs.declared.objects.Object.{Object}
@@ -25,17 +20,15 @@ use Rattle.table_statements.specs.Contents.{Bytes, Stored, rows_named, texts_cmp
 use Rattle.table_statements.specs.Queries.{IsSelect}
 use Rattle.table_entries.specs.Entries.{stored_of, ShowsObject, IsStored, stored, IsObjectRow}
 use Rattle.table_statements.proofs.Orders.{texts_total, texts_antisymmetric}
-use Rattle.table_statements.proofs.Truths.{cast_null, and_so, and_one, text_test}
+use Rattle.table_statements.proofs.Truths.{cast_null, and_so}
 use Rattle.table_entries.proofs.Optional.{IsKept, given, kept_given, bound_given, read_given, option_fits}
-use Rattle.table_statements.proofs.Means.{insert_means, delete_means, plain_state}
-use Rattle.table_entries.proofs.Conditions.{where_one, equals, select_context, filter_in}
-use Rattle.table_entries.proofs.Ordered.{Place, IsColumn, outputs_of, query_on, names_on, whole, selects}
-use Rattle.table_statements.proofs.Writes.{rowids_where}
+use Rattle.table_statements.proofs.Means.{insert_means}
+use Rattle.table_entries.proofs.Ordered.{Place, IsColumn}
 use Rattle.table_entries.proofs.ContentsLemmas.{object_set}
-use Rattle.table_statements.proofs.Statements.{Compiles}
 use Rattle.table_entries.proofs.Typed.{base_is}
 use Rattle.table_entries.proofs.One.{one_is, none_is}
 use Rattle.sqlite.specs.Values.{bound_value}
+use Rattle.table_entries.proofs.Parts.{part, removed, said_one}
 use Rattle.table_entries.proofs.KeyOrders.{by_text}
 use Rattle.table_entries.proofs.Legible.{object_row}
 use Rattle.table_entries.proofs.FreeKeys.{free_one}
@@ -115,33 +108,6 @@ addition base nar hash deriver ca = rw (bound_given deriver, bound_given ca, ←
 pub readable : (base nar hash : List ℕ) (deriver ca : Option (String Global)) → IsUtf8 base → AllByRecursion IsReadable (Text base ∷ Blob nar ∷ Blob hash ∷ given deriver ∷ given ca ∷ [])
 readable base nar hash deriver ca utf8 = (utf8, (tt, (tt, ((kept_given deriver).readable, ((kept_given ca).readable, tt)))))
 
--- ---- of a whole key
-
-abbrev pub of_one : List Term
-of_one = equals (col 1 1) (col 0 0) ∷ []
-
-said_one : (base : List ℕ) (r : Row) → is_object r ≡ true → list_all (holds ((Text base ∷ []) ∷ r ∷ [])) of_one ≡ (let k = (object_of r).0 in eq_by_cmp texts_cmp k base)
-said_one base r kind = and_one _ ∙ text_test (column r 1) base (and_so _ _ (and_so _ _ (and_so _ _ (and_so _ _ kind).0).0).0).0
-
--- ---- those gone
-
-abbrev pub delete_text : List ℕ
-delete_text = codes "DELETE FROM object WHERE base = ?1"
-
-pub delete_is : Compiles object.name object.columns object.primary delete_text 1 (λ at tree. Delete at (record { lets = []; body = rowids_where tree of_one }))
-unfolding everything
-delete_is s at tree known =
-    let there = known.named.1 in
-    (_, delete_means delete_text refl s at (codes "object") object.columns object.primary tree of_one (plain_state 99997 None) _ known.named (where_one (over s at (codes "object")) (filter_in delete_text) refl refl (codes "base") at 0 1 (col 1 1) (equals (col 1 1) (col 0 0)) None max_budget (record { left_is = refl; right_is = refl; found = rw there; column = rw there; compare = rw there }) refl refl refl) (rw (known.low, known.by_tree)), refl, refl, refl, refl, refl)
-
-pub removal : (base : List ℕ) → Removal table delete_text (Text base ∷ []) (λ k. eq_by_cmp texts_cmp k base)
-removal base = record {
-  filter = of_one;
-  is = delete_is;
-  said = said_one base;
-  accepts = λ s at tree known. rw (known.low, known.by_tree) refl;
-}
-
 -- ---- reading them
 
 abbrev pub places : List Place
@@ -163,18 +129,25 @@ reading = record {
 abbrev pub of_text : List ℕ
 of_text = codes "SELECT base, nar, hash, deriver, ca FROM object WHERE base = ?1 ORDER BY base"
 
-pub of_read : IsSelect of_text
-unfolding everything
-of_read = (_, _, _, _, _, refl)
-
-pub of_is : Compiles object.name object.columns object.primary of_text 1 (λ at tree. Select (whole (query_on places 1 of_one) tree) (names_on places))
-unfolding everything of_read
-of_is =
-    selects object.name object.columns object.primary of_text places 1 places_are of_read (refl, refl, refl, refl, refl, refl, refl, refl, refl, refl, refl, refl, refl, λ s. refl) ((_, _, refl, refl), ((_, _, refl, refl), ((_, _, refl, refl), ((_, _, refl, refl), ((_, _, refl, refl), tt))))) (((refl, refl, refl, refl), refl, refl), tt) of_one None 99992 (refl, (refl, (refl, (refl, (refl, tt))))) (refl, tt)
-    (λ s at tree known. let there = known.named.1 in where_one (select_context s object.name at (outputs_of places)) (filter_in of_text) refl refl (codes "base") at 0 1 (col 1 1) (equals (col 1 1) (col 0 0)) (Some Binary) 99995 (record { left_is = refl; right_is = refl; found = rw there; column = rw there; compare = rw there }) refl refl refl) (λ s at tree known. rw (known.low, known.by_tree)) refl refl
-
 pub of : (base : List ℕ) → Selection table reading of_text (Text base ∷ []) (λ k. eq_by_cmp texts_cmp k base)
-of base = record { filter = of_one; is = of_is; said = said_one base; reads = of_read; accepts = λ s at tree known. rw (known.low, known.by_tree) refl }
+unfolding everything
+of base =
+    part table reading places_are refl of_text (Text base ∷ []) ((_, _, _, _, refl, refl, refl), refl, λ s at tree known. (rw (known.low, known.by_tree), rw (known.low, known.by_tree) refl))
+    (λ r kind. said_one (Text base) r (and_so _ _ (and_so _ _ (and_so _ _ (and_so _ _ kind).0).0).0).0)
+
+pub of_read : IsSelect of_text
+of_read = (of []).reads
+
+-- ---- those gone
+
+abbrev pub delete_text : List ℕ
+delete_text = codes "DELETE FROM object WHERE base = ?1"
+
+pub removal : (base : List ℕ) → Removal table delete_text (Text base ∷ []) (λ k. eq_by_cmp texts_cmp k base)
+unfolding everything
+removal base =
+    removed table places places_are refl delete_text (Text base ∷ []) ((_, _, _, _, refl, refl, refl), refl, λ s at tree known. (rw (known.low, known.by_tree), rw (known.low, known.by_tree) refl))
+    (λ r kind. said_one (Text base) r (and_so _ _ (and_so _ _ (and_so _ _ (and_so _ _ kind).0).0).0).0)
 
 -- ---- the one of a path
 

@@ -1,16 +1,11 @@
 -- The table of pieces, described once, and what the texts of its statements mean.
-use Rattle.std.proofs.Common.{◌≡◌, ℕ, ℤ, List, [], ◌∷◌, codes, true, ◌&&◌, Some, None, refl, subst, ◌∙◌}
+use Rattle.std.proofs.Common.{◌≡◌, ℕ, ℤ, List, [], ◌∷◌, codes, true, ◌&&◌, None, refl, subst}
 use Rattle.std.specs.Ordering.{eq_by_cmp}
-use Rattle.std.specs.List.{AllByRecursion, list_all}
+use Rattle.std.specs.List.{AllByRecursion}
 use Rattle.std.specs.FinMap as finite
 use Rattle.sqlite_value.specs.declared.value.Value.TheVariants.{Int, Text, Blob}
-use Rattle.sqlite_value.specs.declared.keys.Collation.TheVariants.{Binary}
-use Rattle.sqlite_value.specs.Order.{Row, column, bytes}
+use Rattle.sqlite_value.specs.Order.{bytes}
 use Rattle.sqlite_trees.specs.View.{is_int}
-use Rattle.sqlite_sql.specs.Term.{Term, col, holds}
-use Rattle.sqlite_schema.specs.declared.command.Command.TheVariants.{Delete, Select}
-use Rattle.sqlite_resolve.specs.Lowering.{max_budget}
-use Rattle.sqlite_resolve.specs.Write.{over}
 use Rattle.sqlite_rules.specs.Edit.{next_rowid, id_in}
 use Rattle.sqlite_tied.specs.Compute.{everything}
 use Rattle.table_forms.specs.Forms.{piece}
@@ -20,13 +15,11 @@ use Rattle.table_statements.specs.Calls.{HasFurther}
 use Rattle.table_statements.specs.Queries.{IsSelect}
 use Rattle.table_entries.specs.Entries.{piece_in, ShowsPiece, IsPieceRow}
 use Rattle.table_statements.proofs.Orders.{numbered_total, numbered_antisymmetric}
-use Rattle.table_statements.proofs.Truths.{cast_null, cast_int, and_so, and_one, text_test}
-use Rattle.table_statements.proofs.Means.{insert_means, delete_means, plain_state}
-use Rattle.table_entries.proofs.Conditions.{where_one, equals, select_context, filter_in}
-use Rattle.table_entries.proofs.Ordered.{Place, IsColumn, outputs_of, query_on, names_on, whole, selects}
-use Rattle.table_statements.proofs.Writes.{rowids_where}
+use Rattle.table_statements.proofs.Truths.{cast_null, cast_int, and_so}
+use Rattle.table_statements.proofs.Means.{insert_means}
+use Rattle.table_entries.proofs.Ordered.{Place, IsColumn}
 use Rattle.table_entries.proofs.FurtherTables.{piece_kept, pieces_held, pieces_set}
-use Rattle.table_statements.proofs.Statements.{Compiles}
+use Rattle.table_entries.proofs.Parts.{IsAsked, added, part, removed, said_one}
 use Rattle.table_entries.proofs.KeyOrders.{by_numbered}
 use Rattle.table_entries.proofs.Legible.{piece_row}
 use Rattle.table_entries.proofs.FreeKeys.{free_numbered}
@@ -69,43 +62,9 @@ unfolding everything
 insert_is s at tree found = (_, insert_means insert_text refl s at (codes "piece") piece.columns piece.primary tree _ found refl, refl, refl, refl, refl, refl)
 
 pub addition : (base : List ℕ) (number : ℤ) (content : List ℕ) → Addition table insert_text (Text base ∷ Int number ∷ Blob content ∷ []) (Text base ∷ Int number ∷ Blob content ∷ []) (base, number) content
-addition base number content = record {
-  is = insert_is;
-  accepts = refl;
-  made = λ rows. rw (cast_null, cast_int number) refl;
-  typed = refl;
-  present = λ id. refl;
-  kind = λ id. refl;
-  entry = λ id. refl;
-  fresh = λ db ours mine none. free_numbered is_piece (rows_named db piece.name) (piece_kept db ours mine).typed piece_of (λ r. refl) (λ r is. and_so _ _ (and_so _ _ is).0) base number (subst (λ (m : finite.FinMap numbered_cmp Bytes). finite.get m (base, number) ≡ None) (pieces_held db mine.stands) none) (Int (next_rowid (rows_named db piece.name))) (Blob content ∷ []);
-}
-
--- ---- of the first one of the key
-
-abbrev pub of_one : List Term
-of_one = equals (col 1 1) (col 0 0) ∷ []
-
-said_one : (base : List ℕ) (r : Row) → is_piece r ≡ true → list_all (holds ((Text base ∷ []) ∷ r ∷ [])) of_one ≡ (let k = (piece_of r).0 in eq_by_cmp texts_cmp k.0 base)
-said_one base r kind = and_one _ ∙ text_test (column r 1) base (and_so _ _ (and_so _ _ kind).0).0
-
--- ---- those gone
-
-abbrev pub delete_of_text : List ℕ
-delete_of_text = codes "DELETE FROM piece WHERE base = ?1"
-
-pub delete_of_is : Compiles piece.name piece.columns piece.primary delete_of_text 1 (λ at tree. Delete at (record { lets = []; body = rowids_where tree of_one }))
-unfolding everything
-delete_of_is s at tree known =
-    let there = known.named.1 in
-    (_, delete_means delete_of_text refl s at (codes "piece") piece.columns piece.primary tree of_one (plain_state 99997 None) _ known.named (where_one (over s at (codes "piece")) (filter_in delete_of_text) refl refl (codes "base") at 0 1 (col 1 1) (equals (col 1 1) (col 0 0)) None max_budget (record { left_is = refl; right_is = refl; found = rw there; column = rw there; compare = rw there }) refl refl refl) (rw (known.low, known.by_tree)), refl, refl, refl, refl, refl)
-
-pub removal : (base : List ℕ) → Removal table delete_of_text (Text base ∷ []) (λ k. eq_by_cmp texts_cmp k.0 base)
-removal base = record {
-  filter = of_one;
-  is = delete_of_is;
-  said = said_one base;
-  accepts = λ s at tree known. rw (known.low, known.by_tree) refl;
-}
+addition base number content =
+    added table insert_is (λ rows. rw (cast_null, cast_int number) refl) (refl, refl, λ id. (refl, refl, refl))
+    (λ db ours mine none. free_numbered is_piece (rows_named db piece.name) (piece_kept db ours mine).typed piece_of (λ r. refl) (λ r is. and_so _ _ (and_so _ _ is).0) base number (subst (λ (m : finite.FinMap numbered_cmp Bytes). finite.get m (base, number) ≡ None) (pieces_held db mine.stands) none) (Int (next_rowid (rows_named db piece.name))) (Blob content ∷ []))
 
 -- ---- reading them
 
@@ -128,31 +87,37 @@ reading = record {
 abbrev pub all_text : List ℕ
 all_text = codes "SELECT base, num, bytes FROM piece ORDER BY base, num"
 
-pub all_read : IsSelect all_text
+pub all_asked : IsAsked table reading all_text []
 unfolding everything
-all_read = (_, _, _, _, _, refl)
+all_asked = ((_, _, _, _, refl, refl, refl), refl, λ s at tree known. (rw (known.low, known.by_tree), rw (known.low, known.by_tree) refl))
 
-pub all_is : Compiles piece.name piece.columns piece.primary all_text 0 (λ at tree. Select (whole (query_on places 2 []) tree) (names_on places))
-unfolding everything all_read
-all_is =
-    selects piece.name piece.columns piece.primary all_text places 2 places_are all_read (refl, refl, refl, refl, refl, refl, refl, refl, refl, refl, refl, refl, refl, λ s. refl) ((_, _, refl, refl), ((_, _, refl, refl), ((_, _, refl, refl), tt))) (((refl, refl, refl, refl), refl, refl), (((refl, refl, refl, refl), refl, refl), tt)) [] (Some Binary) 99997 (refl, (refl, (refl, tt))) (refl, (refl, tt))
-    (λ s at tree known. refl) (λ s at tree known. rw (known.low, known.by_tree)) refl refl
-
-pub all : Selection table reading all_text [] (λ _. true)
-all = record { filter = []; is = all_is; said = λ r kind. refl; reads = all_read; accepts = λ s at tree known. rw (known.low, known.by_tree) refl }
+abbrev pub all : Selection table reading all_text [] (λ _. true)
+all = part table reading places_are refl all_text [] all_asked (λ r kind. refl)
 
 abbrev pub of_text : List ℕ
 of_text = codes "SELECT base, num, bytes FROM piece WHERE base = ?1 ORDER BY base, num"
 
-pub of_read : IsSelect of_text
-unfolding everything
-of_read = (_, _, _, _, _, refl)
-
-pub of_is : Compiles piece.name piece.columns piece.primary of_text 1 (λ at tree. Select (whole (query_on places 2 of_one) tree) (names_on places))
-unfolding everything of_read
-of_is =
-    selects piece.name piece.columns piece.primary of_text places 2 places_are of_read (refl, refl, refl, refl, refl, refl, refl, refl, refl, refl, refl, refl, refl, λ s. refl) ((_, _, refl, refl), ((_, _, refl, refl), ((_, _, refl, refl), tt))) (((refl, refl, refl, refl), refl, refl), (((refl, refl, refl, refl), refl, refl), tt)) of_one None 99994 (refl, (refl, (refl, tt))) (refl, (refl, tt))
-    (λ s at tree known. let there = known.named.1 in where_one (select_context s piece.name at (outputs_of places)) (filter_in of_text) refl refl (codes "base") at 0 1 (col 1 1) (equals (col 1 1) (col 0 0)) (Some Binary) 99997 (record { left_is = refl; right_is = refl; found = rw there; column = rw there; compare = rw there }) refl refl refl) (λ s at tree known. rw (known.low, known.by_tree)) refl refl
-
 pub of : (base : List ℕ) → Selection table reading of_text (Text base ∷ []) (λ k. eq_by_cmp texts_cmp k.0 base)
-of base = record { filter = of_one; is = of_is; said = said_one base; reads = of_read; accepts = λ s at tree known. rw (known.low, known.by_tree) refl }
+unfolding everything
+of base =
+    part table reading places_are refl of_text (Text base ∷ []) ((_, _, _, _, refl, refl, refl), refl, λ s at tree known. (rw (known.low, known.by_tree), rw (known.low, known.by_tree) refl))
+    (λ r kind. said_one (Text base) r (and_so _ _ (and_so _ _ kind).0).0)
+
+-- ---- those gone
+
+abbrev pub delete_of_text : List ℕ
+delete_of_text = codes "DELETE FROM piece WHERE base = ?1"
+
+pub removal : (base : List ℕ) → Removal table delete_of_text (Text base ∷ []) (λ k. eq_by_cmp texts_cmp k.0 base)
+unfolding everything
+removal base =
+    removed table places places_are refl delete_of_text (Text base ∷ []) ((_, _, _, _, refl, refl, refl), refl, λ s at tree known. (rw (known.low, known.by_tree), rw (known.low, known.by_tree) refl))
+    (λ r kind. said_one (Text base) r (and_so _ _ (and_so _ _ kind).0).0)
+
+-- ---- they are SELECTs
+
+pub all_read : IsSelect all_text
+all_read = all.reads
+
+pub of_read : IsSelect of_text
+of_read = (of []).reads

@@ -1,14 +1,9 @@
 -- The table of runtime roots, described once, and what the texts of its statements mean.
-use Rattle.std.proofs.Common.{◌≡◌, ℕ, List, [], ◌∷◌, codes, true, ◌&&◌, Some, None, refl, ◌∙◌}
+use Rattle.std.proofs.Common.{ℕ, List, [], ◌∷◌, codes, true, ◌&&◌, refl}
 use Rattle.std.specs.Ordering.{eq_by_cmp}
-use Rattle.std.specs.List.{AllByRecursion, list_all}
+use Rattle.std.specs.List.{AllByRecursion}
 use Rattle.sqlite_value.specs.declared.value.Value.TheVariants.{Int, Text}
-use Rattle.sqlite_value.specs.declared.keys.Collation.TheVariants.{Binary}
-use Rattle.sqlite_value.specs.Order.{Row, column, bytes}
-use Rattle.sqlite_sql.specs.Term.{Term, col, holds}
-use Rattle.sqlite_schema.specs.declared.command.Command.TheVariants.{Delete, Select}
-use Rattle.sqlite_resolve.specs.Lowering.{max_budget}
-use Rattle.sqlite_resolve.specs.Write.{over}
+use Rattle.sqlite_value.specs.Order.{bytes}
 use Rattle.sqlite_rules.specs.Edit.{next_rowid}
 use Rattle.sqlite_tied.specs.Compute.{everything}
 use Rattle.table_forms.specs.Forms.{runtime}
@@ -17,13 +12,11 @@ use Rattle.table_statements.specs.Contents.{rows_named, texts_cmp, pair_cmp, is_
 use Rattle.table_statements.specs.Queries.{IsSelect}
 use Rattle.table_entries.specs.Entries.{runtime_of, ShowsRuntimeRoot, IsPairRow}
 use Rattle.table_statements.proofs.Orders.{pair_total, pair_antisymmetric}
-use Rattle.table_statements.proofs.Truths.{cast_null, and_so, and_one, text_test}
-use Rattle.table_statements.proofs.Means.{insert_means, delete_means, plain_state}
-use Rattle.table_entries.proofs.Conditions.{where_one, equals, select_context, filter_in}
-use Rattle.table_entries.proofs.Ordered.{Place, IsColumn, outputs_of, query_on, names_on, whole, selects}
-use Rattle.table_statements.proofs.Writes.{rowids_where}
+use Rattle.table_statements.proofs.Truths.{cast_null, and_so}
+use Rattle.table_statements.proofs.Means.{insert_means}
+use Rattle.table_entries.proofs.Ordered.{Place, IsColumn}
 use Rattle.table_entries.proofs.ContentsLemmas.{runtime_set}
-use Rattle.table_statements.proofs.Statements.{Compiles}
+use Rattle.table_entries.proofs.Parts.{IsAsked, added, part, removed, said_one}
 use Rattle.table_entries.proofs.KeyOrders.{by_pair}
 use Rattle.table_entries.proofs.Legible.{pair_row}
 use Rattle.table_entries.proofs.FreeKeys.{free_two}
@@ -66,60 +59,9 @@ unfolding everything
 insert_is s at tree found = (_, insert_means insert_text refl s at (codes "runtime") runtime.columns runtime.primary tree _ found refl, refl, refl, refl, refl, refl)
 
 pub addition : (label target : List ℕ) → Addition table insert_text (Text label ∷ Text target ∷ []) (Text label ∷ Text target ∷ []) (label, target) tt
-addition label target = record {
-  is = insert_is;
-  accepts = refl;
-  made = λ rows. rw cast_null refl;
-  typed = refl;
-  present = λ id. refl;
-  kind = λ id. refl;
-  entry = λ id. refl;
-  fresh = λ db ours mine none. free_two is_pair (rows_named db runtime.name) (runtime_kept db ours).typed member_of (λ r. refl) (λ r is. and_so _ _ is) label target none (Int (next_rowid (rows_named db runtime.name))) [];
-}
-
--- ---- of the first one of the key
-
-abbrev pub of_one : List Term
-of_one = equals (col 1 1) (col 0 0) ∷ []
-
-said_one : (label : List ℕ) (r : Row) → is_pair r ≡ true → list_all (holds ((Text label ∷ []) ∷ r ∷ [])) of_one ≡ (let k = (member_of r).0 in eq_by_cmp texts_cmp k.0 label)
-said_one label r kind = and_one _ ∙ text_test (column r 1) label (and_so _ _ kind).0
-
--- ---- those gone
-
-abbrev pub delete_of_text : List ℕ
-delete_of_text = codes "DELETE FROM runtime WHERE label = ?1"
-
-pub delete_of_is : Compiles runtime.name runtime.columns runtime.primary delete_of_text 1 (λ at tree. Delete at (record { lets = []; body = rowids_where tree of_one }))
-unfolding everything
-delete_of_is s at tree known =
-    let there = known.named.1 in
-    (_, delete_means delete_of_text refl s at (codes "runtime") runtime.columns runtime.primary tree of_one (plain_state 99997 None) _ known.named (where_one (over s at (codes "runtime")) (filter_in delete_of_text) refl refl (codes "label") at 0 1 (col 1 1) (equals (col 1 1) (col 0 0)) None max_budget (record { left_is = refl; right_is = refl; found = rw there; column = rw there; compare = rw there }) refl refl refl) (rw (known.low, known.by_tree)), refl, refl, refl, refl, refl)
-
-pub removal : (label : List ℕ) → Removal table delete_of_text (Text label ∷ []) (λ k. eq_by_cmp texts_cmp k.0 label)
-removal label = record {
-  filter = of_one;
-  is = delete_of_is;
-  said = said_one label;
-  accepts = λ s at tree known. rw (known.low, known.by_tree) refl;
-}
-
--- ---- all gone
-
-abbrev pub delete_all_text : List ℕ
-delete_all_text = codes "DELETE FROM runtime"
-
-delete_all_is : Compiles runtime.name runtime.columns runtime.primary delete_all_text 0 (λ at tree. Delete at (record { lets = []; body = rowids_where tree [] }))
-unfolding everything
-delete_all_is s at tree known = (_, delete_means delete_all_text refl s at (codes "runtime") runtime.columns runtime.primary tree [] (plain_state 100000 None) _ known.named refl (rw (known.low, known.by_tree)), refl, refl, refl, refl, refl)
-
-pub removal_all : Removal table delete_all_text [] (λ _. true)
-removal_all = record {
-  filter = [];
-  is = delete_all_is;
-  said = λ r kind. refl;
-  accepts = λ s at tree known. rw (known.low, known.by_tree) refl;
-}
+addition label target =
+    added table insert_is (λ rows. rw cast_null refl) (refl, refl, λ id. (refl, refl, refl))
+    (λ db ours mine none. free_two is_pair (rows_named db runtime.name) (runtime_kept db ours).typed member_of (λ r. refl) (λ r is. and_so _ _ is) label target none (Int (next_rowid (rows_named db runtime.name))) [])
 
 -- ---- reading them
 
@@ -142,31 +84,48 @@ reading = record {
 abbrev pub all_text : List ℕ
 all_text = codes "SELECT label, target FROM runtime ORDER BY label, target"
 
-pub all_read : IsSelect all_text
+pub all_asked : IsAsked table reading all_text []
 unfolding everything
-all_read = (_, _, _, _, _, refl)
+all_asked = ((_, _, _, _, refl, refl, refl), refl, λ s at tree known. (rw (known.low, known.by_tree), rw (known.low, known.by_tree) refl))
 
-pub all_is : Compiles runtime.name runtime.columns runtime.primary all_text 0 (λ at tree. Select (whole (query_on places 2 []) tree) (names_on places))
-unfolding everything all_read
-all_is =
-    selects runtime.name runtime.columns runtime.primary all_text places 2 places_are all_read (refl, refl, refl, refl, refl, refl, refl, refl, refl, refl, refl, refl, refl, λ s. refl) ((_, _, refl, refl), ((_, _, refl, refl), tt)) (((refl, refl, refl, refl), refl, refl), (((refl, refl, refl, refl), refl, refl), tt)) [] (Some Binary) 99998 (refl, (refl, tt)) (refl, (refl, tt))
-    (λ s at tree known. refl) (λ s at tree known. rw (known.low, known.by_tree)) refl refl
-
-pub all : Selection table reading all_text [] (λ _. true)
-all = record { filter = []; is = all_is; said = λ r kind. refl; reads = all_read; accepts = λ s at tree known. rw (known.low, known.by_tree) refl }
+abbrev pub all : Selection table reading all_text [] (λ _. true)
+all = part table reading places_are refl all_text [] all_asked (λ r kind. refl)
 
 abbrev pub of_text : List ℕ
 of_text = codes "SELECT label, target FROM runtime WHERE label = ?1 ORDER BY label, target"
 
-pub of_read : IsSelect of_text
-unfolding everything
-of_read = (_, _, _, _, _, refl)
-
-pub of_is : Compiles runtime.name runtime.columns runtime.primary of_text 1 (λ at tree. Select (whole (query_on places 2 of_one) tree) (names_on places))
-unfolding everything of_read
-of_is =
-    selects runtime.name runtime.columns runtime.primary of_text places 2 places_are of_read (refl, refl, refl, refl, refl, refl, refl, refl, refl, refl, refl, refl, refl, λ s. refl) ((_, _, refl, refl), ((_, _, refl, refl), tt)) (((refl, refl, refl, refl), refl, refl), (((refl, refl, refl, refl), refl, refl), tt)) of_one None 99995 (refl, (refl, tt)) (refl, (refl, tt))
-    (λ s at tree known. let there = known.named.1 in where_one (select_context s runtime.name at (outputs_of places)) (filter_in of_text) refl refl (codes "label") at 0 1 (col 1 1) (equals (col 1 1) (col 0 0)) (Some Binary) 99998 (record { left_is = refl; right_is = refl; found = rw there; column = rw there; compare = rw there }) refl refl refl) (λ s at tree known. rw (known.low, known.by_tree)) refl refl
-
 pub of : (label : List ℕ) → Selection table reading of_text (Text label ∷ []) (λ k. eq_by_cmp texts_cmp k.0 label)
-of label = record { filter = of_one; is = of_is; said = said_one label; reads = of_read; accepts = λ s at tree known. rw (known.low, known.by_tree) refl }
+unfolding everything
+of label =
+    part table reading places_are refl of_text (Text label ∷ []) ((_, _, _, _, refl, refl, refl), refl, λ s at tree known. (rw (known.low, known.by_tree), rw (known.low, known.by_tree) refl))
+    (λ r kind. said_one (Text label) r (and_so _ _ kind).0)
+
+-- ---- those gone
+
+abbrev pub delete_of_text : List ℕ
+delete_of_text = codes "DELETE FROM runtime WHERE label = ?1"
+
+pub removal : (label : List ℕ) → Removal table delete_of_text (Text label ∷ []) (λ k. eq_by_cmp texts_cmp k.0 label)
+unfolding everything
+removal label =
+    removed table places places_are refl delete_of_text (Text label ∷ []) ((_, _, _, _, refl, refl, refl), refl, λ s at tree known. (rw (known.low, known.by_tree), rw (known.low, known.by_tree) refl))
+    (λ r kind. said_one (Text label) r (and_so _ _ kind).0)
+
+-- ---- all gone
+
+abbrev pub delete_all_text : List ℕ
+delete_all_text = codes "DELETE FROM runtime"
+
+pub removal_all : Removal table delete_all_text [] (λ _. true)
+unfolding everything
+removal_all =
+    removed table places places_are refl delete_all_text [] ((_, _, _, _, refl, refl, refl), refl, λ s at tree known. (rw (known.low, known.by_tree), rw (known.low, known.by_tree) refl))
+    (λ r kind. refl)
+
+-- ---- they are SELECTs
+
+pub all_read : IsSelect all_text
+all_read = all.reads
+
+pub of_read : IsSelect of_text
+of_read = (of []).reads

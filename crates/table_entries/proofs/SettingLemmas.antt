@@ -1,14 +1,9 @@
 -- The table of settings, described once, and what the texts of its statements mean.
-use Rattle.std.proofs.Common.{◌≡◌, ℕ, List, [], ◌∷◌, codes, true, ◌&&◌, Some, None, refl, ◌∙◌}
+use Rattle.std.proofs.Common.{ℕ, List, [], ◌∷◌, codes, true, ◌&&◌, refl}
 use Rattle.std.specs.Ordering.{eq_by_cmp}
-use Rattle.std.specs.List.{AllByRecursion, list_all}
+use Rattle.std.specs.List.{AllByRecursion}
 use Rattle.sqlite_value.specs.declared.value.Value.TheVariants.{Int, Text}
-use Rattle.sqlite_value.specs.declared.keys.Collation.TheVariants.{Binary}
-use Rattle.sqlite_value.specs.Order.{Row, column, bytes}
-use Rattle.sqlite_sql.specs.Term.{Term, col, holds}
-use Rattle.sqlite_schema.specs.declared.command.Command.TheVariants.{Delete, Select}
-use Rattle.sqlite_resolve.specs.Lowering.{max_budget}
-use Rattle.sqlite_resolve.specs.Write.{over}
+use Rattle.sqlite_value.specs.Order.{bytes}
 use Rattle.sqlite_rules.specs.Edit.{next_rowid}
 use Rattle.sqlite_tied.specs.Compute.{everything}
 use Rattle.table_forms.specs.Forms.{meta}
@@ -17,13 +12,11 @@ use Rattle.table_statements.specs.Contents.{texts_cmp, is_text, is_pair, pair_of
 use Rattle.table_statements.specs.Queries.{IsSelect}
 use Rattle.table_entries.specs.Entries.{setting_of, ShowsSetting, IsPairRow}
 use Rattle.table_statements.proofs.Orders.{texts_total, texts_antisymmetric}
-use Rattle.table_statements.proofs.Truths.{cast_null, and_so, and_one, text_test}
-use Rattle.table_statements.proofs.Means.{insert_means, delete_means, plain_state}
-use Rattle.table_entries.proofs.Conditions.{where_one, equals, filter_in, select_context}
-use Rattle.table_entries.proofs.Ordered.{Place, IsColumn, outputs_of, query_on, names_on, whole, selects}
-use Rattle.table_statements.proofs.Writes.{rowids_where}
+use Rattle.table_statements.proofs.Truths.{cast_null, and_so}
+use Rattle.table_statements.proofs.Means.{insert_means}
+use Rattle.table_entries.proofs.Ordered.{Place, IsColumn}
 use Rattle.table_entries.proofs.ContentsLemmas.{meta_set}
-use Rattle.table_statements.proofs.Statements.{Compiles}
+use Rattle.table_entries.proofs.Parts.{IsAsked, added, part, removed, said_one}
 use Rattle.table_entries.proofs.KeyOrders.{by_text}
 use Rattle.table_entries.proofs.Legible.{pair_row}
 use Rattle.table_entries.proofs.FreeKeys.{free_one}
@@ -66,43 +59,9 @@ unfolding everything
 insert_is s at tree found = (_, insert_means insert_text refl s at (codes "meta") meta.columns meta.primary tree _ found refl, refl, refl, refl, refl, refl)
 
 pub addition : (word : List ℕ) (value : List ℕ) → Addition table insert_text (Text word ∷ Text value ∷ []) (Text word ∷ Text value ∷ []) word value
-addition word value = record {
-  is = insert_is;
-  accepts = refl;
-  made = λ rows. rw cast_null refl;
-  typed = refl;
-  present = λ id. refl;
-  kind = λ id. refl;
-  entry = λ id. refl;
-  fresh = λ db ours mine none. free_one is_pair (rows_named db meta.name) (meta_kept db ours).typed pair_of (λ r. refl) (λ r is. (and_so _ _ is).0) word none (Int (next_rowid (rows_named db meta.name))) (Text value ∷ []);
-}
-
--- ---- of a whole key
-
-abbrev pub of_one : List Term
-of_one = equals (col 1 1) (col 0 0) ∷ []
-
-said_one : (word : List ℕ) (r : Row) → is_pair r ≡ true → list_all (holds ((Text word ∷ []) ∷ r ∷ [])) of_one ≡ (let k = (pair_of r).0 in eq_by_cmp texts_cmp k word)
-said_one word r kind = and_one _ ∙ text_test (column r 1) word (and_so _ _ kind).0
-
--- ---- those gone
-
-abbrev pub delete_text : List ℕ
-delete_text = codes "DELETE FROM meta WHERE word = ?1"
-
-pub delete_is : Compiles meta.name meta.columns meta.primary delete_text 1 (λ at tree. Delete at (record { lets = []; body = rowids_where tree of_one }))
-unfolding everything
-delete_is s at tree known =
-    let there = known.named.1 in
-    (_, delete_means delete_text refl s at (codes "meta") meta.columns meta.primary tree of_one (plain_state 99997 None) _ known.named (where_one (over s at (codes "meta")) (filter_in delete_text) refl refl (codes "word") at 0 1 (col 1 1) (equals (col 1 1) (col 0 0)) None max_budget (record { left_is = refl; right_is = refl; found = rw there; column = rw there; compare = rw there }) refl refl refl) (rw (known.low, known.by_tree)), refl, refl, refl, refl, refl)
-
-pub removal : (word : List ℕ) → Removal table delete_text (Text word ∷ []) (λ k. eq_by_cmp texts_cmp k word)
-removal word = record {
-  filter = of_one;
-  is = delete_is;
-  said = said_one word;
-  accepts = λ s at tree known. rw (known.low, known.by_tree) refl;
-}
+addition word value =
+    added table insert_is (λ rows. rw cast_null refl) (refl, refl, λ id. (refl, refl, refl))
+    (λ db ours mine none. free_one is_pair (rows_named db meta.name) (meta_kept db ours).typed pair_of (λ r. refl) (λ r is. (and_so _ _ is).0) word none (Int (next_rowid (rows_named db meta.name))) (Text value ∷ []))
 
 -- ---- reading them
 
@@ -125,31 +84,37 @@ reading = record {
 abbrev pub all_text : List ℕ
 all_text = codes "SELECT word, val FROM meta ORDER BY word"
 
-pub all_read : IsSelect all_text
+pub all_asked : IsAsked table reading all_text []
 unfolding everything
-all_read = (_, _, _, _, _, refl)
+all_asked = ((_, _, _, _, refl, refl, refl), refl, λ s at tree known. (rw (known.low, known.by_tree), rw (known.low, known.by_tree) refl))
 
-pub all_is : Compiles meta.name meta.columns meta.primary all_text 0 (λ at tree. Select (whole (query_on places 1 []) tree) (names_on places))
-unfolding everything all_read
-all_is =
-    selects meta.name meta.columns meta.primary all_text places 1 places_are all_read (refl, refl, refl, refl, refl, refl, refl, refl, refl, refl, refl, refl, refl, λ s. refl) ((_, _, refl, refl), ((_, _, refl, refl), tt)) (((refl, refl, refl, refl), refl, refl), tt) [] (Some Binary) 99998 (refl, (refl, tt)) (refl, tt)
-    (λ s at tree known. refl) (λ s at tree known. rw (known.low, known.by_tree)) refl refl
-
-pub all : Selection table reading all_text [] (λ _. true)
-all = record { filter = []; is = all_is; said = λ r kind. refl; reads = all_read; accepts = λ s at tree known. rw (known.low, known.by_tree) refl }
+abbrev pub all : Selection table reading all_text [] (λ _. true)
+all = part table reading places_are refl all_text [] all_asked (λ r kind. refl)
 
 abbrev pub of_text : List ℕ
 of_text = codes "SELECT word, val FROM meta WHERE word = ?1 ORDER BY word"
 
-pub of_read : IsSelect of_text
-unfolding everything
-of_read = (_, _, _, _, _, refl)
-
-pub of_is : Compiles meta.name meta.columns meta.primary of_text 1 (λ at tree. Select (whole (query_on places 1 of_one) tree) (names_on places))
-unfolding everything of_read
-of_is =
-    selects meta.name meta.columns meta.primary of_text places 1 places_are of_read (refl, refl, refl, refl, refl, refl, refl, refl, refl, refl, refl, refl, refl, λ s. refl) ((_, _, refl, refl), ((_, _, refl, refl), tt)) (((refl, refl, refl, refl), refl, refl), tt) of_one None 99995 (refl, (refl, tt)) (refl, tt)
-    (λ s at tree known. let there = known.named.1 in where_one (select_context s meta.name at (outputs_of places)) (filter_in of_text) refl refl (codes "word") at 0 1 (col 1 1) (equals (col 1 1) (col 0 0)) (Some Binary) 99998 (record { left_is = refl; right_is = refl; found = rw there; column = rw there; compare = rw there }) refl refl refl) (λ s at tree known. rw (known.low, known.by_tree)) refl refl
-
 pub of : (word : List ℕ) → Selection table reading of_text (Text word ∷ []) (λ k. eq_by_cmp texts_cmp k word)
-of word = record { filter = of_one; is = of_is; said = said_one word; reads = of_read; accepts = λ s at tree known. rw (known.low, known.by_tree) refl }
+unfolding everything
+of word =
+    part table reading places_are refl of_text (Text word ∷ []) ((_, _, _, _, refl, refl, refl), refl, λ s at tree known. (rw (known.low, known.by_tree), rw (known.low, known.by_tree) refl))
+    (λ r kind. said_one (Text word) r (and_so _ _ kind).0)
+
+-- ---- those gone
+
+abbrev pub delete_text : List ℕ
+delete_text = codes "DELETE FROM meta WHERE word = ?1"
+
+pub removal : (word : List ℕ) → Removal table delete_text (Text word ∷ []) (λ k. eq_by_cmp texts_cmp k word)
+unfolding everything
+removal word =
+    removed table places places_are refl delete_text (Text word ∷ []) ((_, _, _, _, refl, refl, refl), refl, λ s at tree known. (rw (known.low, known.by_tree), rw (known.low, known.by_tree) refl))
+    (λ r kind. said_one (Text word) r (and_so _ _ kind).0)
+
+-- ---- they are SELECTs
+
+pub all_read : IsSelect all_text
+all_read = all.reads
+
+pub of_read : IsSelect of_text
+of_read = (of []).reads
