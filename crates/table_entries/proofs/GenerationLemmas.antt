@@ -5,11 +5,11 @@ use Rattle.std.specs.List.{AllByRecursion}
 use Rattle.sqlite_value.specs.declared.value.Value.TheVariants.{Int, Text}
 use Rattle.sqlite_value.specs.Order.{bytes}
 use Rattle.sqlite_trees.specs.View.{is_int}
-use Rattle.sqlite_rules.specs.Edit.{next_rowid, id_in}
+use Rattle.sqlite_rules.specs.Edit.{id_in}
 use Rattle.sqlite_tied.specs.Compute.{everything}
 use Rattle.table_forms.specs.Forms.{generation}
 use Rattle.table_forms.specs.Standing.{HasTables}
-use Rattle.table_statements.specs.Contents.{texts_cmp, triple_cmp, is_text, is_generation, generation_of, Bytes, Triple, rows_named}
+use Rattle.table_statements.specs.Contents.{texts_cmp, triple_cmp, is_text, is_generation, generation_of, Bytes, Triple}
 use Rattle.table_statements.specs.Queries.{IsSelect}
 use Rattle.table_entries.specs.Entries.{generation_in, ShowsGeneration, IsGenerationRow}
 use Rattle.table_statements.proofs.Orders.{triple_total, triple_antisymmetric}
@@ -20,9 +20,9 @@ use Rattle.table_entries.proofs.ContentsLemmas.{generation_set}
 use Rattle.table_entries.proofs.Parts.{IsAsked, added, part, removed, said_two, said_three}
 use Rattle.table_entries.proofs.KeyOrders.{by_triple}
 use Rattle.table_entries.proofs.Legible.{generation_row}
-use Rattle.table_entries.proofs.FreeKeys.{free_three}
+use Rattle.table_entries.proofs.FreeKeys.{agreed_three}
 use Rattle.table_entries.proofs.Kept.{generation_kept}
-use Rattle.table_entries.proofs.Description.{Description, Inserts, Addition, Removal, Reading, Selection}
+use Rattle.table_entries.proofs.Description.{Description, Addition, Removal, Reading, Selection}
 
 -- ---- the table
 
@@ -55,14 +55,12 @@ table = record {
 abbrev pub insert_text : List ℕ
 insert_text = codes "INSERT INTO generation (owner, name, num, target) VALUES (?1, ?2, ?3, ?4)"
 
-pub insert_is : Inserts table insert_text 4
-unfolding everything
-insert_is s at tree found = (_, insert_means insert_text refl s at (codes "generation") generation.columns generation.primary tree _ found refl, refl, refl, refl, refl, refl)
-
 pub addition : (owner : List ℕ) (name : List ℕ) (number : ℤ) (target : List ℕ) → Addition table insert_text (Text owner ∷ Text name ∷ Int number ∷ Text target ∷ []) (Text owner ∷ Text name ∷ Int number ∷ Text target ∷ []) (owner, name, number) target
+unfolding everything
 addition owner name number target =
-    added table insert_is (λ rows. rw (cast_null, cast_int number) refl) (refl, refl, λ id. (refl, refl, refl))
-    (λ db ours mine none. free_three is_generation (rows_named db generation.name) (generation_kept db ours).typed generation_of (λ r. refl) (λ r is. let whole = and_so _ _ (and_so _ _ is).0 in let pair = and_so _ _ whole.0 in (pair.0, pair.1, whole.1)) owner name number none (Int (next_rowid (rows_named db generation.name))) (Text target ∷ []))
+    added table (λ s at tree found. (_, insert_means insert_text refl s at (codes "generation") generation.columns generation.primary tree _ found refl, refl, refl, refl, refl, refl))
+    (λ rows. rw (cast_null, cast_int number) refl) (refl, refl, λ id. (refl, refl, refl))
+    (λ id r kind h. let e = agreed_three (Text owner) (Text name) (Int number) (Int id) (Text target ∷ []) r (let whole = and_so _ _ (and_so _ _ kind).0 in let pair = and_so _ _ whole.0 in (pair.0, pair.1, whole.1)) h in λ i. (e.0 i, e.1 i, e.2 i))
 
 -- ---- reading them
 

@@ -1,5 +1,5 @@
 -- The table of objects, described once, and what the texts of its statements mean.
-use Rattle.std.proofs.Common.{◌≡◌, ℕ, List, [], ◌∷◌, ◌++◌, inl, arith, vec_len, codes, true, ◌&&◌, Some, None, Option, Vec, Global, String, map, length, refl, sym, subst, ◌∙◌}
+use Rattle.std.proofs.Common.{◌≡◌, ℕ, List, [], ◌∷◌, ◌++◌, inl, arith, vec_len, codes, true, ◌&&◌, Some, None, Option, Vec, Global, String, map, length, refl, sym, subst}
 use Rattle.std.specs.Prelude.{◌<◌, ◌↔◌, IsSome, IsUtf8, is_some}
 use Rattle.std.specs.Option.{option_to_list}
 use Rattle.sqlite_rules.proofs.ListLemmas.{has_right}
@@ -10,17 +10,16 @@ use Rattle.std.specs.List.{AllByRecursion}
 use Rattle.std.specs.FinMap as finite
 use Rattle.sqlite_value.specs.declared.value.Value.{Value}
 use Rattle.sqlite_value.specs.declared.value.Value.TheVariants.{Null, Int, Real, Text, Blob}
-use Rattle.sqlite_value.specs.Order.{Row, column, bytes}
-use Rattle.sqlite_rules.specs.Edit.{next_rowid}
+use Rattle.sqlite_value.specs.Order.{bytes}
 use Rattle.sqlite_tied.specs.Compute.{everything}
 use Rattle.table_entries.specs.declared.objects.Object.{Object}
 use Rattle.table_forms.specs.Forms.{object}
 use Rattle.table_forms.specs.Standing.{HasTables}
-use Rattle.table_statements.specs.Contents.{Bytes, Stored, rows_named, texts_cmp, is_text, is_blob, is_object, object_of, text_if_any, is_text_or_null}
+use Rattle.table_statements.specs.Contents.{Bytes, Stored, texts_cmp, is_text, is_blob, is_object, object_of, text_if_any, is_text_or_null}
 use Rattle.table_statements.specs.Queries.{IsSelect}
 use Rattle.table_entries.specs.Entries.{stored_of, ShowsObject, IsStored, stored, IsObjectRow}
 use Rattle.table_statements.proofs.Orders.{texts_total, texts_antisymmetric}
-use Rattle.table_statements.proofs.Truths.{cast_null, and_so}
+use Rattle.table_statements.proofs.Truths.{cast_null}
 use Rattle.table_entries.proofs.Optional.{IsKept, given, kept_given, bound_given, read_given, option_fits}
 use Rattle.table_statements.proofs.Means.{insert_means}
 use Rattle.table_entries.proofs.Ordered.{Place, IsColumn}
@@ -28,10 +27,10 @@ use Rattle.table_entries.proofs.ContentsLemmas.{object_set}
 use Rattle.table_entries.proofs.Typed.{base_is}
 use Rattle.table_entries.proofs.One.{one_is, none_is}
 use Rattle.sqlite.specs.Values.{bound_value}
-use Rattle.table_entries.proofs.Parts.{part, removed, said_one}
+use Rattle.table_entries.proofs.Parts.{added, part, removed, said_one}
 use Rattle.table_entries.proofs.KeyOrders.{by_text}
 use Rattle.table_entries.proofs.Legible.{object_row}
-use Rattle.table_entries.proofs.FreeKeys.{free_one}
+use Rattle.table_entries.proofs.FreeKeys.{agreed_one}
 use Rattle.table_entries.proofs.Kept.{object_kept}
 use Rattle.table_entries.proofs.Description.{Description, Inserts, Addition, Removal, Reading, Selection}
 use Rattle.table_statements.specs.Texts.{IsReadable}
@@ -90,16 +89,9 @@ is_a_text (Text t) h = refl
 is_a_text (Blob b) h = absurd (let e = h in cc)
 
 addition_kept : (base nar hash : List ℕ) (deriver ca : Value) → IsKept deriver → IsKept ca → Addition table insert_text (Text base ∷ Blob nar ∷ Blob hash ∷ deriver ∷ ca ∷ []) (Text base ∷ Blob nar ∷ Blob hash ∷ deriver ∷ ca ∷ []) base (record { nar = nar; hash = hash; deriver = text_if_any deriver; ca = text_if_any ca })
-addition_kept base nar hash deriver ca d c = record {
-  is = insert_is;
-  accepts = rw (has_class deriver d.kind, has_class ca c.kind) refl;
-  made = λ rows. rw (cast_null, d.cast_is, c.cast_is) refl;
-  typed = rw (is_a_text deriver d.kind, is_a_text ca c.kind) refl;
-  present = λ id. refl;
-  kind = λ id. rw (d.kind, c.kind) refl;
-  entry = λ id. refl;
-  fresh = λ db ours mine none. free_one is_object (rows_named db object.name) (object_kept db ours).typed object_of (λ r. refl) (λ r is. (and_so _ _ (and_so _ _ (and_so _ _ (and_so _ _ is).0).0).0).0) base none (Int (next_rowid (rows_named db object.name))) (Blob nar ∷ Blob hash ∷ deriver ∷ ca ∷ []);
-}
+addition_kept base nar hash deriver ca d c =
+    added table insert_is (λ rows. rw (cast_null, d.cast_is, c.cast_is) refl) (rw (has_class deriver d.kind, has_class ca c.kind) refl, rw (is_a_text deriver d.kind, is_a_text ca c.kind) refl, λ id. (refl, rw (d.kind, c.kind) refl, refl))
+    (λ id r kind h. agreed_one (Text base) (Int id) (Blob nar ∷ Blob hash ∷ deriver ∷ ca ∷ []) r (base_is r kind) h)
 
 pub addition : (base nar hash : List ℕ) (deriver ca : Option (String Global)) → Addition table insert_text (Text base ∷ Blob nar ∷ Blob hash ∷ bound_value (given deriver) ∷ bound_value (given ca) ∷ []) (Text base ∷ Blob nar ∷ Blob hash ∷ given deriver ∷ given ca ∷ []) base (stored nar hash deriver ca)
 addition base nar hash deriver ca = rw (bound_given deriver, bound_given ca, ← read_given deriver, ← read_given ca) (addition_kept base nar hash (given deriver) (given ca) (kept_given deriver) (kept_given ca))
@@ -133,7 +125,7 @@ pub of : (base : List ℕ) → Selection table reading of_text (Text base ∷ []
 unfolding everything
 of base =
     part table reading places_are refl of_text (Text base ∷ []) ((_, _, _, _, refl, refl, refl), refl, λ s at tree known. (rw (known.low, known.by_tree), rw (known.low, known.by_tree) refl))
-    (λ r kind. said_one (Text base) r (and_so _ _ (and_so _ _ (and_so _ _ (and_so _ _ kind).0).0).0).0)
+    (λ r kind. said_one (Text base) r (base_is r kind))
 
 pub of_read : IsSelect of_text
 of_read = (of []).reads
@@ -147,7 +139,7 @@ pub removal : (base : List ℕ) → Removal table delete_text (Text base ∷ [])
 unfolding everything
 removal base =
     removed table places places_are refl delete_text (Text base ∷ []) ((_, _, _, _, refl, refl, refl), refl, λ s at tree known. (rw (known.low, known.by_tree), rw (known.low, known.by_tree) refl))
-    (λ r kind. said_one (Text base) r (and_so _ _ (and_so _ _ (and_so _ _ (and_so _ _ kind).0).0).0).0)
+    (λ r kind. said_one (Text base) r (base_is r kind))
 
 -- ---- the one of a path
 

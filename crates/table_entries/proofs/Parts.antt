@@ -7,8 +7,8 @@ use Rattle.std.specs.FinMap as finite
 use Rattle.sqlite_value.specs.declared.value.Value.{Value}
 use Rattle.sqlite_value.specs.declared.value.Value.TheVariants.{Null, Int, Real, Text, Blob}
 use Rattle.sqlite_value.specs.declared.keys.Collation.TheVariants.{Binary}
+use Rattle.sqlite_value.specs.Keys.{plain}
 use Rattle.sqlite_value.specs.Order.{Row, column, bytes}
-use Rattle.sqlite_trees.specs.View.{is_int}
 use Rattle.sqlite_ast.specs.declared.Core.{Core, out-Core, roll-Core}
 use Rattle.sqlite_ast.specs.declared.Expr.TheVariants as expr
 use Rattle.sqlite_ast.specs.declared.Expr.TheViews.{out-roll-Core, out-roll-Select}
@@ -37,21 +37,20 @@ use Rattle.sqlite_resolve.specs.Program.{program}
 use Rattle.sqlite_resolve.specs.Scope.{Name}
 use Rattle.sqlite_resolve.specs.Write.{simple}
 use Rattle.sqlite_resolve.specs.declared.scope.Output.{Output}
-use Rattle.sqlite_schema.specs.Rules.{are_typed, are_present}
+use Rattle.sqlite_schema.specs.Rules.{agree, are_typed, are_present}
 use Rattle.sqlite_rules.specs.Cast.{cast_row}
 use Rattle.sqlite_rules.specs.declared.error.Rowids.TheVariants.{Chosen}
 use Rattle.sqlite.specs.Rows.{stamped}
-use Rattle.sqlite.specs.Effect.{Database, value_rows}
-use Rattle.table_statements.specs.Calls.{IsOurs}
-use Rattle.table_statements.proofs.Additions.{IsNewKey}
+use Rattle.sqlite.specs.Effect.{value_rows}
 use Rattle.table_forms.specs.Forms.{strict}
 use Rattle.table_forms.specs.Standing.{IsKnown}
-use Rattle.table_statements.specs.Contents.{texts_cmp, is_text, contents_of}
+use Rattle.table_statements.specs.Contents.{texts_cmp, rows_named}
 use Rattle.table_statements.specs.Queries.{IsSelect, parsed}
 use Rattle.table_statements.proofs.Means.{delete_means, plain_state}
 use Rattle.table_statements.proofs.Statements.{Compiles}
 use Rattle.table_statements.proofs.Truths.{and_so, and_one, both_tests, all_tests, text_test, int_test}
 use Rattle.table_statements.proofs.Writes.{rowids_where}
+use Rattle.table_entries.proofs.FreeKeys.{is_like, lacks}
 use Rattle.table_entries.proofs.Conditions.{are_firm, equals, condition, first_of_them, first_all, filter_by, left_by, last_by, suffices_for, tested}
 use Rattle.table_entries.proofs.Ordered.{Place, IsColumn, IsOfOne, AreShown, AreSorts, AreAbove, outputs_of, query_on, names_on, whole, draft, spent, last_of, selects}
 use Rattle.table_entries.proofs.Description.{Description, Reading, Selection, Removal, form, Addition, Inserts, terms_of}
@@ -174,12 +173,7 @@ module _ (name : Name) (columns : List Column) (key : List ℕ) (cs : List Place
 
 -- ---- what their conditions say of a row
 
--- a value is a text or a number as this one is, and the same
-abbrev pub is_like : Value → Value → Bool
-is_like (Text t) v = is_text v
-is_like (Int n) v = is_int v
-is_like _ v = false
-
+-- a value is this text or this number
 abbrev pub is_same : Value → Value → Bool
 is_same (Text t) v = eq_by_cmp texts_cmp (bytes v) t
 is_same (Int n) v = eq_by_cmp int_cmp (id_in v) n
@@ -256,8 +250,8 @@ IsPut d params values k x =
 
 pub added : {K X : Type 0} (d : Description K X) {text : List ℕ} {params values : Row} {k : K} {x : X} → Inserts d text (length params)
     → ((rows : List Row) → numbered Chosen rows (map (λ s. cast_row (form d) (drop 0 s)) (value_rows (stamped (form d) params) (length (terms_of d)) (length (terms_of d) / length (terms_of d)) (terms_of d))) ≡ (Int (next_rowid rows) ∷ values) ∷ [])
-    → IsPut d params values k x → ((db : Database) → IsOurs db → d.IsOwn db → finite.get (d.of (contents_of db)) k ≡ None → IsNewKey d.name d.key db values) → Addition d text params values k x
-added d is made put fresh = record {
+    → IsPut d params values k x → ((id : ℤ) (r : Row) → d.kind r ≡ true → agree plain d.key r d.key (Int id ∷ values) ≡ true → (d.entry r).0 ≡ k) → Addition d text params values k x
+added d {k = k} is made put same = record {
   is = is;
   accepts = put.0;
   made = made;
@@ -265,5 +259,7 @@ added d is made put fresh = record {
   present = λ id. (put.2 id).0;
   kind = λ id. (put.2 id).1;
   entry = λ id. (put.2 id).2;
-  fresh = fresh;
+  fresh = λ db ours mine none r there h.
+      let typed = (d.kept db ours mine).typed r there in
+      lacks d.total d.same d.kind d.entry (rows_named db d.name) k (subst (λ m. finite.get m k ≡ None) (d.held db (d.within db ours mine)) none) r there typed (same (next_rowid (rows_named db d.name)) r typed h);
 }

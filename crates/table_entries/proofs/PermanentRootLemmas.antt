@@ -4,11 +4,10 @@ use Rattle.std.specs.Ordering.{eq_by_cmp}
 use Rattle.std.specs.List.{AllByRecursion}
 use Rattle.sqlite_value.specs.declared.value.Value.TheVariants.{Int, Text}
 use Rattle.sqlite_value.specs.Order.{bytes}
-use Rattle.sqlite_rules.specs.Edit.{next_rowid}
 use Rattle.sqlite_tied.specs.Compute.{everything}
 use Rattle.table_forms.specs.Forms.{permanent}
 use Rattle.table_forms.specs.Standing.{HasTables}
-use Rattle.table_statements.specs.Contents.{texts_cmp, is_text, is_pair, pair_of, Bytes, rows_named}
+use Rattle.table_statements.specs.Contents.{texts_cmp, is_text, is_pair, pair_of, Bytes}
 use Rattle.table_statements.specs.Queries.{IsSelect}
 use Rattle.table_entries.specs.Entries.{permanent_of, ShowsPermanentRoot, IsPairRow}
 use Rattle.table_statements.proofs.Orders.{texts_total, texts_antisymmetric}
@@ -19,9 +18,9 @@ use Rattle.table_entries.proofs.ContentsLemmas.{permanent_set}
 use Rattle.table_entries.proofs.Parts.{IsAsked, added, part, removed, said_one}
 use Rattle.table_entries.proofs.KeyOrders.{by_text}
 use Rattle.table_entries.proofs.Legible.{pair_row}
-use Rattle.table_entries.proofs.FreeKeys.{free_one}
+use Rattle.table_entries.proofs.FreeKeys.{agreed_one}
 use Rattle.table_entries.proofs.Kept.{permanent_kept}
-use Rattle.table_entries.proofs.Description.{Description, Inserts, Addition, Removal, Reading, Selection}
+use Rattle.table_entries.proofs.Description.{Description, Addition, Removal, Reading, Selection}
 
 -- ---- the table
 
@@ -54,14 +53,12 @@ table = record {
 abbrev pub insert_text : List ℕ
 insert_text = codes "INSERT INTO permanent (name, target) VALUES (?1, ?2)"
 
-pub insert_is : Inserts table insert_text 2
-unfolding everything
-insert_is s at tree found = (_, insert_means insert_text refl s at (codes "permanent") permanent.columns permanent.primary tree _ found refl, refl, refl, refl, refl, refl)
-
 pub addition : (name : List ℕ) (target : List ℕ) → Addition table insert_text (Text name ∷ Text target ∷ []) (Text name ∷ Text target ∷ []) name target
+unfolding everything
 addition name target =
-    added table insert_is (λ rows. rw cast_null refl) (refl, refl, λ id. (refl, refl, refl))
-    (λ db ours mine none. free_one is_pair (rows_named db permanent.name) (permanent_kept db ours).typed pair_of (λ r. refl) (λ r is. (and_so _ _ is).0) name none (Int (next_rowid (rows_named db permanent.name))) (Text target ∷ []))
+    added table (λ s at tree found. (_, insert_means insert_text refl s at (codes "permanent") permanent.columns permanent.primary tree _ found refl, refl, refl, refl, refl, refl))
+    (λ rows. rw cast_null refl) (refl, refl, λ id. (refl, refl, refl))
+    (λ id r kind h. agreed_one (Text name) (Int id) (Text target ∷ []) r ((and_so _ _ kind).0) h)
 
 -- ---- reading them
 

@@ -1,16 +1,15 @@
 -- The table of pieces, described once, and what the texts of its statements mean.
-use Rattle.std.proofs.Common.{◌≡◌, ℕ, ℤ, List, [], ◌∷◌, codes, true, ◌&&◌, None, refl, subst}
+use Rattle.std.proofs.Common.{ℕ, ℤ, List, [], ◌∷◌, codes, true, ◌&&◌, refl}
 use Rattle.std.specs.Ordering.{eq_by_cmp}
 use Rattle.std.specs.List.{AllByRecursion}
-use Rattle.std.specs.FinMap as finite
 use Rattle.sqlite_value.specs.declared.value.Value.TheVariants.{Int, Text, Blob}
 use Rattle.sqlite_value.specs.Order.{bytes}
 use Rattle.sqlite_trees.specs.View.{is_int}
-use Rattle.sqlite_rules.specs.Edit.{next_rowid, id_in}
+use Rattle.sqlite_rules.specs.Edit.{id_in}
 use Rattle.sqlite_tied.specs.Compute.{everything}
 use Rattle.table_forms.specs.Forms.{piece}
 use Rattle.table_forms.specs.Standing.{Stands}
-use Rattle.table_statements.specs.Contents.{Bytes, Numbered, texts_cmp, numbered_cmp, is_text, is_blob, is_piece, piece_of, rows_named}
+use Rattle.table_statements.specs.Contents.{Bytes, Numbered, texts_cmp, numbered_cmp, is_text, is_blob, is_piece, piece_of}
 use Rattle.table_statements.specs.Calls.{HasFurther}
 use Rattle.table_statements.specs.Queries.{IsSelect}
 use Rattle.table_entries.specs.Entries.{piece_in, ShowsPiece, IsPieceRow}
@@ -22,9 +21,9 @@ use Rattle.table_entries.proofs.FurtherTables.{piece_kept, pieces_held, pieces_s
 use Rattle.table_entries.proofs.Parts.{IsAsked, added, part, removed, said_one}
 use Rattle.table_entries.proofs.KeyOrders.{by_numbered}
 use Rattle.table_entries.proofs.Legible.{piece_row}
-use Rattle.table_entries.proofs.FreeKeys.{free_numbered}
+use Rattle.table_entries.proofs.FreeKeys.{agreed_two}
 use Rattle.table_entries.proofs.Places.{further_kept}
-use Rattle.table_entries.proofs.Description.{Description, Inserts, Addition, Removal, Reading, Selection}
+use Rattle.table_entries.proofs.Description.{Description, Addition, Removal, Reading, Selection}
 
 -- ---- the table
 
@@ -57,14 +56,12 @@ table = record {
 abbrev pub insert_text : List ℕ
 insert_text = codes "INSERT INTO piece (base, num, bytes) VALUES (?1, ?2, ?3)"
 
-pub insert_is : Inserts table insert_text 3
-unfolding everything
-insert_is s at tree found = (_, insert_means insert_text refl s at (codes "piece") piece.columns piece.primary tree _ found refl, refl, refl, refl, refl, refl)
-
 pub addition : (base : List ℕ) (number : ℤ) (content : List ℕ) → Addition table insert_text (Text base ∷ Int number ∷ Blob content ∷ []) (Text base ∷ Int number ∷ Blob content ∷ []) (base, number) content
+unfolding everything
 addition base number content =
-    added table insert_is (λ rows. rw (cast_null, cast_int number) refl) (refl, refl, λ id. (refl, refl, refl))
-    (λ db ours mine none. free_numbered is_piece (rows_named db piece.name) (piece_kept db ours mine).typed piece_of (λ r. refl) (λ r is. and_so _ _ (and_so _ _ is).0) base number (subst (λ (m : finite.FinMap numbered_cmp Bytes). finite.get m (base, number) ≡ None) (pieces_held db mine.stands) none) (Int (next_rowid (rows_named db piece.name))) (Blob content ∷ []))
+    added table (λ s at tree found. (_, insert_means insert_text refl s at (codes "piece") piece.columns piece.primary tree _ found refl, refl, refl, refl, refl, refl))
+    (λ rows. rw (cast_null, cast_int number) refl) (refl, refl, λ id. (refl, refl, refl))
+    (λ id r kind h. let e = agreed_two (Text base) (Int number) (Int id) (Blob content ∷ []) r (and_so _ _ (and_so _ _ kind).0) h in λ i. (e.0 i, e.1 i))
 
 -- ---- reading them
 

@@ -5,11 +5,11 @@ use Rattle.std.specs.List.{AllByRecursion}
 use Rattle.sqlite_value.specs.declared.value.Value.TheVariants.{Int, Text}
 use Rattle.sqlite_value.specs.Order.{bytes}
 use Rattle.sqlite_trees.specs.View.{is_int}
-use Rattle.sqlite_rules.specs.Edit.{next_rowid, id_in}
+use Rattle.sqlite_rules.specs.Edit.{id_in}
 use Rattle.sqlite_tied.specs.Compute.{everything}
 use Rattle.table_forms.specs.Forms.{profile}
 use Rattle.table_forms.specs.Standing.{HasTables}
-use Rattle.table_statements.specs.Contents.{texts_cmp, pair_cmp, is_text, is_profile, profile_of, Pair, rows_named}
+use Rattle.table_statements.specs.Contents.{texts_cmp, pair_cmp, is_text, is_profile, profile_of, Pair}
 use Rattle.table_statements.specs.Queries.{IsSelect}
 use Rattle.table_entries.specs.Entries.{current_of, ShowsProfile, IsProfileRow}
 use Rattle.table_statements.proofs.Orders.{pair_total, pair_antisymmetric}
@@ -20,9 +20,9 @@ use Rattle.table_entries.proofs.ContentsLemmas.{profile_set}
 use Rattle.table_entries.proofs.Parts.{IsAsked, added, part, removed, said_one, said_two}
 use Rattle.table_entries.proofs.KeyOrders.{by_pair}
 use Rattle.table_entries.proofs.Legible.{profile_row}
-use Rattle.table_entries.proofs.FreeKeys.{free_two}
+use Rattle.table_entries.proofs.FreeKeys.{agreed_two}
 use Rattle.table_entries.proofs.Kept.{profile_kept}
-use Rattle.table_entries.proofs.Description.{Description, Inserts, Addition, Removal, Reading, Selection}
+use Rattle.table_entries.proofs.Description.{Description, Addition, Removal, Reading, Selection}
 
 -- ---- the table
 
@@ -55,14 +55,12 @@ table = record {
 abbrev pub insert_text : List ℕ
 insert_text = codes "INSERT INTO profile (owner, name, cur) VALUES (?1, ?2, ?3)"
 
-pub insert_is : Inserts table insert_text 3
-unfolding everything
-insert_is s at tree found = (_, insert_means insert_text refl s at (codes "profile") profile.columns profile.primary tree _ found refl, refl, refl, refl, refl, refl)
-
 pub addition : (owner : List ℕ) (name : List ℕ) (current : ℤ) → Addition table insert_text (Text owner ∷ Text name ∷ Int current ∷ []) (Text owner ∷ Text name ∷ Int current ∷ []) (owner, name) current
+unfolding everything
 addition owner name current =
-    added table insert_is (λ rows. rw (cast_null, cast_int current) refl) (refl, refl, λ id. (refl, refl, refl))
-    (λ db ours mine none. free_two is_profile (rows_named db profile.name) (profile_kept db ours).typed profile_of (λ r. refl) (λ r is. and_so _ _ (and_so _ _ is).0) owner name none (Int (next_rowid (rows_named db profile.name))) (Int current ∷ []))
+    added table (λ s at tree found. (_, insert_means insert_text refl s at (codes "profile") profile.columns profile.primary tree _ found refl, refl, refl, refl, refl, refl))
+    (λ rows. rw (cast_null, cast_int current) refl) (refl, refl, λ id. (refl, refl, refl))
+    (λ id r kind h. let e = agreed_two (Text owner) (Text name) (Int id) (Int current ∷ []) r (and_so _ _ (and_so _ _ kind).0) h in λ i. (e.0 i, e.1 i))
 
 -- ---- reading them
 

@@ -4,11 +4,10 @@ use Rattle.std.specs.Ordering.{eq_by_cmp}
 use Rattle.std.specs.List.{AllByRecursion}
 use Rattle.sqlite_value.specs.declared.value.Value.TheVariants.{Int, Text}
 use Rattle.sqlite_value.specs.Order.{bytes}
-use Rattle.sqlite_rules.specs.Edit.{next_rowid}
 use Rattle.sqlite_tied.specs.Compute.{everything}
 use Rattle.table_forms.specs.Forms.{runtime}
 use Rattle.table_forms.specs.Standing.{HasTables}
-use Rattle.table_statements.specs.Contents.{rows_named, texts_cmp, pair_cmp, is_text, is_pair, member_of, Pair}
+use Rattle.table_statements.specs.Contents.{texts_cmp, pair_cmp, is_text, is_pair, member_of, Pair}
 use Rattle.table_statements.specs.Queries.{IsSelect}
 use Rattle.table_entries.specs.Entries.{runtime_of, ShowsRuntimeRoot, IsPairRow}
 use Rattle.table_statements.proofs.Orders.{pair_total, pair_antisymmetric}
@@ -19,9 +18,9 @@ use Rattle.table_entries.proofs.ContentsLemmas.{runtime_set}
 use Rattle.table_entries.proofs.Parts.{IsAsked, added, part, removed, said_one}
 use Rattle.table_entries.proofs.KeyOrders.{by_pair}
 use Rattle.table_entries.proofs.Legible.{pair_row}
-use Rattle.table_entries.proofs.FreeKeys.{free_two}
+use Rattle.table_entries.proofs.FreeKeys.{agreed_two}
 use Rattle.table_entries.proofs.Kept.{runtime_kept}
-use Rattle.table_entries.proofs.Description.{Description, Inserts, Addition, Removal, Reading, Selection}
+use Rattle.table_entries.proofs.Description.{Description, Addition, Removal, Reading, Selection}
 
 -- ---- the table
 
@@ -54,14 +53,12 @@ table = record {
 abbrev pub insert_text : List ℕ
 insert_text = codes "INSERT INTO runtime (label, target) VALUES (?1, ?2)"
 
-pub insert_is : Inserts table insert_text 2
-unfolding everything
-insert_is s at tree found = (_, insert_means insert_text refl s at (codes "runtime") runtime.columns runtime.primary tree _ found refl, refl, refl, refl, refl, refl)
-
 pub addition : (label target : List ℕ) → Addition table insert_text (Text label ∷ Text target ∷ []) (Text label ∷ Text target ∷ []) (label, target) tt
+unfolding everything
 addition label target =
-    added table insert_is (λ rows. rw cast_null refl) (refl, refl, λ id. (refl, refl, refl))
-    (λ db ours mine none. free_two is_pair (rows_named db runtime.name) (runtime_kept db ours).typed member_of (λ r. refl) (λ r is. and_so _ _ is) label target none (Int (next_rowid (rows_named db runtime.name))) [])
+    added table (λ s at tree found. (_, insert_means insert_text refl s at (codes "runtime") runtime.columns runtime.primary tree _ found refl, refl, refl, refl, refl, refl))
+    (λ rows. rw cast_null refl) (refl, refl, λ id. (refl, refl, refl))
+    (λ id r kind h. let e = agreed_two (Text label) (Text target) (Int id) [] r (and_so _ _ kind) h in λ i. (e.0 i, e.1 i))
 
 -- ---- reading them
 

@@ -4,11 +4,10 @@ use Rattle.std.specs.Ordering.{eq_by_cmp}
 use Rattle.std.specs.List.{AllByRecursion}
 use Rattle.sqlite_value.specs.declared.value.Value.TheVariants.{Int, Text}
 use Rattle.sqlite_value.specs.Order.{bytes}
-use Rattle.sqlite_rules.specs.Edit.{next_rowid}
 use Rattle.sqlite_tied.specs.Compute.{everything}
 use Rattle.table_forms.specs.Forms.{meta}
 use Rattle.table_forms.specs.Standing.{HasTables}
-use Rattle.table_statements.specs.Contents.{texts_cmp, is_text, is_pair, pair_of, Bytes, rows_named}
+use Rattle.table_statements.specs.Contents.{texts_cmp, is_text, is_pair, pair_of, Bytes}
 use Rattle.table_statements.specs.Queries.{IsSelect}
 use Rattle.table_entries.specs.Entries.{setting_of, ShowsSetting, IsPairRow}
 use Rattle.table_statements.proofs.Orders.{texts_total, texts_antisymmetric}
@@ -19,7 +18,7 @@ use Rattle.table_entries.proofs.ContentsLemmas.{meta_set}
 use Rattle.table_entries.proofs.Parts.{IsAsked, added, part, removed, said_one}
 use Rattle.table_entries.proofs.KeyOrders.{by_text}
 use Rattle.table_entries.proofs.Legible.{pair_row}
-use Rattle.table_entries.proofs.FreeKeys.{free_one}
+use Rattle.table_entries.proofs.FreeKeys.{agreed_one}
 use Rattle.table_entries.proofs.Kept.{meta_kept}
 use Rattle.table_entries.proofs.Description.{Description, Inserts, Addition, Removal, Reading, Selection}
 
@@ -61,7 +60,7 @@ insert_is s at tree found = (_, insert_means insert_text refl s at (codes "meta"
 pub addition : (word : List ℕ) (value : List ℕ) → Addition table insert_text (Text word ∷ Text value ∷ []) (Text word ∷ Text value ∷ []) word value
 addition word value =
     added table insert_is (λ rows. rw cast_null refl) (refl, refl, λ id. (refl, refl, refl))
-    (λ db ours mine none. free_one is_pair (rows_named db meta.name) (meta_kept db ours).typed pair_of (λ r. refl) (λ r is. (and_so _ _ is).0) word none (Int (next_rowid (rows_named db meta.name))) (Text value ∷ []))
+    (λ id r kind h. agreed_one (Text word) (Int id) (Text value ∷ []) r ((and_so _ _ kind).0) h)
 
 -- ---- reading them
 

@@ -1,17 +1,16 @@
 -- The table of temporary roots, described once, and what the texts of its statements mean.
-use Rattle.std.proofs.Common.{◌≡◌, ℕ, ℤ, List, [], ◌∷◌, codes, true, ◌&&◌, None, refl, subst}
+use Rattle.std.proofs.Common.{ℕ, ℤ, List, [], ◌∷◌, codes, true, ◌&&◌, refl}
 use Rattle.std.specs.Prelude.{pos}
 use Rattle.std.specs.Ordering.{eq_by_cmp, int_cmp}
 use Rattle.std.specs.List.{AllByRecursion}
-use Rattle.std.specs.FinMap as finite
 use Rattle.sqlite_value.specs.declared.value.Value.TheVariants.{Int, Text}
 use Rattle.sqlite_value.specs.Order.{bytes}
 use Rattle.sqlite_trees.specs.View.{is_int}
-use Rattle.sqlite_rules.specs.Edit.{next_rowid, id_in}
+use Rattle.sqlite_rules.specs.Edit.{id_in}
 use Rattle.sqlite_tied.specs.Compute.{everything}
 use Rattle.table_forms.specs.Forms.{temp_root}
 use Rattle.table_forms.specs.Standing.{Stands}
-use Rattle.table_statements.specs.Contents.{Kept, texts_cmp, kept_cmp, is_text, is_kept, kept_of, rows_named}
+use Rattle.table_statements.specs.Contents.{Kept, texts_cmp, kept_cmp, is_text, is_kept, kept_of}
 use Rattle.table_statements.specs.Calls.{HasFurther}
 use Rattle.table_statements.specs.Queries.{IsSelect}
 use Rattle.table_entries.specs.Entries.{temp_root_of, ShowsTempRoot, IsTempRootRow}
@@ -23,9 +22,9 @@ use Rattle.table_entries.proofs.FurtherTables.{temp_root_kept, temp_roots_held, 
 use Rattle.table_entries.proofs.Parts.{IsAsked, added, part, removed, said_two, said_three}
 use Rattle.table_entries.proofs.KeyOrders.{by_kept}
 use Rattle.table_entries.proofs.Legible.{temp_root_row}
-use Rattle.table_entries.proofs.FreeKeys.{free_kept}
+use Rattle.table_entries.proofs.FreeKeys.{agreed_three}
 use Rattle.table_entries.proofs.Places.{further_kept}
-use Rattle.table_entries.proofs.Description.{Description, Inserts, Addition, Removal, Reading, Selection}
+use Rattle.table_entries.proofs.Description.{Description, Addition, Removal, Reading, Selection}
 
 -- ---- the table
 
@@ -58,14 +57,12 @@ table = record {
 abbrev pub insert_text : List ℕ
 insert_text = codes "INSERT INTO temp_root (owner, session, target) VALUES (?1, ?2, ?3)"
 
-pub insert_is : Inserts table insert_text 3
-unfolding everything
-insert_is s at tree found = (_, insert_means insert_text refl s at (codes "temp_root") temp_root.columns temp_root.primary tree _ found refl, refl, refl, refl, refl, refl)
-
 pub addition : (owner : List ℕ) (session : ℤ) (target : List ℕ) → Addition table insert_text (Text owner ∷ Int session ∷ Text target ∷ []) (Text owner ∷ Int session ∷ Text target ∷ []) (owner, session, target) tt
+unfolding everything
 addition owner session target =
-    added table insert_is (λ rows. rw (cast_null, cast_int session) refl) (refl, refl, λ id. (refl, refl, refl))
-    (λ db ours mine none. free_kept is_kept (rows_named db temp_root.name) (temp_root_kept db ours mine).typed kept_of (λ r. refl) (λ r is. let whole = and_so _ _ is in let front = and_so _ _ whole.0 in (front.0, front.1, whole.1)) owner session target (subst (λ (m : finite.FinMap kept_cmp (Unit {0})). finite.get m (owner, session, target) ≡ None) (temp_roots_held db mine.stands) none) (Int (next_rowid (rows_named db temp_root.name))) [])
+    added table (λ s at tree found. (_, insert_means insert_text refl s at (codes "temp_root") temp_root.columns temp_root.primary tree _ found refl, refl, refl, refl, refl, refl))
+    (λ rows. rw (cast_null, cast_int session) refl) (refl, refl, λ id. (refl, refl, refl))
+    (λ id r kind h. let e = agreed_three (Text owner) (Int session) (Text target) (Int id) [] r (let whole = and_so _ _ kind in let front = and_so _ _ whole.0 in (front.0, front.1, whole.1)) h in λ i. (e.0 i, e.1 i, e.2 i))
 
 -- ---- reading them
 

@@ -4,11 +4,10 @@ use Rattle.std.specs.Ordering.{eq_by_cmp}
 use Rattle.std.specs.List.{AllByRecursion}
 use Rattle.sqlite_value.specs.declared.value.Value.TheVariants.{Int, Text}
 use Rattle.sqlite_value.specs.Order.{bytes}
-use Rattle.sqlite_rules.specs.Edit.{next_rowid}
 use Rattle.sqlite_tied.specs.Compute.{everything}
 use Rattle.table_forms.specs.Forms.{user_root}
 use Rattle.table_forms.specs.Standing.{HasTables}
-use Rattle.table_statements.specs.Contents.{texts_cmp, pair_cmp, is_text, is_triple, target_of, Bytes, Pair, rows_named}
+use Rattle.table_statements.specs.Contents.{texts_cmp, pair_cmp, is_text, is_triple, target_of, Bytes, Pair}
 use Rattle.table_statements.specs.Queries.{IsSelect}
 use Rattle.table_entries.specs.Entries.{user_root_of, ShowsUserRoot, IsTripleRow}
 use Rattle.table_statements.proofs.Orders.{pair_total, pair_antisymmetric}
@@ -19,9 +18,9 @@ use Rattle.table_entries.proofs.ContentsLemmas.{user_root_set}
 use Rattle.table_entries.proofs.Parts.{IsAsked, added, part, removed, said_one, said_two}
 use Rattle.table_entries.proofs.KeyOrders.{by_pair}
 use Rattle.table_entries.proofs.Legible.{triple_row}
-use Rattle.table_entries.proofs.FreeKeys.{free_two}
+use Rattle.table_entries.proofs.FreeKeys.{agreed_two}
 use Rattle.table_entries.proofs.Kept.{user_root_kept}
-use Rattle.table_entries.proofs.Description.{Description, Inserts, Addition, Removal, Reading, Selection}
+use Rattle.table_entries.proofs.Description.{Description, Addition, Removal, Reading, Selection}
 
 -- ---- the table
 
@@ -54,14 +53,12 @@ table = record {
 abbrev pub insert_text : List ℕ
 insert_text = codes "INSERT INTO user_root (owner, name, target) VALUES (?1, ?2, ?3)"
 
-pub insert_is : Inserts table insert_text 3
-unfolding everything
-insert_is s at tree found = (_, insert_means insert_text refl s at (codes "user_root") user_root.columns user_root.primary tree _ found refl, refl, refl, refl, refl, refl)
-
 pub addition : (owner : List ℕ) (name : List ℕ) (target : List ℕ) → Addition table insert_text (Text owner ∷ Text name ∷ Text target ∷ []) (Text owner ∷ Text name ∷ Text target ∷ []) (owner, name) target
+unfolding everything
 addition owner name target =
-    added table insert_is (λ rows. rw cast_null refl) (refl, refl, λ id. (refl, refl, refl))
-    (λ db ours mine none. free_two is_triple (rows_named db user_root.name) (user_root_kept db ours).typed target_of (λ r. refl) (λ r is. and_so _ _ (and_so _ _ is).0) owner name none (Int (next_rowid (rows_named db user_root.name))) (Text target ∷ []))
+    added table (λ s at tree found. (_, insert_means insert_text refl s at (codes "user_root") user_root.columns user_root.primary tree _ found refl, refl, refl, refl, refl, refl))
+    (λ rows. rw cast_null refl) (refl, refl, λ id. (refl, refl, refl))
+    (λ id r kind h. let e = agreed_two (Text owner) (Text name) (Int id) (Text target ∷ []) r (and_so _ _ (and_so _ _ kind).0) h in λ i. (e.0 i, e.1 i))
 
 -- ---- reading them
 
