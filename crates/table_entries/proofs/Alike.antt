@@ -29,7 +29,7 @@ module _ {K X Y : Type 0} (R : K → K → Ordering) (f : X → Y) where
   none Z = no_length _ (sym (finite.len-entries (finite.empty {X = Z} {R = R})) ∙ finite.len-empty R Z)
 
   -- entry by entry
-  pub entries_made : IsTotalOrder R → (es : List (K × X)) → finite.entries (finite.from_entries {R = R} (map made es)) ≡ map made (finite.entries (finite.from_entries {R = R} es))
+  entries_made : IsTotalOrder R → (es : List (K × X)) → finite.entries (finite.from_entries {R = R} (map made es)) ≡ map made (finite.entries (finite.from_entries {R = R} es))
   entries_made o [] = none Y ∙ ap (map made) (sym (none X))
   entries_made o (e ∷ es) =
       finite.entries-insert o (finite.from_entries {R = R} (map made es)) e.0 (f e.1) ∙ ap (put R e.0 (f e.1)) (entries_made o es) ∙ put_made e.0 e.1 (finite.entries (finite.from_entries {R = R} es))
