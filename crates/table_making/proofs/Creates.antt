@@ -13,6 +13,7 @@ use Rattle.sqlite_schema.specs.declared.schema.Index.{Index}
 use Rattle.sqlite_schema.specs.declared.schema.Reference.{Reference}
 use Rattle.sqlite_schema.specs.declared.command.Command.TheVariants.{CreateTable}
 use Rattle.sqlite_schema.specs.Names.{same_name, table_named, index_named, view_named}
+use Rattle.sqlite_rules.proofs.ActionLemmas.{got_last}
 use Rattle.sqlite_ast.specs.declared.CreateTable as ast
 use Rattle.sqlite_ast.specs.declared.Statement.TheVariants as written
 use Rattle.sqlite_resolve.specs.Scope.{Name}
@@ -81,10 +82,6 @@ none_more p xs x n h is = rw (place_in_two p xs (x ∷ []) n, h, is) refl
 pub placed_still : {X : Type 0} (p : X → Bool) (xs : List X) (y : X) (n at : ℕ) → position_from p n xs ≡ Some at → position_from p n (xs ++ y ∷ []) ≡ Some at
 placed_still p xs y n at h = rw (place_in_two p xs (y ∷ []) n, h) refl
 
-last_there : {X : Type 0} (xs : List X) (x : X) → slice_get (xs ++ x ∷ []) (length xs) ≡ Some x
-last_there [] x = refl
-last_there (y ∷ ys) x = last_there ys x
-
 -- ---- where a table stands that was just made, and what is free stays free
 
 -- nothing of the schema has the name
@@ -99,7 +96,7 @@ module _ (s : Schema) (title : Bytes) (cs : List Column) (key : List ℕ) where
   added = record (strict title cs key) { tree = next_tree s }
 
   pub new_named : table_named s title ≡ None → IsNamed (created s form) title (length s.tables) added
-  new_named none = (rw (place_in_two (λ (t : Table). same_name t.name title) s.tables (added ∷ []) 0, none, same_itself title) (ap Some (let e : 0 + length s.tables ≡ length s.tables = omega arith in e)), last_there s.tables added)
+  new_named none = (rw (place_in_two (λ (t : Table). same_name t.name title) s.tables (added ∷ []) 0, none, same_itself title) (ap Some (let e : 0 + length s.tables ≡ length s.tables = omega arith in e)), got_last s.tables added)
 
   pub unused_after : (name : Bytes) → is_clear title name ≡ true → IsUnused s name → IsUnused (created s form) name
   unused_after name clear h = let b = and_so _ _ clear in (none_more (λ (t : Table). same_name t.name name) s.tables _ 0 h.0 (not_so _ b.0), none_more (λ (i : Index). same_name i.name name) s.indexes _ 0 h.1 (not_so _ b.1), h.2)

@@ -1,5 +1,5 @@
 -- That our tables stand where they were made, one after another, beside whatever tables there were.
-use Rattle.std.proofs.Common.{◌≡◌, ◌<◌, ℕ, zero, suc, List, [], ◌∷◌, ◌++◌, map, Bool, true, false, not, ◌&&◌, ◌||◌, ◌==◌, Some, None, Option, length, refl, sym, ap, subst, ◌∙◌, arith, bytes_eq, inl}
+use Rattle.std.proofs.Common.{◌≡◌, ◌<◌, ℕ, List, [], ◌∷◌, ◌++◌, map, Bool, true, false, not, ◌&&◌, ◌||◌, ◌==◌, Some, None, Option, length, refl, sym, ap, subst, ◌∙◌, arith, bytes_eq, inl}
 use Rattle.std.specs.Prelude.{slice_get, option_map, unwrap_or, find, nat_le, ◌^◌}
 use Rattle.std.specs.List.{AllByRecursion, list_all}
 use Rattle.std.specs.Option.{option_or}
@@ -19,6 +19,7 @@ use Rattle.sqlite_schema.specs.declared.schema.Table.{Table}
 use Rattle.sqlite_schema.specs.declared.schema.Index.{Index}
 use Rattle.sqlite_schema.specs.declared.schema.Reference.{Reference}
 use Rattle.sqlite_schema.specs.Names.{same_name}
+use Rattle.sqlite_rules.proofs.ActionLemmas.{got_still}
 use Rattle.sqlite_rules.proofs.ListLemmas.{all_has, all_from, test_has, test_from, test_push, has_right, has_found, has_got}
 use Rattle.sqlite_catalog.specs.Change.{created, next_tree}
 use Rattle.sqlite_catalog.specs.Listing.{IsDefined, IsIndexRow, IsTableRow}
@@ -56,11 +57,6 @@ found_still p xs y x h = rw (find-append p xs (y ∷ []), h) refl
 found_last : {X : Type 0} (p : X → Bool) (xs : List X) (y : X) → AllByRecursion (λ x. p x ≡ false) xs → p y ≡ true → find p (xs ++ y ∷ []) ≡ Some y
 found_last p [] y none is = rw is refl
 found_last p (x ∷ xs) y none is = rw none.0 (found_last p xs y none.1 is)
-
-there_still : {X : Type 0} (xs : List X) (y : X) (at : ℕ) (x : X) → slice_get xs at ≡ Some x → slice_get (xs ++ y ∷ []) at ≡ Some x
-there_still [] y at x h = absurd (let e = h in cc)
-there_still (z ∷ xs) y zero x h = h
-there_still (z ∷ xs) y (suc at) x h = there_still xs y at x h
 
 -- ---- trees
 
@@ -149,7 +145,7 @@ module _ (s : Schema) (title : Bytes) (cs : List Column) (key : List ℕ) where
       let off : (next_tree s == t.tree) ≡ false = ne_eqb (next_tree s) t.tree (λ e. absurd (omega (arith, below, e))) in
       record {
         at = it.at;
-        named = (placed_still (λ (u : Table). same_name u.name t.name) s.tables new 0 it.at it.named.0, there_still s.tables new it.at t it.named.1);
+        named = (placed_still (λ (u : Table). same_name u.name t.name) s.tables new 0 it.at it.named.0, got_still s.tables (new ∷ []) (s.tables ++ new ∷ []) it.at t refl it.named.1);
         by_tree = found_still (λ (u : Table). u.tree == t.tree) s.tables new t it.by_tree;
         unreferred = test_push (λ (u : Table). list_all (λ (r : Reference). not (points_at after t.tree r)) u.references) s.tables new
             (implied (λ (u : Table). list_all (λ (r : Reference). not (points_at s t.tree r)) u.references) (λ (u : Table). list_all (λ (r : Reference). not (points_at after t.tree r)) u.references)
