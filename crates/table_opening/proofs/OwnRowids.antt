@@ -1,12 +1,12 @@
 -- That the rowids of a table, as a query shows them, are integers that differ, so each row has its own.
-use Rattle.std.proofs.Common.{◌≡◌, ◌↔◌, ◌+◌, ◌++◌, get_or, ap₂, arith, Ordering, Equal, Greater, IsSorted, inl, inr, ℕ, suc, ℤ, pos, negsuc, List, [], ◌∷◌, map, flat_map, codes, true, false, None, Option, Ok, IsTrue, refl, sym, ap, subst, subst₂, ◌∙◌, IsPermutation, length, Less, slice_get}
+use Rattle.std.proofs.Common.{◌≡◌, ◌↔◌, ◌++◌, ap₂, IsSorted, inl, ℕ, suc, ℤ, pos, negsuc, List, [], ◌∷◌, map, flat_map, codes, true, false, None, Option, Ok, refl, sym, ap, subst, subst₂, ◌∙◌, IsPermutation, length, Less, slice_get}
 use Rattle.std.specs.Prelude.{nat_lt, nat_le, ◌-◌, ◌^◌, option_and_then}
-use Rattle.std.specs.List.{AllByRecursion, IsDistinct, AllAdjacentBelow}
+use Rattle.std.specs.List.{IsDistinct, AllAdjacentBelow}
 use Rattle.std.specs.List.Sorted.{IsStrictlySortedBy}
-use Rattle.std.specs.Ordering.{is_eq, is_lt, eq_by_cmp, int_cmp, ordering_reverse}
+use Rattle.std.specs.Ordering.{is_eq, eq_by_cmp, int_cmp}
 use Rattle.std.specs.Cmp.{eq_by_cmp_equiv, int_cmp_total}
 use Rattle.std.proofs.lemmas.Bool.{leb-false, lt-ltb}
-use Rattle.std.proofs.lemmas.Map.Keys.{sorted_from_all_adjacent, apart_from_distinct, IsDistinct-from_sorted, IsDistinct-IsPermutation}
+use Rattle.std.proofs.lemmas.Map.Keys.{sorted_from_all_adjacent, IsDistinct-from_sorted, IsDistinct-IsPermutation}
 use Rattle.std.proofs.lemmas.List.Sorted.{IsPermutation-map, IsPermutation-sym}
 use Rattle.std.proofs.lemmas.Simd.{map-map}
 use Rattle.sqlite_value.specs.declared.value.Value.{Value}
@@ -37,6 +37,8 @@ use Rattle.sqlite_resolve.specs.Expr.{lower, lower_to, node, opened, passes}
 use Rattle.sqlite_resolve.specs.Lowering.{spend, begin, finish}
 use Rattle.sqlite_resolve.specs.Scope.{Name, Context, find as found_in, column as named_column, term_of}
 use Rattle.sqlite_rules.specs.Lists.{Has}
+use Rattle.sqlite_rules.proofs.ListLemmas.{has_right}
+use Rattle.sqlite_rules.proofs.ProbeLemmas.{has_mapped, mapped_has}
 use Rattle.sqlite.specs.State.{State, IsUnchanged}
 use Rattle.sqlite.specs.Values.{IsInt}
 use Rattle.table_forms.specs.Forms.{strict}
@@ -48,6 +50,9 @@ use Rattle.table_opening.specs.Opened.{ShowIds}
 use Rattle.table_statements.proofs.Means.{plain_state}
 use Rattle.table_statements.proofs.Scans.{IsScan, scan_complete, kept, listed}
 use Rattle.table_statements.proofs.Apart.{tie, turned}
+use Rattle.table_statements.proofs.Rising.{rising, parted}
+use Rattle.std.proofs.lemmas.List.{map-append}
+use Rattle.table_statements.proofs.Lists.{one_list}
 use Rattle.table_statements.proofs.Statements.{Compiles, answer_of}
 use Rattle.table_statements.proofs.Writes.{overlay_low}
 use Rattle.sqlite_trees.proofs.ListLemmas.{all_weaker, all-map}
@@ -129,18 +134,15 @@ unfolding IsDistinct
 distinct_ints [] h = tt
 distinct_ints (n ∷ ns) h = (all-map (λ v. tie (Int n) v ≡ false) Int ns (all_weaker (λ m. eq_by_cmp int_cmp n m ≡ false) (λ m. tie (Int n) (Int m) ≡ false) (λ m apart. ap is_eq (value_cmp-Int n m) ∙ apart) ns h.0), distinct_ints ns h.1)
 
-ints_from : (rows : List Row) (ns : List ℤ) → map first rows ≡ map Int ns → (x : Row) → Has rows x → IsTrue (is_int (first x))
-ints_from [] ns e x h = absurd h
-ints_from (r ∷ rows) [] e x h = absurd cc
-ints_from (r ∷ rows) (n ∷ ns) e x (inl is) = let at : first r ≡ Int n = cc in ap is_int (ap first is ∙ at)
-ints_from (r ∷ rows) (n ∷ ns) e x (inr there) = let rest : map first rows ≡ map Int ns = cc in ints_from rows ns rest x there
+int_of : (rows : List Row) (ns : List ℤ) → map first rows ≡ map Int ns → (x : Row) → Has rows x → IsInt (first x)
+int_of rows ns e x there = let n = has_mapped Int ns (first x) (subst (λ vs. Has vs (first x)) e (mapped_has first rows x there)) in (n.0, n.2)
 
 keyed_from : (order : List (Term × Key)) (tree : ℕ) (db : Trees) (rows : List Row) → IsAnswer (query order tree) db [] rows → ShowIds rows → IsKeyed (db tree)
 keyed_from order tree db rows answer ids =
     let shown : IsDistinct tie (map first rows) = subst (IsDistinct tie) (sym ids.1) (distinct_ints ids.0 ids.2) in
     let own : IsDistinct tie (map rowid (db tree)) = IsDistinct-IsPermutation tie turned _ _ (IsPermutation-sym _ _ (same_rowids order tree db rows answer)) shown in
     record {
-      ints = λ a h. ints_from rows ids.0 ids.1 (rowid a ∷ []) (scan_complete (query order tree) tree (scan order tree) db [] rows answer a h refl);
+      ints = λ a h. ap is_int (int_of rows ids.0 ids.1 (rowid a ∷ []) (scan_complete (query order tree) tree (scan order tree) db [] rows answer a h refl)).1;
       apart = own;
     }
 
@@ -166,31 +168,17 @@ ints_rise (n ∷ ns) h = sorted_from_all_adjacent int_cmp_total (n ∷ ns) n (λ
 swapped : (a b : ℤ) → eq_by_cmp int_cmp a b ≡ eq_by_cmp int_cmp b a
 swapped a b = (eq_by_cmp_equiv int_cmp_total).symm a b
 
-up_if_apart : (a b : ℤ) → is_lt (int_cmp b a) ≡ false → eq_by_cmp int_cmp a b ≡ false → int_cmp a b ≡ Less
-up_if_apart a b up apart = go (int_cmp a b) refl
-  where
-    go : (c : Ordering) → int_cmp a b ≡ c → int_cmp a b ≡ Less
-    go Less is = is
-    go Equal is = absurd (let no = sym (ap is_eq is) ∙ apart in cc)
-    go Greater is = absurd (let no = sym (ap is_lt (int_cmp_total.antisymm b a ∙ ap ordering_reverse is)) ∙ up in cc)
-
 -- integers differ exactly where they rise once they are sorted
 pub rise_sorted : (ns sorted : List ℤ) → IsPermutation ns sorted → IsSorted int_cmp sorted → AllAdjacentBelow (λ x y. int_cmp x y ≡ Less) sorted (length sorted) ↔ IsDistinct (eq_by_cmp int_cmp) ns
 rise_sorted ns sorted same up = (
   λ rise. IsDistinct-IsPermutation (eq_by_cmp int_cmp) swapped sorted ns (IsPermutation-sym ns sorted same) (IsDistinct-from_sorted int_cmp sorted (ints_rise sorted rise)),
-  λ apart k d low. up_if_apart (get_or sorted k d) (get_or sorted (k + 1) d) (up k d (omega arith) low) (apart_from_distinct (eq_by_cmp int_cmp) sorted k (k + 1) d (IsDistinct-IsPermutation (eq_by_cmp int_cmp) swapped ns sorted same apart) (omega arith) low),
+  λ apart. rising int_cmp_total sorted up (IsDistinct-IsPermutation (eq_by_cmp int_cmp) swapped ns sorted same apart),
 )
 
 -- ---- what rows show that aren't integers, or not different ones
 
-is_int_last : (rows : List Row) (x : Row) (ns : List ℤ) → map first (rows ++ x ∷ []) ≡ map Int ns → IsInt (first x)
-is_int_last [] x [] e = absurd cc
-is_int_last [] x (n ∷ ns) e = let is : first x ≡ Int n = cc in (n, is)
-is_int_last (r ∷ rows) x [] e = absurd cc
-is_int_last (r ∷ rows) x (n ∷ ns) e = let rest : map first (rows ++ x ∷ []) ≡ map Int ns = cc in is_int_last rows x ns rest
-
 pub no_id : (rows : List Row) (x : Row) → ¬ IsInt (first x) → ¬ ShowIds (rows ++ x ∷ [])
-no_id rows x none ids = none (is_int_last rows x ids.0 ids.1)
+no_id rows x none ids = none (int_of (rows ++ x ∷ []) ids.0 ids.1 x (has_right rows (x ∷ []) x (inl refl)))
 
 same_ints : (ns ms : List ℤ) → ◌≡◌ {A = List Value} (map Int ns) (map Int ms) → ns ≡ ms
 same_ints [] [] e = refl
@@ -203,16 +191,12 @@ differ_not rows ns shown same ids = same (subst (IsDistinct (eq_by_cmp int_cmp))
 
 -- ---- the first rows of those that show integers that differ
 
-front_ids : (rows tail : List Row) (ns : List ℤ) → map first (rows ++ tail) ≡ map Int ns → IsDistinct (eq_by_cmp int_cmp) ns
-    → (ms : List ℤ) × (map first rows ≡ map Int ms) × IsDistinct (eq_by_cmp int_cmp) ms × ((P : ℤ → Type 0) → AllByRecursion P ns → AllByRecursion P ms)
+front_apart : (ns ms : List ℤ) → IsDistinct (eq_by_cmp int_cmp) (ns ++ ms) → IsDistinct (eq_by_cmp int_cmp) ns
 unfolding IsDistinct
-front_ids [] tail ns e apart = ([], refl, tt, λ P all. tt)
-front_ids (r ∷ rows) tail [] e apart = absurd cc
-front_ids (r ∷ rows) tail (n ∷ ns) e apart =
-    let head : first r ≡ Int n = cc in
-    let rest : map first (rows ++ tail) ≡ map Int ns = cc in
-    let it = front_ids rows tail ns rest apart.1 in
-    (n ∷ it.0, ap₂ (λ v vs. v ∷ vs) head it.1, (it.3 _ apart.0, it.2), λ P all. (all.0, it.3 P all.1))
+front_apart [] ms h = tt
+front_apart (n ∷ ns) ms h = ((one_list (λ m. eq_by_cmp int_cmp n m ≡ false) ns ms h.0).0, front_apart ns ms h.1)
 
 pub front : (rows tail : List Row) → ShowIds (rows ++ tail) → ShowIds rows
-front rows tail ids = let it = front_ids rows tail ids.0 ids.1 ids.2 in (it.0, it.1, it.2)
+front rows tail ids =
+    let part = parted Int ids.0 (map first rows) (map first tail) (sym (map-append first rows tail) ∙ ids.1) in
+    (part.0, part.3, front_apart part.0 part.1 (subst (IsDistinct (eq_by_cmp int_cmp)) part.2 ids.2))

@@ -49,14 +49,14 @@ above Greater Less e h k = absurd (let no = k in cc)
 above Greater Equal e h k = absurd (let no = e in cc)
 above Greater Greater e h k = absurd (let no = e in cc)
 
-rising : {X : Type 0} {c : X → X → Ordering} (o : IsTotalOrder c) (xs : List X) → IsSorted c xs → IsDistinct (eq_by_cmp c) xs → AllAdjacentBelow (λ x y. c x y ≡ Less) xs (length xs)
+pub rising : {X : Type 0} {c : X → X → Ordering} (o : IsTotalOrder c) (xs : List X) → IsSorted c xs → IsDistinct (eq_by_cmp c) xs → AllAdjacentBelow (λ x y. c x y ≡ Less) xs (length xs)
 rising {c = c} o xs up apart k d low =
     above _ _ (o.antisymm (get_or xs k d) (get_or xs (k + 1) d)) (apart_from_distinct (eq_by_cmp c) xs k (k + 1) d apart (omega arith) low) (up k d (omega arith) low)
 
 -- ---- two lists, one beside the other
 
 -- what the front of a list is made of, is the front of what the list is made of
-parted : {X Y : Type 0} (f : X → Y) (xs : List X) (ys zs : List Y) → ys ++ zs ≡ map f xs → (front : List X) × (back : List X) × (xs ≡ front ++ back) × (ys ≡ map f front)
+pub parted : {X Y : Type 0} (f : X → Y) (xs : List X) (ys zs : List Y) → ys ++ zs ≡ map f xs → (front : List X) × (back : List X) × (xs ≡ front ++ back) × (ys ≡ map f front)
 parted f xs [] zs h = ([], xs, refl, refl)
 parted f [] (y ∷ ys) zs h = absurd (let no = h in cc)
 parted f (x ∷ xs) (y ∷ ys) zs h =
