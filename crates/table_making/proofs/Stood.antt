@@ -8,10 +8,8 @@ use Rattle.std.specs.Cmp.{eq_by_cmp_equiv}
 use Rattle.std.specs.Cmp.Lexicographic.{slice_cmp, nat_list_cmp_total}
 use Rattle.std.proofs.lemmas.Bool.{eq-eqb, ne_eqb, lt-leb, and_right, and_from, or_right}
 use Rattle.std.proofs.lemmas.List.Folds.{find-append}
-use Rattle.sqlite_catalog.proofs.LayoutLemmas.{zipped_left}
+use Rattle.sqlite_catalog.proofs.LayoutLemmas.{zipped_left, index_owner}
 use Rattle.std.proofs.lemmas.Slice.Eq.{bytes_eq-Decides}
-use Rattle.sqlite_value.specs.declared.value.Value.{Value}
-use Rattle.sqlite_value.specs.declared.value.Value.TheVariants.{Null, Text}
 use Rattle.sqlite_trees.proofs.ListLemmas.{all-slice_get, all-append, all_weaker}
 use Rattle.sqlite_schema.specs.declared.schema.Column.{Column}
 use Rattle.sqlite_schema.specs.declared.schema.Schema.{Schema}
@@ -22,7 +20,7 @@ use Rattle.sqlite_schema.specs.Names.{same_name}
 use Rattle.sqlite_rules.proofs.ActionLemmas.{got_still}
 use Rattle.sqlite_rules.proofs.ListLemmas.{all_has, all_from, test_has, test_from, test_push, has_right, has_found, has_got}
 use Rattle.sqlite_catalog.specs.Change.{created, next_tree}
-use Rattle.sqlite_catalog.specs.Listing.{IsDefined, IsIndexRow, IsTableRow}
+use Rattle.sqlite_catalog.specs.Listing.{IsIndexRow, IsTableRow}
 use Rattle.sqlite.specs.Effect.{Database, IsDatabase}
 use Rattle.table_forms.specs.Forms.{strict}
 use Rattle.table_forms.specs.Standing.{IsNamed, Stands, is_unreferred, is_alone, is_unguarded, points_at, tree_named}
@@ -180,16 +178,11 @@ all_stand s (f ∷ fs) clear free low =
 
 -- ---- in a database that lists its schema
 
-table_of_index : (table : Table) (i : Index) (v : Value) → IsDefined table i v → i.table ≡ table.tree
-table_of_index table i Null h = ap (λ (x : Index). x.table) h.3
-table_of_index table i (Text sql) h = ap (λ (x : Index). x.table) h.2
-table_of_index table i v h = absurd h
-
 pub are_low : (db : Database) → IsDatabase db → AreLow db.schema
 are_low db sound = all_from (λ (i : Index). i.table < next_tree db.schema) db.schema.indexes (λ i there.
     let row = (zipped_left (IsIndexRow db.schema.tables) _ db.schema.indexes i sound.lists.listed.indexes there).2 in
     let below = all_has (λ (t : Table). t.tree < next_tree db.schema) db.schema.tables row.table (trees_below db.schema) row.listed in
-    omega (arith, table_of_index row.table i _ row.defined, below))
+    omega (arith, index_owner row.table i _ row.defined, below))
 
 tree_low : (db : Database) → IsDatabase db → (at : ℕ) (t : Table) → slice_get db.schema.tables at ≡ Some t → nat_le (2 ^ 31) t.tree ≡ false
 tree_low db sound at t there =
