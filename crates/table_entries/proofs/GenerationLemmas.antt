@@ -1,9 +1,9 @@
 -- The table of generations, described once, and what the texts of its statements mean.
-use Rattle.std.proofs.Common.{ℕ, ℤ, List, [], ◌∷◌, codes, true, ◌&&◌, refl}
+use Rattle.std.proofs.Common.{◌≡◌, ℕ, ℤ, List, [], ◌∷◌, codes, true, ◌&&◌, refl}
 use Rattle.std.specs.Ordering.{eq_by_cmp, int_cmp}
 use Rattle.std.specs.List.{AllByRecursion}
 use Rattle.sqlite_value.specs.declared.value.Value.TheVariants.{Int, Text}
-use Rattle.sqlite_value.specs.Order.{bytes}
+use Rattle.sqlite_value.specs.Order.{Row, column, bytes}
 use Rattle.sqlite_trees.specs.View.{is_int}
 use Rattle.sqlite_rules.specs.Edit.{id_in}
 use Rattle.sqlite_tied.specs.Compute.{everything}
@@ -50,6 +50,10 @@ table = record {
   still = λ old new rows stands sets keyed readable mine. tt;
 }
 
+-- its key is two texts and a number
+key_is : (r : Row) → is_generation r ≡ true → (is_text (column r 1) ≡ true) × (is_text (column r 2) ≡ true) × (is_int (column r 3) ≡ true)
+key_is r kind = let whole = and_so _ _ (and_so _ _ kind).0 in let pair = and_so _ _ whole.0 in (pair.0, pair.1, whole.1)
+
 -- ---- one more
 
 abbrev pub insert_text : List ℕ
@@ -60,7 +64,7 @@ unfolding everything
 addition owner name number target =
     added table (λ s at tree found. (_, insert_means insert_text refl s at (codes "generation") generation.columns generation.primary tree _ found refl, refl, refl, refl, refl, refl))
     (λ rows. rw (cast_null, cast_int number) refl) (refl, refl, λ id. (refl, refl, refl))
-    (λ id r kind h. let e = agreed_three (Text owner) (Text name) (Int number) (Int id) (Text target ∷ []) r (let whole = and_so _ _ (and_so _ _ kind).0 in let pair = and_so _ _ whole.0 in (pair.0, pair.1, whole.1)) h in λ i. (e.0 i, e.1 i, e.2 i))
+    (λ id r kind h. let e = agreed_three (Text owner) (Text name) (Int number) (Int id) (Text target ∷ []) r (key_is r kind) h in λ i. (e.0 i, e.1 i, e.2 i))
 
 -- ---- reading them
 
@@ -97,7 +101,7 @@ pub of : (owner : List ℕ) (name : List ℕ) → Selection table reading of_tex
 unfolding everything
 of owner name =
     part table reading places_are refl of_text (Text owner ∷ Text name ∷ []) ((_, _, _, _, refl, refl, refl), refl, λ s at tree known. (rw (known.low, known.by_tree), rw (known.low, known.by_tree) refl))
-    (λ r kind. said_two (Text owner) (Text name) r ((and_so _ _ (and_so _ _ (and_so _ _ kind).0).0).0, (and_so _ _ (and_so _ _ (and_so _ _ kind).0).0).1))
+    (λ r kind. said_two (Text owner) (Text name) r (let k = key_is r kind in (k.0, k.1)))
 
 -- ---- those gone
 
@@ -108,7 +112,7 @@ pub removal : (owner : List ℕ) (name : List ℕ) (number : ℤ) → Removal ta
 unfolding everything
 removal owner name number =
     removed table places places_are refl delete_text (Text owner ∷ Text name ∷ Int number ∷ []) ((_, _, _, _, refl, refl, refl), refl, λ s at tree known. (rw (known.low, known.by_tree), rw (known.low, known.by_tree) refl))
-    (λ r kind. said_three (Text owner) (Text name) (Int number) r ((and_so _ _ (and_so _ _ (and_so _ _ kind).0).0).0, (and_so _ _ (and_so _ _ (and_so _ _ kind).0).0).1, (and_so _ _ (and_so _ _ kind).0).1))
+    (λ r kind. said_three (Text owner) (Text name) (Int number) r (key_is r kind))
 
 -- ---- they are SELECTs
 

@@ -106,7 +106,7 @@ pub at : (owner : List ℕ) (name : List ℕ) → Selection table reading at_tex
 unfolding everything
 at owner name =
     part table reading places_are refl at_text (Text owner ∷ Text name ∷ []) ((_, _, _, _, refl, refl, refl), refl, λ s at tree known. (rw (known.low, known.by_tree), rw (known.low, known.by_tree) refl))
-    (λ r kind. said_two (Text owner) (Text name) r ((and_so _ _ (and_so _ _ kind).0).0, (and_so _ _ (and_so _ _ kind).0).1))
+    (λ r kind. said_two (Text owner) (Text name) r (and_so _ _ (and_so _ _ kind).0))
 
 -- ---- those gone
 
@@ -117,7 +117,7 @@ pub removal : (owner : List ℕ) (name : List ℕ) → Removal table delete_text
 unfolding everything
 removal owner name =
     removed table places places_are refl delete_text (Text owner ∷ Text name ∷ []) ((_, _, _, _, refl, refl, refl), refl, λ s at tree known. (rw (known.low, known.by_tree), rw (known.low, known.by_tree) refl))
-    (λ r kind. said_two (Text owner) (Text name) r ((and_so _ _ (and_so _ _ kind).0).0, (and_so _ _ (and_so _ _ kind).0).1))
+    (λ r kind. said_two (Text owner) (Text name) r (and_so _ _ (and_so _ _ kind).0))
 
 -- ---- they are SELECTs
 

@@ -1,10 +1,10 @@
 -- The table of temporary roots, described once, and what the texts of its statements mean.
-use Rattle.std.proofs.Common.{ℕ, ℤ, List, [], ◌∷◌, codes, true, ◌&&◌, refl}
+use Rattle.std.proofs.Common.{◌≡◌, ℕ, ℤ, List, [], ◌∷◌, codes, true, ◌&&◌, refl}
 use Rattle.std.specs.Prelude.{pos}
 use Rattle.std.specs.Ordering.{eq_by_cmp, int_cmp}
 use Rattle.std.specs.List.{AllByRecursion}
 use Rattle.sqlite_value.specs.declared.value.Value.TheVariants.{Int, Text}
-use Rattle.sqlite_value.specs.Order.{bytes}
+use Rattle.sqlite_value.specs.Order.{Row, column, bytes}
 use Rattle.sqlite_trees.specs.View.{is_int}
 use Rattle.sqlite_rules.specs.Edit.{id_in}
 use Rattle.sqlite_tied.specs.Compute.{everything}
@@ -52,6 +52,10 @@ table = record {
   still = λ old new rows stands sets keyed readable mine. further_kept temp_root old new rows stands sets keyed readable temp_root mine;
 }
 
+-- its key is a text, a number and a text
+key_is : (r : Row) → is_kept r ≡ true → (is_text (column r 1) ≡ true) × (is_int (column r 2) ≡ true) × (is_text (column r 3) ≡ true)
+key_is r kind = let whole = and_so _ _ kind in let front = and_so _ _ whole.0 in (front.0, front.1, whole.1)
+
 -- ---- one more
 
 abbrev pub insert_text : List ℕ
@@ -62,7 +66,7 @@ unfolding everything
 addition owner session target =
     added table (λ s at tree found. (_, insert_means insert_text refl s at (codes "temp_root") temp_root.columns temp_root.primary tree _ found refl, refl, refl, refl, refl, refl))
     (λ rows. rw (cast_null, cast_int session) refl) (refl, refl, λ id. (refl, refl, refl))
-    (λ id r kind h. let e = agreed_three (Text owner) (Int session) (Text target) (Int id) [] r (let whole = and_so _ _ kind in let front = and_so _ _ whole.0 in (front.0, front.1, whole.1)) h in λ i. (e.0 i, e.1 i, e.2 i))
+    (λ id r kind h. let e = agreed_three (Text owner) (Int session) (Text target) (Int id) [] r (key_is r kind) h in λ i. (e.0 i, e.1 i, e.2 i))
 
 -- ---- reading them
 
@@ -99,7 +103,7 @@ pub of : (owner : List ℕ) (session : ℤ) → Selection table reading of_text 
 unfolding everything
 of owner session =
     part table reading places_are refl of_text (Text owner ∷ Int session ∷ []) ((_, _, _, _, refl, refl, refl), refl, λ s at tree known. (rw (known.low, known.by_tree), rw (known.low, known.by_tree) refl))
-    (λ r kind. said_two (Text owner) (Int session) r ((and_so _ _ (and_so _ _ kind).0).0, (and_so _ _ (and_so _ _ kind).0).1))
+    (λ r kind. said_two (Text owner) (Int session) r (let k = key_is r kind in (k.0, k.1)))
 
 -- ---- those gone
 
@@ -110,7 +114,7 @@ pub removal : (owner : List ℕ) (session : ℤ) → Removal table delete_of_tex
 unfolding everything
 removal owner session =
     removed table places places_are refl delete_of_text (Text owner ∷ Int session ∷ []) ((_, _, _, _, refl, refl, refl), refl, λ s at tree known. (rw (known.low, known.by_tree), rw (known.low, known.by_tree) refl))
-    (λ r kind. said_two (Text owner) (Int session) r ((and_so _ _ (and_so _ _ kind).0).0, (and_so _ _ (and_so _ _ kind).0).1))
+    (λ r kind. said_two (Text owner) (Int session) r (let k = key_is r kind in (k.0, k.1)))
 
 abbrev pub delete_text : List ℕ
 delete_text = codes "DELETE FROM temp_root WHERE owner = ?1 AND session = ?2 AND target = ?3"
@@ -119,7 +123,7 @@ pub removal_one : (owner : List ℕ) (session : ℤ) (target : List ℕ) → Rem
 unfolding everything
 removal_one owner session target =
     removed table places places_are refl delete_text (Text owner ∷ Int session ∷ Text target ∷ []) ((_, _, _, _, refl, refl, refl), refl, λ s at tree known. (rw (known.low, known.by_tree), rw (known.low, known.by_tree) refl))
-    (λ r kind. said_three (Text owner) (Int session) (Text target) r ((and_so _ _ (and_so _ _ kind).0).0, (and_so _ _ (and_so _ _ kind).0).1, (and_so _ _ kind).1))
+    (λ r kind. said_three (Text owner) (Int session) (Text target) r (key_is r kind))
 
 -- ---- they are SELECTs
 
