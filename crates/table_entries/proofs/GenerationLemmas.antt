@@ -8,8 +8,7 @@ use Rattle.sqlite_trees.specs.View.{is_int}
 use Rattle.sqlite_rules.specs.Edit.{id_in}
 use Rattle.sqlite_tied.specs.Compute.{everything}
 use Rattle.table_forms.specs.Forms.{generation}
-use Rattle.table_forms.specs.Standing.{HasTables}
-use Rattle.table_statements.specs.Contents.{texts_cmp, triple_cmp, is_text, is_generation, generation_of, Bytes, Triple}
+use Rattle.table_statements.specs.Contents.{texts_cmp, is_text, is_generation, generation_of, Bytes, Triple}
 use Rattle.table_statements.specs.Queries.{IsSelect}
 use Rattle.table_entries.specs.Entries.{generation_in, ShowsGeneration, IsGenerationRow}
 use Rattle.table_statements.proofs.Orders.{triple_total, triple_antisymmetric}
@@ -22,33 +21,15 @@ use Rattle.table_entries.proofs.KeyOrders.{by_triple}
 use Rattle.table_entries.proofs.Legible.{generation_row}
 use Rattle.table_entries.proofs.FreeKeys.{agreed_three}
 use Rattle.table_entries.proofs.Kept.{generation_kept}
+use Rattle.table_entries.proofs.OneOfNine.{one_of_nine}
 use Rattle.table_entries.proofs.Description.{Description, Addition, Removal, Reading, Selection}
 
 -- ---- the table
 
 abbrev pub table : Description Triple Bytes
-table = record {
-  name = generation.name;
-  columns = generation.columns;
-  key = generation.primary;
-  order = triple_cmp;
-  total = triple_total;
-  same = triple_antisymmetric;
-  kind = is_generation;
-  entry = generation_of;
-  IsIn = HasTables;
-  IsOwn = λ db. Unit {0};
-  within = λ db ours mine. ours.has;
-  of = λ c. c.generations;
-  put = λ c m. record c { generations = m };
-  held = λ db has. refl;
-  named = refl;
-  stands = λ s has. has.1.1.1.1.1.1.1.0;
-  keyed = λ db ours mine. ours.keyed.1.1.1.1.1.1.1.0;
-  kept = λ db ours mine. generation_kept db ours;
-  written = λ old new rows has here sets m is. generation_set old new has rows sets m is;
-  still = λ old new rows stands sets keyed readable mine. tt;
-}
+table =
+    one_of_nine generation triple_total triple_antisymmetric is_generation generation_of (λ c. c.generations) (λ c m. record c { generations = m })
+    refl (λ db has. refl) (λ s has. has.1.1.1.1.1.1.1.0) (λ db ours. ours.keyed.1.1.1.1.1.1.1.0) generation_kept generation_set
 
 -- its key is two texts and a number
 key_is : (r : Row) → is_generation r ≡ true → (is_text (column r 1) ≡ true) × (is_text (column r 2) ≡ true) × (is_int (column r 3) ≡ true)

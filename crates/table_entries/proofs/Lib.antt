@@ -16,6 +16,7 @@ pub mod Alike
 pub mod Ordered
 pub mod Conditions
 pub mod Parts
+pub mod OneOfNine
 pub mod ContentsLemmas
 pub mod One
 pub mod Optional

@@ -14,8 +14,12 @@ use Rattle.sqlite_value.specs.Order.{bytes}
 use Rattle.sqlite_tied.specs.Compute.{everything}
 use Rattle.table_entries.specs.declared.objects.Object.{Object}
 use Rattle.table_forms.specs.Forms.{object}
+<<<<<<< HEAD
 use Rattle.table_forms.specs.Standing.{HasTables}
 use Rattle.table_statements.specs.Contents.{Bytes, Stored, texts_cmp, is_text, is_blob, is_object, object_of, text_if_any, is_text_or_null}
+=======
+use Rattle.table_statements.specs.Contents.{Bytes, Stored, map_of, rows_named, contents_of, texts_cmp, is_text, is_blob, is_object, object_of, text_if_any, is_text_or_null}
+>>>>>>> a8a214b4 (Describe the nine tables by what differs among them)
 use Rattle.table_statements.specs.Queries.{IsSelect}
 use Rattle.table_entries.specs.Entries.{stored_of, ShowsObject, IsStored, stored, IsObjectRow}
 use Rattle.table_statements.proofs.Orders.{texts_total, texts_antisymmetric}
@@ -32,6 +36,7 @@ use Rattle.table_entries.proofs.KeyOrders.{by_text}
 use Rattle.table_entries.proofs.Legible.{object_row}
 use Rattle.table_entries.proofs.FreeKeys.{agreed_one}
 use Rattle.table_entries.proofs.Kept.{object_kept}
+use Rattle.table_entries.proofs.OneOfNine.{one_of_nine}
 use Rattle.table_entries.proofs.Description.{Description, Inserts, Addition, Removal, Reading, Selection}
 use Rattle.table_statements.specs.Texts.{IsReadable}
 use Rattle.sqlite_schema.specs.declared.schema.Kind.TheVariants as kind
@@ -41,28 +46,9 @@ use Rattle.sqlite_typing.specs.Types.{class_of}
 -- ---- the table
 
 abbrev pub table : Description Bytes Stored
-table = record {
-  name = object.name;
-  columns = object.columns;
-  key = object.primary;
-  order = texts_cmp;
-  total = texts_total;
-  same = texts_antisymmetric;
-  kind = is_object;
-  entry = object_of;
-  IsIn = HasTables;
-  IsOwn = λ db. Unit {0};
-  within = λ db ours mine. ours.has;
-  of = λ c. c.objects;
-  put = λ c m. record c { objects = m };
-  held = λ db has. refl;
-  named = refl;
-  stands = λ s has. has.1.0;
-  keyed = λ db ours mine. ours.keyed.1.0;
-  kept = λ db ours mine. object_kept db ours;
-  written = λ old new rows has here sets m is. object_set old new has rows sets m is;
-  still = λ old new rows stands sets keyed readable mine. tt;
-}
+table =
+    one_of_nine object texts_total texts_antisymmetric is_object object_of (λ c. c.objects) (λ c m. record c { objects = m })
+    refl (λ db has. refl) (λ s has. has.1.0) (λ db ours. ours.keyed.1.0) object_kept object_set
 
 -- ---- one more
 

@@ -6,8 +6,7 @@ use Rattle.sqlite_value.specs.declared.value.Value.TheVariants.{Int, Text}
 use Rattle.sqlite_value.specs.Order.{bytes}
 use Rattle.sqlite_tied.specs.Compute.{everything}
 use Rattle.table_forms.specs.Forms.{outs}
-use Rattle.table_forms.specs.Standing.{HasTables}
-use Rattle.table_statements.specs.Contents.{texts_cmp, pair_cmp, is_text, is_triple, target_of, Bytes, Pair}
+use Rattle.table_statements.specs.Contents.{texts_cmp, is_text, is_triple, target_of, Bytes, Pair}
 use Rattle.table_statements.specs.Queries.{IsSelect}
 use Rattle.table_entries.specs.Entries.{output_of, ShowsOutput, IsTripleRow}
 use Rattle.table_statements.proofs.Orders.{pair_total, pair_antisymmetric}
@@ -20,33 +19,15 @@ use Rattle.table_entries.proofs.KeyOrders.{by_pair}
 use Rattle.table_entries.proofs.Legible.{triple_row}
 use Rattle.table_entries.proofs.FreeKeys.{agreed_two}
 use Rattle.table_entries.proofs.Kept.{outs_kept}
+use Rattle.table_entries.proofs.OneOfNine.{one_of_nine}
 use Rattle.table_entries.proofs.Description.{Description, Addition, Removal, Reading, Selection}
 
 -- ---- the table
 
 abbrev pub table : Description Pair Bytes
-table = record {
-  name = outs.name;
-  columns = outs.columns;
-  key = outs.primary;
-  order = pair_cmp;
-  total = pair_total;
-  same = pair_antisymmetric;
-  kind = is_triple;
-  entry = target_of;
-  IsIn = HasTables;
-  IsOwn = λ db. Unit {0};
-  within = λ db ours mine. ours.has;
-  of = λ c. c.outs;
-  put = λ c m. record c { outs = m };
-  held = λ db has. refl;
-  named = refl;
-  stands = λ s has. has.1.1.1.0;
-  keyed = λ db ours mine. ours.keyed.1.1.1.0;
-  kept = λ db ours mine. outs_kept db ours;
-  written = λ old new rows has here sets m is. outs_set old new has rows sets m is;
-  still = λ old new rows stands sets keyed readable mine. tt;
-}
+table =
+    one_of_nine outs pair_total pair_antisymmetric is_triple target_of (λ c. c.outs) (λ c m. record c { outs = m })
+    refl (λ db has. refl) (λ s has. has.1.1.1.0) (λ db ours. ours.keyed.1.1.1.0) outs_kept outs_set
 
 -- ---- one more
 

@@ -6,7 +6,6 @@ use Rattle.sqlite_value.specs.declared.value.Value.TheVariants.{Int, Text}
 use Rattle.sqlite_value.specs.Order.{bytes}
 use Rattle.sqlite_tied.specs.Compute.{everything}
 use Rattle.table_forms.specs.Forms.{permanent}
-use Rattle.table_forms.specs.Standing.{HasTables}
 use Rattle.table_statements.specs.Contents.{texts_cmp, is_text, is_pair, pair_of, Bytes}
 use Rattle.table_statements.specs.Queries.{IsSelect}
 use Rattle.table_entries.specs.Entries.{permanent_of, ShowsPermanentRoot, IsPairRow}
@@ -20,33 +19,15 @@ use Rattle.table_entries.proofs.KeyOrders.{by_text}
 use Rattle.table_entries.proofs.Legible.{pair_row}
 use Rattle.table_entries.proofs.FreeKeys.{agreed_one}
 use Rattle.table_entries.proofs.Kept.{permanent_kept}
+use Rattle.table_entries.proofs.OneOfNine.{one_of_nine}
 use Rattle.table_entries.proofs.Description.{Description, Addition, Removal, Reading, Selection}
 
 -- ---- the table
 
 abbrev pub table : Description Bytes Bytes
-table = record {
-  name = permanent.name;
-  columns = permanent.columns;
-  key = permanent.primary;
-  order = texts_cmp;
-  total = texts_total;
-  same = texts_antisymmetric;
-  kind = is_pair;
-  entry = pair_of;
-  IsIn = HasTables;
-  IsOwn = λ db. Unit {0};
-  within = λ db ours mine. ours.has;
-  of = λ c. c.permanent;
-  put = λ c m. record c { permanent = m };
-  held = λ db has. refl;
-  named = refl;
-  stands = λ s has. has.1.1.1.1.0;
-  keyed = λ db ours mine. ours.keyed.1.1.1.1.0;
-  kept = λ db ours mine. permanent_kept db ours;
-  written = λ old new rows has here sets m is. permanent_set old new has rows sets m is;
-  still = λ old new rows stands sets keyed readable mine. tt;
-}
+table =
+    one_of_nine permanent texts_total texts_antisymmetric is_pair pair_of (λ c. c.permanent) (λ c m. record c { permanent = m })
+    refl (λ db has. refl) (λ s has. has.1.1.1.1.0) (λ db ours. ours.keyed.1.1.1.1.0) permanent_kept permanent_set
 
 -- ---- one more
 

@@ -8,8 +8,7 @@ use Rattle.sqlite_trees.specs.View.{is_int}
 use Rattle.sqlite_rules.specs.Edit.{id_in}
 use Rattle.sqlite_tied.specs.Compute.{everything}
 use Rattle.table_forms.specs.Forms.{profile}
-use Rattle.table_forms.specs.Standing.{HasTables}
-use Rattle.table_statements.specs.Contents.{texts_cmp, pair_cmp, is_text, is_profile, profile_of, Pair}
+use Rattle.table_statements.specs.Contents.{texts_cmp, is_text, is_profile, profile_of, Pair}
 use Rattle.table_statements.specs.Queries.{IsSelect}
 use Rattle.table_entries.specs.Entries.{current_of, ShowsProfile, IsProfileRow}
 use Rattle.table_statements.proofs.Orders.{pair_total, pair_antisymmetric}
@@ -22,33 +21,15 @@ use Rattle.table_entries.proofs.KeyOrders.{by_pair}
 use Rattle.table_entries.proofs.Legible.{profile_row}
 use Rattle.table_entries.proofs.FreeKeys.{agreed_two}
 use Rattle.table_entries.proofs.Kept.{profile_kept}
+use Rattle.table_entries.proofs.OneOfNine.{one_of_nine}
 use Rattle.table_entries.proofs.Description.{Description, Addition, Removal, Reading, Selection}
 
 -- ---- the table
 
 abbrev pub table : Description Pair ℤ
-table = record {
-  name = profile.name;
-  columns = profile.columns;
-  key = profile.primary;
-  order = pair_cmp;
-  total = pair_total;
-  same = pair_antisymmetric;
-  kind = is_profile;
-  entry = profile_of;
-  IsIn = HasTables;
-  IsOwn = λ db. Unit {0};
-  within = λ db ours mine. ours.has;
-  of = λ c. c.profiles;
-  put = λ c m. record c { profiles = m };
-  held = λ db has. refl;
-  named = refl;
-  stands = λ s has. has.1.1.1.1.1.1.0;
-  keyed = λ db ours mine. ours.keyed.1.1.1.1.1.1.0;
-  kept = λ db ours mine. profile_kept db ours;
-  written = λ old new rows has here sets m is. profile_set old new has rows sets m is;
-  still = λ old new rows stands sets keyed readable mine. tt;
-}
+table =
+    one_of_nine profile pair_total pair_antisymmetric is_profile profile_of (λ c. c.profiles) (λ c m. record c { profiles = m })
+    refl (λ db has. refl) (λ s has. has.1.1.1.1.1.1.0) (λ db ours. ours.keyed.1.1.1.1.1.1.0) profile_kept profile_set
 
 -- ---- one more
 

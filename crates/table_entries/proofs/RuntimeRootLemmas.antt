@@ -6,8 +6,7 @@ use Rattle.sqlite_value.specs.declared.value.Value.TheVariants.{Int, Text}
 use Rattle.sqlite_value.specs.Order.{bytes}
 use Rattle.sqlite_tied.specs.Compute.{everything}
 use Rattle.table_forms.specs.Forms.{runtime}
-use Rattle.table_forms.specs.Standing.{HasTables}
-use Rattle.table_statements.specs.Contents.{texts_cmp, pair_cmp, is_text, is_pair, member_of, Pair}
+use Rattle.table_statements.specs.Contents.{texts_cmp, is_text, is_pair, member_of, Pair}
 use Rattle.table_statements.specs.Queries.{IsSelect}
 use Rattle.table_entries.specs.Entries.{runtime_of, ShowsRuntimeRoot, IsPairRow}
 use Rattle.table_statements.proofs.Orders.{pair_total, pair_antisymmetric}
@@ -20,33 +19,15 @@ use Rattle.table_entries.proofs.KeyOrders.{by_pair}
 use Rattle.table_entries.proofs.Legible.{pair_row}
 use Rattle.table_entries.proofs.FreeKeys.{agreed_two}
 use Rattle.table_entries.proofs.Kept.{runtime_kept}
+use Rattle.table_entries.proofs.OneOfNine.{one_of_nine}
 use Rattle.table_entries.proofs.Description.{Description, Addition, Removal, Reading, Selection}
 
 -- ---- the table
 
 abbrev pub table : Description Pair (Unit {0})
-table = record {
-  name = runtime.name;
-  columns = runtime.columns;
-  key = runtime.primary;
-  order = pair_cmp;
-  total = pair_total;
-  same = pair_antisymmetric;
-  kind = is_pair;
-  entry = member_of;
-  IsIn = HasTables;
-  IsOwn = λ db. Unit {0};
-  within = λ db ours mine. ours.has;
-  of = λ c. c.runtime;
-  put = λ c m. record c { runtime = m };
-  held = λ db has. refl;
-  named = refl;
-  stands = λ s has. has.1.1.1.1.1.1.1.1.0;
-  keyed = λ db ours mine. ours.keyed.1.1.1.1.1.1.1.1.0;
-  kept = λ db ours mine. runtime_kept db ours;
-  written = λ old new rows has here sets m is. runtime_set old new has rows sets m is;
-  still = λ old new rows stands sets keyed readable mine. tt;
-}
+table =
+    one_of_nine runtime pair_total pair_antisymmetric is_pair member_of (λ c. c.runtime) (λ c m. record c { runtime = m })
+    refl (λ db has. refl) (λ s has. has.1.1.1.1.1.1.1.1.0) (λ db ours. ours.keyed.1.1.1.1.1.1.1.1.0) runtime_kept runtime_set
 
 -- ---- one more
 

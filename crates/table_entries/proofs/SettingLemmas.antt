@@ -6,7 +6,6 @@ use Rattle.sqlite_value.specs.declared.value.Value.TheVariants.{Int, Text}
 use Rattle.sqlite_value.specs.Order.{bytes}
 use Rattle.sqlite_tied.specs.Compute.{everything}
 use Rattle.table_forms.specs.Forms.{meta}
-use Rattle.table_forms.specs.Standing.{HasTables}
 use Rattle.table_statements.specs.Contents.{texts_cmp, is_text, is_pair, pair_of, Bytes}
 use Rattle.table_statements.specs.Queries.{IsSelect}
 use Rattle.table_entries.specs.Entries.{setting_of, ShowsSetting, IsPairRow}
@@ -20,33 +19,15 @@ use Rattle.table_entries.proofs.KeyOrders.{by_text}
 use Rattle.table_entries.proofs.Legible.{pair_row}
 use Rattle.table_entries.proofs.FreeKeys.{agreed_one}
 use Rattle.table_entries.proofs.Kept.{meta_kept}
+use Rattle.table_entries.proofs.OneOfNine.{one_of_nine}
 use Rattle.table_entries.proofs.Description.{Description, Inserts, Addition, Removal, Reading, Selection}
 
 -- ---- the table
 
 abbrev pub table : Description Bytes Bytes
-table = record {
-  name = meta.name;
-  columns = meta.columns;
-  key = meta.primary;
-  order = texts_cmp;
-  total = texts_total;
-  same = texts_antisymmetric;
-  kind = is_pair;
-  entry = pair_of;
-  IsIn = HasTables;
-  IsOwn = λ db. Unit {0};
-  within = λ db ours mine. ours.has;
-  of = λ c. c.meta;
-  put = λ c m. record c { meta = m };
-  held = λ db has. refl;
-  named = refl;
-  stands = λ s has. has.0;
-  keyed = λ db ours mine. ours.keyed.0;
-  kept = λ db ours mine. meta_kept db ours;
-  written = λ old new rows has here sets m is. meta_set old new has rows sets m is;
-  still = λ old new rows stands sets keyed readable mine. tt;
-}
+table =
+    one_of_nine meta texts_total texts_antisymmetric is_pair pair_of (λ c. c.meta) (λ c m. record c { meta = m })
+    refl (λ db has. refl) (λ s has. has.0) (λ db ours. ours.keyed.0) meta_kept meta_set
 
 -- ---- one more
 
