@@ -16,7 +16,7 @@ use Rattle.table_statements.proofs.Truths.{cast_null, cast_int, and_so}
 use Rattle.table_statements.proofs.Means.{insert_means}
 use Rattle.table_entries.proofs.Ordered.{Place, IsColumn}
 use Rattle.table_entries.proofs.ContentsLemmas.{generation_set}
-use Rattle.table_entries.proofs.Parts.{IsAsked, added, part, removed, said_two, said_three}
+use Rattle.table_entries.proofs.Parts.{IsAsked, added, selected, removed, said_two, said_three}
 use Rattle.table_entries.proofs.KeyOrders.{by_triple}
 use Rattle.table_entries.proofs.Legible.{generation_row}
 use Rattle.table_entries.proofs.FreeKeys.{agreed_three}
@@ -73,7 +73,7 @@ unfolding everything
 all_asked = ((_, _, _, _, refl, refl, refl), refl, λ s at tree known. (rw (known.low, known.by_tree), rw (known.low, known.by_tree) refl))
 
 abbrev pub all : Selection table reading all_text [] (λ _. true)
-all = part table reading places_are refl all_text [] all_asked (λ r kind. refl)
+all = selected table reading places_are refl all_text [] all_asked (λ r kind. refl)
 
 abbrev pub of_text : List ℕ
 of_text = codes "SELECT owner, name, num, target FROM generation WHERE owner = ?1 AND name = ?2 ORDER BY owner, name, num"
@@ -81,7 +81,7 @@ of_text = codes "SELECT owner, name, num, target FROM generation WHERE owner = ?
 pub of : (owner : List ℕ) (name : List ℕ) → Selection table reading of_text (Text owner ∷ Text name ∷ []) (λ k. eq_by_cmp texts_cmp k.0 owner && eq_by_cmp texts_cmp k.1 name)
 unfolding everything
 of owner name =
-    part table reading places_are refl of_text (Text owner ∷ Text name ∷ []) ((_, _, _, _, refl, refl, refl), refl, λ s at tree known. (rw (known.low, known.by_tree), rw (known.low, known.by_tree) refl))
+    selected table reading places_are refl of_text (Text owner ∷ Text name ∷ []) ((_, _, _, _, refl, refl, refl), refl, λ s at tree known. (rw (known.low, known.by_tree), rw (known.low, known.by_tree) refl))
     (λ r kind. said_two (Text owner) (Text name) r (let k = key_is r kind in (k.0, k.1)))
 
 -- ---- those gone

@@ -18,7 +18,8 @@ use Rattle.table_entries.proofs.KeyOrders.{by_text}
 use Rattle.table_entries.proofs.Legible.{listed_row, path_row}
 use Rattle.table_entries.proofs.ObjectLemmas.{table}
 use Rattle.table_entries.proofs.Optional.{option_fits}
-use Rattle.table_entries.proofs.Ordered.{Place, IsColumn, query_on, names_on, whole, selects}
+use Rattle.table_entries.proofs.Ordered.{Place, IsColumn}
+use Rattle.table_entries.proofs.Parts.{IsAsked, selected}
 use Rattle.table_entries.proofs.Typed.{base_is}
 
 -- ---- the objects without their archives
@@ -56,18 +57,15 @@ listing = record {
 abbrev pub all_text : List ℕ
 all_text = codes "SELECT base, hash, deriver, ca FROM object ORDER BY base"
 
-pub all_read : IsSelect all_text
+pub all_asked : IsAsked table listing all_text []
 unfolding everything
-all_read = (_, _, _, _, _, refl)
+all_asked = ((_, _, _, _, refl, refl, refl), refl, λ s at tree known. (rw (known.low, known.by_tree), rw (known.low, known.by_tree) refl))
 
-pub all_is : Compiles object.name object.columns object.primary all_text 0 (λ at tree. Select (whole (query_on places 1 []) tree) (names_on places))
-unfolding everything all_read
-all_is =
-    selects object.name object.columns object.primary all_text places 1 places_are all_read (refl, refl, refl, refl, refl, refl, refl, refl, refl, refl, refl, refl, refl, λ s. refl) ((_, _, refl, refl), ((_, _, refl, refl), ((_, _, refl, refl), ((_, _, refl, refl), tt)))) (((refl, refl, refl, refl), refl, refl), tt) [] (Some Binary) 99996 (refl, (refl, (refl, (refl, tt)))) (refl, tt)
-    (λ s at tree known. refl) (λ s at tree known. rw (known.low, known.by_tree)) refl refl
+abbrev pub all : Selection table listing all_text [] (λ _. true)
+all = selected table listing places_are refl all_text [] all_asked (λ r has. refl)
 
-pub all : Selection table listing all_text [] (λ _. true)
-all = record { filter = []; is = all_is; said = λ r has. refl; reads = all_read; accepts = λ s at tree known. rw (known.low, known.by_tree) refl }
+pub all_read : IsSelect all_text
+all_read = all.reads
 
 -- ---- their paths alone
 
@@ -93,15 +91,10 @@ keys_reading = record {
 abbrev pub keys_text : List ℕ
 keys_text = codes "SELECT base FROM object ORDER BY base"
 
-pub keys_read : IsSelect keys_text
-unfolding everything
-keys_read = (_, _, _, _, _, refl)
-
-pub keys_is : Compiles object.name object.columns object.primary keys_text 0 (λ at tree. Select (whole (query_on key_places 1 []) tree) (names_on key_places))
-unfolding everything keys_read
-keys_is =
-    selects object.name object.columns object.primary keys_text key_places 1 key_places_are keys_read (refl, refl, refl, refl, refl, refl, refl, refl, refl, refl, refl, refl, refl, λ s. refl) ((_, _, refl, refl), tt) (((refl, refl, refl, refl), refl, refl), tt) [] (Some Binary) 99999 (refl, tt) (refl, tt)
-    (λ s at tree known. refl) (λ s at tree known. rw (known.low, known.by_tree)) refl refl
-
 pub keys : Selection table keys_reading keys_text [] (λ _. true)
-keys = record { filter = []; is = keys_is; said = λ r has. refl; reads = keys_read; accepts = λ s at tree known. rw (known.low, known.by_tree) refl }
+unfolding everything
+keys =
+    selected table keys_reading key_places_are refl keys_text [] ((_, _, _, _, refl, refl, refl), refl, λ s at tree known. (rw (known.low, known.by_tree), rw (known.low, known.by_tree) refl)) (λ r has. refl)
+
+pub keys_read : IsSelect keys_text
+keys_read = keys.reads

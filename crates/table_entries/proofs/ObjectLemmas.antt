@@ -14,12 +14,7 @@ use Rattle.sqlite_value.specs.Order.{bytes}
 use Rattle.sqlite_tied.specs.Compute.{everything}
 use Rattle.table_entries.specs.declared.objects.Object.{Object}
 use Rattle.table_forms.specs.Forms.{object}
-<<<<<<< HEAD
-use Rattle.table_forms.specs.Standing.{HasTables}
 use Rattle.table_statements.specs.Contents.{Bytes, Stored, texts_cmp, is_text, is_blob, is_object, object_of, text_if_any, is_text_or_null}
-=======
-use Rattle.table_statements.specs.Contents.{Bytes, Stored, map_of, rows_named, contents_of, texts_cmp, is_text, is_blob, is_object, object_of, text_if_any, is_text_or_null}
->>>>>>> a8a214b4 (Describe the nine tables by what differs among them)
 use Rattle.table_statements.specs.Queries.{IsSelect}
 use Rattle.table_entries.specs.Entries.{stored_of, ShowsObject, IsStored, stored, IsObjectRow}
 use Rattle.table_statements.proofs.Orders.{texts_total, texts_antisymmetric}
@@ -31,7 +26,7 @@ use Rattle.table_entries.proofs.ContentsLemmas.{object_set}
 use Rattle.table_entries.proofs.Typed.{base_is}
 use Rattle.table_entries.proofs.One.{one_is, none_is}
 use Rattle.sqlite.specs.Values.{bound_value}
-use Rattle.table_entries.proofs.Parts.{added, part, removed, said_one}
+use Rattle.table_entries.proofs.Parts.{added, selected, removed, said_one}
 use Rattle.table_entries.proofs.KeyOrders.{by_text}
 use Rattle.table_entries.proofs.Legible.{object_row}
 use Rattle.table_entries.proofs.FreeKeys.{agreed_one}
@@ -110,7 +105,7 @@ of_text = codes "SELECT base, nar, hash, deriver, ca FROM object WHERE base = ?1
 pub of : (base : List ℕ) → Selection table reading of_text (Text base ∷ []) (λ k. eq_by_cmp texts_cmp k base)
 unfolding everything
 of base =
-    part table reading places_are refl of_text (Text base ∷ []) ((_, _, _, _, refl, refl, refl), refl, λ s at tree known. (rw (known.low, known.by_tree), rw (known.low, known.by_tree) refl))
+    selected table reading places_are refl of_text (Text base ∷ []) ((_, _, _, _, refl, refl, refl), refl, λ s at tree known. (rw (known.low, known.by_tree), rw (known.low, known.by_tree) refl))
     (λ r kind. said_one (Text base) r (base_is r kind))
 
 pub of_read : IsSelect of_text

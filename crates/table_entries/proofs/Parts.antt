@@ -53,7 +53,7 @@ use Rattle.table_statements.proofs.Writes.{rowids_where}
 use Rattle.table_entries.proofs.FreeKeys.{is_like, lacks}
 use Rattle.table_entries.proofs.Conditions.{are_firm, equals, condition, first_of_them, first_all, filter_by, left_by, last_by, suffices_for, tested}
 use Rattle.table_entries.proofs.Ordered.{Place, IsColumn, IsOfOne, AreShown, AreSorts, AreAbove, outputs_of, query_on, names_on, whole, draft, spent, last_of, selects}
-use Rattle.table_entries.proofs.Description.{Description, Reading, Selection, Removal, form, Addition, Inserts, terms_of}
+use Rattle.table_entries.proofs.Description.{Description, Part, PartReading, Selection, Removal, form, Addition, Inserts, terms_of}
 
 -- ---- as they are written
 
@@ -203,20 +203,20 @@ said_three p q w r like = all_tests _ _ _ _ _ _ (value_test p (column r 1) like.
 
 -- ---- what is read and removed of a table
 
--- the rows whose first columns equal what is given are those whose keys pass the test
-abbrev pub Says : {K X : Type 0} → Description K X → List Place → Row → (K → Bool) → Type 0
-Says d cs params test = (r : Row) → d.kind r ≡ true → list_all (holds (params ∷ r ∷ [])) (of_first cs (length params)) ≡ test (d.entry r).0
+-- of such rows, those whose first columns equal what is given are those whose keys pass the test
+abbrev pub Says : {K X : Type 0} → Description K X → (Row → Bool) → List Place → Row → (K → Bool) → Type 0
+Says d has cs params test = (r : Row) → has r ≡ true → list_all (holds (params ∷ r ∷ [])) (of_first cs (length params)) ≡ test (d.entry r).0
 
 -- what is computed of the text of such a SELECT: how it is written, that the resolver's limits suffice, and that it is typed
-abbrev pub IsAsked : {K X T : Type 0} (d : Description K X) {ShowsItem : Row → T → Type 0} {item : T → K × X} {IsLegible : Row → Type 0} → Reading d ShowsItem item IsLegible → List ℕ → Row → Type 0
+abbrev pub IsAsked : {K X Y T : Type 0} (d : Description K X) {p : Part d Y} {ShowsItem : Row → T → Type 0} {item : T → K × Y} {IsLegible : Row → Type 0} → PartReading d p ShowsItem item IsLegible → List ℕ → Row → Type 0
 IsAsked d q text params =
     IsSelectOf d.name q.shown q.by (length params) text × (is_small q.shown q.by (length params) ≡ true)
     × ((s : Schema) (at tree : ℕ) → IsKnown s d.name at (record (form d) { tree = tree })
     → (let query = query_on q.shown q.by (of_first q.shown (length params)) in (program s [] (draft query tree) ≡ Ok (whole query tree)) × (accepts_program s [] (query tree) params ≡ true)))
 
-abbrev pub part : {K X T : Type 0} (d : Description K X) {ShowsItem : Row → T → Type 0} {item : T → K × X} {IsLegible : Row → Type 0} (q : Reading d ShowsItem item IsLegible)
-    → AllByRecursion (IsColumn d.name d.columns d.key) q.shown → are_firm d.columns ≡ true → (text : List ℕ) (params : Row) {test : K → Bool} → IsAsked d q text params → Says d q.shown params test → Selection d q text params test
-part d q are firm text params asked said = record {
+abbrev pub selected : {K X Y T : Type 0} (d : Description K X) {p : Part d Y} {ShowsItem : Row → T → Type 0} {item : T → K × Y} {IsLegible : Row → Type 0} (q : PartReading d p ShowsItem item IsLegible)
+    → AllByRecursion (IsColumn d.name d.columns d.key) q.shown → are_firm d.columns ≡ true → (text : List ℕ) (params : Row) {test : K → Bool} → IsAsked d q text params → Says d p.has q.shown params test → Selection d q text params test
+selected d q are firm text params asked said = record {
   filter = of_first q.shown (length params);
   is = selects_first d.name d.columns d.key q.shown are firm (length params) text q.by asked.0 asked.1 (λ s at tree known. (asked.2 s at tree known).0);
   said = said;
@@ -232,7 +232,7 @@ IsTaken d cs text params =
     → (let query = rowids_where tree (of_first cs (length params)) in (program s [] (simple (Inner tree ∷ []) (of_first cs (length params)) (col 1 0 ∷ [])) ≡ Ok (record { lets = []; body = query })) × (accepts_program s [] query params ≡ true)))
 
 abbrev pub removed : {K X : Type 0} (d : Description K X) (cs : List Place) → AllByRecursion (IsColumn d.name d.columns d.key) cs → are_firm d.columns ≡ true
-    → (text : List ℕ) (params : Row) {test : K → Bool} → IsTaken d cs text params → Says d cs params test → Removal d text params test
+    → (text : List ℕ) (params : Row) {test : K → Bool} → IsTaken d cs text params → Says d d.kind cs params test → Removal d text params test
 removed d cs are firm text params taken said = record {
   filter = of_first cs (length params);
   is = deletes_first d.name d.columns d.key cs are firm (length params) text taken.0 taken.1 (λ s at tree known. (taken.2 s at tree known).0);

@@ -1,22 +1,20 @@
 -- What the text means that reads which pieces there are, without their bytes.
 use Rattle.std.proofs.Common.{ℕ, List, [], ◌∷◌, codes, true, ◌&&◌, Some, refl}
 use Rattle.std.specs.List.{AllByRecursion}
-use Rattle.sqlite_value.specs.declared.keys.Collation.TheVariants.{Binary}
 use Rattle.sqlite_value.specs.Order.{column, bytes}
 use Rattle.sqlite_trees.specs.View.{is_int}
-use Rattle.sqlite_schema.specs.declared.command.Command.TheVariants.{Select}
 use Rattle.sqlite_rules.specs.Edit.{id_in}
 use Rattle.sqlite_tied.specs.Compute.{everything}
 use Rattle.table_forms.specs.Forms.{piece}
 use Rattle.table_statements.specs.Contents.{is_text}
 use Rattle.table_statements.specs.Queries.{IsSelect}
 use Rattle.table_entries.specs.Entries.{numbered_in, ShowsPieceKey, IsPieceKeyRow}
-use Rattle.table_statements.proofs.Statements.{Compiles}
 use Rattle.table_statements.proofs.Truths.{and_so}
 use Rattle.table_entries.proofs.Description.{Part, part, PartReading, Selection}
 use Rattle.table_entries.proofs.KeyOrders.{by_numbered}
 use Rattle.table_entries.proofs.Legible.{piece_key_row}
-use Rattle.table_entries.proofs.Ordered.{Place, IsColumn, query_on, names_on, whole, selects}
+use Rattle.table_entries.proofs.Ordered.{Place, IsColumn}
+use Rattle.table_entries.proofs.Parts.{IsAsked, selected}
 use Rattle.table_entries.proofs.PieceLemmas.{table}
 
 abbrev pub places : List Place
@@ -41,15 +39,12 @@ reading = record {
 abbrev pub keys_text : List ℕ
 keys_text = codes "SELECT base, num FROM piece ORDER BY base, num"
 
-pub keys_read : IsSelect keys_text
+pub keys_asked : IsAsked table reading keys_text []
 unfolding everything
-keys_read = (_, _, _, _, _, refl)
+keys_asked = ((_, _, _, _, refl, refl, refl), refl, λ s at tree known. (rw (known.low, known.by_tree), rw (known.low, known.by_tree) refl))
 
-pub keys_is : Compiles piece.name piece.columns piece.primary keys_text 0 (λ at tree. Select (whole (query_on places 2 []) tree) (names_on places))
-unfolding everything keys_read
-keys_is =
-    selects piece.name piece.columns piece.primary keys_text places 2 places_are keys_read (refl, refl, refl, refl, refl, refl, refl, refl, refl, refl, refl, refl, refl, λ s. refl) ((_, _, refl, refl), ((_, _, refl, refl), tt)) (((refl, refl, refl, refl), refl, refl), (((refl, refl, refl, refl), refl, refl), tt)) [] (Some Binary) 99998 (refl, (refl, tt)) (refl, (refl, tt))
-    (λ s at tree known. refl) (λ s at tree known. rw (known.low, known.by_tree)) refl refl
+abbrev pub keys : Selection table reading keys_text [] (λ _. true)
+keys = selected table reading places_are refl keys_text [] keys_asked (λ r has. refl)
 
-pub keys : Selection table reading keys_text [] (λ _. true)
-keys = record { filter = []; is = keys_is; said = λ r has. refl; reads = keys_read; accepts = λ s at tree known. rw (known.low, known.by_tree) refl }
+pub keys_read : IsSelect keys_text
+keys_read = keys.reads

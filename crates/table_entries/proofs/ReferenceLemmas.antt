@@ -14,7 +14,7 @@ use Rattle.table_statements.proofs.Truths.{cast_null, and_so}
 use Rattle.table_statements.proofs.Means.{insert_means}
 use Rattle.table_entries.proofs.Ordered.{Place, IsColumn}
 use Rattle.table_entries.proofs.ContentsLemmas.{refs_set}
-use Rattle.table_entries.proofs.Parts.{IsAsked, added, part, removed, said_one}
+use Rattle.table_entries.proofs.Parts.{IsAsked, added, selected, removed, said_one}
 use Rattle.table_entries.proofs.KeyOrders.{by_pair}
 use Rattle.table_entries.proofs.Legible.{pair_row}
 use Rattle.table_entries.proofs.FreeKeys.{agreed_two}
@@ -67,7 +67,7 @@ unfolding everything
 all_asked = ((_, _, _, _, refl, refl, refl), refl, λ s at tree known. (rw (known.low, known.by_tree), rw (known.low, known.by_tree) refl))
 
 abbrev pub all : Selection table reading all_text [] (λ _. true)
-all = part table reading places_are refl all_text [] all_asked (λ r kind. refl)
+all = selected table reading places_are refl all_text [] all_asked (λ r kind. refl)
 
 abbrev pub of_text : List ℕ
 of_text = codes "SELECT base, target FROM refs WHERE base = ?1 ORDER BY base, target"
@@ -75,7 +75,7 @@ of_text = codes "SELECT base, target FROM refs WHERE base = ?1 ORDER BY base, ta
 pub of : (base : List ℕ) → Selection table reading of_text (Text base ∷ []) (λ k. eq_by_cmp texts_cmp k.0 base)
 unfolding everything
 of base =
-    part table reading places_are refl of_text (Text base ∷ []) ((_, _, _, _, refl, refl, refl), refl, λ s at tree known. (rw (known.low, known.by_tree), rw (known.low, known.by_tree) refl))
+    selected table reading places_are refl of_text (Text base ∷ []) ((_, _, _, _, refl, refl, refl), refl, λ s at tree known. (rw (known.low, known.by_tree), rw (known.low, known.by_tree) refl))
     (λ r kind. said_one (Text base) r (and_so _ _ kind).0)
 
 -- ---- those gone

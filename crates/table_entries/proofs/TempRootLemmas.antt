@@ -19,7 +19,7 @@ use Rattle.table_statements.proofs.Truths.{cast_null, cast_int, and_so}
 use Rattle.table_statements.proofs.Means.{insert_means}
 use Rattle.table_entries.proofs.Ordered.{Place, IsColumn}
 use Rattle.table_entries.proofs.FurtherTables.{temp_root_kept, temp_roots_held, temp_roots_set}
-use Rattle.table_entries.proofs.Parts.{IsAsked, added, part, removed, said_two, said_three}
+use Rattle.table_entries.proofs.Parts.{IsAsked, added, selected, removed, said_two, said_three}
 use Rattle.table_entries.proofs.KeyOrders.{by_kept}
 use Rattle.table_entries.proofs.Legible.{temp_root_row}
 use Rattle.table_entries.proofs.FreeKeys.{agreed_three}
@@ -94,7 +94,7 @@ unfolding everything
 all_asked = ((_, _, _, _, refl, refl, refl), refl, λ s at tree known. (rw (known.low, known.by_tree), rw (known.low, known.by_tree) refl))
 
 abbrev pub all : Selection table reading all_text [] (λ _. true)
-all = part table reading places_are refl all_text [] all_asked (λ r kind. refl)
+all = selected table reading places_are refl all_text [] all_asked (λ r kind. refl)
 
 abbrev pub of_text : List ℕ
 of_text = codes "SELECT owner, session, target FROM temp_root WHERE owner = ?1 AND session = ?2 ORDER BY owner, session, target"
@@ -102,7 +102,7 @@ of_text = codes "SELECT owner, session, target FROM temp_root WHERE owner = ?1 A
 pub of : (owner : List ℕ) (session : ℤ) → Selection table reading of_text (Text owner ∷ Int session ∷ []) (λ k. eq_by_cmp texts_cmp k.0 owner && eq_by_cmp int_cmp k.1 session)
 unfolding everything
 of owner session =
-    part table reading places_are refl of_text (Text owner ∷ Int session ∷ []) ((_, _, _, _, refl, refl, refl), refl, λ s at tree known. (rw (known.low, known.by_tree), rw (known.low, known.by_tree) refl))
+    selected table reading places_are refl of_text (Text owner ∷ Int session ∷ []) ((_, _, _, _, refl, refl, refl), refl, λ s at tree known. (rw (known.low, known.by_tree), rw (known.low, known.by_tree) refl))
     (λ r kind. said_two (Text owner) (Int session) r (let k = key_is r kind in (k.0, k.1)))
 
 -- ---- those gone

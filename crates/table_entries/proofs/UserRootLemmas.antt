@@ -14,7 +14,7 @@ use Rattle.table_statements.proofs.Truths.{cast_null, and_so}
 use Rattle.table_statements.proofs.Means.{insert_means}
 use Rattle.table_entries.proofs.Ordered.{Place, IsColumn}
 use Rattle.table_entries.proofs.ContentsLemmas.{user_root_set}
-use Rattle.table_entries.proofs.Parts.{IsAsked, added, part, removed, said_one, said_two}
+use Rattle.table_entries.proofs.Parts.{IsAsked, added, selected, removed, said_one, said_two}
 use Rattle.table_entries.proofs.KeyOrders.{by_pair}
 use Rattle.table_entries.proofs.Legible.{triple_row}
 use Rattle.table_entries.proofs.FreeKeys.{agreed_two}
@@ -67,7 +67,7 @@ unfolding everything
 all_asked = ((_, _, _, _, refl, refl, refl), refl, λ s at tree known. (rw (known.low, known.by_tree), rw (known.low, known.by_tree) refl))
 
 abbrev pub all : Selection table reading all_text [] (λ _. true)
-all = part table reading places_are refl all_text [] all_asked (λ r kind. refl)
+all = selected table reading places_are refl all_text [] all_asked (λ r kind. refl)
 
 abbrev pub of_text : List ℕ
 of_text = codes "SELECT owner, name, target FROM user_root WHERE owner = ?1 ORDER BY owner, name"
@@ -75,7 +75,7 @@ of_text = codes "SELECT owner, name, target FROM user_root WHERE owner = ?1 ORDE
 pub of : (owner : List ℕ) → Selection table reading of_text (Text owner ∷ []) (λ k. eq_by_cmp texts_cmp k.0 owner)
 unfolding everything
 of owner =
-    part table reading places_are refl of_text (Text owner ∷ []) ((_, _, _, _, refl, refl, refl), refl, λ s at tree known. (rw (known.low, known.by_tree), rw (known.low, known.by_tree) refl))
+    selected table reading places_are refl of_text (Text owner ∷ []) ((_, _, _, _, refl, refl, refl), refl, λ s at tree known. (rw (known.low, known.by_tree), rw (known.low, known.by_tree) refl))
     (λ r kind. said_one (Text owner) r (and_so _ _ (and_so _ _ kind).0).0)
 
 abbrev pub at_text : List ℕ
@@ -84,7 +84,7 @@ at_text = codes "SELECT owner, name, target FROM user_root WHERE owner = ?1 AND 
 pub at : (owner : List ℕ) (name : List ℕ) → Selection table reading at_text (Text owner ∷ Text name ∷ []) (λ k. eq_by_cmp texts_cmp k.0 owner && eq_by_cmp texts_cmp k.1 name)
 unfolding everything
 at owner name =
-    part table reading places_are refl at_text (Text owner ∷ Text name ∷ []) ((_, _, _, _, refl, refl, refl), refl, λ s at tree known. (rw (known.low, known.by_tree), rw (known.low, known.by_tree) refl))
+    selected table reading places_are refl at_text (Text owner ∷ Text name ∷ []) ((_, _, _, _, refl, refl, refl), refl, λ s at tree known. (rw (known.low, known.by_tree), rw (known.low, known.by_tree) refl))
     (λ r kind. said_two (Text owner) (Text name) r (and_so _ _ (and_so _ _ kind).0))
 
 -- ---- those gone

@@ -58,7 +58,7 @@ key_columns r h = let P = λ (at : ℕ). IsReadable (column (key_of r) at) in be
 
 pub tests_of : (t : OurTable) → AreTests (form t) (rowids_text t) (texts_text t)
 tests_of Meta = tests_by meta.name meta.columns meta.primary _ (our_rowids Meta) (asks_all settings.table settings.reading settings.all settings.all.is) (λ tree. refl) (λ db sound stands tree r there. all_cells 2 r)
-tests_of Object = tests_by object.name object.columns object.primary _ (our_rowids Object) (asks_all objects.table listing.listing listing.all listing.all_is) (λ tree. refl)
+tests_of Object = tests_by object.name object.columns object.primary _ (our_rowids Object) (asks_all objects.table listing.listing listing.all listing.all.is) (λ tree. refl)
     (λ db sound stands tree r there. (all_columns r (blob_readable (column r 2) (and_so _ _ (and_so _ _ (and_so _ _ (and_so _ _ (objects_typed db sound stands r there)).0).0).0).1), shown_columns r))
 tests_of Refs = tests_by refs.name refs.columns refs.primary _ (our_rowids Refs) (asks_all references.table references.reading references.all references.all.is) (λ tree. refl) (λ db sound stands tree r there. all_cells 2 r)
 tests_of Outs = tests_by outs.name outs.columns outs.primary _ (our_rowids Outs) (asks_all outputs.table outputs.reading outputs.all outputs.all.is) (λ tree. refl) (λ db sound stands tree r there. all_cells 3 r)
@@ -67,6 +67,6 @@ tests_of UserRoot = tests_by user_root.name user_root.columns user_root.primary 
 tests_of Profile = tests_by profile.name profile.columns profile.primary _ (our_rowids Profile) (asks_all profiles.table profiles.reading profiles.all profiles.all.is) (λ tree. refl) (λ db sound stands tree r there. all_cells 3 r)
 tests_of Generation = tests_by generation.name generation.columns generation.primary _ (our_rowids Generation) (asks_all generations.table generations.reading generations.all generations.all.is) (λ tree. refl) (λ db sound stands tree r there. all_cells 4 r)
 tests_of Runtime = tests_by runtime.name runtime.columns runtime.primary _ (our_rowids Runtime) (asks_all runtime_roots.table runtime_roots.reading runtime_roots.all runtime_roots.all.is) (λ tree. refl) (λ db sound stands tree r there. all_cells 2 r)
-tests_of Piece = tests_by piece.name piece.columns piece.primary _ (our_rowids Piece) (asks_all pieces.table piece_keys.reading piece_keys.keys piece_keys.keys_is) (λ tree. refl)
+tests_of Piece = tests_by piece.name piece.columns piece.primary _ (our_rowids Piece) (asks_all pieces.table piece_keys.reading piece_keys.keys piece_keys.keys.is) (λ tree. refl)
     (λ db sound stands tree r there. (whole_piece r (blob_readable (column r 3) (and_so _ _ (pieces_typed db sound stands r there)).1), key_columns r))
 tests_of TempRoot = tests_by temp_root.name temp_root.columns temp_root.primary _ (our_rowids TempRoot) (asks_all temp_roots.table temp_roots.reading temp_roots.all temp_roots.all.is) (λ tree. refl) (λ db sound stands tree r there. all_cells 3 r)
