@@ -46,7 +46,8 @@ module _ (a b : Database) (sound : IsDatabase b) (fs : List Parts) (made : b.sch
       ap b.trees (tree_is b.schema t now.at now.named) ∙ all-slice_get (λ (u : Table). b.trees u.tree ≡ a.trees u.tree) a.schema.tables it.at t it.known.named.1 kept
 
   same_rows : AllByRecursion (Stands a.schema) our_tables → AllByRecursion (λ t. rows_named b t.name ≡ rows_named a t.name) our_tables
-  same_rows has = all-map (λ (t : Table). rows_named b t.name ≡ rows_named a t.name) table_of nine (all_weaker (λ f. Stands a.schema (table_of f)) (λ f. rows_named b f.0 ≡ rows_named a f.0) rows_still nine (all_from_map (Stands a.schema) table_of nine has))
+  same_rows has = all-map (λ (t : Table). rows_named b t.name ≡ rows_named a t.name) table_of nine
+      (all_weaker (λ f. Stands a.schema (table_of f)) (λ f. rows_named b f.0 ≡ rows_named a f.0) rows_still nine (all_from_map (Stands a.schema) table_of nine has))
 
   ours_still : IsOurs a → IsOurs b
   unfolding HasReadableRows

@@ -81,7 +81,12 @@ found_none First a n by same settled one two three = absurd (one refl)
 found_none Second a n by same settled one two three = absurd (two refl)
 found_none Third a n by same settled one two three = absurd (three refl)
 found_none r a n by same settled one two three = record {
-  by_schema = subst (IsBySchema r) (sym same.0.now_is) (record { nothing = by.nothing; first = (λ is. absurd (one is), λ both. by.first.1 both.0); second = (λ is. absurd (two is), λ both. by.second.1 both.0); third = (λ is. absurd (three is), λ both. by.third.1 both.0) });
+  by_schema = subst (IsBySchema r) (sym same.0.now_is) (record {
+    nothing = by.nothing;
+    first = (λ is. absurd (one is), λ both. by.first.1 both.0);
+    second = (λ is. absurd (two is), λ both. by.second.1 both.0);
+    third = (λ is. absurd (three is), λ both. by.third.1 both.0);
+  });
   ready = tt;
   settled = settled_still r a n by same settled;
 }

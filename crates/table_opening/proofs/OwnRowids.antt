@@ -132,7 +132,8 @@ module _ (order : List (Term × Key)) (tree : ℕ) (db : Trees) (rows : List Row
 distinct_ints : (ns : List ℤ) → IsDistinct (eq_by_cmp int_cmp) ns → IsDistinct tie (map Int ns)
 unfolding IsDistinct
 distinct_ints [] h = tt
-distinct_ints (n ∷ ns) h = (all-map (λ v. tie (Int n) v ≡ false) Int ns (all_weaker (λ m. eq_by_cmp int_cmp n m ≡ false) (λ m. tie (Int n) (Int m) ≡ false) (λ m apart. ap is_eq (value_cmp-Int n m) ∙ apart) ns h.0), distinct_ints ns h.1)
+distinct_ints (n ∷ ns) h =
+    (all-map (λ v. tie (Int n) v ≡ false) Int ns (all_weaker (λ m. eq_by_cmp int_cmp n m ≡ false) (λ m. tie (Int n) (Int m) ≡ false) (λ m apart. ap is_eq (value_cmp-Int n m) ∙ apart) ns h.0), distinct_ints ns h.1)
 
 int_of : (rows : List Row) (ns : List ℤ) → map first rows ≡ map Int ns → (x : Row) → Has rows x → IsInt (first x)
 int_of rows ns e x there = let n = has_mapped Int ns (first x) (subst (λ vs. Has vs (first x)) e (mapped_has first rows x there)) in (n.0, n.2)

@@ -50,7 +50,8 @@ ints_are (r ∷ rows) ints = ap₂ (λ v vs. v ∷ vs) (int_is (first r) (ints r
 ints_distinct : (ns : List ℤ) → IsDistinct tie (map Int ns) → IsDistinct (eq_by_cmp int_cmp) ns
 unfolding IsDistinct
 ints_distinct [] h = tt
-ints_distinct (n ∷ ns) h = (all_weaker (λ m. tie (Int n) (Int m) ≡ false) (λ m. eq_by_cmp int_cmp n m ≡ false) (λ m apart. sym (ap is_eq (value_cmp-Int n m)) ∙ apart) ns (all_from_map (λ v. tie (Int n) v ≡ false) Int ns h.0), ints_distinct ns h.1)
+ints_distinct (n ∷ ns) h =
+    (all_weaker (λ m. tie (Int n) (Int m) ≡ false) (λ m. eq_by_cmp int_cmp n m ≡ false) (λ m apart. sym (ap is_eq (value_cmp-Int n m)) ∙ apart) ns (all_from_map (λ v. tie (Int n) v ≡ false) Int ns h.0), ints_distinct ns h.1)
 
 ids_from : (order : List (Term × Key)) (tree : ℕ) (db : Trees) (rows : List Row) → IsAnswer (query order tree) db [] rows → IsKeyed (db tree) → ShowIds rows
 ids_from order tree db rows answer keyed =

@@ -38,8 +38,8 @@ abbrev pub Compiles : (name : List ℕ) → List Column → List ℕ → List �
 Compiles name columns key text count command = (s : Schema) (at tree : ℕ) → IsKnown s name at (record (strict name columns key) { tree = tree }) → IsMeant s text count (command at tree)
 
 -- what a query of the table answers, where the table stands
-pub answer_of : (name : List ℕ) (columns : List Column) (key : List ℕ) (old new : State) (text : List ℕ) (params : Row) {names : List (List ℕ)} (query : ℕ → Query) {count : ℕ} → Compiles name columns key text count (λ at tree. Select (record { lets = []; body = query tree }) names)
-    → Stands old.now.schema (strict name columns key) → (rows : List Row) → Shown text params old new rows → IsAnswer (query (tree_named old.now.schema name)) (overlay old.now.trees []) params rows
+pub answer_of : (name : List ℕ) (columns : List Column) (key : List ℕ) (old new : State) (text : List ℕ) (params : Row) {names : List (List ℕ)} (query : ℕ → Query)
+    → {count : ℕ} → Compiles name columns key text count (λ at tree. Select (record { lets = []; body = query tree }) names) → Stands old.now.schema (strict name columns key) → (rows : List Row) → Shown text params old new rows → IsAnswer (query (tree_named old.now.schema name)) (overlay old.now.trees []) params rows
 answer_of name columns key old new text params query is stands rows shown =
     let m = means_command old.now.schema text _ (is old.now.schema stands.at (tree_named old.now.schema name) stands.known) in
     (reads_as text params old new old.now.schema refl _ m.0 m.1 m.2 rows shown).answer Null

@@ -77,7 +77,8 @@ rowids_where tree filter = record {
 
 -- ---- no foreign key acts
 
-by_key : (depth tree : ℕ) (moves : List (Row × Row)) (child : Table) (ref : Reference) (deed : Option Deed) (key : Option ParentKey) → ((k : ParentKey) → key ≡ Some k → (k.0 == tree) ≡ false) → work_by depth tree moves child ref deed key ≡ None
+by_key : (depth tree : ℕ) (moves : List (Row × Row)) (child : Table) (ref : Reference) (deed : Option Deed) (key : Option ParentKey)
+    → ((k : ParentKey) → key ≡ Some k → (k.0 == tree) ≡ false) → work_by depth tree moves child ref deed key ≡ None
 by_key depth tree moves child ref None key other = refl
 by_key depth tree moves child ref (Some deed) None other = refl
 by_key depth tree moves child ref (Some deed) (Some k) other = rw (other k refl)

@@ -34,5 +34,6 @@ returns-clause-cause g c clean =
     let old = state g.S.Store c.args.tx.now.conn.now in
     let mid = state g.S.Store c.settle.new.tx.conn.now in
     let first = c.in_ok-settle.ensures.makes (clean_before _ _ _ c.all.ensures.survives clean) in
-    err_with c.all.result _ _ (fails_after (IsTooLong c.args.store_dir.now) (IsSome old.step_limit) old mid (state g.S.Store c.all.new.tx.conn.now) (part meta ∷ []) other_tables [] refl first.was_open first.schema first.is_open c.settle.ensures.survives.counts)
+    err_with c.all.result _ _
+    (fails_after (IsTooLong c.args.store_dir.now) (IsSome old.step_limit) old mid (state g.S.Store c.all.new.tx.conn.now) (part meta ∷ []) other_tables [] refl first.was_open first.schema first.is_open c.settle.ensures.survives.counts)
     (rw c.schema_tables.ensures at (c.all.ensures.cause clean))

@@ -33,7 +33,8 @@ returns-in_err-put-clause-cause g c clean =
     let made = c.in_ok-one.ensures.makes second in
     let under = c.requires (clean_before _ _ _ c.one.ensures.survives second) in
     passed_on c.from_residual-in_err-put.result _ _ c.from_residual-in_err-put.ensures.1
-    (first_fails _ (under.free made.was_open).0 (under.sound made.was_open) _ made c.one.ensures.survives.counts c.one.ensures.survives.limit c.args.store_dir.now (state g.S.Store c.put.new.tx.conn.now) _ (c.in_err-put.ensures.cause clean))
+    (first_fails _ (under.free made.was_open).0 (under.sound made.was_open) _ made c.one.ensures.survives.counts c.one.ensures.survives.limit c.args.store_dir.now
+    (state g.S.Store c.put.new.tx.conn.now) _ (c.in_err-put.ensures.cause clean))
 
 pub returns-clause-cause : goal.returns-clause-cause
 returns-clause-cause g c clean =
