@@ -1,17 +1,14 @@
 -- What the statements mean that list the objects without their archives, and their paths alone.
-use Rattle.std.proofs.Common.{◌≡◌, ℕ, List, [], ◌∷◌, codes, Bool, true, ◌&&◌, Some, refl}
+use Rattle.std.proofs.Common.{◌≡◌, ℕ, List, [], ◌∷◌, codes, Bool, true, ◌&&◌, refl}
 use Rattle.std.specs.Prelude.{string_bytes}
 use Rattle.std.specs.List.{AllByRecursion}
-use Rattle.sqlite_value.specs.declared.keys.Collation.TheVariants.{Binary}
 use Rattle.sqlite_value.specs.Order.{column, bytes}
-use Rattle.sqlite_schema.specs.declared.command.Command.TheVariants.{Select}
 use Rattle.sqlite_tied.specs.Compute.{everything}
 use Rattle.table_forms.specs.Forms.{object}
 use Rattle.table_statements.specs.Contents.{Described, is_text, is_blob, is_text_or_null}
 use Rattle.table_statements.specs.Queries.{IsSelect}
 use Rattle.table_statements.specs.Reading.{ShowsText, IsTextRow}
 use Rattle.table_entries.specs.Entries.{listed_of, ShowsListed, IsListedRow}
-use Rattle.table_statements.proofs.Statements.{Compiles}
 use Rattle.table_statements.proofs.Truths.{and_so}
 use Rattle.table_entries.proofs.Description.{Part, part, PartReading, Selection}
 use Rattle.table_entries.proofs.KeyOrders.{by_text}

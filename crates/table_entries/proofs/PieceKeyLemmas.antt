@@ -1,5 +1,5 @@
 -- What the text means that reads which pieces there are, without their bytes.
-use Rattle.std.proofs.Common.{ℕ, List, [], ◌∷◌, codes, true, ◌&&◌, Some, refl}
+use Rattle.std.proofs.Common.{ℕ, List, [], ◌∷◌, codes, true, ◌&&◌, refl}
 use Rattle.std.specs.List.{AllByRecursion}
 use Rattle.sqlite_value.specs.Order.{column, bytes}
 use Rattle.sqlite_trees.specs.View.{is_int}
