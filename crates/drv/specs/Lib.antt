@@ -1,7 +1,7 @@
-pub mod Written
-pub mod Derivation
-pub mod Reading
-pub mod Outcome
 pub mod Answer
-pub mod View
+pub mod Derivation
 pub mod Laws
+pub mod Outcome
+pub mod Reading
+pub mod View
+pub mod Written

@@ -1,4 +1,4 @@
-//! The outputs of Nix derivation texts.
+//! The outputs that derivation texts record.
 #![tactic(auto)]
 
 mod distinct;

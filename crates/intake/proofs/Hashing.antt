@@ -2,7 +2,7 @@
 use Rattle.std.proofs.Common.{◌≡◌, ℕ, ◌+◌, ◌*◌, ◌/◌, List, ◌++◌, length, take, take_all, ap, sym, subst, ◌∙◌, arith}
 use Rattle.std.proofs.Math.Seq.{take-add}
 use Rattle.std.proofs.lemmas.List.{take-append-le, take-take}
-use Rattle.pieces.specs.Cut.{piece_of, count_of}
+use Rattle.streams.specs.Cut.{piece_of, count_of}
 
 -- the pieces up to a place, and the one there
 pub one_more : (bytes : List ℕ) (i : ℕ) (piece : List ℕ) → piece ≡ piece_of i bytes → take (65536 * i) bytes ++ piece ≡ take (65536 * (i + 1)) bytes

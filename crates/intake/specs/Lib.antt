@@ -1,3 +1,3 @@
-pub mod Contents
 pub mod Arriving
+pub mod Contents
 pub mod Told

@@ -8,11 +8,12 @@ ghost use Rattle.intake.specs.Told.{IsTold};
 
 use crate::checking::{fault_at_end, feed};
 use crate::digests::{SIZE, contents_up_to, finalized, hash_asked, hash_pieces, plain_hash};
-use nar::{Checker, NarError, Pieces};
+use nar::{Checker, NarError};
 use paths::Facts;
 use sha2::{Digest, Sha256};
 use std::alloc::{AllocError, Global};
 use std::marker::Model;
+use streams::Pieces;
 
 /// The bytes that came, and what is told of them.
 #[derive(Drop)]

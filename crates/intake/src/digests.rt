@@ -7,13 +7,14 @@ ghost use Rattle.nar.specs.Tree.{IsBytes};
 ghost use Rattle.sha2.specs.Hashers.{Holds256};
 ghost use Rattle.paths.specs.ContentAddress.{plain_contents};
 ghost use Rattle.paths.specs.Facts.{hash_of};
-ghost use Rattle.pieces.specs.Cut.{count_of};
+ghost use Rattle.streams.specs.Cut.{count_of};
 ghost use Rattle.intake.specs.Contents.{contents_so_far, hash_so_far};
 ghost use Rattle.intake.specs.Arriving.{MayHold, fault_of};
 
 use crate::contents::{begins_plain, contents_in};
-use nar::{NarError, Pieces};
+use nar::NarError;
 use sha2::{Digest, Sha256};
+use streams::Pieces;
 
 /// How many bytes each piece but the last has.
 pub const SIZE: usize = 65_536;

@@ -5,9 +5,10 @@ ghost use Rattle.intake.specs.Told.{IsTold};
 
 use crate::arriving::Arrived;
 use crate::checking::{fault_at_end, feed};
-use nar::{Checker, Pieces};
+use nar::Checker;
 use sha2::{Digest, Sha256};
 use std::alloc::{AllocError, Global};
+use streams::Pieces;
 
 impl Arrived {
     /// What is told of these bytes. Each piece is checked and hashed once, where it lies, and none is copied; the digest of contents

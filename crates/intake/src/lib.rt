@@ -1,8 +1,4 @@
-//! An archive on its way in, and what reads one that is held in pieces.
-//!
-//! - `Intake`: takes an archive as it comes, checks and hashes it, and keeps its pieces.
-//! - `Arrived`: what is told at the end, or of pieces that are held already.
-//! - `list`, `file_contents`: what needs the whole archive in one buffer.
+//! An archive on its way in: checked, hashed and kept as it arrives.
 #![tactic(auto)]
 
 mod arriving;

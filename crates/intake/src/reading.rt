@@ -9,8 +9,9 @@ ghost use Rattle.nar.specs.Outcome.{outcome_of};
 ghost use Rattle.nar.specs.View.{tree_of};
 ghost use Rattle.intake.specs.Contents.{contents_of};
 
-use nar::{NarError, Node, Pieces};
+use nar::{NarError, Node};
 use std::alloc::{AllocError, Global};
+use streams::Pieces;
 
 /// Appends the listing of an archive that is held in pieces. One buffer with all of its bytes is made, and given back.
 ///

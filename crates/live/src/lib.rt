@@ -1,4 +1,4 @@
-//! Which store paths roots keep alive: the definitions, and the laws that hold of them.
+//! Which paths the roots keep alive.
 #![tactic(auto)]
 
 mod asking;

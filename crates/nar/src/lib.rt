@@ -1,4 +1,4 @@
-//! Nix archives (NAR): read, written, listed, and checked in pieces.
+//! Nix archives (NAR): reading, writing, listing, and checking in pieces.
 #![tactic(auto)]
 
 mod checking;
@@ -21,6 +21,6 @@ pub use error::NarError;
 pub use fitting::is_writable;
 pub use listing::list;
 pub use node::{Entry, Node};
-pub use pieces::Pieces;
 pub use reading::read;
+pub use streams::Pieces;
 pub use writing::write;

@@ -1,9 +1,10 @@
-pub mod Number
-pub mod Spelling
+pub mod Addresses
+pub mod Decimals
+pub mod Digests
 pub mod Folds
-pub mod PathText
+pub mod Made
+pub mod Number
 pub mod Order
 pub mod PathOrder
-pub mod Addresses
-pub mod Digests
-pub mod Made
+pub mod PathText
+pub mod Spelling

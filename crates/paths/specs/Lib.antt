@@ -1,9 +1,10 @@
-pub mod Names
 pub mod Base32
-pub mod Fold
-pub mod StorePath
-pub mod Root
-pub mod Path
 pub mod ContentAddress
-pub mod Laws
+pub mod Decimal
 pub mod Facts
+pub mod Fold
+pub mod Laws
+pub mod Names
+pub mod Path
+pub mod Root
+pub mod StorePath

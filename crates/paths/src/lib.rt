@@ -1,9 +1,4 @@
-//! Names, store paths and content addresses of a Nix store, as the Nix manual describes them.
-//!
-//! - `is_plain_name`, `StoreDir`, `Name`, `StorePath`: the texts, each accepted exactly.
-//! - `base32`, `unbase32`, `fold20`: how a digest is written in a path.
-//! - `text_path`, `source_path`: the path that an object is given.
-//! - `Ca`: the content address that it is recorded with, tested by the archive or by the `Facts` of it.
+//! Store paths: names, base 32, content addresses, and the numbers that people write.
 #![tactic(auto)]
 
 mod computed_path;
@@ -12,6 +7,7 @@ mod digits;
 mod facts;
 mod fold;
 pub mod laws;
+pub mod numbers;
 mod plain_name;
 mod store_dir;
 mod store_name;

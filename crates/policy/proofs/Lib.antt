@@ -1,6 +1,6 @@
 pub mod Documents
-pub mod KeyWords
-pub mod TableKeys
 pub mod Entries
+pub mod KeyWords
 pub mod Sets
+pub mod TableKeys
 pub mod Verdicts

@@ -1,11 +1,11 @@
-pub mod Settings
-pub mod Toml
-pub mod Faults
 pub mod Caller
 pub mod Class
+pub mod Codes
+pub mod Faults
+pub mod Laws
 pub mod Operation
 pub mod Rules
-pub mod Laws
-pub mod Words
+pub mod Settings
+pub mod Toml
 pub mod View
-pub mod Codes
+pub mod Words

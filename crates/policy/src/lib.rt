@@ -1,4 +1,4 @@
-//! Who may do what: the configuration, callers, their classes, and the rules.
+//! The configuration, callers, classes and rules.
 #![tactic(auto)]
 
 mod caller;

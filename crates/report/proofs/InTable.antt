@@ -16,13 +16,13 @@ use Rattle.drv.specs.declared.error.DrvError.{DrvError}
 use Rattle.drv.specs.declared.error.DrvError.TheVariants as text
 use Rattle.drv.specs.Outcome.{outputs_of}
 use Rattle.drv.proofs.Outcomes.{one_outcome}
-use Rattle.world.specs.World.{Path, World, has}
-use Rattle.world.specs.Objects.{most_references}
-use Rattle.store.specs.Request.{Request, add_text, add_source, import_object, info, nar, ls, list, list_live, list_dead, list_roots, list_roots_of, set_permanent, drop_permanent, set_user_root, drop_user_root, set_profile, rollback, switch, delete_generation, replace_runtime, add_temp, end_session, collect, delete, report}
-use Rattle.store.specs.Reply.{Refusal as Refused, archive, ca_mismatch, not_valid, missing_reference, nar_hash_mismatch, self_reference, no_root, no_profile, no_generation, current_generation, no_older_generation, generation_limit, too_many_references, bad_root_name, bad_label, bad_session}
-use Rattle.store.specs.Adds.{added_import, text_archive_size}
-use Rattle.store.specs.Tests.{unless, first_failing, archive_fault, outputs_fault, tree_fault, if_derivation, is_verified, is_complete, tests}
-use Rattle.store.specs.Soundness.{IsWellFormed}
+use Rattle.model.specs.World.{Path, World, has}
+use Rattle.model.specs.Objects.{most_references}
+use Rattle.model.specs.Request.{Request, add_text, add_source, import_object, info, nar, ls, list, list_live, list_dead, list_roots, list_roots_of, set_permanent, drop_permanent, set_user_root, drop_user_root, set_profile, rollback, switch, delete_generation, replace_runtime, add_temp, end_session, collect, delete, report}
+use Rattle.model.specs.Reply.{Refusal as Refused, archive, ca_mismatch, not_valid, missing_reference, nar_hash_mismatch, self_reference, no_root, no_profile, no_generation, current_generation, no_older_generation, generation_limit, too_many_references, bad_root_name, bad_label, bad_session}
+use Rattle.model.specs.Adds.{added_import, text_archive_size}
+use Rattle.model.specs.Tests.{unless, first_failing, archive_fault, outputs_fault, tree_fault, if_derivation, is_verified, is_complete, tests}
+use Rattle.model.specs.Soundness.{IsWellFormed}
 use Rattle.report.specs.Stops.{entry}
 use Rattle.report.specs.Laws.{RefusalsAreInTheTable}
 

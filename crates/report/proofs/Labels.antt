@@ -12,10 +12,10 @@ use Rattle.paths.specs.StorePath.{is_base_name}
 use Rattle.paths.specs.Base32.{all_digits, value_of}
 use Rattle.paths.specs.Root.{Root, is_runtime_label, is_label_byte}
 use Rattle.live.proofs.Order.{member_ordered}
-use Rattle.world.specs.World.{Path, Object, World, has, permanent_root, user_root, generation_root, generation_roots, runtime_root, temporary_root, lasting_roots, runtime_roots, temporary_roots, roots_of}
-use Rattle.world.specs.Sound.{IsSound}
-use Rattle.store.proofs.MapMembers.{pair_total, temporary_total, listed_key, listed_entry}
-use Rattle.store.proofs.Filtered.{from_mapped, from_joined}
+use Rattle.model.specs.World.{Path, Object, World, has, permanent_root, user_root, generation_root, generation_roots, runtime_root, temporary_root, lasting_roots, runtime_roots, temporary_roots, roots_of}
+use Rattle.model.specs.Sound.{IsSound}
+use Rattle.model.proofs.MapMembers.{pair_total, temporary_total, listed_key, listed_entry}
+use Rattle.model.proofs.Filtered.{from_mapped, from_joined}
 use Rattle.report.specs.Laws.{lacks}
 use Rattle.report.proofs.Lacking.{lacks_failing, lacks_both, lacks-decimal, lacks_pieces}
 

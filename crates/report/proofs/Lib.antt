@@ -1,8 +1,8 @@
-pub mod Lacking
-pub mod Table
-pub mod Labels
-pub mod Stops
 pub mod InTable
-pub mod Listings
-pub mod Worked
 pub mod Joined
+pub mod Labels
+pub mod Lacking
+pub mod Listings
+pub mod Stops
+pub mod Table
+pub mod Worked

@@ -2,7 +2,7 @@
 use Rattle.std.proofs.Common.{◌≡◌, ℕ, List, [], ◌∷◌, ◌++◌, true, not, ◌&&◌, ◌==◌, codes, refl, sym, ap, ap₂, ◌∙◌, IsTrue, append_assoc, arith}
 use Rattle.std.proofs.lemmas.Bool.{and_parts, false≢true}
 use Rattle.paths.specs.StorePath.{full_path}
-use Rattle.world.specs.World.{Path, Pair}
+use Rattle.model.specs.World.{Path, Pair}
 use Rattle.report.specs.Stops.{root_text}
 use Rattle.report.specs.Replies.{paths_text, roots_text}
 use Rattle.report.specs.Laws.{lacks, are_unbroken, are_plain, ListingsDiffer}

@@ -15,13 +15,13 @@ use Rattle.policy.specs.Words.{rule_word}
 use Rattle.policy.specs.declared.kinds.Class.{Class}
 use Rattle.policy.specs.declared.kinds.Rule.{Rule}
 use Rattle.policy.specs.declared.kinds.Rule.TheVariants.{Connect, TrustedImport, TrustedPermanentRoot, TrustedRuntimeRoots, OwnRoot, NoIgnoreLiveness, Live}
-use Rattle.world.specs.World.{Path, Pair, World, roots_of}
-use Rattle.world.specs.Sound.{IsSound}
-use Rattle.store.specs.Request.{Request}
-use Rattle.store.specs.Reply.{done, denied, refused, failed, Failure, memory, size, disk}
-use Rattle.store.specs.Liveness.{graph_of, keep_of, first_root_of, lives}
-use Rattle.store.specs.Seen.{censored, seen_root}
-use Rattle.store.specs.Verdict.{named_in, root_of_first, shown}
+use Rattle.model.specs.World.{Path, Pair, World, roots_of}
+use Rattle.model.specs.Sound.{IsSound}
+use Rattle.model.specs.Request.{Request}
+use Rattle.model.specs.Reply.{done, denied, refused, failed, Failure, memory, size, disk}
+use Rattle.model.specs.Liveness.{graph_of, keep_of, first_root_of, lives}
+use Rattle.model.specs.Seen.{censored, seen_root}
+use Rattle.model.specs.Verdict.{named_in, root_of_first, shown}
 use Rattle.report.specs.declared.refusal.Refusal.{Refusal}
 use Rattle.report.specs.Refusals.{refusal_line}
 use Rattle.report.specs.Stops.{root_text, shown_text, denial_text, failure_text, entry}

@@ -3,10 +3,10 @@ use Rattle.std.proofs.Common.{◌≡◌, ℕ, List, [], map, not, refl, ap}
 use Rattle.std.specs.Fmt.{digits}
 use Rattle.std.specs.List.{filter}
 use Rattle.paths.specs.Base32.{base32, digits_of}
-use Rattle.world.specs.World.{Path, no_world, all_paths}
-use Rattle.world.proofs.Empty.{no_entries}
-use Rattle.store.specs.Reply.{usage}
-use Rattle.store.specs.Liveness.{lives, usage_of}
+use Rattle.model.specs.World.{Path, no_world, all_paths}
+use Rattle.model.proofs.Empty.{no_entries}
+use Rattle.model.specs.Reply.{usage}
+use Rattle.model.specs.Liveness.{lives, usage_of}
 use Rattle.report.specs.Replies.{answer_text}
 use Rattle.report.specs.Laws.{ANewStoreUsesNothing}
 use Rattle.report.specs.Worked.{HasWorkedDenials, HasWorkedRefusals, HasWorkedAnswers, HasWorkedUsage, HasWorkedNarinfo}

@@ -1,17 +1,17 @@
 -- Laws of the texts.
 use Rattle.std.specs.Prelude.{◌≡◌, ℕ, Bool, not, ◌&&◌, ◌==◌, List, [], ◌∷◌, ◌++◌, codes, IsTrue, is_some}
 use Rattle.std.specs.List.{list_all}
-use Rattle.world.specs.World.{Path, Pair, World, no_world}
-use Rattle.world.specs.Sound.{IsSound}
+use Rattle.model.specs.World.{Path, Pair, World, no_world}
+use Rattle.model.specs.Sound.{IsSound}
 use Rattle.policy.specs.Settings.{Settings}
 use Rattle.policy.specs.Caller.{Caller}
 use Rattle.policy.specs.declared.error.KeyWord.TheVariants.{Syntax}
-use Rattle.store.specs.Request.{Request, report}
-use Rattle.store.specs.Reply.{Refusal as Refused, Reply, refused}
-use Rattle.store.specs.Answers.{answer}
-use Rattle.store.specs.Step.{Step}
-use Rattle.store.specs.Laws.{IsDone}
-use Rattle.store.specs.Soundness.{IsWellFormed}
+use Rattle.model.specs.Request.{Request, report}
+use Rattle.model.specs.Reply.{Refusal as Refused, Reply, refused}
+use Rattle.model.specs.Answers.{answer}
+use Rattle.model.specs.Step.{Step}
+use Rattle.model.specs.Reply.{IsDone}
+use Rattle.model.specs.Soundness.{IsWellFormed}
 use Rattle.report.specs.declared.refusal.Refusal.{Refusal}
 use Rattle.report.specs.declared.refusal.Refusal.TheVariants.{Truncated, BadTag, BadPadding, BadName, NotSorted, TooDeep, Trailing, TooLarge, BadDigit, BadLength, Overflow, BadStoreName, BadStoreDir, BadStorePath, BadCa, CaMismatch, BadDerivation, DoubleOutput, BadConfig, BadCaller, BadSchema, OtherStoreDir, NotValid, MissingReference, NarHashMismatch, SelfReference, NoRoot, NoProfile, NoGeneration, CurrentGeneration, NoOlderGeneration, GenerationLimit, TooManyReferences, BadRootName, BadLabel, BadHead, BadBodyLength, BodyTooLarge, NoRoute, BadMethod, BadBodyHead, BadSession}
 use Rattle.report.specs.Refusals.{refusal_line}

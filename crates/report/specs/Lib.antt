@@ -1,8 +1,9 @@
-pub mod Refusals
-pub mod Stops
-pub mod Narinfo
-pub mod Usage
-pub mod Replies
-pub mod View
 pub mod Laws
+pub mod Narinfo
+pub mod Outputs
+pub mod Refusals
+pub mod Replies
+pub mod Stops
+pub mod Usage
+pub mod View
 pub mod Worked

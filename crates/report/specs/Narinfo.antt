@@ -4,7 +4,7 @@ use Rattle.std.specs.List.{join_with_byte}
 use Rattle.paths.specs.Base32.{base32}
 use Rattle.paths.specs.StorePath.{full_path}
 use Rattle.paths.specs.ContentAddress.{address_text}
-use Rattle.store.specs.Reply.{Info}
+use Rattle.model.specs.Reply.{Info}
 
 -- a word and its value
 abbrev pub line : List ℕ → List ℕ → List ℕ

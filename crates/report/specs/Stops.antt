@@ -8,8 +8,8 @@ use Rattle.policy.specs.declared.kinds.Rule.{Rule}
 use Rattle.policy.specs.Words.{rule_word}
 use Rattle.drv.specs.declared.error.DrvError.{DrvError}
 use Rattle.drv.specs.declared.error.DrvError.TheVariants as text
-use Rattle.world.specs.World.{Pair}
-use Rattle.store.specs.Reply.{Refusal as Refused, archive, derivation, ca_mismatch, not_valid, missing_reference, nar_hash_mismatch, self_reference, no_root, no_profile, no_generation, current_generation, no_older_generation, generation_limit, too_many_references, bad_root_name, bad_label, bad_session, Failure, memory, size, disk}
+use Rattle.model.specs.World.{Pair}
+use Rattle.model.specs.Reply.{Refusal as Refused, archive, derivation, ca_mismatch, not_valid, missing_reference, nar_hash_mismatch, self_reference, no_root, no_profile, no_generation, current_generation, no_older_generation, generation_limit, too_many_references, bad_root_name, bad_label, bad_session, Failure, memory, size, disk}
 use Rattle.report.specs.declared.refusal.Refusal.{Refusal}
 use Rattle.report.specs.declared.refusal.Refusal.TheVariants as table
 use Rattle.report.specs.Refusals.{refusal_line}

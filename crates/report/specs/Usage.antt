@@ -1,6 +1,6 @@
 -- The usage report: how many live, dead and all paths there are, and how many bytes their archives have.
 use Rattle.std.specs.Prelude.{ℕ, ◌-◌, List, ◌++◌, length, replicate, codes, decimal}
-use Rattle.store.specs.Reply.{Usage}
+use Rattle.model.specs.Reply.{Usage}
 
 -- a text at the left of a column, and at the right; a longer text takes the places that it needs
 abbrev pub left_in : ℕ → List ℕ → List ℕ

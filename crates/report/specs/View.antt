@@ -1,8 +1,8 @@
 -- What the program's values stand for.
 use Rattle.std.specs.Prelude.{ℕ, option_map, String, string_bytes}
 use Rattle.std.specs.declared.alloc.Global.{Global}
-use Rattle.world.specs.World.{Path, Pair}
-use Rattle.store.specs.Reply as replied
+use Rattle.model.specs.World.{Path, Pair}
+use Rattle.model.specs.Reply as replied
 use Rattle.report.specs.declared.records.Info.{Info}
 
 -- a label and a store path

@@ -5,7 +5,7 @@ use Rattle.drv.specs.declared.error.DrvError.TheVariants.{BadDerivation, DoubleO
 use Rattle.paths.specs.declared.content_address.Method.TheVariants.{Source, Text}
 use Rattle.policy.specs.declared.error.KeyWord.TheVariants.{StoreDir}
 use Rattle.policy.specs.declared.kinds.Rule.TheVariants.{Connect, Live}
-use Rattle.store.specs.Reply.{path, record_of, archive_of, listing_of, paths, roots, changed, generation, runtime_count, temporary_count, freed, usage, done, denied, refused, failed, archive, ca_mismatch, derivation, not_valid, missing_reference, nar_hash_mismatch, self_reference, no_root, no_profile, no_generation, current_generation, no_older_generation, generation_limit, too_many_references, bad_root_name, bad_label, bad_session, memory, size, disk}
+use Rattle.model.specs.Reply.{path, record_of, archive_of, listing_of, paths, roots, changed, generation, runtime_count, temporary_count, freed, usage, done, denied, refused, failed, archive, ca_mismatch, derivation, not_valid, missing_reference, nar_hash_mismatch, self_reference, no_root, no_profile, no_generation, current_generation, no_older_generation, generation_limit, too_many_references, bad_root_name, bad_label, bad_session, memory, size, disk}
 use Rattle.report.specs.declared.refusal.Refusal.TheVariants.{BadConfig, BadHead, BadBodyLength}
 use Rattle.report.specs.Refusals.{refusal_line}
 use Rattle.report.specs.Narinfo.{narinfo}

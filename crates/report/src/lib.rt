@@ -1,12 +1,18 @@
-//! The texts that answer requests: the definitions, and the laws that hold of them.
+//! The texts of replies and refusals.
 #![tactic(auto)]
 
+mod answers;
+mod denials;
 mod laws;
 mod lists;
 mod records;
 mod refusal;
+mod refusals;
+mod replies;
 mod usage;
 
+pub use answers::answer_text;
+pub use denials::denial_line;
 pub use laws::{
     a_new_store_uses_nothing, listings_lose_nothing, numbers_are_one_to_forty_two,
     refusals_are_in_the_table, refusals_differ, stops_are_lines, worked_lines, worked_narinfo,
@@ -15,4 +21,6 @@ pub use laws::{
 pub use lists::{path_line, paths_text, roots_text};
 pub use records::{Info, narinfo};
 pub use refusal::Refusal;
+pub use refusals::{failure_line, refusal_entry, refusal_line};
+pub use replies::reply_text;
 pub use usage::usage_text;

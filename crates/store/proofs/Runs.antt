@@ -1,43 +1,56 @@
--- Runs go one step after another.
-use Rattle.std.proofs.Common.{◌≡◌, List, [], ◌∷◌, ◌++◌, length, refl, sym, arith, subst}
+-- Calls that are made one after another.
+use Rattle.std.proofs.Common.{◌≡◌, List, [], ◌∷◌, ◌++◌, refl, sym, ap, subst, ◌∙◌, append_assoc, append-nil}
 use Rattle.policy.specs.Settings.{Settings}
 use Rattle.policy.specs.Caller.{Caller}
-use Rattle.world.specs.World.{World}
-use Rattle.store.specs.Request.{Request}
-use Rattle.store.specs.Reply.{Reply}
-use Rattle.store.specs.Step.{Step, Run}
-use Rattle.store.specs.Runs.{RunsGoStepByStep}
+use Rattle.model.specs.World.{World}
+use Rattle.model.specs.Request.{Request}
+use Rattle.model.specs.Reply.{Reply, done, denied, refused, failed}
+use Rattle.store_steps.specs.Disk.{StepOver, RunOver}
 
-module _ (s : Settings) where
-  splits : (w new : World) (first second : List (Caller × Request)) (replies others : List Reply) → length first ≡ length replies
-      → Run s w (first ++ second) (replies ++ others) new → (mid : World) × Run s w first replies mid × Run s mid second others new
-  splits w new [] second [] others e h = (w, refl, h)
-  splits w new [] second (reply ∷ replies) others e h = absurd (omega (arith, e))
-  splits w new (call ∷ first) second [] others e h = absurd (omega (arith, e))
-  splits w new (call ∷ first) second (reply ∷ replies) others e h =
-      let rest = splits h.0 new first second replies others (omega (arith, e)) h.2 in
-      (rest.0, (h.0, h.1, rest.1), rest.2)
+module _ (was is : Type 0) (clean : is → was) (s : Settings) where
+  -- what a disk was clean for it was clean for while it is
+  step_later : (w : World) (c : Caller) (q : Request) (reply : Reply) (next : World) → StepOver was s w c q reply next → StepOver is s w c q reply next
+  step_later w c q (done a) next h = (h.0, λ honest. h.1 (λ reads. clean (honest reads)))
+  step_later w c q (denied rule root) next h = h
+  step_later w c q (refused r) next h = h
+  step_later w c q (failed f) next h = h
 
-  joins : (w new : World) (first second : List (Caller × Request)) (replies others : List Reply) → length first ≡ length replies
-      → (mid : World) × Run s w first replies mid × Run s mid second others new → Run s w (first ++ second) (replies ++ others) new
-  joins w new [] second [] others e h = subst (λ (x : World). Run s x second others new) h.1 h.2
-  joins w new [] second (reply ∷ replies) others e h = absurd (omega (arith, e))
-  joins w new (call ∷ first) second [] others e h = absurd (omega (arith, e))
-  joins w new (call ∷ first) second (reply ∷ replies) others e h = (h.1.0, h.1.1, joins h.1.0 new first second replies others (omega (arith, e)) (h.0, h.1.2, h.2))
+  run_later : (w : World) (calls : List (Caller × Request)) (replies : List Reply) (next : World) → RunOver was s w calls replies next → RunOver is s w calls replies next
+  run_later w [] [] next h = h
+  run_later w (call ∷ calls) (reply ∷ replies) next h = (h.0, step_later w call.0 call.1 reply h.0 h.1, run_later h.0 calls replies next h.2)
+  run_later w [] (reply ∷ replies) next h = h
+  run_later w (call ∷ calls) [] next h = h
 
-  as_many : (w new : World) (calls : List (Caller × Request)) (replies : List Reply) → Run s w calls replies new → length calls ≡ length replies
-  as_many w new [] [] h = refl
-  as_many w new [] (reply ∷ replies) h = absurd h
-  as_many w new (call ∷ calls) [] h = absurd h
-  as_many w new (call ∷ calls) (reply ∷ replies) h = let rest = as_many h.0 new calls replies h.2 in omega (arith, rest)
+-- a run, and a step behind it
+run_more : (is_clean : Type 0) (s : Settings) (w mid next : World) (calls : List (Caller × Request)) (replies : List Reply) (call : Caller × Request) (reply : Reply)
+    → RunOver is_clean s w calls replies mid → StepOver is_clean s mid call.0 call.1 reply next → RunOver is_clean s w (calls ++ call ∷ []) (replies ++ reply ∷ []) next
+run_more is_clean s w mid next [] [] call reply h step = (next, subst (λ v. StepOver is_clean s v call.0 call.1 reply next) h step, refl)
+run_more is_clean s w mid next (c ∷ calls) (r ∷ replies) call reply h step = (h.0, h.1, run_more is_clean s h.0 mid next calls replies call reply h.2 step)
+run_more is_clean s w mid next [] (r ∷ replies) call reply h step = absurd h
+run_more is_clean s w mid next (c ∷ calls) [] call reply h step = absurd h
 
-pub runs_go_step_by_step : RunsGoStepByStep
-runs_go_step_by_step s w new = record {
-  none = ((λ h. h), (λ h. h));
-  one = λ c q reply. (
-    (λ h. subst (λ (x : World). Step s w c q reply x) (sym h.2) h.1),
-    (λ h. (new, h, refl)),
-  );
-  joined = λ first second replies others e. (splits s w new first second replies others e, joins s w new first second replies others e);
-  alike = λ calls replies h. as_many s w new calls replies h;
-}
+-- Some of the calls were made, and led to this world with these replies; these are left.
+pub record HasRun (is_clean : Type 0) (s : Settings) (all left : List (Caller × Request)) (told : List Reply) (w mid : World) : Type 0 where
+  pub made : List (Caller × Request)
+  pub whole : made ++ left ≡ all
+  pub run : RunOver is_clean s w made told mid
+
+module _ (s : Settings) (all : List (Caller × Request)) where
+  -- none was made yet
+  pub begun : (is_clean : Type 0) (w : World) (left : List (Caller × Request)) (told : List Reply) → left ≡ all → told ≡ [] → HasRun is_clean s all left told w w
+  begun is_clean w left told same none = record { made = []; whole = same; run = subst (λ (ts : List Reply). RunOver is_clean s w [] ts w) (sym none) refl }
+
+  -- one call more is made
+  pub one_more : (was is : Type 0) → (is → was) → (w mid next : World) (left after : List (Caller × Request)) (call : Caller × Request) (told : List Reply) (reply : Reply)
+      → left ≡ call ∷ after → HasRun was s all left told w mid → StepOver is s mid call.0 call.1 reply next → HasRun is s all after (told ++ reply ∷ []) w next
+  one_more was is clean w mid next left after call told reply first before step = record {
+    made = before.made ++ call ∷ [];
+    whole = append_assoc before.made (call ∷ []) after ∙ ap (λ (l : List (Caller × Request)). before.made ++ l) (sym first) ∙ before.whole;
+    run = run_more is s w mid next before.made told call reply (run_later was is clean s w before.made told mid before.run) step;
+  }
+
+  -- none is left
+  pub ended : (is_clean : Type 0) (w mid : World) (left : List (Caller × Request)) (told : List Reply) → left ≡ [] → HasRun is_clean s all left told w mid → RunOver is_clean s w all told mid
+  ended is_clean w mid left told none before =
+      subst (λ (calls : List (Caller × Request)). RunOver is_clean s w calls told mid)
+      (sym (append-nil before.made) ∙ ap (λ (l : List (Caller × Request)). before.made ++ l) (sym none) ∙ before.whole) before.run

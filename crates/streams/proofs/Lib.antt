@@ -1,2 +1,4 @@
+pub mod Cutting
+pub mod Fields
+pub mod InPieces
 pub mod Sending
-pub mod Pieces

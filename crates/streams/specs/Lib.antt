@@ -1,2 +1,3 @@
-pub mod Sends
+pub mod Cut
 pub mod Reads
+pub mod Sends

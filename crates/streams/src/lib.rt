@@ -1,12 +1,14 @@
-//! Bytes out to a writer, whole or up to where it fails, and bytes in from a reader, piece by piece and to a bound.
+//! Bytes in pieces, and the loops that write to a writer and read from a reader.
 #![tactic(auto)]
 
+mod bytes;
 mod parts;
 mod receive;
 mod send;
 mod sink;
 mod whole;
 
+pub use bytes::Pieces;
 pub use parts::{in_pieces, send_pieces};
 pub use receive::receive_at_most;
 pub use send::send_bytes;

@@ -2,8 +2,8 @@
 ghost use Rattle.std.specs.Prelude.{◌≡◌, IfOk};
 ghost use Rattle.streams.specs.Sends.{Sends};
 
+use crate::bytes::Pieces;
 use crate::send::send_bytes;
-use pieces::Pieces;
 use std::alloc::{AllocError, Global};
 use std::io;
 use std::io::Write;

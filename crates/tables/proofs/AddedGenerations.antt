@@ -4,15 +4,15 @@ use Rattle.std.specs.Prelude.{ℤ, pos}
 use Rattle.std.specs.Ordering.{eq_by_cmp, int_cmp, nat_cmp, ordering_then}
 use Rattle.std.specs.Cmp.{eq_by_cmp_equiv, nat_cmp_total}
 use Rattle.std.specs.FinMap as finite
-use Rattle.rows.specs.Contents.{Contents, Triple, triple_cmp}
-use Rattle.table_statements.proofs.Orders.{triple_total, triple_antisymmetric}
+use Rattle.tables_sql.specs.Contents.{Contents, Triple, triple_cmp}
+use Rattle.tables_sql.proofs.Orders.{triple_total, triple_antisymmetric}
 use Rattle.paths.specs.Root.{bytes_cmp}
-use Rattle.world.specs.World.{Path, Pair, pair_cmp, Profile}
-use Rattle.world.specs.Profiles.{profile_or_new, put_at, switched, without_generation}
-use Rattle.world.specs.Told.{IsSoundContents}
-use Rattle.index.specs.Outline.{Outline, with_profile, profile_of, current_of, without_added}
-use Rattle.index.proofs.Orders.{nat_antisymmetric, pair_total, pair_antisymmetric}
-use Rattle.index.proofs.Puts.{tied_is, unput_put, has_put}
+use Rattle.model.specs.World.{Path, Pair, pair_cmp, Profile}
+use Rattle.model.specs.Profiles.{profile_or_new, put_at, switched, without_generation}
+use Rattle.tables_world.specs.Told.{IsSoundContents}
+use Rattle.tables_outline.specs.Outline.{Outline, with_profile, profile_of, current_of, without_added}
+use Rattle.tables_outline.proofs.Orders.{nat_antisymmetric, pair_total, pair_antisymmetric}
+use Rattle.tables_outline.proofs.Puts.{tied_is, unput_put, has_put}
 use Rattle.tables.specs.Rewritten.{add_generation}
 use Rattle.tables.proofs.Kept.{Follows}
 use Rattle.tables.proofs.ProfileRows.{profile_follows}

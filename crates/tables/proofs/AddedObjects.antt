@@ -10,18 +10,18 @@ use Rattle.sqlite.specs.State.{HasCleanDisk, Survives}
 use Rattle.sqlite.specs.Held.{Held, state}
 use Rattle.paths.specs.Root.{bytes_cmp, Set, set_of}
 use Rattle.paths.specs.ContentAddress.{address_of}
-use Rattle.rows.specs.Contents.{Contents, Stored, contents_of}
-use Rattle.rows.specs.Entries.{stored}
-use Rattle.rows.specs.Calls.{Leaves}
-use Rattle.world.specs.World.{Path, Object, World}
-use Rattle.world.specs.Sound.{IsSound}
-use Rattle.world.specs.Pieces.{row_part, further_pieces}
-use Rattle.world.specs.Rows.{address_in, object_in}
-use Rattle.world.specs.Told.{rows_of, world_in}
-use Rattle.index.specs.Outline.{Outline, Outlined, outlined, outline_of, with_archive}
-use Rattle.index.proofs.Orders.{bytes_total, bytes_antisymmetric}
-use Rattle.index.proofs.Puts.{unput_put}
-use Rattle.index.proofs.Told.{get-told}
+use Rattle.tables_sql.specs.Contents.{Contents, Stored, contents_of}
+use Rattle.tables_sql.specs.Entries.{stored}
+use Rattle.tables_sql.specs.Calls.{Leaves}
+use Rattle.model.specs.World.{Path, Object, World}
+use Rattle.model.specs.Sound.{IsSound}
+use Rattle.tables_world.specs.Pieces.{row_part, further_pieces}
+use Rattle.tables_world.specs.Rows.{address_in, object_in}
+use Rattle.tables_world.specs.Told.{rows_of, world_in}
+use Rattle.tables_outline.specs.Outline.{Outline, Outlined, outlined, outline_of, with_archive}
+use Rattle.tables_outline.proofs.Orders.{bytes_total, bytes_antisymmetric}
+use Rattle.tables_outline.proofs.Puts.{unput_put}
+use Rattle.tables_outline.proofs.Told.{get-told}
 use Rattle.tables.specs.Rewritten.{put_object}
 use Rattle.tables.specs.Kept.{Kept, Agrees, Tells, IsWritten, LeavesWorld}
 use Rattle.tables.proofs.Inserted.{AreNew, object_of, object_follows, outline_follows, no_output, get-set_of}

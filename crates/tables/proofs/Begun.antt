@@ -6,8 +6,8 @@ use Rattle.sqlite_trees.specs.Tree.{Trees}
 use Rattle.sqlite.specs.Effect.{Database}
 use Rattle.sqlite.specs.State.{State, HasCleanDisk, IsRolledBack, Survives}
 use Rattle.sqlite.specs.Held.{Held, state}
-use Rattle.rows.specs.Contents.{Contents}
-use Rattle.rows.specs.Calls.{IsReady, KeepsShown, Changes}
+use Rattle.tables_sql.specs.Contents.{Contents}
+use Rattle.tables_sql.specs.Calls.{IsReady, KeepsShown, Changes}
 
 -- what was so of the tables is so still when the transaction is begun
 pub begun_has : {S : Type 0} (g : Ghosts S) (conn start : Held S) (P : Database → Type 0) → start ≡ record conn { in_transaction = true } → (HasCleanDisk (state g conn) → IsTrue (state g conn).is_open → P (state g conn).now)

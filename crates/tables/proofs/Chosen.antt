@@ -5,9 +5,9 @@ use Rattle.std.specs.FinMap as finite
 use Rattle.std.proofs.lemmas.Bool.{false≢true}
 use Rattle.paths.specs.Root.{bytes_cmp}
 use Rattle.live.specs.Graph.{same, holds}
-use Rattle.world.specs.World.{Path}
-use Rattle.index.proofs.Orders.{bytes_total, bytes_antisymmetric}
-use Rattle.index.proofs.Puts.{get-kept, tied_is}
+use Rattle.model.specs.World.{Path}
+use Rattle.tables_outline.proofs.Orders.{bytes_total, bytes_antisymmetric}
+use Rattle.tables_outline.proofs.Puts.{get-kept, tied_is}
 
 -- a path is among those that pass if it is among all and passes
 holds_chosen : (gone : Path → Bool) (ps : List Path) (q : Path) → holds (filter gone ps) q ≡ (holds ps q && gone q)

@@ -11,17 +11,17 @@ use Rattle.std.proofs.lemmas.Bool.{false≢true, eqb-true}
 use Rattle.std.proofs.lemmas.List.{length-map}
 use Rattle.std.proofs.lemmas.Option.{same_Some}
 use Rattle.live.specs.Graph.{same}
-use Rattle.table_statements.proofs.Orders.{numbered_total, numbered_antisymmetric}
-use Rattle.rows.specs.Contents.{Contents, Stored}
-use Rattle.world.specs.World.{Path}
-use Rattle.world.specs.Pieces.{piece_size, joined, IsCut}
-use Rattle.world.specs.Rows.{pieces_in, object_in}
-use Rattle.world.specs.Told.{IsSoundContents, rows_of, world_in}
-use Rattle.world.proofs.Told.{get-reference, get-output, get-piece}
-use Rattle.index.specs.Outline.{Outline, Outlined, outlined, outline_of}
-use Rattle.index.proofs.Orders.{bytes_total, bytes_antisymmetric, pair_total, pair_antisymmetric}
-use Rattle.index.proofs.Puts.{tied_is, get-kept}
-use Rattle.index.proofs.Told.{get-told}
+use Rattle.tables_sql.proofs.Orders.{numbered_total, numbered_antisymmetric}
+use Rattle.tables_sql.specs.Contents.{Contents, Stored}
+use Rattle.model.specs.World.{Path}
+use Rattle.tables_world.specs.Pieces.{piece_size, joined, IsCut}
+use Rattle.tables_world.specs.Rows.{pieces_in, object_in}
+use Rattle.tables_world.specs.Told.{IsSoundContents, rows_of, world_in}
+use Rattle.tables_world.proofs.Told.{get-reference, get-output, get-piece}
+use Rattle.tables_outline.specs.Outline.{Outline, Outlined, outlined, outline_of}
+use Rattle.tables_outline.proofs.Orders.{bytes_total, bytes_antisymmetric, pair_total, pair_antisymmetric}
+use Rattle.tables_outline.proofs.Puts.{tied_is, get-kept}
+use Rattle.tables_outline.proofs.Told.{get-told}
 use Rattle.tables.specs.Rewritten.{Covers, without_object}
 
 -- ---- of sound rows their outline tells

@@ -2,9 +2,9 @@
 use Rattle.std.proofs.Common.{◌≡◌, ℕ, ◌+◌, ◌*◌, ◌<◌, ◌≤◌, List, [], ◌∷◌, length, take, drop, refl, sym, ap, ap₂, ◌∙◌, arith}
 use Rattle.std.specs.Prelude.{ℤ, pos}
 use Rattle.std.proofs.lemmas.List.{length-drop, drop-drop}
-use Rattle.pieces.specs.Cut.{piece_of}
-use Rattle.world.specs.Pieces.{piece_size, pieces_by, further_pieces}
-use Rattle.world.proofs.Cuts.{cuts_one_way}
+use Rattle.streams.specs.Cut.{piece_of}
+use Rattle.tables_world.specs.Pieces.{piece_size, pieces_by, further_pieces}
+use Rattle.tables_world.proofs.Cuts.{cuts_one_way}
 
 pub size_is : piece_size ≡ 65536
 size_is = (cuts_one_way []).size

@@ -8,10 +8,10 @@ use Rattle.std.specs.List.{AllByRecursion}
 use Rattle.std.specs.FinMap as finite
 use Rattle.std.specs.FinMap.Entries.{is_sorted, below_all}
 use Rattle.paths.specs.Root.{bytes_cmp}
-use Rattle.rows.specs.Contents.{pair_cmp}
-use Rattle.table_statements.proofs.Orders.{pair_total}
-use Rattle.world.specs.World.{Path}
-use Rattle.index.proofs.Orders.{bytes_total}
+use Rattle.tables_sql.specs.Contents.{pair_cmp}
+use Rattle.tables_sql.proofs.Orders.{pair_total}
+use Rattle.model.specs.World.{Path}
+use Rattle.tables_outline.proofs.Orders.{bytes_total}
 
 pub record AreFree (p : Path) (m : finite.FinMap pair_cmp Path) (es : List (List ℕ × Path)) : Type 0 where
   pub sorted : T (is_sorted bytes_cmp es)

@@ -11,21 +11,21 @@ use Rattle.std.proofs.lemmas.Option.{same_Some}
 use Rattle.sha2.specs.Sha256.{sha256}
 use Rattle.paths.specs.Root.{bytes_cmp, set_of}
 use Rattle.paths.specs.ContentAddress.{address_of}
-use Rattle.rows.specs.Contents.{Contents, Stored}
-use Rattle.world.specs.World.{Path, Object, World}
-use Rattle.world.specs.Sound.{IsSound}
-use Rattle.world.specs.Pieces.{piece_size, joined, IsCut, row_part, further_pieces}
-use Rattle.world.specs.Rows.{references_in, outputs_in, pieces_in, archive_in, object_in, address_in}
-use Rattle.world.specs.Told.{IsSoundContents, rows_of, world_in}
-use Rattle.index.specs.Outline.{outlined, outline_of}
+use Rattle.tables_sql.specs.Contents.{Contents, Stored}
+use Rattle.model.specs.World.{Path, Object, World}
+use Rattle.model.specs.Sound.{IsSound}
+use Rattle.tables_world.specs.Pieces.{piece_size, joined, IsCut, row_part, further_pieces}
+use Rattle.tables_world.specs.Rows.{references_in, outputs_in, pieces_in, archive_in, object_in, address_in}
+use Rattle.tables_world.specs.Told.{IsSoundContents, rows_of, world_in}
+use Rattle.tables_outline.specs.Outline.{outlined, outline_of}
 use Rattle.tables.specs.Rewritten.{put_object}
-use Rattle.index.proofs.Orders.{bytes_total, bytes_antisymmetric}
-use Rattle.index.proofs.Puts.{tied_is}
-use Rattle.world.proofs.Cuts.{cut_right, cut_whole}
-use Rattle.world.proofs.Migrating.{rising}
-use Rattle.world.proofs.Told.{get-reference, get-output, get-piece}
+use Rattle.tables_outline.proofs.Orders.{bytes_total, bytes_antisymmetric}
+use Rattle.tables_outline.proofs.Puts.{tied_is}
+use Rattle.tables_world.proofs.Cuts.{cut_right, cut_whole}
+use Rattle.tables_world.proofs.Migrating.{rising}
+use Rattle.tables_world.proofs.Told.{get-reference, get-output, get-piece}
 use Rattle.tables.proofs.Parts.{same, either, get-put_references, get-put_outputs, get-put_pieces}
-use Rattle.index.proofs.Told.{get-told, told_insert}
+use Rattle.tables_outline.proofs.Told.{get-told, told_insert}
 use Rattle.tables.proofs.Kept.{Follows}
 
 -- the object that rows with this archive, these references and these outputs tell

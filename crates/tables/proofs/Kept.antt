@@ -5,13 +5,13 @@ use Rattle.sqlite_trees.specs.Tree.{Trees}
 use Rattle.sqlite.specs.Effect.{Database}
 use Rattle.sqlite.specs.State.{State, HasCleanDisk, Survives}
 use Rattle.sqlite.specs.Held.{Held, state}
-use Rattle.rows.specs.Contents.{Contents, contents_of}
-use Rattle.rows.specs.Calls.{IsWhole, KeepsShown, Leaves}
-use Rattle.table_statements.proofs.Steps.{ready_after}
-use Rattle.world.specs.World.{World}
-use Rattle.world.specs.Sound.{IsSound}
-use Rattle.world.specs.Told.{IsSoundContents, world_in}
-use Rattle.index.specs.Outline.{Outline, outline_of}
+use Rattle.tables_sql.specs.Contents.{Contents, contents_of}
+use Rattle.tables_sql.specs.Calls.{IsWhole, KeepsShown, Leaves}
+use Rattle.tables_sql.proofs.Steps.{ready_after}
+use Rattle.model.specs.World.{World}
+use Rattle.model.specs.Sound.{IsSound}
+use Rattle.tables_world.specs.Told.{IsSoundContents, world_in}
+use Rattle.tables_outline.specs.Outline.{Outline, outline_of}
 use Rattle.tables.specs.Kept.{Kept, AreOutlined, Agrees, Tells, IsWritten, LeavesWorld}
 
 -- a change of rows makes this of the world that they tell, and keeps them sound where that is

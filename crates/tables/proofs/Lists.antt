@@ -5,9 +5,9 @@ use Rattle.std.specs.List.{zip}
 use Rattle.std.specs.declared.cmp.Ordering.{Ordering}
 use Rattle.std.specs.FinMap as finite
 use Rattle.std.specs.FinMap.Entries.{is_sorted}
-use Rattle.index.proofs.Ordered.{mapped_length}
+use Rattle.tables_outline.proofs.Ordered.{mapped_length}
 use Rattle.paths.specs.Root.{bytes_cmp}
-use Rattle.world.specs.World.{Path}
+use Rattle.model.specs.World.{Path}
 
 -- it begins with the item at this place
 pub left_at : {A : Type 0} (xs : List A) (i : ℕ) (x : A) → i < length xs → x ≡ get_or xs i x → drop i xs ≡ x ∷ drop (i + 1) xs

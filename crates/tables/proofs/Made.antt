@@ -5,17 +5,17 @@ use Rattle.sqlite_schema.specs.declared.schema.Schema.{Schema}
 use Rattle.sqlite_trees.specs.declared.store.Store.{Ghosts}
 use Rattle.sqlite.specs.State.{State, HasCleanDisk}
 use Rattle.sqlite.specs.Held.{Held, state}
-use Rattle.rows.specs.Contents.{Contents}
-use Rattle.table_forms.specs.Finding.{HasNone, IsFree}
-use Rattle.table_making.specs.Making.{IsMade, first_contents}
+use Rattle.tables_sql.specs.Contents.{Contents}
+use Rattle.tables_schema.specs.Finding.{HasNone, IsFree}
+use Rattle.tables_make.specs.Making.{IsMade, first_contents}
 use Rattle.paths.specs.Names.{is_store_dir}
-use Rattle.world.specs.World.{no_world}
-use Rattle.world.specs.Rows.{three}
-use Rattle.world.proofs.NewRows.{tells_nothing, new_rows_sound}
-use Rattle.world.proofs.NewWorld.{new_world_sound}
-use Rattle.world.specs.Told.{IsSoundContents, world_in}
+use Rattle.model.specs.World.{no_world}
+use Rattle.tables_world.specs.Rows.{three}
+use Rattle.tables_world.proofs.NewRows.{tells_nothing, new_rows_sound}
+use Rattle.tables_world.proofs.NewWorld.{new_world_sound}
+use Rattle.tables_world.specs.Told.{IsSoundContents, world_in}
 use Rattle.tables.specs.Kept.{Agrees, Tells}
-use Rattle.index.specs.Outline.{Outline, outline_of}
+use Rattle.tables_outline.specs.Outline.{Outline, outline_of}
 
 abbrev no_schema : Schema
 no_schema = record { tables = []; indexes = []; views = [] }

@@ -8,11 +8,11 @@ use Rattle.std.specs.FinMap as finite
 use Rattle.std.specs.FinMap.Entries.{find as find_entry, is_sorted, below_all}
 use Rattle.std.proofs.lemmas.Bool.{false≢true}
 use Rattle.std.specs.declared.cmp.Ordering.TheVariants.{Less}
-use Rattle.world.specs.World.{Path, Profile}
-use Rattle.world.specs.Profiles.{has_generation, highest, is_highest, number_for, profile_or_new, put_at, set_to, switched}
-use Rattle.index.proofs.Orders.{nat_antisymmetric}
-use Rattle.index.proofs.Puts.{tied_is}
-use Rattle.index.proofs.ProfileEntries.{set_is_put}
+use Rattle.model.specs.World.{Path, Profile}
+use Rattle.model.specs.Profiles.{has_generation, highest, is_highest, number_for, profile_or_new, put_at, set_to, switched}
+use Rattle.tables_outline.proofs.Orders.{nat_antisymmetric}
+use Rattle.tables_outline.proofs.Puts.{tied_is}
+use Rattle.tables_outline.proofs.ProfileEntries.{set_is_put}
 use Rattle.tables.proofs.Free.{both_T, lesser}
 
 abbrev firsts : List (ℕ × Path) → List ℕ

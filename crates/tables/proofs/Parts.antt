@@ -9,12 +9,12 @@ use Rattle.std.specs.List.{list_any}
 use Rattle.std.specs.FinMap as finite
 use Rattle.std.specs.FinMap.Entries.{find as find_entry, is_sorted, below_all}
 use Rattle.paths.specs.Root.{bytes_cmp}
-use Rattle.rows.specs.Contents.{PairSet, pair_cmp, numbered_cmp}
-use Rattle.table_statements.proofs.Orders.{pair_total, numbered_total}
-use Rattle.world.specs.World.{Path}
+use Rattle.tables_sql.specs.Contents.{PairSet, pair_cmp, numbered_cmp}
+use Rattle.tables_sql.proofs.Orders.{pair_total, numbered_total}
+use Rattle.model.specs.World.{Path}
 use Rattle.tables.specs.Rewritten.{put_references, put_part, put_outputs, put_pieces}
-use Rattle.index.proofs.Orders.{bytes_antisymmetric}
-use Rattle.index.proofs.Puts.{tied_is}
+use Rattle.tables_outline.proofs.Orders.{bytes_antisymmetric}
+use Rattle.tables_outline.proofs.Puts.{tied_is}
 use Rattle.tables.proofs.Free.{both_T, lesser}
 
 abbrev pub same : List ℕ → List ℕ → Bool

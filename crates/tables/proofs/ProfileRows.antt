@@ -5,14 +5,14 @@ use Rattle.std.specs.Ordering.{eq_by_cmp, nat_cmp}
 use Rattle.std.specs.Cmp.{nat_cmp_total, eq_by_cmp_equiv}
 use Rattle.std.specs.FinMap as finite
 use Rattle.std.proofs.lemmas.Option.{same_Some}
-use Rattle.table_statements.specs.Contents.{Contents, triple_cmp}
-use Rattle.world.specs.World.{Path, Pair, pair_cmp, Profile, World}
-use Rattle.world.specs.Sound.{IsSound}
-use Rattle.world.specs.Rows.{generations_in, profile_in, number_in}
-use Rattle.world.specs.Told.{IsSoundContents, rows_of, world_in}
-use Rattle.world.proofs.Columns.{generation_at, profile_at}
-use Rattle.index.proofs.Orders.{nat_antisymmetric, pair_total, pair_antisymmetric}
-use Rattle.index.proofs.Puts.{tied_is}
+use Rattle.tables_sql.specs.Contents.{Contents, triple_cmp}
+use Rattle.model.specs.World.{Path, Pair, pair_cmp, Profile, World}
+use Rattle.model.specs.Sound.{IsSound}
+use Rattle.tables_world.specs.Rows.{generations_in, profile_in, number_in}
+use Rattle.tables_world.specs.Told.{IsSoundContents, rows_of, world_in}
+use Rattle.tables_world.proofs.Columns.{generation_at, profile_at}
+use Rattle.tables_outline.proofs.Orders.{nat_antisymmetric, pair_total, pair_antisymmetric}
+use Rattle.tables_outline.proofs.Puts.{tied_is}
 use Rattle.tables.proofs.Kept.{Follows}
 
 -- Rows of profiles and generations after a change: one profile has this current number and these generations.

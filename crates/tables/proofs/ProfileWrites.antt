@@ -10,20 +10,20 @@ use Rattle.std.proofs.lemmas.Bool.{false≢true}
 use Rattle.sqlite_trees.specs.declared.store.Store.{Ghosts}
 use Rattle.sqlite.specs.State.{HasCleanDisk, Survives}
 use Rattle.sqlite.specs.Held.{Held, state}
-use Rattle.rows.specs.Contents.{Contents, Triple, contents_of}
-use Rattle.table_statements.proofs.Orders.{triple_total, triple_antisymmetric}
-use Rattle.rows.specs.Calls.{Leaves}
+use Rattle.tables_sql.specs.Contents.{Contents, Triple, contents_of}
+use Rattle.tables_sql.proofs.Orders.{triple_total, triple_antisymmetric}
+use Rattle.tables_sql.specs.Calls.{Leaves}
 use Rattle.paths.specs.Root.{bytes_cmp}
-use Rattle.world.specs.World.{World, Path, Pair, pair_cmp, Profile}
-use Rattle.world.specs.Profiles.{profile_or_new, profile_at, switched, without_generation}
-use Rattle.world.specs.Sound.{IsSound}
-use Rattle.world.specs.Rows.{profile_in, number_in}
-use Rattle.world.specs.Told.{IsSoundContents, rows_of, world_in}
-use Rattle.world.proofs.Columns.{generation_at}
-use Rattle.world.proofs.Columns as columns
-use Rattle.index.specs.Outline.{Outline, with_profile, profile_of}
-use Rattle.index.proofs.Orders.{pair_total, pair_antisymmetric}
-use Rattle.index.proofs.Puts.{tied_is, get-kept}
+use Rattle.model.specs.World.{World, Path, Pair, pair_cmp, Profile}
+use Rattle.model.specs.Profiles.{profile_or_new, profile_at, switched, without_generation}
+use Rattle.model.specs.Sound.{IsSound}
+use Rattle.tables_world.specs.Rows.{profile_in, number_in}
+use Rattle.tables_world.specs.Told.{IsSoundContents, rows_of, world_in}
+use Rattle.tables_world.proofs.Columns.{generation_at}
+use Rattle.tables_world.proofs.Columns as columns
+use Rattle.tables_outline.specs.Outline.{Outline, with_profile, profile_of}
+use Rattle.tables_outline.proofs.Orders.{pair_total, pair_antisymmetric}
+use Rattle.tables_outline.proofs.Puts.{tied_is, get-kept}
 use Rattle.tables.specs.Kept.{Kept, Agrees, Tells, IsWritten, LeavesWorld}
 use Rattle.tables.proofs.Kept.{Follows, agrees_done, told_done, survives_told}
 use Rattle.tables.proofs.ProfileRows.{profile_follows}

@@ -5,8 +5,8 @@ use Rattle.std.specs.Ordering.{eq_by_cmp}
 use Rattle.std.specs.FinMap as finite
 use Rattle.std.specs.FinMap.Entries.{find as find_entry}
 use Rattle.paths.specs.Root.{set_of}
-use Rattle.rows.specs.Contents.{Pair, PairSet, pair_cmp}
-use Rattle.index.proofs.Orders.{pair_total, pair_antisymmetric}
+use Rattle.tables_sql.specs.Contents.{Pair, PairSet, pair_cmp}
+use Rattle.tables_outline.proofs.Orders.{pair_total, pair_antisymmetric}
 use Rattle.tables.specs.Rewritten.{put_pairs}
 
 get-put_pairs : (ps : List Pair) (m : PairSet) (q : Pair) → finite.get (put_pairs ps m) q ≡ cond (list_any (eq_by_cmp pair_cmp q) ps) (Some tt) (finite.get m q)

@@ -1,11 +1,11 @@
 -- A root that is put into an outline, and taken back.
 use Rattle.std.proofs.Common.{◌≡◌, ℕ, List, Option, ap, ap₂, ◌∙◌, IsTrue}
 use Rattle.std.specs.FinMap as finite
-use Rattle.world.specs.World.{Path, Pair}
-use Rattle.index.specs.Maps.{unput}
-use Rattle.index.specs.Outline.{Outline}
-use Rattle.index.proofs.Orders.{bytes_total, bytes_antisymmetric, pair_total, pair_antisymmetric}
-use Rattle.index.proofs.Puts.{unput_put, has_put}
+use Rattle.model.specs.World.{Path, Pair}
+use Rattle.tables_outline.specs.Maps.{unput}
+use Rattle.tables_outline.specs.Outline.{Outline}
+use Rattle.tables_outline.proofs.Orders.{bytes_total, bytes_antisymmetric, pair_total, pair_antisymmetric}
+use Rattle.tables_outline.proofs.Puts.{unput_put, has_put}
 
 -- ---- a permanent root
 

@@ -12,20 +12,20 @@ use Rattle.sqlite_trees.specs.declared.store.Store.{Ghosts}
 use Rattle.sqlite.specs.State.{HasCleanDisk}
 use Rattle.sqlite.specs.Held.{state}
 use Rattle.paths.specs.Root.{bytes_cmp}
-use Rattle.rows.specs.Contents.{Contents, Stored, Numbered, numbered_cmp, contents_of}
-use Rattle.rows.specs.Entries.{stored_of, piece_in}
-use Rattle.table_statements.proofs.Orders.{numbered_total, numbered_antisymmetric}
-use Rattle.table_entries.specs.declared.objects.Object.{Object as Row}
-use Rattle.table_entries.specs.declared.pieces.Piece.{Piece}
-use Rattle.world.specs.World.{Path, Object, World}
-use Rattle.world.specs.Pieces.{joined, IsCut}
-use Rattle.world.specs.Rows.{pieces_in, archive_in, object_in}
-use Rattle.world.specs.Told.{rows_of, world_in}
-use Rattle.index.proofs.Orders.{bytes_total, bytes_antisymmetric}
-use Rattle.index.proofs.Ordered.{both_T, from_both, listed_as}
-use Rattle.index.proofs.Puts.{tied_is}
-use Rattle.index.proofs.Told.{get-told}
-use Rattle.index.specs.Outline.{Outline, Outlined, outlined}
+use Rattle.tables_sql.specs.Contents.{Contents, Stored, Numbered, numbered_cmp, contents_of}
+use Rattle.tables_sql.specs.Entries.{stored_of, piece_in}
+use Rattle.tables_sql.proofs.Orders.{numbered_total, numbered_antisymmetric}
+use Rattle.tables_sql.specs.declared.objects.Object.{Object as Row}
+use Rattle.tables_sql.specs.declared.pieces.Piece.{Piece}
+use Rattle.model.specs.World.{Path, Object, World}
+use Rattle.tables_world.specs.Pieces.{joined, IsCut}
+use Rattle.tables_world.specs.Rows.{pieces_in, archive_in, object_in}
+use Rattle.tables_world.specs.Told.{rows_of, world_in}
+use Rattle.tables_outline.proofs.Orders.{bytes_total, bytes_antisymmetric}
+use Rattle.tables_outline.proofs.Ordered.{both_T, from_both, listed_as}
+use Rattle.tables_outline.proofs.Puts.{tied_is}
+use Rattle.tables_outline.proofs.Told.{get-told}
+use Rattle.tables_outline.specs.Outline.{Outline, Outlined, outlined}
 use Rattle.tables.proofs.AddedObjects.{none_told}
 use Rattle.tables.proofs.Cuts.{size_is}
 use Rattle.tables.specs.Kept.{Kept, Agrees, Tells}

@@ -7,18 +7,18 @@ use Rattle.std.specs.FinMap as finite
 use Rattle.std.proofs.lemmas.Bool.{false≢true}
 use Rattle.sha2.specs.Sha256.{sha256}
 use Rattle.live.specs.Graph.{same, holds}
-use Rattle.table_statements.proofs.Orders.{numbered_total, numbered_antisymmetric}
-use Rattle.rows.specs.Contents.{Contents, Stored}
-use Rattle.world.specs.World.{Path, Object, World}
-use Rattle.world.specs.Sound.{IsSound}
-use Rattle.world.specs.Pieces.{joined, IsCut}
-use Rattle.world.specs.Rows.{references_in, outputs_in, pieces_in, archive_in, object_in, address_in}
-use Rattle.world.specs.Told.{IsSoundContents, rows_of, world_in}
-use Rattle.world.proofs.Told.{get-reference, get-output, get-piece}
-use Rattle.index.specs.Outline.{Outline, outlined, outline_of}
-use Rattle.index.proofs.Orders.{bytes_total, bytes_antisymmetric, pair_total, pair_antisymmetric}
-use Rattle.index.proofs.Puts.{get-kept, retained}
-use Rattle.index.proofs.Told.{get-told}
+use Rattle.tables_sql.proofs.Orders.{numbered_total, numbered_antisymmetric}
+use Rattle.tables_sql.specs.Contents.{Contents, Stored}
+use Rattle.model.specs.World.{Path, Object, World}
+use Rattle.model.specs.Sound.{IsSound}
+use Rattle.tables_world.specs.Pieces.{joined, IsCut}
+use Rattle.tables_world.specs.Rows.{references_in, outputs_in, pieces_in, archive_in, object_in, address_in}
+use Rattle.tables_world.specs.Told.{IsSoundContents, rows_of, world_in}
+use Rattle.tables_world.proofs.Told.{get-reference, get-output, get-piece}
+use Rattle.tables_outline.specs.Outline.{Outline, outlined, outline_of}
+use Rattle.tables_outline.proofs.Orders.{bytes_total, bytes_antisymmetric, pair_total, pair_antisymmetric}
+use Rattle.tables_outline.proofs.Puts.{get-kept, retained}
+use Rattle.tables_outline.proofs.Told.{get-told}
 use Rattle.tables.specs.Rewritten.{without_object, without_objects}
 use Rattle.tables.proofs.Kept.{Follows}
 

@@ -3,11 +3,11 @@ use Rattle.std.proofs.Common.{◌≡◌, false, List, IsTrue}
 use Rattle.sqlite_trees.specs.declared.store.Store.{Ghosts}
 use Rattle.sqlite.specs.State.{HasCleanDisk, Survives}
 use Rattle.sqlite.specs.Held.{Held, state}
-use Rattle.rows.specs.Contents.{contents_of}
-use Rattle.rows.specs.Calls.{Leaves}
-use Rattle.world.specs.World.{World, Path}
-use Rattle.world.specs.Sound.{IsSound}
-use Rattle.index.specs.Outline.{Outline}
+use Rattle.tables_sql.specs.Contents.{contents_of}
+use Rattle.tables_sql.specs.Calls.{Leaves}
+use Rattle.model.specs.World.{World, Path}
+use Rattle.model.specs.Sound.{IsSound}
+use Rattle.tables_outline.specs.Outline.{Outline}
 use Rattle.tables.specs.Rewritten.{without_objects}
 use Rattle.tables.specs.Kept.{Kept, Agrees, Tells, IsWritten, LeavesWorld}
 use Rattle.tables.proofs.Kept.{Follows, agrees_done, told_done, survives_told}

@@ -4,13 +4,13 @@ use Rattle.std.specs.FinMap as finite
 use Rattle.sqlite_trees.specs.declared.store.Store.{Ghosts}
 use Rattle.sqlite.specs.State.{HasCleanDisk, Survives}
 use Rattle.sqlite.specs.Held.{Held, state}
-use Rattle.rows.specs.Contents.{Contents, contents_of}
-use Rattle.rows.specs.Calls.{Leaves}
+use Rattle.tables_sql.specs.Contents.{Contents, contents_of}
+use Rattle.tables_sql.specs.Calls.{Leaves}
 use Rattle.paths.specs.Root.{bytes_cmp, Set}
-use Rattle.world.specs.World.{World, Path, pair_cmp}
-use Rattle.world.specs.Sound.{IsSound}
-use Rattle.world.specs.Told.{IsSoundContents}
-use Rattle.index.specs.Outline.{Outline}
+use Rattle.model.specs.World.{World, Path, pair_cmp}
+use Rattle.model.specs.Sound.{IsSound}
+use Rattle.tables_world.specs.Told.{IsSoundContents}
+use Rattle.tables_outline.specs.Outline.{Outline}
 use Rattle.tables.specs.Kept.{Kept, Agrees, Tells, IsWritten, LeavesWorld}
 use Rattle.tables.proofs.Kept.{Follows, agrees_done, told_done, survives_told}
 

@@ -6,17 +6,17 @@ use Rattle.std.specs.FinMap as finite
 use Rattle.sqlite_trees.specs.declared.store.Store.{Ghosts}
 use Rattle.sqlite.specs.State.{HasCleanDisk, Survives}
 use Rattle.sqlite.specs.Held.{Held, state}
-use Rattle.rows.specs.Contents.{Contents, contents_of}
-use Rattle.rows.specs.Calls.{Leaves}
+use Rattle.tables_sql.specs.Contents.{Contents, contents_of}
+use Rattle.tables_sql.specs.Calls.{Leaves}
 use Rattle.paths.specs.Root.{Set}
-use Rattle.world.specs.World.{World, Temporary, temporary_cmp}
-use Rattle.world.specs.Sound.{IsSound}
-use Rattle.world.specs.Told.{IsSoundContents}
-use Rattle.index.specs.Outline.{Outline}
-use Rattle.index.specs.Sessions.{unkept}
+use Rattle.model.specs.World.{World, Temporary, temporary_cmp}
+use Rattle.model.specs.Sound.{IsSound}
+use Rattle.tables_world.specs.Told.{IsSoundContents}
+use Rattle.tables_outline.specs.Outline.{Outline}
+use Rattle.tables_outline.specs.Sessions.{unkept}
 use Rattle.tables.specs.Kept.{Kept, Agrees, Tells, IsWritten, LeavesWorld}
-use Rattle.index.proofs.Orders.{temporary_total, temporary_antisymmetric}
-use Rattle.index.proofs.Puts.{unput_put, tied_is}
+use Rattle.tables_outline.proofs.Orders.{temporary_total, temporary_antisymmetric}
+use Rattle.tables_outline.proofs.Puts.{unput_put, tied_is}
 use Rattle.tables.proofs.Kept.{Follows, agrees_done, told_done, survives_told}
 
 -- a change of them, in the rows and in the world

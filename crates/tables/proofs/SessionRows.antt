@@ -9,16 +9,16 @@ use Rattle.std.specs.FinMap as finite
 use Rattle.std.proofs.lemmas.Bool.{false≢true}
 use Rattle.std.proofs.Math.Facts.{eqb_yes}
 use Rattle.paths.specs.Root.{bytes_cmp, Set}
-use Rattle.rows.specs.Contents.{Contents, Kept, kept_cmp}
-use Rattle.table_statements.proofs.Orders.{kept_total, kept_antisymmetric}
-use Rattle.world.specs.World.{Path, Temporary, temporary_cmp, World}
-use Rattle.world.specs.Sound.{IsSound}
-use Rattle.world.specs.Rows.{number_in, temporary_in}
-use Rattle.world.specs.Told.{IsSoundContents, rows_of, world_in}
-use Rattle.world.proofs.Columns.{temporary_at}
-use Rattle.index.proofs.Orders.{temporary_total, temporary_antisymmetric}
-use Rattle.index.proofs.Puts.{get-kept, tied_is}
-use Rattle.index.specs.Sessions.{is_of_session, without_session}
+use Rattle.tables_sql.specs.Contents.{Contents, Kept, kept_cmp}
+use Rattle.tables_sql.proofs.Orders.{kept_total, kept_antisymmetric}
+use Rattle.model.specs.World.{Path, Temporary, temporary_cmp, World}
+use Rattle.model.specs.Sound.{IsSound}
+use Rattle.tables_world.specs.Rows.{number_in, temporary_in}
+use Rattle.tables_world.specs.Told.{IsSoundContents, rows_of, world_in}
+use Rattle.tables_world.proofs.Columns.{temporary_at}
+use Rattle.tables_outline.proofs.Orders.{temporary_total, temporary_antisymmetric}
+use Rattle.tables_outline.proofs.Puts.{get-kept, tied_is}
+use Rattle.tables_outline.specs.Sessions.{is_of_session, without_session}
 use Rattle.tables.specs.Sessions.{keeps}
 use Rattle.tables.proofs.Kept.{Follows}
 

@@ -5,10 +5,10 @@ use Rattle.std.specs.FinMap as finite
 use Rattle.sqlite_trees.specs.declared.store.Store.{Ghosts}
 use Rattle.sqlite.specs.State.{State, Survives}
 use Rattle.sqlite.specs.Held.{state}
-use Rattle.world.specs.World.{World, Path, Pair, Profile}
-use Rattle.world.specs.Profiles.{set_to}
-use Rattle.world.specs.Sound.{IsSound}
-use Rattle.index.specs.Outline.{Outline, profile_of}
+use Rattle.model.specs.World.{World, Path, Pair, Profile}
+use Rattle.model.specs.Profiles.{set_to}
+use Rattle.model.specs.Sound.{IsSound}
+use Rattle.tables_outline.specs.Outline.{Outline, profile_of}
 use Rattle.tables.specs.Kept.{Kept, Tells, LeavesWorld}
 use Rattle.tables.proofs.ProfileWrites.{with_next}
 

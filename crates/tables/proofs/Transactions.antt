@@ -6,13 +6,13 @@ use Rattle.sqlite_trees.specs.Tree.{Trees}
 use Rattle.sqlite.specs.Effect.{Database}
 use Rattle.sqlite.specs.State.{State, HasCleanDisk, Survives}
 use Rattle.sqlite.specs.Held.{Held, state}
-use Rattle.rows.specs.Contents.{Contents, contents_of}
-use Rattle.rows.specs.Forms.{piece, temp_root}
-use Rattle.rows.specs.Frozen.{SparesUnshown}
-use Rattle.rows.specs.Calls.{HasFurther, IsReady, IsUnderWay, IsWhole, IsCommitted, KeepsTheirs, Changes, Leaves}
-use Rattle.table_statements.proofs.Frozen.{frozen_of}
-use Rattle.table_statements.proofs.Steps.{changes_by, changes_none}
-use Rattle.table_statements.proofs.Under.{piece_after, temp_root_after}
+use Rattle.tables_sql.specs.Contents.{Contents, contents_of}
+use Rattle.tables_schema.specs.Forms.{piece, temp_root}
+use Rattle.tables_sql.specs.Frozen.{SparesUnshown}
+use Rattle.tables_sql.specs.Calls.{HasFurther, IsReady, IsUnderWay, IsWhole, IsCommitted, KeepsTheirs, Changes, Leaves}
+use Rattle.tables_sql.proofs.Frozen.{frozen_of}
+use Rattle.tables_sql.proofs.Steps.{changes_by, changes_none}
+use Rattle.tables_sql.proofs.Under.{piece_after, temp_root_after}
 use Rattle.tables.specs.Kept.{IsWritten}
 use Rattle.tables.specs.Others.{KeepsOthers}
 

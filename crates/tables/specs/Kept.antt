@@ -5,13 +5,13 @@ use Rattle.sqlite_trees.specs.declared.store.Store.{Ghosts}
 use Rattle.sqlite.specs.Effect.{Database}
 use Rattle.sqlite.specs.State.{State, HasCleanDisk}
 use Rattle.sqlite.specs.Held.{Held, held_code, state}
-use Rattle.rows.specs.Contents.{Contents, contents_of}
-use Rattle.rows.specs.Frozen.{SparesUnshown}
-use Rattle.rows.specs.Calls.{Remains, after_crash, IsWhole, IsReady, KeepsTheirs}
-use Rattle.world.specs.World.{World}
-use Rattle.world.specs.Sound.{IsSound}
-use Rattle.world.specs.Told.{IsSoundContents, world_in}
-use Rattle.index.specs.Outline.{Outline, outline_of, outline_code, bytes_code}
+use Rattle.tables_sql.specs.Contents.{Contents, contents_of}
+use Rattle.tables_sql.specs.Frozen.{SparesUnshown}
+use Rattle.tables_sql.specs.Calls.{Remains, after_crash, IsWhole, IsReady, KeepsTheirs}
+use Rattle.model.specs.World.{World}
+use Rattle.model.specs.Sound.{IsSound}
+use Rattle.tables_world.specs.Told.{IsSoundContents, world_in}
+use Rattle.tables_outline.specs.Outline.{Outline, outline_of, outline_code, bytes_code}
 use Rattle.tables.specs.Others.{KeepsOthers}
 
 pub record Kept (S : Type 0) : Type 0 where

@@ -3,11 +3,11 @@ use Rattle.std.specs.Prelude.{◌≡◌, ◌<◌, List, [], ◌∷◌, ℕ, ℤ,
 use Rattle.std.specs.declared.cmp.Ordering.{Ordering}
 use Rattle.std.specs.FinMap as finite
 use Rattle.live.specs.Graph.{same, holds}
-use Rattle.rows.specs.Contents.{Pair, PairSet, Contents, Stored, pair_cmp, numbered_cmp}
-use Rattle.world.specs.World.{Path}
-use Rattle.world.specs.World as world
-use Rattle.world.specs.Pieces.{piece_size}
-use Rattle.index.specs.Outline.{Outline, Outlined}
+use Rattle.tables_sql.specs.Contents.{Pair, PairSet, Contents, Stored, pair_cmp, numbered_cmp}
+use Rattle.model.specs.World.{Path}
+use Rattle.model.specs.World as world
+use Rattle.tables_world.specs.Pieces.{piece_size}
+use Rattle.tables_outline.specs.Outline.{Outline, Outlined}
 
 -- a set of references, and some of this path
 abbrev pub put_references : Path → List Path → PairSet → PairSet

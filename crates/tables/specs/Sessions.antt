@@ -1,6 +1,6 @@
 -- What sessions keep.
 use Rattle.std.specs.Prelude.{ℕ, List}
-use Rattle.world.specs.World.{Path, Temporary}
+use Rattle.model.specs.World.{Path, Temporary}
 
 -- a session of an owner keeps a path
 abbrev pub keeps : List ℕ → ℕ → Path → Temporary

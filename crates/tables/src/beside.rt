@@ -6,16 +6,16 @@ ghost use Rattle.std.specs.FinMap as finite;
 ghost use Rattle.sqlite.specs.State.{HasCleanDisk, KeepsCommit, Survives};
 ghost use Rattle.sqlite.specs.Held.{state};
 ghost use Rattle.live.specs.Graph.{same};
-ghost use Rattle.rows.specs.Forms.{piece};
-ghost use Rattle.rows.specs.Calls.{IsUnderWay, HasFurther, Changes};
-ghost use Rattle.rows.specs.Contents.{contents_of};
-ghost use Rattle.world.specs.Pieces.{piece_size};
+ghost use Rattle.tables_schema.specs.Forms.{piece};
+ghost use Rattle.tables_sql.specs.Calls.{IsUnderWay, HasFurther, Changes};
+ghost use Rattle.tables_sql.specs.Contents.{contents_of};
+ghost use Rattle.tables_world.specs.Pieces.{piece_size};
 
 use crate::cutting::PIECE_SIZE;
-use index::Summary;
-use rows::{outputs, pieces, references};
 use sqlite::{Alter, Transaction};
-use table_statements::failure::Failure;
+use tables_outline::Summary;
+use tables_rows::{outputs, pieces, references};
+use tables_sql::failure::Failure;
 
 /// Removes the references of an object, if it has some.
 pub(crate) fn delete_references<S: Alter>(

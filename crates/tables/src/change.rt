@@ -3,14 +3,14 @@
 ghost use Rattle.std.specs.Prelude.{◌≡◌, false, IsTrue, OnOk, OnErr};
 ghost use Rattle.sqlite.specs.State.{HasCleanDisk, KeepsCommit, Survives};
 ghost use Rattle.sqlite.specs.Held.{state};
-ghost use Rattle.rows.specs.Contents.{Contents, contents_of};
-ghost use Rattle.rows.specs.Calls.{IsUnderWay, IsWhole, IsReady, Changes, KeepsShown, IsDurable, Leaves};
+ghost use Rattle.tables_sql.specs.Contents.{Contents, contents_of};
+ghost use Rattle.tables_sql.specs.Calls.{IsUnderWay, IsWhole, IsReady, Changes, KeepsShown, IsDurable, Leaves};
 ghost use Rattle.tables.specs.Kept.{IsWritten};
 ghost use Rattle.tables.specs.Others.{KeepsOthers};
 
 use sqlite::{Alter, Connection, Transaction};
-use table_statements::failure::Failure;
-use table_statements::transaction;
+use tables_sql::failure::Failure;
+use tables_sql::transaction;
 
 /// What is written to the rows.
 pub(crate) trait Change {

@@ -3,15 +3,15 @@
 ghost use Rattle.std.specs.Prelude.{◌≡◌, IsTrue, OnOk, OnErr};
 ghost use Rattle.sqlite.specs.State.{HasCleanDisk, KeepsCommit, Survives};
 ghost use Rattle.sqlite.specs.Held.{state};
-ghost use Rattle.rows.specs.Forms.{piece};
-ghost use Rattle.rows.specs.Calls.{IsUnderWay, HasFurther, Changes};
-ghost use Rattle.world.specs.Pieces.{row_part, further_pieces};
+ghost use Rattle.tables_schema.specs.Forms.{piece};
+ghost use Rattle.tables_sql.specs.Calls.{IsUnderWay, HasFurther, Changes};
+ghost use Rattle.tables_world.specs.Pieces.{row_part, further_pieces};
 ghost use Rattle.tables.specs.Rewritten.{put_pieces};
 
-use nar::Pieces;
-use rows::pieces;
 use sqlite::{Alter, Transaction};
-use table_statements::failure::Failure;
+use streams::Pieces;
+use tables_rows::pieces;
+use tables_sql::failure::Failure;
 
 /// The most bytes of an archive in one row.
 pub(crate) const PIECE_SIZE: usize = 65_536;

@@ -5,11 +5,11 @@ ghost use Rattle.std.specs.Prelude.{◌≡◌, IsTrue, None, OnOk, OnErr};
 ghost use Rattle.std.specs.FinMap as finite;
 ghost use Rattle.sqlite.specs.State.{HasCleanDisk, Survives};
 ghost use Rattle.sqlite.specs.Held.{state};
-ghost use Rattle.rows.specs.Calls.{IsDurable};
-ghost use Rattle.world.specs.World.{World};
-ghost use Rattle.world.specs.Profiles.{profile_at, number_for, put_at, set_to, switched, without_generation};
-ghost use Rattle.world.specs.Sound.{IsSound};
-ghost use Rattle.index.specs.Outline.{profile_of};
+ghost use Rattle.tables_sql.specs.Calls.{IsDurable};
+ghost use Rattle.model.specs.World.{World};
+ghost use Rattle.model.specs.Profiles.{profile_at, number_for, put_at, set_to, switched, without_generation};
+ghost use Rattle.model.specs.Sound.{IsSound};
+ghost use Rattle.tables_outline.specs.Outline.{profile_of};
 ghost use Rattle.tables.specs.Kept.{Tells, LeavesWorld};
 ghost use Rattle.tables.specs.Others.{KeepsOthers};
 
@@ -19,7 +19,7 @@ use crate::profiles::{AddGeneration, DropGeneration, Switch};
 use crate::user_roots::owned;
 use paths::StorePath;
 use sqlite::Alter;
-use table_statements::failure::Failure;
+use tables_sql::failure::Failure;
 
 impl<S: Alter> Tables<S> {
     /// Puts a path at a number that a profile hasn't, which becomes current. The profile is made if it isn't there.

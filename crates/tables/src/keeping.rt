@@ -4,24 +4,24 @@ ghost use Rattle.std.specs.Prelude.{◌≡◌, false, IsTrue, None, OnOk, OnErr,
 ghost use Rattle.std.specs.FinMap as finite;
 ghost use Rattle.sqlite.specs.State.{HasCleanDisk, Survives};
 ghost use Rattle.sqlite.specs.Held.{state};
-ghost use Rattle.rows.specs.Calls.{IsDurable};
-ghost use Rattle.world.specs.World.{World};
-ghost use Rattle.world.specs.Sound.{IsSound};
+ghost use Rattle.tables_sql.specs.Calls.{IsDurable};
+ghost use Rattle.model.specs.World.{World};
+ghost use Rattle.model.specs.Sound.{IsSound};
 ghost use Rattle.sha2.specs.Sha256.{sha256};
-ghost use Rattle.index.specs.Outline.{with_archive};
+ghost use Rattle.tables_outline.specs.Outline.{with_archive};
 ghost use Rattle.tables.specs.Kept.{Tells, LeavesWorld};
 ghost use Rattle.tables.specs.Others.{KeepsOthers};
 
 use crate::change;
 use crate::objects::InsertObject;
 use crate::texts::texts_of;
-use index::{Index, Summary};
-use nar::Pieces;
 use paths::{StoreDir, StorePath};
 use sqlite::{Alter, Connection};
 use std::alloc::Global;
 use std::marker::Model;
-use table_statements::failure::Failure;
+use streams::Pieces;
+use tables_outline::{Index, Summary};
+use tables_sql::failure::Failure;
 
 /// The tables of a store, over a connection of their own.
 pub struct Tables<S: Alter> {

@@ -1,23 +1,34 @@
-//! The tables of a store, kept in memory but for their archives, and changed one transaction a call.
+//! The tables of a store: opened, read, and changed by one transaction a call.
 #![tactic(auto)]
 
+mod adopting;
 mod beside;
 mod change;
 mod cutting;
+mod earlier;
+mod files;
 mod generations;
 mod keeping;
+mod laws;
 mod objects;
 mod opening;
 mod permanent;
 mod profiles;
 mod reading;
+mod refusing;
 mod removal;
 mod removing;
 mod roots;
+mod rows;
 mod runtime;
 mod sessions;
+mod taking;
 mod temporary;
 mod texts;
 mod user_roots;
 
+pub use adopting::adopt;
+pub use files::open;
 pub use keeping::Tables;
+pub use laws::no_store_is_the_rest;
+pub use refusing::{Cause, Unadopted, Unopened};

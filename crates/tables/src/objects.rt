@@ -7,19 +7,19 @@ ghost use Rattle.std.specs.FinMap.Entries.{is_sorted};
 ghost use Rattle.paths.specs.Root.{bytes_cmp};
 ghost use Rattle.sqlite.specs.State.{HasCleanDisk, KeepsCommit, Survives};
 ghost use Rattle.sqlite.specs.Held.{state};
-ghost use Rattle.rows.specs.Calls.{IsUnderWay, Changes};
-ghost use Rattle.rows.specs.Contents.{contents_of};
+ghost use Rattle.tables_sql.specs.Calls.{IsUnderWay, Changes};
+ghost use Rattle.tables_sql.specs.Contents.{contents_of};
 ghost use Rattle.tables.specs.Rewritten.{put_references, put_outputs};
 
 use crate::change::Change;
 use crate::cutting::{first_of, put_pieces};
 use crate::texts::Texts;
-use index::Summary;
-use nar::Pieces;
 use paths::StorePath;
-use rows::{objects, outputs, references};
 use sqlite::{Alter, Transaction};
-use table_statements::failure::Failure;
+use streams::Pieces;
+use tables_outline::Summary;
+use tables_rows::{objects, outputs, references};
+use tables_sql::failure::Failure;
 
 /// Adds rows for the references of one path.
 pub(crate) fn put_references<S: Alter>(
@@ -75,8 +75,8 @@ pub(crate) struct InsertObject<'a> {
 }
 
 impl<'a> Change for InsertObject<'a> {
-    ghost use Rattle.rows.specs.Entries.{stored};
-    ghost use Rattle.world.specs.Pieces.{row_part, further_pieces};
+    ghost use Rattle.tables_sql.specs.Entries.{stored};
+    ghost use Rattle.tables_world.specs.Pieces.{row_part, further_pieces};
     ghost use Rattle.tables.specs.Rewritten.{put_object};
 
     ghost change = { λ o c. put_object o.base.now (stored (row_part o.nar.now) o.object.now.hash o.texts.now.deriver o.texts.now.ca) (finite.keys o.object.now.references) (finite.entries o.object.now.outputs) (further_pieces o.nar.now) c };

@@ -2,16 +2,16 @@
 
 ghost use Rattle.std.specs.Prelude.{◌≡◌, IfOk};
 ghost use Rattle.sqlite.specs.Steps.{over_memory};
-ghost use Rattle.world.specs.World.{no_world};
+ghost use Rattle.model.specs.World.{no_world};
 ghost use Rattle.tables.specs.Kept.{Agrees, Tells};
 
 use crate::keeping::Tables;
-use index::Index;
 use paths::StoreDir;
 use sqlite::{Alter, Connection, MemStore};
 use std::alloc::Global;
-use table_making::making;
-use table_statements::failure::Failure;
+use tables_make::making;
+use tables_outline::Index;
+use tables_sql::failure::Failure;
 
 impl<S: Alter> Tables<S> {
     /// The tables over a connection whose rows are sound in a store directory, and have this outline.

@@ -3,9 +3,9 @@
 ghost use Rattle.std.specs.Prelude.{◌≡◌};
 
 use crate::change::Change;
-use rows::permanent;
 use sqlite::{Alter, Transaction};
-use table_statements::failure::Failure;
+use tables_rows::permanent;
+use tables_sql::failure::Failure;
 
 /// A permanent root gets a target, whether it had one or not.
 #[derive(Drop)]

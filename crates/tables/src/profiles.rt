@@ -4,12 +4,12 @@ ghost use Rattle.std.specs.Prelude.{◌≡◌, IsTrue, OnOk, OnErr, pos};
 ghost use Rattle.std.specs.FinMap as finite;
 ghost use Rattle.sqlite.specs.State.{HasCleanDisk, KeepsCommit, Survives};
 ghost use Rattle.sqlite.specs.Held.{state};
-ghost use Rattle.rows.specs.Calls.{IsUnderWay, Changes};
+ghost use Rattle.tables_sql.specs.Calls.{IsUnderWay, Changes};
 
 use crate::change::Change;
-use rows::{generations, profiles};
 use sqlite::{Alter, Transaction};
-use table_statements::failure::Failure;
+use tables_rows::{generations, profiles};
+use tables_sql::failure::Failure;
 
 /// A profile gets a current number, whether it was there or not.
 pub(crate) fn put_current<S: Alter>(

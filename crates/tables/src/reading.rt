@@ -5,24 +5,24 @@ ghost use Rattle.std.specs.List.{flat_map};
 ghost use Rattle.std.specs.FinMap as finite;
 ghost use Rattle.sqlite.specs.State.{HasCleanDisk, Survives, IsUnchanged};
 ghost use Rattle.sqlite.specs.Held.{state};
-ghost use Rattle.rows.specs.Forms.{piece};
-ghost use Rattle.rows.specs.Contents.{Stored, contents_of};
-ghost use Rattle.table_statements.specs.Calls.{IsReady, HasFurther, KeepsShown};
-ghost use Rattle.world.specs.World.{World};
-ghost use Rattle.world.specs.Pieces.{IsCut};
-ghost use Rattle.world.specs.Rows.{archive_in, pieces_in};
-ghost use Rattle.world.specs.Told.{rows_of};
+ghost use Rattle.tables_schema.specs.Forms.{piece};
+ghost use Rattle.tables_sql.specs.Contents.{Stored, contents_of};
+ghost use Rattle.tables_sql.specs.Calls.{IsReady, HasFurther, KeepsShown};
+ghost use Rattle.model.specs.World.{World};
+ghost use Rattle.tables_world.specs.Pieces.{IsCut};
+ghost use Rattle.tables_world.specs.Rows.{archive_in, pieces_in};
+ghost use Rattle.tables_world.specs.Told.{rows_of};
 ghost use Rattle.tables.specs.Kept.{Tells};
 
 use crate::cutting::PIECE_SIZE;
 use crate::keeping::Tables;
-use nar::Pieces;
 use paths::StorePath;
-use rows::objects;
-use rows::pieces::{self, Piece};
 use sqlite::{Alter, Connection};
 use std::alloc::{AllocError, Global};
-use table_statements::failure::Failure;
+use streams::Pieces;
+use tables_rows::pieces::Piece;
+use tables_rows::{objects, pieces};
+use tables_sql::failure::Failure;
 
 /// What a row holds of an archive, and its further pieces in their order. They are moved: none is copied where each but the
 /// last has 65,536 bytes.

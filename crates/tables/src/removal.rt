@@ -5,18 +5,18 @@ ghost use Rattle.std.specs.FinMap as finite;
 ghost use Rattle.sqlite.specs.State.{HasCleanDisk, KeepsCommit, Survives};
 ghost use Rattle.sqlite.specs.Held.{state};
 ghost use Rattle.live.specs.Graph.{holds};
-ghost use Rattle.rows.specs.Forms.{piece};
-ghost use Rattle.rows.specs.Calls.{IsUnderWay, HasFurther, Changes};
-ghost use Rattle.rows.specs.Contents.{contents_of};
+ghost use Rattle.tables_schema.specs.Forms.{piece};
+ghost use Rattle.tables_sql.specs.Calls.{IsUnderWay, HasFurther, Changes};
+ghost use Rattle.tables_sql.specs.Contents.{contents_of};
 ghost use Rattle.tables.specs.Rewritten.{Covers, without_object, without_objects};
 
 use crate::beside::{delete_outputs, delete_pieces, delete_references};
 use crate::change::Change;
-use index::Index;
 use paths::StorePath;
-use rows::objects;
 use sqlite::{Alter, Transaction};
-use table_statements::failure::Failure;
+use tables_outline::Index;
+use tables_rows::objects;
+use tables_sql::failure::Failure;
 
 /// Removes the rows of one object, if it is there: its own, and those beside it that the index tells of.
 fn delete_object<S: Alter>(

@@ -5,9 +5,9 @@ ghost use Rattle.std.specs.FinMap as finite;
 ghost use Rattle.sqlite.specs.State.{HasCleanDisk, Survives};
 ghost use Rattle.sqlite.specs.Held.{state};
 ghost use Rattle.live.specs.Graph.{holds};
-ghost use Rattle.rows.specs.Calls.{IsDurable};
-ghost use Rattle.world.specs.World.{World};
-ghost use Rattle.world.specs.Sound.{IsSound};
+ghost use Rattle.tables_sql.specs.Calls.{IsDurable};
+ghost use Rattle.model.specs.World.{World};
+ghost use Rattle.model.specs.Sound.{IsSound};
 ghost use Rattle.tables.specs.Kept.{Tells, LeavesWorld};
 ghost use Rattle.tables.specs.Others.{KeepsOthers};
 
@@ -16,7 +16,7 @@ use crate::keeping::Tables;
 use crate::removal::{RemoveObjects, remove_all};
 use paths::StorePath;
 use sqlite::Alter;
-use table_statements::failure::Failure;
+use tables_sql::failure::Failure;
 
 impl<S: Alter> Tables<S> {
     /// Removes the objects of these paths, those that are there; one path at least is given. That the world is sound then is the

@@ -5,10 +5,10 @@ ghost use Rattle.std.specs.Prelude.{◌≡◌, IsTrue, OnOk, OnErr};
 ghost use Rattle.std.specs.FinMap as finite;
 ghost use Rattle.sqlite.specs.State.{HasCleanDisk, Survives};
 ghost use Rattle.sqlite.specs.Held.{state};
-ghost use Rattle.rows.specs.Calls.{IsDurable};
-ghost use Rattle.world.specs.World.{World, pair_cmp};
-ghost use Rattle.world.specs.Sound.{IsSound};
-ghost use Rattle.index.specs.Maps.{labelled_bytes, seen_set};
+ghost use Rattle.tables_sql.specs.Calls.{IsDurable};
+ghost use Rattle.model.specs.World.{World, pair_cmp};
+ghost use Rattle.model.specs.Sound.{IsSound};
+ghost use Rattle.tables_outline.specs.Maps.{labelled_bytes, seen_set};
 ghost use Rattle.tables.specs.Kept.{Tells, LeavesWorld};
 ghost use Rattle.tables.specs.Others.{KeepsOthers};
 
@@ -20,7 +20,7 @@ use crate::user_roots::{DropUserRoot, PutUserRoot, owned};
 use paths::StorePath;
 use sqlite::Alter;
 use std::collections::BTreeSet;
-use table_statements::failure::Failure;
+use tables_sql::failure::Failure;
 
 impl<S: Alter> Tables<S> {
     /// Puts a permanent root, whether one of this name was there or not.

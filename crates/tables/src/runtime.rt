@@ -3,16 +3,16 @@
 ghost use Rattle.std.specs.Prelude.{◌≡◌, IsTrue, OnOk, OnErr, map};
 ghost use Rattle.sqlite.specs.State.{HasCleanDisk, KeepsCommit, Survives};
 ghost use Rattle.sqlite.specs.Held.{state};
-ghost use Rattle.rows.specs.Calls.{IsUnderWay, Changes};
-ghost use Rattle.index.specs.Maps.{labelled_bytes};
+ghost use Rattle.tables_sql.specs.Calls.{IsUnderWay, Changes};
+ghost use Rattle.tables_outline.specs.Maps.{labelled_bytes};
 ghost use Rattle.tables.specs.Rewritten.{put_pairs};
 
 use crate::change::Change;
 use paths::StorePath;
-use rows::runtime;
 use sqlite::{Alter, Transaction};
 use std::collections::BTreeSet;
-use table_statements::failure::Failure;
+use tables_rows::runtime;
+use tables_sql::failure::Failure;
 
 /// Adds rows for these runtime roots.
 pub(crate) fn put_runtime<S: Alter>(
@@ -41,8 +41,8 @@ pub(crate) struct ReplaceRuntime<'a> {
 
 impl<'a> Change for ReplaceRuntime<'a> {
     ghost use Rattle.std.specs.Prelude.{⊤};
-    ghost use Rattle.world.specs.World.{pair_cmp};
-    ghost use Rattle.index.specs.Maps.{seen_set};
+    ghost use Rattle.model.specs.World.{pair_cmp};
+    ghost use Rattle.tables_outline.specs.Maps.{seen_set};
 
     ghost change = { λ p c. record c { runtime = seen_set pair_cmp labelled_bytes p.roots.now.keys } };
 

@@ -5,10 +5,10 @@ ghost use Rattle.std.specs.Prelude.{◌≡◌, IsTrue, IfOk, OnOk, OnErr};
 ghost use Rattle.std.specs.FinMap as finite;
 ghost use Rattle.sqlite.specs.State.{HasCleanDisk, Survives};
 ghost use Rattle.sqlite.specs.Held.{state};
-ghost use Rattle.rows.specs.Calls.{IsDurable};
-ghost use Rattle.world.specs.World.{World};
-ghost use Rattle.world.specs.Sound.{IsSound};
-ghost use Rattle.index.specs.Sessions.{of_session, without_session};
+ghost use Rattle.tables_sql.specs.Calls.{IsDurable};
+ghost use Rattle.model.specs.World.{World};
+ghost use Rattle.model.specs.Sound.{IsSound};
+ghost use Rattle.tables_outline.specs.Sessions.{of_session, without_session};
 ghost use Rattle.tables.specs.Kept.{Tells, LeavesWorld};
 ghost use Rattle.tables.specs.Others.{KeepsOthers};
 ghost use Rattle.tables.specs.Sessions.{keeps};
@@ -18,7 +18,7 @@ use crate::keeping::Tables;
 use crate::temporary::{EndSession, PutTemporary, kept};
 use paths::StorePath;
 use sqlite::Alter;
-use table_statements::failure::Failure;
+use tables_sql::failure::Failure;
 
 impl<S: Alter> Tables<S> {
     /// Keeps a path for a session of an owner, whether that kept it already or not.

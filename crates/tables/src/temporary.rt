@@ -1,15 +1,15 @@
 //! Temporary roots, as the rows have them.
 
 ghost use Rattle.std.specs.Prelude.{◌≡◌, IfOk};
-ghost use Rattle.index.specs.Maps.{temporary_bytes};
+ghost use Rattle.tables_outline.specs.Maps.{temporary_bytes};
 ghost use Rattle.tables.specs.Sessions.{keeps};
 
 use crate::change::Change;
 use paths::StorePath;
-use rows::temp_roots;
 use sqlite::{Alter, Transaction};
 use std::alloc::{AllocError, Global};
-use table_statements::failure::Failure;
+use tables_rows::temp_roots;
+use tables_sql::failure::Failure;
 
 /// A path that a session of an owner keeps, as the index has it.
 pub(crate) fn kept(
@@ -58,7 +58,7 @@ impl<'a> Change for EndSession<'a> {
     ghost use Rattle.std.specs.Prelude.{⊤, pos, not, ◌&&◌};
     ghost use Rattle.std.specs.Ordering.{eq_by_cmp, int_cmp};
     ghost use Rattle.std.specs.FinMap as finite;
-    ghost use Rattle.table_statements.specs.Contents.{texts_cmp};
+    ghost use Rattle.tables_sql.specs.Contents.{texts_cmp};
 
     ghost change = { λ p c. record c { temp_roots = finite.retain_keys c.temp_roots (λ k. not (eq_by_cmp texts_cmp k.0 p.owner.now && eq_by_cmp int_cmp k.1 (pos p.session))) } };
 

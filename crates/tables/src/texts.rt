@@ -2,10 +2,10 @@
 
 ghost use Rattle.std.specs.Prelude.{◌≡◌, List, ℕ, Some, IfOk, IsSome, option_map, string_bytes};
 ghost use Rattle.paths.specs.ContentAddress.{address_of};
-ghost use Rattle.world.specs.Rows.{address_in};
+ghost use Rattle.tables_world.specs.Rows.{address_in};
 
-use index::Summary;
 use std::alloc::{AllocError, Global};
+use tables_outline::Summary;
 
 /// The deriver and the content address of an object, where it has one.
 #[derive(Drop)]

@@ -1,13 +1,13 @@
 //! User roots, as the rows have them.
 
 ghost use Rattle.std.specs.Prelude.{◌≡◌, IfOk};
-ghost use Rattle.index.specs.Maps.{pair_bytes};
+ghost use Rattle.tables_outline.specs.Maps.{pair_bytes};
 
 use crate::change::Change;
-use rows::user_roots;
 use sqlite::{Alter, Transaction};
 use std::alloc::{AllocError, Global};
-use table_statements::failure::Failure;
+use tables_rows::user_roots;
+use tables_sql::failure::Failure;
 
 /// An owner and a name, kept.
 pub(crate) fn owned(alloc: Global, owner: &str, name: &str) -> Result<(String, String), AllocError>

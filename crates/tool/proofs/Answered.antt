@@ -9,21 +9,21 @@ use Rattle.clap.specs.Walk.{Text}
 use Rattle.policy.specs.Settings.{Settings}
 use Rattle.policy.specs.Toml.{config_of}
 use Rattle.policy.specs.declared.error.KeyWord.{KeyWord}
-use Rattle.command_line.specs.declared.error.CommandError.{CommandError}
-use Rattle.command_line.specs.declared.error.CommandError.TheVariants.{Usage, Misuse, Memory}
-use Rattle.pure_commands.specs.declared.stops.Failure.TheVariants.{Memory as NoMemory, File}
-use Rattle.pure_commands.specs.declared.stops.Stop.{Stop}
-use Rattle.pure_commands.specs.declared.stops.Stop.TheVariants.{Failed}
-use Rattle.command_line.specs.declared.error.UsageFault.{UsageFault}
-use Rattle.command_line.specs.declared.line.CommandLine.{CommandLine}
-use Rattle.command_line.specs.declared.line.Task.{Task}
-use Rattle.command_line.specs.declared.line.Task.TheVariants as task
-use Rattle.command_line.specs.declared.line.Unrooted.{Unrooted}
-use Rattle.command_line.specs.declared.line.Unrooted.TheVariants as unrooted
-use Rattle.command_line.specs.Asked.{asked_view, optional_text, unroot_view}
-use Rattle.command_line.specs.Line.{Line, IsLine, IsUsageFault, line_view}
-use Rattle.pure_commands.specs.Stream.{Answers, Says}
-use Rattle.pure_commands.specs.Who.{StopsFor}
+use Rattle.tool_words.specs.declared.error.CommandError.{CommandError}
+use Rattle.tool_words.specs.declared.error.CommandError.TheVariants.{Usage, Misuse, Memory}
+use Rattle.tool_pure.specs.declared.stops.Failure.TheVariants.{Memory as NoMemory, File}
+use Rattle.tool_pure.specs.declared.stops.Stop.{Stop}
+use Rattle.tool_pure.specs.declared.stops.Stop.TheVariants.{Failed}
+use Rattle.tool_words.specs.declared.error.UsageFault.{UsageFault}
+use Rattle.tool_words.specs.declared.line.CommandLine.{CommandLine}
+use Rattle.tool_words.specs.declared.line.Task.{Task}
+use Rattle.tool_words.specs.declared.line.Task.TheVariants as task
+use Rattle.tool_words.specs.declared.line.Unrooted.{Unrooted}
+use Rattle.tool_words.specs.declared.line.Unrooted.TheVariants as unrooted
+use Rattle.tool_words.specs.Asked.{asked_view, optional_text, unroot_view}
+use Rattle.tool_words.specs.Line.{Line, IsLine, IsUsageFault, line_view}
+use Rattle.tool_pure.specs.Stream.{Answers, Says}
+use Rattle.tool_pure.specs.Who.{StopsFor}
 use Rattle.tool.specs.Serving.{OfFile}
 use Rattle.tool.specs.Answer.{AnswersTextPath, AnswersSourcePath, AnswersLine, AnswersUnder, Explains, RunsLine, Stops}
 

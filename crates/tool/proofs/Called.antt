@@ -5,29 +5,29 @@ use Rattle.std.proofs.KnownBytes.{Keeps-refl}
 use Rattle.sqlite_trees.specs.declared.store.Store.{Ghosts}
 use Rattle.sqlite.specs.State.{HasCleanDisk}
 use Rattle.sqlite.specs.Held.{Held, state}
-use Rattle.world.specs.World.{World}
+use Rattle.model.specs.World.{World}
 use Rattle.tables.specs.Kept.{Kept, Tells}
 use Rattle.policy.specs.Settings.{Settings}
 use Rattle.policy.specs.Caller.{Caller}
 use Rattle.policy.specs.declared.error.KeyWord.{KeyWord}
 use Rattle.report.specs.declared.refusal.Refusal.{Refusal}
 use Rattle.report.specs.declared.refusal.Refusal.TheVariants.{BadCaller}
-use Rattle.store.specs.Request.{Request}
-use Rattle.store.specs.Reply.{Reply}
-use Rattle.store_requests.specs.declared.requests.Request.{Request as Made}
-use Rattle.store_calls.specs.Standing.{Standing}
-use Rattle.store_requests.specs.View.{request_view}
-use Rattle.store_calls.proofs.Clean.{step_clean}
-use Rattle.store_commands.specs.Serving.{Calls}
-use Rattle.store_commands.specs.Telling.{IsTold}
-use Rattle.pure_commands.specs.declared.stops.Failure.TheVariants.{Memory, File, Input, Output}
-use Rattle.pure_commands.specs.declared.stops.Stop.{Stop}
-use Rattle.pure_commands.specs.declared.stops.Stop.TheVariants.{Refused, Failed}
+use Rattle.model.specs.Request.{Request}
+use Rattle.model.specs.Reply.{Reply}
+use Rattle.store_types.specs.declared.requests.Request.{Request as Made}
+use Rattle.store.specs.Standing.{Standing}
+use Rattle.store_types.specs.View.{request_view}
+use Rattle.store.proofs.Clean.{step_clean}
+use Rattle.store.specs.Calls.{Calls}
+use Rattle.tool_pure.specs.Telling.{IsTold}
+use Rattle.tool_pure.specs.declared.stops.Failure.TheVariants.{Memory, File, Input, Output}
+use Rattle.tool_pure.specs.declared.stops.Stop.{Stop}
+use Rattle.tool_pure.specs.declared.stops.Stop.TheVariants.{Refused, Failed}
 use Rattle.tool.specs.Answer.{AnswersUnder}
 use Rattle.tool.specs.Callers.{Answering, AnswersCalled, AnswersNamed}
 use Rattle.tool.specs.Calls.{AnswersStep, AnswersRequest, AnswersWanted, AnswersIn, Serves}
 use Rattle.tool.specs.Requests.{Ask, IsAsked, IsAskedBy, StepsAs, Wants, caller_by, reads_input}
-use Rattle.pure_commands.specs.Stream.{Says}
+use Rattle.tool_pure.specs.Stream.{Says}
 
 module _ {S : Type 0} (g : Ghosts S) (c : Caller) (out out' err err' : Option (List ℕ)) (status : ℕ) where
   -- what was served over a store that was made of the tables

@@ -14,16 +14,16 @@ use Rattle.nar.proofs.Decided.{outcome_archive}
 use Rattle.paths.specs.Path.{source_path, text_path}
 use Rattle.live.specs.Graph.{holds}
 use Rattle.drv.specs.Outcome.{outputs_of}
-use Rattle.world.specs.World.{Path, World}
-use Rattle.world.specs.Objects.{most_references}
+use Rattle.model.specs.World.{Path, World}
+use Rattle.model.specs.Objects.{most_references}
 use Rattle.policy.specs.Settings.{Settings}
 use Rattle.policy.specs.Caller.{Caller}
-use Rattle.store.specs.Request.{add_source, add_text}
-use Rattle.store.specs.Reply as replied
-use Rattle.store.specs.Reply.{Reply, done, denied, refused, failed, archive, missing_reference, self_reference, too_many_references}
-use Rattle.store.specs.Adds.{text_archive_size}
-use Rattle.store.specs.Step.{Step}
-use Rattle.store.specs.Tests.{archive_fault, first_failing, if_derivation, is_complete, outputs_fault, refusal, tree_fault, unless}
+use Rattle.model.specs.Request.{add_source, add_text}
+use Rattle.model.specs.Reply as replied
+use Rattle.model.specs.Reply.{Reply, done, denied, refused, failed, archive, missing_reference, self_reference, too_many_references}
+use Rattle.model.specs.Adds.{text_archive_size}
+use Rattle.model.specs.Step.{Step}
+use Rattle.model.specs.Tests.{archive_fault, first_failing, if_derivation, is_complete, outputs_fault, refusal, tree_fault, unless}
 use Rattle.tool.specs.Requests.{StepsAs}
 
 -- what is refused for its archive, unless it has too many references

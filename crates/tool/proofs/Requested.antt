@@ -4,23 +4,23 @@ use Rattle.std.specs.Prelude.{IfOk, IfErr, IfSome}
 use Rattle.std.specs.List.{list_all}
 use Rattle.paths.specs.Names.{is_store_name}
 use Rattle.paths.specs.StorePath.{base_of}
-use Rattle.world.specs.World.{Path}
+use Rattle.model.specs.World.{Path}
 use Rattle.policy.specs.Caller.{Caller}
-use Rattle.store.specs.Request.{Request}
-use Rattle.store.specs.Step.{Step}
-use Rattle.store_requests.specs.declared.requests.Request.{Request as Made}
-use Rattle.store_requests.specs.View.{request_view}
+use Rattle.model.specs.Request.{Request}
+use Rattle.model.specs.Step.{Step}
+use Rattle.store_types.specs.declared.requests.Request.{Request as Made}
+use Rattle.store_types.specs.View.{request_view}
 use Rattle.report.specs.declared.refusal.Refusal.{Refusal}
 use Rattle.report.specs.declared.refusal.Refusal.TheVariants.{BadStoreName, BadStorePath}
 use Rattle.std.specs.declared.alloc.AllocError.{AllocError}
 use Rattle.clap.specs.Walk.{Text}
-use Rattle.command_line.specs.Asked.{Asked, unroot_view}
-use Rattle.command_line.specs.declared.line.Unrooted.{Unrooted}
-use Rattle.command_line.specs.declared.line.Unrooted.TheVariants as unrooted
-use Rattle.pure_commands.specs.declared.stops.Failure.TheVariants.{Memory, File, Input, Output}
-use Rattle.pure_commands.specs.declared.stops.Stop.{Stop}
-use Rattle.pure_commands.specs.declared.stops.Stop.TheVariants.{Refused, Failed}
-use Rattle.pure_commands.specs.Object.{is_path_text}
+use Rattle.tool_words.specs.Asked.{Asked, unroot_view}
+use Rattle.tool_words.specs.declared.line.Unrooted.{Unrooted}
+use Rattle.tool_words.specs.declared.line.Unrooted.TheVariants as unrooted
+use Rattle.tool_pure.specs.declared.stops.Failure.TheVariants.{Memory, File, Input, Output}
+use Rattle.tool_pure.specs.declared.stops.Stop.{Stop}
+use Rattle.tool_pure.specs.declared.stops.Stop.TheVariants.{Refused, Failed}
+use Rattle.tool_pure.specs.Object.{is_path_text}
 use Rattle.tool.specs.Requests.{Ask, Gives, IsAsked, IsAskedBy, IsAskedOver, StepsAs, asks, at_once, drop_root, on_object, on_path, on_paths, with_bytes}
 
 -- ---- requests that are made

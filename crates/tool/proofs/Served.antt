@@ -2,11 +2,11 @@
 use Rattle.std.proofs.Common.{ℕ, List, Option, Some, None, Err, inl, inr}
 use Rattle.clap.specs.Walk.{Text}
 use Rattle.policy.specs.Settings.{Settings}
-use Rattle.store.specs.Reply.{memory}
-use Rattle.command_line.specs.declared.line.ServeArguments.{ServeArguments}
-use Rattle.pure_commands.specs.declared.stops.Failure.TheVariants.{Memory}
-use Rattle.pure_commands.specs.declared.stops.Stop.TheVariants.{Failed}
-use Rattle.pure_commands.specs.Stream.{Answers}
+use Rattle.model.specs.Reply.{memory}
+use Rattle.tool_words.specs.declared.line.ServeArguments.{ServeArguments}
+use Rattle.tool_pure.specs.declared.stops.Failure.TheVariants.{Memory}
+use Rattle.tool_pure.specs.declared.stops.Stop.TheVariants.{Failed}
+use Rattle.tool_pure.specs.Stream.{Answers}
 use Rattle.tool.specs.Serving.{Serving, ServesIn}
 
 -- there was no memory for the settings

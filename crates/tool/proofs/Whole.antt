@@ -1,14 +1,14 @@
 -- What a body on the input asks, of which all is read.
 use Rattle.std.proofs.Common.{◌≡◌, ◌⊎◌, ◌++◌, ℕ, ◌<◌, Bool, true, false, List, [], length, take, Option, Some, None, Result, Err, inl, inr, ap, subst, refl, sym, ◌∙◌, arith, take_all, length-take}
 use Rattle.std.specs.Prelude.{IfSome}
-use Rattle.store.specs.Request.{Request}
-use Rattle.store_requests.specs.declared.requests.Request.{Request as Made}
-use Rattle.bodies.specs.declared.error.BodyError.{BodyError}
-use Rattle.bodies.specs.declared.error.BodyError.TheVariants as body_error
+use Rattle.model.specs.Request.{Request}
+use Rattle.store_types.specs.declared.requests.Request.{Request as Made}
+use Rattle.wire_bodies.specs.declared.error.BodyError.{BodyError}
+use Rattle.wire_bodies.specs.declared.error.BodyError.TheVariants as body_error
 use Rattle.report.specs.declared.refusal.Refusal.{Refusal}
-use Rattle.pure_commands.specs.declared.stops.Failure.TheVariants.{Memory, Input}
-use Rattle.pure_commands.specs.declared.stops.Stop.{Stop}
-use Rattle.pure_commands.specs.declared.stops.Stop.TheVariants.{Failed}
+use Rattle.tool_pure.specs.declared.stops.Failure.TheVariants.{Memory, Input}
+use Rattle.tool_pure.specs.declared.stops.Stop.{Stop}
+use Rattle.tool_pure.specs.declared.stops.Stop.TheVariants.{Failed}
 use Rattle.tool.specs.Bodies.{Said, body_stop}
 use Rattle.tool.specs.Requests.{IsAsked, IsAskedOver}
 use Rattle.tool.proofs.Requested.{unread}

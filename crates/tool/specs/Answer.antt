@@ -9,21 +9,21 @@ use Rattle.policy.specs.Settings.{Settings}
 use Rattle.policy.specs.Toml.{config_of}
 use Rattle.policy.specs.declared.error.KeyWord.{KeyWord}
 use Rattle.report.specs.declared.refusal.Refusal.TheVariants.{BadConfig}
-use Rattle.command_line.specs.declared.error.CommandError.{CommandError}
-use Rattle.command_line.specs.declared.error.CommandError.TheVariants.{Usage, Misuse, Memory}
-use Rattle.command_line.specs.Asked.{Asked, who, ls, text_path, source_path, serve}
-use Rattle.command_line.specs.Line.{Line}
-use Rattle.pure_commands.specs.declared.stops.Failure.TheVariants.{Memory as NoMemory, File}
-use Rattle.pure_commands.specs.declared.stops.Stop.{Stop}
-use Rattle.pure_commands.specs.declared.stops.Stop.TheVariants.{Refused, Failed}
-use Rattle.pure_commands.specs.Archive.{ls_answer}
+use Rattle.tool_words.specs.declared.error.CommandError.{CommandError}
+use Rattle.tool_words.specs.declared.error.CommandError.TheVariants.{Usage, Misuse, Memory}
+use Rattle.tool_words.specs.Asked.{Asked, who, ls, text_path, source_path, serve}
+use Rattle.tool_words.specs.Line.{Line}
+use Rattle.tool_pure.specs.declared.stops.Failure.TheVariants.{Memory as NoMemory, File}
+use Rattle.tool_pure.specs.declared.stops.Stop.{Stop}
+use Rattle.tool_pure.specs.declared.stops.Stop.TheVariants.{Refused, Failed}
+use Rattle.tool_pure.specs.Archive.{ls_answer}
 use Rattle.tool.specs.Callers.{AnswersCaller, AnswersNamed}
-use Rattle.pure_commands.specs.Object.{object_fault, text_path_answer, source_path_answer}
-use Rattle.store_commands.specs.Outputs.{Prints}
+use Rattle.tool_pure.specs.Object.{object_fault, text_path_answer, source_path_answer}
+use Rattle.report.specs.Outputs.{Prints}
 use Rattle.tool.specs.Requests.{asks}
 use Rattle.tool.specs.Serving.{OfFile, Serving, ServesIn}
-use Rattle.pure_commands.specs.Stream.{Answers, AnswersTo, Says}
-use Rattle.pure_commands.specs.Who.{AnswersWho, verdict_of}
+use Rattle.tool_pure.specs.Stream.{Answers, AnswersTo, Says}
+use Rattle.tool_pure.specs.Who.{AnswersWho, verdict_of}
 
 -- an answer under the settings of a configuration, or the line of its first key word; or memory gave out
 abbrev pub AnswersUnder : Result Settings KeyWord → (Settings → Type 0) → Option (List ℕ) → Option (List ℕ) → Option (List ℕ) → Option (List ℕ) → ℕ → Type 0

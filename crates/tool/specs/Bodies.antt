@@ -1,21 +1,18 @@
 -- What a body on the input asks of a store.
 use Rattle.std.specs.Prelude.{◌≡◌, ℕ, List, Result, Ok, Err}
-use Rattle.world.specs.World.{Pair}
-use Rattle.store.specs.Request as request
-use Rattle.store.specs.Request.{Request}
-use Rattle.bodies.specs.Bodies.{IsImportBody, IsRuntime, Says}
-use Rattle.bodies.specs.declared.error.BodyError.{BodyError}
-use Rattle.bodies.specs.declared.error.BodyError.TheVariants as body_error
-use Rattle.bodies.specs.declared.import.ImportHead.{ImportHead}
+use Rattle.model.specs.World.{Pair}
+use Rattle.model.specs.Request as request
+use Rattle.model.specs.Request.{Request}
+use Rattle.wire_bodies.specs.Bodies.{IsImportBody, IsRuntime, Says}
+use Rattle.wire_bodies.specs.declared.error.BodyError.{BodyError}
+use Rattle.wire_bodies.specs.declared.error.BodyError.TheVariants as body_error
+use Rattle.wire_bodies.specs.declared.import.ImportHead.{ImportHead}
+use Rattle.wire_requests.specs.View.{imported}
 use Rattle.report.specs.declared.refusal.Refusal.{Refusal}
 use Rattle.report.specs.declared.refusal.Refusal.TheVariants.{BadBodyHead}
-use Rattle.pure_commands.specs.declared.stops.Failure.TheVariants.{Memory}
-use Rattle.pure_commands.specs.declared.stops.Stop.{Stop}
-use Rattle.pure_commands.specs.declared.stops.Stop.TheVariants.{Refused, Failed}
-
--- an import, with the archive behind the empty line
-abbrev pub imported : ImportHead → List ℕ → request.Imported
-imported head nar = record { path = head.path; nar_hash = head.nar_hash; refs = head.references.items; deriver = head.deriver; ca = head.ca; nar = nar }
+use Rattle.tool_pure.specs.declared.stops.Failure.TheVariants.{Memory}
+use Rattle.tool_pure.specs.declared.stops.Stop.{Stop}
+use Rattle.tool_pure.specs.declared.stops.Stop.TheVariants.{Refused, Failed}
 
 -- a body hands in this object
 abbrev pub IsImported : List ℕ → List ℕ → Request → Type 0

@@ -1,17 +1,17 @@
 -- What the caller of a subcommand that asks something of a store is answered.
 use Rattle.std.specs.Prelude.{◌⊎◌, ℕ, List, Option, Some, None, Err}
 use Rattle.clap.specs.Walk.{Text}
-use Rattle.world.specs.World.{no_world}
+use Rattle.model.specs.World.{no_world}
 use Rattle.policy.specs.Settings.{Settings}
 use Rattle.policy.specs.Caller.{Caller}
-use Rattle.store.specs.Reply.{Failure as Lack, failed}
+use Rattle.model.specs.Reply.{Failure as Lack, failed}
 use Rattle.report.specs.declared.refusal.Refusal.TheVariants.{BadCaller}
-use Rattle.store_commands.specs.Telling.{IsTold}
-use Rattle.pure_commands.specs.declared.stops.Failure.TheVariants.{Memory}
-use Rattle.pure_commands.specs.declared.stops.Stop.TheVariants.{Refused, Failed}
+use Rattle.tool_pure.specs.Telling.{IsTold}
+use Rattle.tool_pure.specs.declared.stops.Failure.TheVariants.{Memory}
+use Rattle.tool_pure.specs.declared.stops.Stop.TheVariants.{Refused, Failed}
 use Rattle.tool.specs.Calls.{AnswersIn, AnswersStep}
 use Rattle.tool.specs.Requests.{Ask, caller_by}
-use Rattle.pure_commands.specs.Stream.{Answers}
+use Rattle.tool_pure.specs.Stream.{Answers}
 
 -- what a caller is answered, by what he asks and the bytes of the input
 abbrev pub Answering : Type 1

@@ -1,20 +1,20 @@
 -- What is answered to a subcommand that asks something of a store.
 use Rattle.std.specs.Prelude.{◌⊎◌, ℕ, List, Option, Some, None, Result, Ok, Err}
 use Rattle.sqlite_trees.specs.declared.store.Store.{Ghosts}
-use Rattle.world.specs.World.{World}
+use Rattle.model.specs.World.{World}
 use Rattle.tables.specs.Kept.{Kept}
 use Rattle.policy.specs.Settings.{Settings}
 use Rattle.policy.specs.Caller.{Caller}
-use Rattle.store.specs.Request.{Request}
-use Rattle.store.specs.Reply.{Reply}
-use Rattle.store.specs.Step.{Step}
-use Rattle.store_calls.specs.Standing.{Standing}
+use Rattle.model.specs.Request.{Request}
+use Rattle.model.specs.Reply.{Reply}
+use Rattle.model.specs.Step.{Step}
+use Rattle.store.specs.Standing.{Standing}
 use Rattle.report.specs.declared.refusal.Refusal.{Refusal}
-use Rattle.store_commands.specs.Serving.{Calls}
-use Rattle.store_commands.specs.Telling.{IsTold}
-use Rattle.pure_commands.specs.declared.stops.Stop.TheVariants.{Refused}
+use Rattle.store.specs.Calls.{Calls}
+use Rattle.tool_pure.specs.Telling.{IsTold}
+use Rattle.tool_pure.specs.declared.stops.Stop.TheVariants.{Refused}
 use Rattle.tool.specs.Requests.{Ask, StepsAs, Wants, reads_input}
-use Rattle.pure_commands.specs.Stream.{Answers, GivesUp}
+use Rattle.tool_pure.specs.Stream.{Answers, GivesUp}
 
 -- ---- by what is asked for the bytes of the input, where each request is answered so
 

@@ -12,23 +12,23 @@ use Rattle.sqlite.specs.Files.{over_files}
 use Rattle.tables.specs.Kept.{Kept}
 use Rattle.policy.specs.Settings.{Settings}
 use Rattle.policy.specs.Caller.{Caller}
-use Rattle.store.specs.Reply.{failed}
-use Rattle.store_requests.specs.View.{failure_view}
-use Rattle.table_opening.specs.declared.file.Unopened.{Unopened as NoFile}
-use Rattle.table_opening.specs.declared.file.Unopened.TheVariants as file
-use Rattle.opening.specs.declared.refusing.Cause.{Cause}
-use Rattle.opening.specs.declared.refusing.Cause.TheVariants.{BadSchema, OtherStoreDir, Failed as Lacks}
-use Rattle.opening.specs.declared.refusing.Unopened.{Unopened}
-use Rattle.opening.specs.declared.refusing.Unopened.TheVariants.{File, Store}
-use Rattle.opening.specs.Opened.{IsUnopened, Opens}
+use Rattle.model.specs.Reply.{failed}
+use Rattle.store_types.specs.View.{failure_view}
+use Rattle.tables_open.specs.declared.file.Unopened.{Unopened as NoFile}
+use Rattle.tables_open.specs.declared.file.Unopened.TheVariants as file
+use Rattle.tables.specs.declared.refusing.Cause.{Cause}
+use Rattle.tables.specs.declared.refusing.Cause.TheVariants.{BadSchema, OtherStoreDir, Failed as Lacks}
+use Rattle.tables.specs.declared.refusing.Unopened.{Unopened}
+use Rattle.tables.specs.declared.refusing.Unopened.TheVariants.{File, Store}
+use Rattle.tables.specs.Opened.{IsUnopened, Opens}
 use Rattle.report.specs.declared.refusal.Refusal.TheVariants as refusal
-use Rattle.store_commands.specs.Telling.{IsTold}
-use Rattle.responder.specs.Answers as message
-use Rattle.pure_commands.specs.declared.stops.Stop.TheVariants.{Refused}
+use Rattle.tool_pure.specs.Telling.{IsTold}
+use Rattle.wire.specs.Answers as message
+use Rattle.tool_pure.specs.declared.stops.Stop.TheVariants.{Refused}
 use Rattle.tool.specs.Calls.{AnswersIn, Serves}
 use Rattle.tool.specs.Requests.{Ask}
 use Rattle.tool.specs.Serving.{OfFile, Serving, ServesBy}
-use Rattle.pure_commands.specs.Stream.{Answers}
+use Rattle.tool_pure.specs.Stream.{Answers}
 
 module _ {S D : Type 0} {g : disk.Ghosts D} where
   -- why no connection was taken up: what isn't a database is no store

@@ -1,7 +1,7 @@
 pub mod Answer
 pub mod Bodies
-pub mod Requests
+pub mod Callers
 pub mod Calls
 pub mod Files
-pub mod Callers
+pub mod Requests
 pub mod Serving

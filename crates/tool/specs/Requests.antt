@@ -4,28 +4,28 @@ use Rattle.std.specs.List.{list_all}
 use Rattle.clap.specs.Walk.{Text}
 use Rattle.paths.specs.Names.{is_store_name}
 use Rattle.paths.specs.StorePath.{base_of}
-use Rattle.world.specs.World.{Path, World}
+use Rattle.model.specs.World.{Path, World}
 use Rattle.policy.specs.Settings.{Settings}
 use Rattle.policy.specs.Caller.{Caller, caller_of, is_caller}
-use Rattle.store.specs.Request as request
-use Rattle.store.specs.Request.{Request}
-use Rattle.store.specs.Reply.{Reply}
-use Rattle.store.specs.Step.{Step}
+use Rattle.model.specs.Request as request
+use Rattle.model.specs.Request.{Request}
+use Rattle.model.specs.Reply.{Reply}
+use Rattle.model.specs.Step.{Step}
 use Rattle.report.specs.declared.refusal.Refusal.{Refusal}
 use Rattle.report.specs.declared.refusal.Refusal.TheVariants.{BadStoreName, BadStorePath}
-use Rattle.command_line.specs.Asked as asked
-use Rattle.command_line.specs.Asked.{Asked, OnProfile, OnSession, add_source, add_text, cat_nar, delete, gc, import_object, info, list_dead, list_live, list_paths, optional_text, profile, report, root, roots, runtime, temp, unroot_permanent, unroot_user, why, serve}
-use Rattle.command_line.specs.declared.line.Unrooted.{Unrooted}
-use Rattle.command_line.specs.declared.line.Unrooted.TheVariants as unrooted
-use Rattle.command_line.specs.declared.line.RootKind.{RootKind}
-use Rattle.command_line.specs.declared.line.RootKind.TheVariants.{Permanent, User}
-use Rattle.store_requests.specs.declared.requests.Request.{Request as Made}
-use Rattle.store_requests.specs.View.{request_view}
-use Rattle.pure_commands.specs.declared.stops.Failure.TheVariants.{Memory, File, Input, Output}
-use Rattle.pure_commands.specs.declared.stops.Stop.{Stop}
-use Rattle.pure_commands.specs.declared.stops.Stop.TheVariants.{Refused, Failed}
+use Rattle.tool_words.specs.Asked as asked
+use Rattle.tool_words.specs.Asked.{Asked, OnProfile, OnSession, add_source, add_text, cat_nar, delete, gc, import_object, info, list_dead, list_live, list_paths, optional_text, profile, report, root, roots, runtime, temp, unroot_permanent, unroot_user, why, serve}
+use Rattle.tool_words.specs.declared.line.Unrooted.{Unrooted}
+use Rattle.tool_words.specs.declared.line.Unrooted.TheVariants as unrooted
+use Rattle.tool_words.specs.declared.line.RootKind.{RootKind}
+use Rattle.tool_words.specs.declared.line.RootKind.TheVariants.{Permanent, User}
+use Rattle.store_types.specs.declared.requests.Request.{Request as Made}
+use Rattle.store_types.specs.View.{request_view}
+use Rattle.tool_pure.specs.declared.stops.Failure.TheVariants.{Memory, File, Input, Output}
+use Rattle.tool_pure.specs.declared.stops.Stop.{Stop}
+use Rattle.tool_pure.specs.declared.stops.Stop.TheVariants.{Refused, Failed}
 use Rattle.tool.specs.Bodies.{Imports, Replaces}
-use Rattle.pure_commands.specs.Object.{is_path_text}
+use Rattle.tool_pure.specs.Object.{is_path_text}
 
 -- the caller of these names: one has to be named, and they have to be plain
 abbrev pub caller_by : Option (List ℕ) → Option (List ℕ) → Option Caller

@@ -3,18 +3,18 @@ use Rattle.std.specs.Prelude.{◌⊎◌, ℕ, List, Option, Some, None, Err}
 use Rattle.std.specs.Io.KnownBytes.{Keeps}
 use Rattle.clap.specs.Walk.{Text}
 use Rattle.httparse.specs.Grammar.{RequestHead}
-use Rattle.world.specs.World.{no_world}
+use Rattle.model.specs.World.{no_world}
 use Rattle.policy.specs.Settings.{Settings}
-use Rattle.store.specs.Reply.{Failure as Lack, failed}
-use Rattle.wire.specs.Responses.{Replied}
-use Rattle.store_commands.specs.Telling.{IsTold}
-use Rattle.server.specs.Worlds.{AnswersFrom}
-use Rattle.server.specs.Ends.{ServesPort, ServesStreams}
-use Rattle.pure_commands.specs.declared.stops.Failure.TheVariants.{Memory}
-use Rattle.pure_commands.specs.declared.stops.Stop.TheVariants.{Failed}
-use Rattle.pure_commands.specs.Stream.{Answers}
-use Rattle.command_line.specs.declared.line.ServeArguments.{ServeArguments}
-use Rattle.command_line.specs.declared.line.ServeArguments.TheVariants.{Streams, Port}
+use Rattle.model.specs.Reply.{Failure as Lack, failed}
+use Rattle.wire_server.specs.Responses.{Replied}
+use Rattle.tool_pure.specs.Telling.{IsTold}
+use Rattle.wire.specs.Worlds.{AnswersFrom}
+use Rattle.wire.specs.Ends.{ServesPort, ServesStreams}
+use Rattle.tool_pure.specs.declared.stops.Failure.TheVariants.{Memory}
+use Rattle.tool_pure.specs.declared.stops.Stop.TheVariants.{Failed}
+use Rattle.tool_pure.specs.Stream.{Answers}
+use Rattle.tool_words.specs.declared.line.ServeArguments.{ServeArguments}
+use Rattle.tool_words.specs.declared.line.ServeArguments.TheVariants.{Streams, Port}
 use Rattle.tool.specs.Callers.{Answering}
 
 -- on the two streams; or on a port, and then nothing goes to the streams

@@ -1,19 +1,19 @@
 //! What is asked of a store to which an object is added.
 ghost use Rattle.std.specs.Prelude.{◌≡◌, IfOk, IfErr, Ok, Err, List, ℕ, false, is_ok};
-ghost use Rattle.command_line.specs.Asked.{object_view};
-ghost use Rattle.store.specs.Request as asked;
+ghost use Rattle.tool_words.specs.Asked.{object_view};
+ghost use Rattle.model.specs.Request as asked;
 ghost use Rattle.streams.specs.Reads.{TakesAtMost};
-ghost use Rattle.pure_commands.specs.Archive.{max_front};
+ghost use Rattle.tool_pure.specs.Archive.{max_front};
 ghost use Rattle.tool.specs.Requests.{Gives, IsAsked, IsAskedOver, on_object, with_bytes};
 
-use command_line::ObjectArguments;
 use paths::{Name, StoreDir, StorePath};
-use pure_commands::{
-    MOST_OF_CONTENTS, Stop, parse_name, parse_references, read_input, receive_archive,
-};
 use std::alloc::Global;
 use std::io::Read;
-use store_requests::Request;
+use store_types::Request;
+use tool_pure::{
+    MOST_OF_CONTENTS, Stop, parse_name, parse_references, read_input, receive_archive,
+};
+use tool_words::ObjectArguments;
 
 /// The name and the references of an object that is to be added.
 fn parse_arguments(
@@ -49,7 +49,11 @@ pub(crate) fn add_text<R: Read>(
         Err(stop) => return Err(stop),
     };
     match read_input(alloc, input, MOST_OF_CONTENTS) {
-        Ok(contents) => Ok(Request::AddText(name, references, contents)),
+        Ok(contents) => Ok(Request::AddText {
+            name,
+            refs: references,
+            contents,
+        }),
         Err(stop) => Err(stop),
     }
 }
@@ -69,7 +73,11 @@ pub(crate) fn add_source<R: Read>(
         Err(stop) => return Err(stop),
     };
     match receive_archive(alloc, input) {
-        Ok(nar) => Ok(Request::AddSource(name, references, nar)),
+        Ok(nar) => Ok(Request::AddSource {
+            name,
+            refs: references,
+            nar,
+        }),
         Err(stop) => Err(stop),
     }
 }

@@ -1,28 +1,28 @@
 //! What a command line answers, by the text of its configuration.
 ghost use Rattle.std.specs.Prelude.{◌≡◌, None, false};
 ghost use Rattle.policy.specs.Toml.{config_of};
-ghost use Rattle.pure_commands.specs.Archive.{ls_answer};
-ghost use Rattle.pure_commands.specs.Stream.{AnswersTo};
+ghost use Rattle.tool_pure.specs.Archive.{ls_answer};
+ghost use Rattle.tool_pure.specs.Stream.{AnswersTo};
 ghost use Rattle.tool.specs.Answer.{AnswersAlone, AnswersLine, AnswersSourcePath, AnswersTextPath, AnswersUnder};
 ghost use Rattle.tool.specs.Files.{ServesFile, by_file};
-ghost use Rattle.pure_commands.specs.Archive.{max_front};
-ghost use Rattle.command_line.specs.Asked as asked;
-ghost use Rattle.command_line.specs.Asked.{optional_text};
-ghost use Rattle.command_line.specs.Line.{line_view};
+ghost use Rattle.tool_pure.specs.Archive.{max_front};
+ghost use Rattle.tool_words.specs.Asked as asked;
+ghost use Rattle.tool_words.specs.Asked.{optional_text};
+ghost use Rattle.tool_words.specs.Line.{line_view};
 ghost use Rattle.tool.specs.Requests.{asks, reads_all};
 ghost use Rattle.streams.specs.Reads.{TakesAtMost};
 
 use crate::calls::call;
 use crate::requests::is_asked;
 use crate::serve::serve;
-use command_line::{CommandLine, ObjectArguments, Task};
 use policy::store_dir;
-use pure_commands::{ls, say, settings, source_path, text_path, who};
 use sqlite::{FileFrom, Start};
 use sqlite_disk::Disk;
 use std::alloc::Global;
 use std::io::{Read, Write};
 use std::rt::HostRuntime;
+use tool_pure::{ls, say, settings, source_path, text_path, who};
+use tool_words::{CommandLine, ObjectArguments, Task};
 
 /// Answers `ls`, by the text of the configuration.
 fn ls_under<R: Read, W: Write, E: Write>(

@@ -1,25 +1,25 @@
 //! Subcommands that ask something of a store.
 ghost use Rattle.std.specs.Prelude.{◌≡◌, ◌⊎◌, IfOk, IfErr, IsSome, Some, None, false};
-ghost use Rattle.command_line.specs.Asked.{asked_view, optional_text};
+ghost use Rattle.tool_words.specs.Asked.{asked_view, optional_text};
 ghost use Rattle.policy.specs.Toml.{config_of};
 ghost use Rattle.streams.specs.Reads.{TakesAtMost};
 ghost use Rattle.tool.specs.Answer.{AnswersUnder};
-ghost use Rattle.pure_commands.specs.Archive.{max_front};
+ghost use Rattle.tool_pure.specs.Archive.{max_front};
 ghost use Rattle.tool.specs.Callers.{AnswersCaller, AnswersNamed};
 ghost use Rattle.tool.specs.Files.{AnswersFile};
 ghost use Rattle.tool.specs.Requests.{Ask, asks, reads_all, caller_by};
 
 use crate::files::call_in_file;
 use crate::stores::call_in_memory;
-use command_line::{CommandLine, Task};
 use policy::{Caller, CallerError, Config};
-use pure_commands::{Failure, Stop, say, settings};
 use report::Refusal;
 use sqlite::{FileFrom, Start};
 use sqlite_disk::Disk;
 use std::alloc::Global;
 use std::io::{Read, Write};
 use std::rt::HostRuntime;
+use tool_pure::{Failure, Stop, say, settings};
+use tool_words::{CommandLine, Task};
 
 /// The caller of these names.
 fn caller_of(alloc: Global, user: Option<&str>, group: Option<&str>) -> Result<Caller, Stop>

@@ -1,14 +1,14 @@
 //! What is asked of a store from which objects go.
 ghost use Rattle.std.specs.Prelude.{false};
 ghost use Rattle.clap.specs.Walk.{texts};
-ghost use Rattle.store.specs.Request as asked;
+ghost use Rattle.model.specs.Request as asked;
 ghost use Rattle.tool.specs.Requests.{Gives, IsAsked, on_paths};
 
-use command_line::DeleteArguments;
 use paths::StoreDir;
-use pure_commands::{Stop, parse_references};
 use std::alloc::Global;
-use store_requests::Request;
+use store_types::Request;
+use tool_pure::{Stop, parse_references};
+use tool_words::DeleteArguments;
 
 /// Objects are to be deleted.
 pub(crate) fn delete_paths(
@@ -19,7 +19,10 @@ pub(crate) fn delete_paths(
     ensures { IsAsked false (Gives (on_paths dir.now (texts deletion.now.paths.items) (λ named. asked.delete named deletion.now.ignore_liveness))) result }
 {
     match parse_references(alloc, dir, deletion.paths.as_slice()) {
-        Ok(named) => Ok(Request::Delete(named, deletion.ignore_liveness)),
+        Ok(named) => Ok(Request::Delete {
+            paths: named,
+            ignore_liveness: deletion.ignore_liveness,
+        }),
         Err(stop) => Err(stop),
     }
 }

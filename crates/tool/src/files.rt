@@ -1,27 +1,27 @@
 //! A request over the store of a database file.
 ghost use Rattle.std.specs.Prelude.{◌≡◌, IsSome, Some, false};
-ghost use Rattle.command_line.specs.Asked.{asked_view};
+ghost use Rattle.tool_words.specs.Asked.{asked_view};
 ghost use Rattle.streams.specs.Reads.{TakesAtMost};
-ghost use Rattle.pure_commands.specs.Archive.{max_front};
+ghost use Rattle.tool_pure.specs.Archive.{max_front};
 ghost use Rattle.tool.specs.Files as spec;
 ghost use Rattle.tool.specs.Files.{AnswersFile, TellsCause};
 ghost use Rattle.tool.specs.Requests.{Ask, asks, reads_all};
 
 use crate::stores::call_over;
-use command_line::Task;
-use opening::{Cause, Unadopted, Unopened};
 use paths::StoreDir;
 use policy::{Caller, Config, store_dir};
-use pure_commands::{Stop, say};
 use report::Refusal;
 use sqlite::{Alter, FileFrom, Start};
 use sqlite_disk::Disk;
 use std::alloc::Global;
 use std::io::{Read, Write};
 use std::rt::HostRuntime;
-use store_commands::tell;
-use store_requests::Reply;
-use table_opening::file::{self, Untold};
+use store_types::Reply;
+use tables::{Cause, Unadopted, Unopened};
+use tables_open::file;
+use tables_open::file::Untold;
+use tool_pure::{Stop, say, tell};
+use tool_words::Task;
 
 /// Why no connection to a file was taken up, which is given up: what isn't a database is no store.
 fn file_cause<S: Alter + Drop, D: Disk + Drop>(unopened: file::Unopened<S, D>) -> Cause
@@ -89,7 +89,7 @@ pub(crate) fn call_in_file<F: Start, R: Read, W: Write, E: Write>(
         → AnswersFile F.Start ⟦<FileFrom<F> as Disk>⟧ config caller.now ask (R.remaining input.old) (W.contents output.old) (W.contents output.new) (E.contents errors.old) (E.contents errors.new) result }
     ensures reads { reads_all (asked_view task.now) ≡ false → TakesAtMost max_front (R.remaining input.old) (R.remaining input.new) }
 {
-    match opening::open(rt, path, store_dir(&config), start) {
+    match tables::open(rt, path, store_dir(&config), start) {
         Ok(tables) => call_over(
             rt.alloc(),
             config,

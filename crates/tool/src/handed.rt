@@ -1,20 +1,16 @@
 //! What is asked of a store by a body on the input.
 ghost use Rattle.std.specs.Prelude.{◌≡◌, ◌⊎◌, IfOk, IfErr, IfSome, true, false};
-ghost use Rattle.store_requests.specs.View.{import_view};
-ghost use Rattle.intake.specs.Arriving.{bytes_in};
 ghost use Rattle.tool.specs.Bodies as spec;
-ghost use Rattle.tool.specs.Bodies.{imported};
 ghost use Rattle.tool.specs.Requests.{IsAsked, IsAskedOver};
 
-use asking::{Body, read_import};
-use bodies::{BodyError, ImportHead, runtime_body};
-use intake::Intake;
 use paths::StoreDir;
-use pure_commands::{Failure, Stop, read_input, receive_input};
 use report::Refusal;
 use std::alloc::Global;
 use std::io::Read;
-use store_requests::{Imported, Request};
+use store_types::Request;
+use tool_pure::{Failure, Stop, read_input, receive_input};
+use wire_bodies::{BodyError, runtime_body};
+use wire_requests::{Body, read_import};
 
 /// All bytes of standard input.
 fn read_whole<R: Read>(alloc: Global, input: &mut R) -> Result<Vec<u8>, Stop>
@@ -37,33 +33,12 @@ fn stop_by(fault: BodyError) -> Stop
     }
 }
 
-/// An object that is handed in with its path, and its archive.
-fn imported_of(head: ImportHead, nar: Intake) -> Imported
-    ensures { import_view result ≡ imported head (bytes_in nar) }
-{
-    let ImportHead {
-        path,
-        nar_hash,
-        references,
-        deriver,
-        ca,
-    } = head;
-    Imported {
-        path,
-        nar_hash,
-        refs: references,
-        deriver,
-        ca,
-        nar,
-    }
-}
-
 /// The object that a body hands in, at its path.
 fn parse_import(alloc: Global, dir: &StoreDir, body: Body) -> Result<Request, Stop>
     ensures { IsAsked false (spec.Imports dir.now body) result }
 {
     match read_import(alloc, dir, body) {
-        Ok((head, nar)) => Ok(Request::Import(imported_of(head, nar))),
+        Ok(request) => Ok(request),
         Err(fault) => Err(stop_by(fault)),
     }
 }

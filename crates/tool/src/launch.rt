@@ -3,18 +3,16 @@ ghost use Rattle.std.specs.Prelude.{◌≡◌, ◌≢◌, ℕ, List, map, true, 
 ghost use Rattle.std.specs.IoError.{error_kind};
 ghost use Rattle.tool.specs.Answer.{Explains, Helps, RefusesWords, RunsLine};
 ghost use Rattle.tool.specs.Files.{by_file};
-ghost use Rattle.pure_commands.specs.Archive.{max_front};
-ghost use Rattle.command_line.specs.Line.{IsLine, IsUsageFault, Line, line_view};
+ghost use Rattle.tool_pure.specs.Archive.{max_front};
+ghost use Rattle.tool_words.specs.Line.{IsLine, IsUsageFault, Line, line_view};
 ghost use Rattle.streams.specs.Reads.{TakesAtMost};
-ghost use Rattle.store_commands.specs.Outputs.{Prints};
+ghost use Rattle.report.specs.Outputs.{Prints};
 ghost use Rattle.tool.specs.Requests.{reads_all};
-ghost use Rattle.pure_commands.specs.Stream.{Says};
-ghost use Rattle.command_line.specs.declared.error.CommandError.{CommandError};
+ghost use Rattle.tool_pure.specs.Stream.{Says};
+ghost use Rattle.tool_words.specs.declared.error.CommandError.{CommandError};
 
 use crate::answers::answer;
 use crate::usage::{USAGE, refuse};
-use command_line::{CommandError, CommandLine, Task, command};
-use pure_commands::{Failure, Stop, config_text, give, print, say};
 use sqlite::{FileFrom, Start};
 use sqlite_disk::Disk;
 use std::alloc::Global;
@@ -22,6 +20,8 @@ use std::convert::AsStr;
 use std::io;
 use std::io::{ErrorKind, Read, Write};
 use std::rt::HostRuntime;
+use tool_pure::{Failure, Stop, config_text, give, print, say};
+use tool_words::{CommandError, CommandLine, Task, command};
 
 const NOT_UTF8: &str = "error: a word of the command line isn't UTF-8\n";
 

@@ -1,4 +1,4 @@
-//! The command line of `nixkeep`: what its words stand for, and the engine of each subcommand.
+//! The command line of a store.
 #![tactic(auto)]
 
 mod adds;
@@ -17,12 +17,12 @@ mod stores;
 mod usage;
 
 pub use answers::answer;
-pub use command_line::{
+pub use launch::{refuse_words, run};
+pub use report::Refusal;
+pub use sqlite::Unknown;
+pub use tool_pure::{Failure, Stop, Verdict, judge, ls, source_path, text_path, who};
+pub use tool_words::{
     CommandError, CommandLine, DeleteArguments, GcArguments, ObjectArguments, ProfileAction,
     ProfileArguments, RootArguments, RootKind, ServeArguments, Task, TempAction, TempArguments,
     UnrootArguments, Unrooted, UsageFault, command,
 };
-pub use launch::{refuse_words, run};
-pub use pure_commands::{Failure, Stop, Verdict, judge, ls, source_path, text_path, who};
-pub use report::Refusal;
-pub use sqlite::Unknown;

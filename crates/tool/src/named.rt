@@ -1,16 +1,16 @@
 //! What is asked of roots that have names.
 ghost use Rattle.std.specs.Prelude.{◌≡◌, IfOk, IfErr, Ok, false, string_bytes};
-ghost use Rattle.command_line.specs.Asked.{optional_text};
-ghost use Rattle.store_requests.specs.View.{request_view};
+ghost use Rattle.tool_words.specs.Asked.{optional_text};
+ghost use Rattle.store_types.specs.View.{request_view};
 ghost use Rattle.tool.specs.Requests as spec;
 ghost use Rattle.tool.specs.Requests.{Gives, IsAsked, on_path, owner_of};
 
-use command_line::{RootArguments, RootKind, UnrootArguments, Unrooted};
 use paths::{StoreDir, StorePath};
 use policy::Caller;
-use pure_commands::{Failure, Stop, parse_reference};
 use std::alloc::{AllocError, Global};
-use store_requests::Request;
+use store_types::Request;
+use tool_pure::{Failure, Stop, parse_reference};
+use tool_words::{RootArguments, RootKind, UnrootArguments, Unrooted};
 
 /// A request that was made, or memory was refused.
 pub(crate) fn made(request: Result<Request, AllocError>) -> Result<Request, Stop>
@@ -48,10 +48,14 @@ fn root_at(
 {
     let name = String::from_str(alloc, root.name)?;
     match root.kind {
-        RootKind::Permanent => Ok(Request::SetPermanent(name, path)),
+        RootKind::Permanent => Ok(Request::SetPermanent { name, path }),
         RootKind::User => {
             let owner = String::from_str(alloc, caller.name())?;
-            Ok(Request::SetUserRoot(owner, name, path))
+            Ok(Request::SetUserRoot {
+                user: owner,
+                name,
+                path,
+            })
         }
     }
 }
@@ -81,10 +85,10 @@ fn dropped(
 {
     let name = String::from_str(alloc, root.name)?;
     match root.root {
-        Unrooted::Permanent => Ok(Request::DropPermanent(name)),
+        Unrooted::Permanent => Ok(Request::DropPermanent { name }),
         Unrooted::User(named) => {
             let owner = owner(alloc, caller, named)?;
-            Ok(Request::DropUserRoot(owner, name))
+            Ok(Request::DropUserRoot { user: owner, name })
         }
     }
 }

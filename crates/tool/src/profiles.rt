@@ -1,18 +1,18 @@
 //! What is asked of profiles.
 ghost use Rattle.std.specs.Prelude.{◌≡◌, IfOk, false, string_bytes};
-ghost use Rattle.command_line.specs.Asked.{on_profile_view, optional_text};
-ghost use Rattle.store.specs.Request as asked;
-ghost use Rattle.store_requests.specs.View.{request_view};
+ghost use Rattle.tool_words.specs.Asked.{on_profile_view, optional_text};
+ghost use Rattle.model.specs.Request as asked;
+ghost use Rattle.store_types.specs.View.{request_view};
 ghost use Rattle.tool.specs.Requests as spec;
 ghost use Rattle.tool.specs.Requests.{Gives, IsAsked, owner_of};
 
 use crate::named::{made, owner};
-use command_line::{ProfileAction, ProfileArguments};
 use paths::{StoreDir, StorePath};
 use policy::Caller;
-use pure_commands::{Stop, parse_reference};
 use std::alloc::{AllocError, Global};
-use store_requests::Request;
+use store_types::Request;
+use tool_pure::{Stop, parse_reference};
+use tool_words::{ProfileAction, ProfileArguments};
 
 /// Whose a profile is, and its name.
 fn names(
@@ -38,7 +38,11 @@ fn set(
     ensures { IfOk result (λ q. request_view q ≡ asked.set_profile (owner_of caller.now (optional_text profile.now.owner)) profile.now.name.now path) }
 {
     let (owner, name) = names(alloc, caller, profile)?;
-    Ok(Request::SetProfile(owner, name, path))
+    Ok(Request::SetProfile {
+        user: owner,
+        profile: name,
+        path,
+    })
 }
 
 /// The generation below the current one becomes current.
@@ -50,7 +54,10 @@ fn rollback(
     ensures { IfOk result (λ q. request_view q ≡ asked.rollback (owner_of caller.now (optional_text profile.now.owner)) profile.now.name.now) }
 {
     let (owner, name) = names(alloc, caller, profile)?;
-    Ok(Request::Rollback(owner, name))
+    Ok(Request::Rollback {
+        user: owner,
+        profile: name,
+    })
 }
 
 /// The generation of a number becomes current.
@@ -63,7 +70,11 @@ fn switch(
     ensures { IfOk result (λ q. request_view q ≡ asked.switch (owner_of caller.now (optional_text profile.now.owner)) profile.now.name.now number) }
 {
     let (owner, name) = names(alloc, caller, profile)?;
-    Ok(Request::Switch(owner, name, number))
+    Ok(Request::Switch {
+        user: owner,
+        profile: name,
+        n: number,
+    })
 }
 
 /// The generation of a number goes.
@@ -76,7 +87,11 @@ fn delete(
     ensures { IfOk result (λ q. request_view q ≡ asked.delete_generation (owner_of caller.now (optional_text profile.now.owner)) profile.now.name.now number) }
 {
     let (owner, name) = names(alloc, caller, profile)?;
-    Ok(Request::DeleteGeneration(owner, name, number))
+    Ok(Request::DeleteGeneration {
+        user: owner,
+        profile: name,
+        n: number,
+    })
 }
 
 /// Something is to happen to a profile.

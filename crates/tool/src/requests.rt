@@ -1,9 +1,9 @@
 //! What a subcommand asks of a store: its arguments, and its input where it reads one.
 ghost use Rattle.std.specs.Prelude.{◌≡◌, IsSome, Some, is_some, false};
-ghost use Rattle.command_line.specs.Asked.{asked_view};
-ghost use Rattle.store.specs.Request as asked;
+ghost use Rattle.tool_words.specs.Asked.{asked_view};
+ghost use Rattle.model.specs.Request as asked;
 ghost use Rattle.streams.specs.Reads.{TakesAtMost};
-ghost use Rattle.pure_commands.specs.Archive.{max_front};
+ghost use Rattle.tool_pure.specs.Archive.{max_front};
 ghost use Rattle.tool.specs.Requests.{Ask, Gives, IsAsked, IsAskedBy, asks, on_path, reads_all};
 
 use crate::adds::{add_source, add_text};
@@ -12,13 +12,13 @@ use crate::handed::{import, replace_runtime};
 use crate::named::{drop_root, set_root};
 use crate::profiles::change_profile;
 use crate::sessions::change_session;
-use command_line::Task;
 use paths::StoreDir;
 use policy::Caller;
-use pure_commands::{Stop, parse_reference};
 use std::alloc::Global;
 use std::io::Read;
-use store_requests::Request;
+use store_types::Request;
+use tool_pure::{Stop, parse_reference};
+use tool_words::Task;
 
 /// Whether a subcommand asks something of a store.
 pub(crate) fn is_asked(task: &Task<'_>) -> bool
@@ -38,7 +38,7 @@ fn why(alloc: Global, dir: &StoreDir, text: &str) -> Result<Request, Stop>
     ensures { IsAsked false (Gives (on_path dir.now text.now asked.list_roots_of)) result }
 {
     match parse_reference(alloc, dir, text) {
-        Ok(path) => Ok(Request::ListRootsOf(path)),
+        Ok(path) => Ok(Request::RootsOf(path)),
         Err(stop) => Err(stop),
     }
 }
@@ -77,11 +77,14 @@ pub(crate) fn request<R: Read>(
 {
     match task {
         Task::List => Ok(Request::List),
-        Task::Live => Ok(Request::ListLive),
-        Task::Dead => Ok(Request::ListDead),
+        Task::Live => Ok(Request::Live),
+        Task::Dead => Ok(Request::Dead),
         Task::Roots => Ok(Request::ListRoots),
         Task::Report => Ok(Request::Report),
-        Task::Gc(gc) => Ok(Request::Collect(gc.ignore_liveness, gc.max_freed)),
+        Task::Gc(gc) => Ok(Request::Collect {
+            ignore_liveness: gc.ignore_liveness,
+            max_freed: gc.max_freed,
+        }),
         Task::Delete(deletion) => delete_paths(alloc, dir, deletion),
         Task::Info(text) => info(alloc, dir, text),
         Task::Why(text) => why(alloc, dir, text),

@@ -2,28 +2,27 @@
 ghost use Rattle.std.specs.Prelude.{◌≡◌, Some, None};
 ghost use Rattle.sqlite.specs.State.{HasCleanDisk};
 ghost use Rattle.sqlite.specs.Held.{Held, state};
-ghost use Rattle.command_line.specs.Asked.{optional_text};
+ghost use Rattle.tool_words.specs.Asked.{optional_text};
 ghost use Rattle.policy.specs.Toml.{config_of};
-ghost use Rattle.world.specs.World.{World};
+ghost use Rattle.model.specs.World.{World};
 ghost use Rattle.tables.specs.Kept.{Tells};
-ghost use Rattle.responder.specs.Answers as message;
-ghost use Rattle.server.specs.Worlds.{AnswersFrom};
+ghost use Rattle.wire.specs.Answers as message;
+ghost use Rattle.wire.specs.Worlds.{AnswersFrom};
 ghost use Rattle.tool.specs.Answer.{AnswersUnder};
 ghost use Rattle.tool.specs.Files.{ServesFile};
 ghost use Rattle.tool.specs.Serving.{ServesBy, ServesNew, ServesIn};
 
 use crate::files::{cause_of, refuse_file};
-use command_line::ServeArguments;
 use policy::{Config, store_dir};
-use pure_commands::{say, settings};
-use server::{serve_port, serve_streams};
 use sqlite::{Alter, FileFrom, Start};
 use sqlite_disk::Disk;
 use std::io::{Read, Write};
 use std::rt::HostRuntime;
-use store_commands::tell;
-use store_requests::Reply;
+use store_types::Reply;
 use tables::Tables;
+use tool_pure::{say, settings, tell};
+use tool_words::ServeArguments;
+use wire::{serve_port, serve_streams};
 
 /// Serves the store of these tables.
 fn serve_over<S: Alter + Drop, R: Read, W: Write, E: Write>(
@@ -83,7 +82,7 @@ fn serve_in_file<F: Start, R: Read, W: Write, E: Write>(
 ) -> u8
     ensures { ServesFile F.Start ⟦<FileFrom<F> as Disk>⟧ config arguments (R.remaining input.old) (W.contents output.old) (W.contents output.new) (E.contents errors.old) (E.contents errors.new) result }
 {
-    match opening::open(rt, path, store_dir(&config), start) {
+    match tables::open(rt, path, store_dir(&config), start) {
         Ok(tables) => serve_over(rt, config, tables, arguments, input, output, errors),
         Err(unopened) => {
             let dir = store_dir(&config);

@@ -1,18 +1,18 @@
 //! What is asked of a session's temporary roots.
 ghost use Rattle.std.specs.Prelude.{◌≡◌, IfOk, false};
-ghost use Rattle.command_line.specs.Asked.{on_session_view, optional_text};
-ghost use Rattle.store.specs.Request as asked;
-ghost use Rattle.store_requests.specs.View.{request_view};
+ghost use Rattle.tool_words.specs.Asked.{on_session_view, optional_text};
+ghost use Rattle.model.specs.Request as asked;
+ghost use Rattle.store_types.specs.View.{request_view};
 ghost use Rattle.tool.specs.Requests as spec;
 ghost use Rattle.tool.specs.Requests.{Gives, IsAsked, owner_of};
 
 use crate::named::{made, owner};
-use command_line::{TempAction, TempArguments};
 use paths::{StoreDir, StorePath};
 use policy::Caller;
-use pure_commands::{Stop, parse_reference};
 use std::alloc::{AllocError, Global};
-use store_requests::Request;
+use store_types::Request;
+use tool_pure::{Stop, parse_reference};
+use tool_words::{TempAction, TempArguments};
 
 /// A path becomes one of them.
 fn add(
@@ -24,7 +24,11 @@ fn add(
     ensures { IfOk result (λ q. request_view q ≡ asked.add_temp (owner_of caller.now (optional_text session.now.owner)) session.now.session path) }
 {
     let owner = owner(alloc, caller, session.owner)?;
-    Ok(Request::AddTemp(owner, session.session, path))
+    Ok(Request::AddTemp {
+        owner,
+        session: session.session,
+        path,
+    })
 }
 
 /// They all go.
@@ -32,7 +36,10 @@ fn end(alloc: Global, caller: &Caller, session: &TempArguments<'_>) -> Result<Re
     ensures { IfOk result (λ q. request_view q ≡ asked.end_session (owner_of caller.now (optional_text session.now.owner)) session.now.session) }
 {
     let owner = owner(alloc, caller, session.owner)?;
-    Ok(Request::EndSession(owner, session.session))
+    Ok(Request::EndSession {
+        owner,
+        session: session.session,
+    })
 }
 
 /// Something is to happen to a session's temporary roots.

@@ -1,23 +1,22 @@
 //! A request over the tables of a store, and over a store that is in memory for one run.
 ghost use Rattle.std.specs.Prelude.{◌≡◌, IsSome, Some, false};
-ghost use Rattle.command_line.specs.Asked.{asked_view};
+ghost use Rattle.tool_words.specs.Asked.{asked_view};
 ghost use Rattle.streams.specs.Reads.{TakesAtMost};
-ghost use Rattle.pure_commands.specs.Archive.{max_front};
+ghost use Rattle.tool_pure.specs.Archive.{max_front};
 ghost use Rattle.tool.specs.Callers.{AnswersNew};
 ghost use Rattle.tool.specs.Calls.{AnswersIn, Serves};
 ghost use Rattle.tool.specs.Requests.{Ask, asks, reads_all};
 
 use crate::requests::request;
-use command_line::Task;
 use policy::{Caller, Config, store_dir};
-use pure_commands::say;
 use sqlite::Alter;
 use std::alloc::Global;
 use std::io::{Read, Write};
-use store_calls::Store;
-use store_commands::{serve, tell};
-use store_requests::Reply;
+use store::Store;
+use store_types::Reply;
 use tables::Tables;
+use tool_pure::{say, serve, tell};
+use tool_words::Task;
 
 /// Asks a store over these tables.
 pub(crate) fn call_over<S: Alter + Drop, R: Read, W: Write, E: Write>(

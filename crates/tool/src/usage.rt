@@ -1,11 +1,11 @@
 //! What is said of words that are no command line.
 ghost use Rattle.std.specs.Prelude.{◌⊎◌, ℕ, List};
-ghost use Rattle.store_commands.specs.Outputs.{Prints};
-ghost use Rattle.pure_commands.specs.Stream.{Says};
+ghost use Rattle.report.specs.Outputs.{Prints};
+ghost use Rattle.tool_pure.specs.Stream.{Says};
 
-use pure_commands::{Failure, Stop, print, say};
 use std::alloc::Global;
 use std::io::Write;
+use tool_pure::{Failure, Stop, print, say};
 
 /// The exit status of words that are no command line.
 pub(crate) const USAGE: u8 = 2;

@@ -1,2 +1,5 @@
-pub mod ReplyHead
-pub mod Responses
+pub mod Answers
+pub mod Courses
+pub mod Ends
+pub mod Replies
+pub mod Worlds

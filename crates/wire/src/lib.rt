@@ -1,10 +1,18 @@
-//! The replies of the server: their heads, and the statuses of what is replied.
+//! A store that is served over HTTP.
 #![tactic(auto)]
 
-mod reply_head;
-mod response;
-mod statuses;
+mod course;
+mod courses;
+mod kinds;
+mod parts;
+mod port;
+mod replies;
+mod said;
+mod server;
+mod standing;
+mod stream;
 
-pub use reply_head::{ReplyHead, write_reply_head};
-pub use response::Response;
-pub use statuses::refusal_status;
+pub use port::serve_port;
+pub use server::Server;
+pub use stream::serve_streams;
+pub use wire_server::WireError;

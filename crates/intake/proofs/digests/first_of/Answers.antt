@@ -1,4 +1,4 @@
-use Rattle.pieces.specs.Cut.{piece_of}
+use Rattle.streams.specs.Cut.{piece_of}
 use Rattle.intake.proofs.digests.first_of.Goals as goal
 
 pub returns : goal.returns

@@ -1,7 +1,7 @@
 use Rattle.std.proofs.Common.{◌≡◌, ◌≤◌, ◌*◌, arith, subst}
 use Rattle.std.proofs.KnownBytes.{Appends-nil}
 use Rattle.std.specs.Io.KnownBytes.{Appends}
-use Rattle.streams.proofs.Pieces.{next_sent, front_sent, all_taken}
+use Rattle.streams.proofs.InPieces.{next_sent, front_sent, all_taken}
 use Rattle.streams.proofs.parts.send_pieces.Goals as goal
 
 pub pieces-init : goal.pieces-init

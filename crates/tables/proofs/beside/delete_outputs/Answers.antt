@@ -1,5 +1,5 @@
 use Rattle.sqlite.specs.Held.{state}
-use Rattle.rows.specs.Contents.{contents_of}
+use Rattle.tables_sql.specs.Contents.{contents_of}
 use Rattle.tables.proofs.Covered.{keyless, no_outputs}
 use Rattle.tables.proofs.Transactions.{changes_nothing}
 use Rattle.tables.proofs.beside.delete_outputs.Goals as goal

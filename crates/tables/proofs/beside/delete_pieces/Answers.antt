@@ -1,7 +1,7 @@
 use Rattle.std.proofs.Common.{◌<◌, arith}
 use Rattle.sqlite.specs.Held.{state}
-use Rattle.rows.specs.Contents.{contents_of}
-use Rattle.world.specs.Pieces.{piece_size}
+use Rattle.tables_sql.specs.Contents.{contents_of}
+use Rattle.tables_world.specs.Pieces.{piece_size}
 use Rattle.tables.proofs.Covered.{no_pieces}
 use Rattle.tables.proofs.Cuts.{size_is}
 use Rattle.tables.proofs.Transactions.{changes_nothing}

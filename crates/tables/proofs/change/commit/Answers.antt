@@ -3,11 +3,11 @@ use Rattle.std.specs.Prelude.{OnOk, OnErr}
 use Rattle.sqlite.specs.Effect.{Database}
 use Rattle.sqlite.specs.State.{HasCleanDisk, Survives}
 use Rattle.sqlite.specs.Held.{state}
-use Rattle.rows.specs.Contents.{contents_of}
-use Rattle.rows.specs.Calls.{IsDurable, IsWhole, KeepsShown, Leaves}
-use Rattle.table_statements.proofs.Scans.{on_ok}
-use Rattle.table_statements.proofs.Steps.{under_after}
-use Rattle.table_statements.proofs.Transactions.{survives_all}
+use Rattle.tables_sql.specs.Contents.{contents_of}
+use Rattle.tables_sql.specs.Calls.{IsDurable, IsWhole, KeepsShown, Leaves}
+use Rattle.tables_sql.proofs.Scans.{on_ok}
+use Rattle.tables_sql.proofs.Steps.{under_after}
+use Rattle.tables_sql.proofs.Transactions.{survives_all}
 use Rattle.tables.specs.Kept.{IsWritten}
 use Rattle.tables.proofs.Begun.{always_done, begun_has, undone}
 use Rattle.tables.proofs.Transactions.{others_kept, written}

@@ -1,5 +1,5 @@
 use Rattle.std.proofs.Common.{sym, ap, ◌∙◌, take}
-use Rattle.pieces.specs.Cut.{piece_of}
+use Rattle.streams.specs.Cut.{piece_of}
 use Rattle.tables.proofs.Cuts.{size_is}
 use Rattle.tables.proofs.cutting.first_of.Goals as goal
 

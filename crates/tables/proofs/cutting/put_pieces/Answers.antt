@@ -2,14 +2,14 @@ use Rattle.std.proofs.Common.{◌≡◌, ℕ, ◌+◌, ◌*◌, ◌<◌, ◌≤�
 use Rattle.std.specs.Prelude.{ℤ, pos}
 use Rattle.std.specs.FinMap as finite
 use Rattle.sqlite.specs.Held.{state}
-use Rattle.rows.specs.Contents.{Contents, contents_of}
-use Rattle.world.specs.Pieces.{further_pieces}
+use Rattle.tables_sql.specs.Contents.{Contents, contents_of}
+use Rattle.tables_world.specs.Pieces.{further_pieces}
 use Rattle.tables.specs.Rewritten.{put_pieces}
-use Rattle.table_statements.proofs.Going.{Goes, goes_first, goes_next, goes_done}
-use Rattle.table_statements.proofs.Transactions.{survives_none}
+use Rattle.tables_sql.proofs.Going.{Goes, goes_first, goes_next, goes_done}
+use Rattle.tables_sql.proofs.Transactions.{survives_none}
 use Rattle.tables.proofs.Cuts.{left_from, all_left, next_left, past_end}
 use Rattle.tables.proofs.Kept.{clean_before}
-use Rattle.table_statements.proofs.TestFailures.{survives_both}
+use Rattle.tables_sql.proofs.TestFailures.{survives_both}
 use Rattle.tables.proofs.Transactions.{pieces_stand}
 use Rattle.tables.proofs.cutting.put_pieces.Goals as goal
 

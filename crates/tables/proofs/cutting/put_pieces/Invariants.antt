@@ -1,10 +1,10 @@
 use Rattle.std.proofs.Common.{◌≡◌}
 use Rattle.sqlite.specs.State.{HasCleanDisk, Survives}
 use Rattle.sqlite.specs.Held.{state}
-use Rattle.rows.specs.Contents.{Contents}
-use Rattle.world.specs.Pieces.{further_pieces}
+use Rattle.tables_sql.specs.Contents.{Contents}
+use Rattle.tables_world.specs.Pieces.{further_pieces}
 use Rattle.tables.specs.Rewritten.{put_pieces}
-use Rattle.table_statements.proofs.Going.{Goes}
+use Rattle.tables_sql.proofs.Going.{Goes}
 use Rattle.tables.proofs.Cuts.{left_from}
 use Rattle.tables.proofs.cutting.put_pieces.Given as goal
 

@@ -2,16 +2,16 @@ use Rattle.std.proofs.Common.{◌≡◌, ℕ, ◌+◌, ◌<◌, length, arith, d
 use Rattle.std.specs.List.{zip}
 use Rattle.std.specs.FinMap as finite
 use Rattle.sqlite.specs.Held.{state}
-use Rattle.rows.specs.Contents.{Contents, contents_of, pair_cmp}
-use Rattle.world.specs.World.{Path}
-use Rattle.index.proofs.Ordered.{from_true}
+use Rattle.tables_sql.specs.Contents.{Contents, contents_of, pair_cmp}
+use Rattle.model.specs.World.{Path}
+use Rattle.tables_outline.proofs.Ordered.{from_true}
 use Rattle.tables.specs.Rewritten.{put_outputs}
-use Rattle.table_statements.proofs.Going.{goes_first, goes_next, goes_done}
+use Rattle.tables_sql.proofs.Going.{goes_first, goes_next, goes_done}
 use Rattle.tables.proofs.Free.{AreFree, all_free, free_next}
 use Rattle.tables.proofs.Kept.{clean_before}
 use Rattle.tables.proofs.Lists.{zip_at, no_pairs_left}
-use Rattle.table_statements.proofs.Transactions.{survives_none}
-use Rattle.table_statements.proofs.TestFailures.{survives_both}
+use Rattle.tables_sql.proofs.Transactions.{survives_none}
+use Rattle.tables_sql.proofs.TestFailures.{survives_both}
 use Rattle.tables.proofs.objects.put_outputs.Goals as goal
 
 pub outputs-init : goal.outputs-init

@@ -2,9 +2,9 @@ use Rattle.std.proofs.Common.{◌≡◌, drop, map, string_bytes}
 use Rattle.std.specs.List.{zip}
 use Rattle.sqlite.specs.State.{HasCleanDisk, Survives}
 use Rattle.sqlite.specs.Held.{state}
-use Rattle.rows.specs.Contents.{Contents, contents_of}
+use Rattle.tables_sql.specs.Contents.{Contents, contents_of}
 use Rattle.tables.specs.Rewritten.{put_outputs}
-use Rattle.table_statements.proofs.Going.{Goes}
+use Rattle.tables_sql.proofs.Going.{Goes}
 use Rattle.tables.proofs.Free.{AreFree}
 use Rattle.tables.proofs.objects.put_outputs.Given as goal
 

@@ -1,14 +1,14 @@
 use Rattle.std.proofs.Common.{◌≡◌, ◌+◌, ◌∷◌, drop, refl, sym, ap, ◌∙◌, List}
 use Rattle.std.specs.FinMap as finite
 use Rattle.sqlite.specs.Held.{state}
-use Rattle.rows.specs.Contents.{Contents, contents_of}
-use Rattle.world.specs.World.{Path}
+use Rattle.tables_sql.specs.Contents.{Contents, contents_of}
+use Rattle.model.specs.World.{Path}
 use Rattle.tables.specs.Rewritten.{put_references}
-use Rattle.table_statements.proofs.Going.{goes_first, goes_next}
-use Rattle.table_statements.proofs.Transactions.{survives_none}
+use Rattle.tables_sql.proofs.Going.{goes_first, goes_next}
+use Rattle.tables_sql.proofs.Transactions.{survives_none}
 use Rattle.tables.proofs.Kept.{clean_before}
 use Rattle.tables.proofs.Lists.{left_at}
-use Rattle.table_statements.proofs.TestFailures.{survives_both}
+use Rattle.tables_sql.proofs.TestFailures.{survives_both}
 use Rattle.tables.proofs.objects.put_references.Goals as goal
 
 pub targets-init : goal.targets-init

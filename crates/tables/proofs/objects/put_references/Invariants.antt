@@ -1,9 +1,9 @@
 use Rattle.std.proofs.Common.{◌≡◌, drop}
 use Rattle.sqlite.specs.State.{HasCleanDisk, Survives}
 use Rattle.sqlite.specs.Held.{state}
-use Rattle.rows.specs.Contents.{Contents}
+use Rattle.tables_sql.specs.Contents.{Contents}
 use Rattle.tables.specs.Rewritten.{put_references}
-use Rattle.table_statements.proofs.Going.{Goes}
+use Rattle.tables_sql.proofs.Going.{Goes}
 use Rattle.tables.proofs.objects.put_references.Given as goal
 
 -- what is left to write

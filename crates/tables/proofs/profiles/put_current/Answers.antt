@@ -2,13 +2,13 @@ use Rattle.std.proofs.Common.{ℕ, List, ap, ◌∙◌}
 use Rattle.std.specs.Prelude.{pos}
 use Rattle.std.specs.FinMap as finite
 use Rattle.sqlite.specs.Held.{state}
-use Rattle.rows.specs.Contents.{Contents}
-use Rattle.index.proofs.Orders.{pair_total, pair_antisymmetric}
-use Rattle.index.proofs.Puts.{put_over}
+use Rattle.tables_sql.specs.Contents.{Contents}
+use Rattle.tables_outline.proofs.Orders.{pair_total, pair_antisymmetric}
+use Rattle.tables_outline.proofs.Puts.{put_over}
 use Rattle.tables.proofs.Parts.{without_pair}
-use Rattle.table_statements.proofs.Transactions.{done_both, failed_next}
-use Rattle.table_statements.proofs.Steps.{under_after}
-use Rattle.table_statements.proofs.TestFailures.{survives_both}
+use Rattle.tables_sql.proofs.Transactions.{done_both, failed_next}
+use Rattle.tables_sql.proofs.Steps.{under_after}
+use Rattle.tables_sql.proofs.TestFailures.{survives_both}
 use Rattle.tables.proofs.profiles.put_current.Goals as goal
 
 pub insert-requires : goal.insert-requires

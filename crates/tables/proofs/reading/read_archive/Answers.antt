@@ -6,13 +6,13 @@ use Rattle.sqlite.specs.State.{HasCleanDisk}
 use Rattle.sqlite.specs.Held.{state}
 use Rattle.sqlite.proofs.Callers.{unchanged_then}
 use Rattle.paths.specs.Root.{bytes_cmp}
-use Rattle.rows.specs.Forms.{piece}
-use Rattle.rows.specs.Calls.{HasFurther}
-use Rattle.rows.specs.Contents.{contents_of}
-use Rattle.rows.specs.Entries.{IsStored, stored_of}
-use Rattle.table_statements.proofs.Steps.{shown_then}
+use Rattle.tables_schema.specs.Forms.{piece}
+use Rattle.tables_sql.specs.Calls.{HasFurther}
+use Rattle.tables_sql.specs.Contents.{contents_of}
+use Rattle.tables_sql.specs.Entries.{IsStored, stored_of}
+use Rattle.tables_sql.proofs.Steps.{shown_then}
 use Rattle.tables.proofs.ReadArchives.{none_read, all_read, row_read}
-use Rattle.table_statements.proofs.TestFailures.{survives_both}
+use Rattle.tables_sql.proofs.TestFailures.{survives_both}
 use Rattle.tables.proofs.reading.read_archive.Goals as goal
 
 pub of-requires-clause-stands : goal.of-requires-clause-stands

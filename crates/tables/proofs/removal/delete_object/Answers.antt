@@ -3,13 +3,13 @@ use Rattle.std.specs.FinMap as finite
 use Rattle.sqlite.specs.State.{HasCleanDisk}
 use Rattle.sqlite.specs.Held.{state}
 use Rattle.live.specs.Graph.{same}
-use Rattle.rows.specs.Contents.{Contents, contents_of}
-use Rattle.table_statements.proofs.Transactions.{done_both, failed_next, steps_both}
-use Rattle.table_statements.proofs.Steps.{under_after}
+use Rattle.tables_sql.specs.Contents.{Contents, contents_of}
+use Rattle.tables_sql.proofs.Transactions.{done_both, failed_next, steps_both}
+use Rattle.tables_sql.proofs.Steps.{under_after}
 use Rattle.tables.specs.Rewritten.{without_object}
 use Rattle.tables.proofs.Covered.{references_told, outputs_told, pieces_told, alone_goes}
 use Rattle.tables.proofs.Failing.{err_kept}
-use Rattle.table_statements.proofs.TestFailures.{survives_both}
+use Rattle.tables_sql.proofs.TestFailures.{survives_both}
 use Rattle.tables.proofs.Transactions.{changes_at, pieces_stand}
 use Rattle.tables.proofs.removal.delete_object.Goals as goal
 

@@ -1,15 +1,15 @@
 use Rattle.std.proofs.Common.{◌≡◌, ◌+◌, ◌∷◌, drop, length, arith, refl, sym, ap, subst, ◌∙◌, List}
 use Rattle.sqlite.specs.Held.{state}
-use Rattle.rows.specs.Contents.{contents_of}
-use Rattle.world.specs.World.{Path}
+use Rattle.tables_sql.specs.Contents.{contents_of}
+use Rattle.model.specs.World.{Path}
 use Rattle.tables.specs.Rewritten.{Covers, without_object, without_objects}
-use Rattle.table_statements.proofs.Going.{goes_first, goes_next, goes_done}
-use Rattle.table_statements.proofs.Transactions.{survives_none}
+use Rattle.tables_sql.proofs.Going.{goes_first, goes_next, goes_done}
+use Rattle.tables_sql.proofs.Transactions.{survives_none}
 use Rattle.tables.proofs.Covered.{covers_less}
 use Rattle.tables.proofs.Kept.{clean_before}
 use Rattle.tables.proofs.Lists.{left_at, none_left}
 use Rattle.tables.proofs.Removed.{without_none, without_next}
-use Rattle.table_statements.proofs.TestFailures.{survives_both}
+use Rattle.tables_sql.proofs.TestFailures.{survives_both}
 use Rattle.tables.proofs.Transactions.{pieces_stand}
 use Rattle.tables.proofs.removal.delete_objects.Goals as goal
 

@@ -1,9 +1,9 @@
 use Rattle.std.proofs.Common.{◌≡◌, drop}
 use Rattle.sqlite.specs.State.{HasCleanDisk, Survives}
 use Rattle.sqlite.specs.Held.{state}
-use Rattle.rows.specs.Contents.{contents_of}
+use Rattle.tables_sql.specs.Contents.{contents_of}
 use Rattle.tables.specs.Rewritten.{Covers, without_objects}
-use Rattle.table_statements.proofs.Going.{Goes}
+use Rattle.tables_sql.proofs.Going.{Goes}
 use Rattle.tables.proofs.removal.delete_objects.Given as goal
 
 -- what is left to remove, and that the index tells of the rows that are left

@@ -1,5 +1,5 @@
 use Rattle.std.proofs.Common.{◌≡◌, ◌+◌, ◌∷◌, drop, length, arith, sym, ap, ◌∙◌, List}
-use Rattle.world.specs.World.{Path}
+use Rattle.model.specs.World.{Path}
 use Rattle.tables.proofs.Lists.{left_at, none_left}
 use Rattle.tables.proofs.Removed.{outline_without, outline_none, outline_next}
 use Rattle.tables.proofs.removal.remove_all.Goals as goal

@@ -1,13 +1,13 @@
 use Rattle.std.proofs.Common.{◌≡◌, ◌∷◌, map, refl, sym, ap, ap₂, ◌∙◌, List}
 use Rattle.std.specs.FinMap as finite
 use Rattle.sqlite.specs.Held.{state}
-use Rattle.rows.specs.Contents.{Contents, contents_of, Pair}
-use Rattle.index.specs.Maps.{labelled_bytes}
+use Rattle.tables_sql.specs.Contents.{Contents, contents_of, Pair}
+use Rattle.tables_outline.specs.Maps.{labelled_bytes}
 use Rattle.tables.specs.Rewritten.{put_pairs}
-use Rattle.table_statements.proofs.Going.{goes_first, goes_next}
-use Rattle.table_statements.proofs.Transactions.{survives_none}
+use Rattle.tables_sql.proofs.Going.{goes_first, goes_next}
+use Rattle.tables_sql.proofs.Transactions.{survives_none}
 use Rattle.tables.proofs.Kept.{clean_before}
-use Rattle.table_statements.proofs.TestFailures.{survives_both}
+use Rattle.tables_sql.proofs.TestFailures.{survives_both}
 use Rattle.tables.proofs.runtime.put_runtime.Goals as goal
 
 pub roots-init : goal.roots-init

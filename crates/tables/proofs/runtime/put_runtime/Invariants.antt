@@ -1,10 +1,10 @@
 use Rattle.std.proofs.Common.{◌≡◌, map}
 use Rattle.sqlite.specs.State.{HasCleanDisk, Survives}
 use Rattle.sqlite.specs.Held.{state}
-use Rattle.rows.specs.Contents.{Contents}
-use Rattle.index.specs.Maps.{labelled_bytes}
+use Rattle.tables_sql.specs.Contents.{Contents}
+use Rattle.tables_outline.specs.Maps.{labelled_bytes}
 use Rattle.tables.specs.Rewritten.{put_pairs}
-use Rattle.table_statements.proofs.Going.{Goes}
+use Rattle.tables_sql.proofs.Going.{Goes}
 use Rattle.tables.proofs.runtime.put_runtime.Given as goal
 
 -- what is left to write

@@ -1,8 +1,8 @@
 use Rattle.std.proofs.Common.{Err, ap, refl, subst, sym}
 use Rattle.std.specs.Prelude.{is_ok}
-use Rattle.store.specs.Request.{add_source}
-use Rattle.store_requests.specs.declared.requests.Request.TheVariants.{AddSource}
-use Rattle.command_line.specs.Asked.{object_view}
+use Rattle.model.specs.Request.{add_source}
+use Rattle.store_types.specs.declared.requests.Request.TheVariants.{AddSource}
+use Rattle.tool_words.specs.Asked.{object_view}
 use Rattle.nar.specs.Tree.{IsBytes}
 use Rattle.intake.specs.Arriving.{bytes_in}
 use Rattle.tool.specs.Requests.{Gives, StepsAs, on_object, with_bytes}

@@ -1,8 +1,8 @@
 use Rattle.std.proofs.Common.{Err, ap, refl, subst, sym}
 use Rattle.std.specs.Prelude.{is_ok}
-use Rattle.store.specs.Request.{add_text}
-use Rattle.store_requests.specs.declared.requests.Request.TheVariants.{AddText}
-use Rattle.command_line.specs.Asked.{object_view}
+use Rattle.model.specs.Request.{add_text}
+use Rattle.store_types.specs.declared.requests.Request.TheVariants.{AddText}
+use Rattle.tool_words.specs.Asked.{object_view}
 use Rattle.tool.specs.Requests.{Gives, StepsAs, on_object, with_bytes}
 use Rattle.tool.proofs.Fronted.{contents_step}
 use Rattle.tool.proofs.Requested.{object_asked, over}

@@ -4,8 +4,8 @@ use Rattle.std.proofs.lemmas.List.Folds.{list_all-map}
 use Rattle.std.proofs.lemmas.Simd.{map-map}
 use Rattle.clap.specs.Walk.{texts}
 use Rattle.paths.specs.StorePath.{base_of}
-use Rattle.command_line.specs.Asked.{object_view}
-use Rattle.pure_commands.specs.Object.{is_path_text}
+use Rattle.tool_words.specs.Asked.{object_view}
+use Rattle.tool_pure.specs.Object.{is_path_text}
 use Rattle.tool.proofs.Requested.{no_name, no_reference, object_is}
 use Rattle.tool.proofs.adds.parse_arguments.Goals as goal
 

@@ -1,6 +1,6 @@
 use Rattle.std.proofs.Common.{arith}
-use Rattle.pure_commands.proofs.Results.{within}
-use Rattle.command_line.specs.Asked.{object_view}
+use Rattle.tool_pure.proofs.Results.{within}
+use Rattle.tool_words.specs.Asked.{object_view}
 use Rattle.tool.proofs.Answered.{text_stopped}
 use Rattle.tool.proofs.answers.text_path_under.Goals as goal
 

@@ -1,5 +1,5 @@
 use Rattle.std.proofs.Common.{inl}
-use Rattle.command_line.specs.Asked.{optional_text}
+use Rattle.tool_words.specs.Asked.{optional_text}
 use Rattle.policy.specs.Toml.{config_of}
 use Rattle.tool.specs.Callers.{AnswersCaller}
 use Rattle.tool.proofs.Answered.{stopped_under}

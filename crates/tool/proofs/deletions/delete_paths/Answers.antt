@@ -4,9 +4,9 @@ use Rattle.std.proofs.lemmas.List.Folds.{list_all-map}
 use Rattle.std.proofs.lemmas.Simd.{map-map}
 use Rattle.clap.specs.Walk.{texts}
 use Rattle.paths.specs.StorePath.{base_of}
-use Rattle.store.specs.Request.{delete}
-use Rattle.store_requests.specs.declared.requests.Request.TheVariants.{Delete}
-use Rattle.pure_commands.specs.Object.{is_path_text}
+use Rattle.model.specs.Request.{delete}
+use Rattle.store_types.specs.declared.requests.Request.TheVariants.{Delete}
+use Rattle.tool_pure.specs.Object.{is_path_text}
 use Rattle.tool.proofs.Requested.{paths_asked, paths_refused}
 use Rattle.tool.proofs.deletions.delete_paths.Goals as goal
 

@@ -1,9 +1,8 @@
 use Rattle.std.proofs.Common.{Err, refl, ap, ◌∙◌}
-use Rattle.store.specs.Request.{import_object}
-use Rattle.store_requests.specs.declared.requests.Request.TheVariants.{Import}
-use Rattle.store_requests.specs.View.{request_view}
-use Rattle.intake.specs.Arriving.{bytes_in}
-use Rattle.tool.specs.Bodies.{IsImported, imported}
+use Rattle.model.specs.Request.{import_object}
+use Rattle.store_types.specs.View.{request_view}
+use Rattle.wire_requests.specs.View.{imported}
+use Rattle.tool.specs.Bodies.{IsImported}
 use Rattle.tool.proofs.Whole.{body_refused}
 use Rattle.tool.proofs.Requested.{same_steps}
 use Rattle.tool.proofs.handed.parse_import.Goals as goal
@@ -15,6 +14,6 @@ returns-in-Err c =
 
 pub returns-in-Ok : goal.returns-in-Ok
 returns-in-Ok c =
-    let nar = bytes_in c.in-Ok.nar in
-    let wanted = import_object (imported c.in-Ok.head nar) in
-    (wanted, (c.in-Ok.head, nar, c.in-Ok.ensures.ok, refl), same_steps (request_view (Import c.imported_of.result)) wanted (ap import_object c.imported_of.ensures))
+    let asked = c.in-Ok.ensures.ok in
+    let wanted = import_object (imported asked.0 asked.1) in
+    (wanted, (asked.0, asked.1, asked.2, refl), same_steps (request_view c.in-Ok.request) wanted asked.3)

@@ -1,8 +1,8 @@
 use Rattle.std.proofs.Common.{Err, refl, ap, ◌∙◌}
-use Rattle.store.specs.Request.{replace_runtime}
-use Rattle.store_requests.specs.declared.requests.Request.TheVariants.{ReplaceRuntime}
-use Rattle.store_requests.specs.View.{request_view}
-use Rattle.bodies.specs.Bodies.{labelled}
+use Rattle.model.specs.Request.{replace_runtime}
+use Rattle.store_types.specs.declared.requests.Request.TheVariants.{ReplaceRuntime}
+use Rattle.store_types.specs.View.{request_view}
+use Rattle.wire_bodies.specs.Bodies.{labelled}
 use Rattle.tool.specs.Bodies.{IsReplaced}
 use Rattle.tool.proofs.Whole.{body_refused}
 use Rattle.tool.proofs.Requested.{same_steps}

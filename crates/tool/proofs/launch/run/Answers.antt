@@ -1,4 +1,4 @@
-use Rattle.command_line.specs.Line.{line_view}
+use Rattle.tool_words.specs.Line.{line_view}
 use Rattle.tool.proofs.Answered.{line_refused, line_run}
 use Rattle.tool.proofs.launch.run.Goals as goal
 

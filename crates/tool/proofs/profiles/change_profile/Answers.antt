@@ -1,6 +1,6 @@
 use Rattle.std.proofs.Common.{ap, ◌∙◌}
-use Rattle.store.specs.Request as request
-use Rattle.command_line.specs.Asked.{on_profile_view, optional_text}
+use Rattle.model.specs.Request as request
+use Rattle.tool_words.specs.Asked.{on_profile_view, optional_text}
 use Rattle.tool.specs.Requests.{change_profile, owner_of}
 use Rattle.tool.proofs.Requested.{made_asked, path_is}
 use Rattle.tool.proofs.profiles.change_profile.Goals as goal

@@ -1,6 +1,6 @@
 use Rattle.std.proofs.Common.{refl}
-use Rattle.store.specs.Request as request
-use Rattle.store_requests.specs.declared.requests.Request.TheVariants.{Nar}
+use Rattle.model.specs.Request as request
+use Rattle.store_types.specs.declared.requests.Request.TheVariants.{Nar}
 use Rattle.tool.proofs.Requested.{path_asked}
 use Rattle.tool.proofs.requests.cat_nar.Goals as goal
 

@@ -1,8 +1,8 @@
 use Rattle.std.proofs.Common.{◌≡◌, true, false, ap, refl, Ok, sym, ◌∙◌}
 use Rattle.clap.specs.Walk.{texts}
-use Rattle.store.specs.Request as request
-use Rattle.store_requests.specs.declared.requests.Request.TheVariants.{Collect, List, ListDead, ListLive, ListRoots, Report}
-use Rattle.command_line.specs.Asked.{asked_view, on_profile_view, on_session_view, optional_text}
+use Rattle.model.specs.Request as request
+use Rattle.store_types.specs.declared.requests.Request.TheVariants.{Collect, List, Dead, Live, ListRoots, Report}
+use Rattle.tool_words.specs.Asked.{asked_view, on_profile_view, on_session_view, optional_text}
 use Rattle.tool.specs.Requests.{asks, import_body, reads_all, runtime_body, change_profile, change_session, drop_root, on_path, on_paths, owner_of, set_root}
 use Rattle.tool.proofs.Requested.{arm, plain_arm, unread_arm, unroot_asks}
 use Rattle.tool.proofs.requests.request.Goals as goal
@@ -13,11 +13,11 @@ returns-in-List-clause-asked g c =
 
 pub returns-in-Live-clause-asked : goal.returns-in-Live-clause-asked
 returns-in-Live-clause-asked g c =
-    plain_arm (asked_view c.args.task.now) request.list_live c.args.dir.now c.args.caller.now (g.R.Read.remaining c.args.input.now) ListLive (ap (λ t. asks (asked_view t)) c.in-Live.is) refl
+    plain_arm (asked_view c.args.task.now) request.list_live c.args.dir.now c.args.caller.now (g.R.Read.remaining c.args.input.now) Live (ap (λ t. asks (asked_view t)) c.in-Live.is) refl
 
 pub returns-in-Dead-clause-asked : goal.returns-in-Dead-clause-asked
 returns-in-Dead-clause-asked g c =
-    plain_arm (asked_view c.args.task.now) request.list_dead c.args.dir.now c.args.caller.now (g.R.Read.remaining c.args.input.now) ListDead (ap (λ t. asks (asked_view t)) c.in-Dead.is) refl
+    plain_arm (asked_view c.args.task.now) request.list_dead c.args.dir.now c.args.caller.now (g.R.Read.remaining c.args.input.now) Dead (ap (λ t. asks (asked_view t)) c.in-Dead.is) refl
 
 pub returns-in-Roots-clause-asked : goal.returns-in-Roots-clause-asked
 returns-in-Roots-clause-asked g c =

@@ -1,4 +1,4 @@
-use Rattle.command_line.specs.Asked.{optional_text}
+use Rattle.tool_words.specs.Asked.{optional_text}
 use Rattle.policy.specs.Toml.{config_of}
 use Rattle.tool.specs.Serving.{ServesIn}
 use Rattle.tool.proofs.Answered.{stopped_under}

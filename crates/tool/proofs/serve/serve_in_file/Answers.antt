@@ -1,6 +1,6 @@
 use Rattle.std.proofs.Common.{List, ℕ, inl, inr, subst}
 use Rattle.sqlite_wal.specs.Files.{image_at}
-use Rattle.opening.specs.Opened.{IsUnopened, Opens}
+use Rattle.tables.specs.Opened.{IsUnopened, Opens}
 use Rattle.tool.specs.Files.{TellsCause}
 use Rattle.tool.proofs.serve.serve_in_file.Goals as goal
 

@@ -1,5 +1,5 @@
 use Rattle.std.proofs.Common.{inl}
-use Rattle.world.specs.World.{no_world}
+use Rattle.model.specs.World.{no_world}
 use Rattle.sqlite.proofs.Callers.{memory_is_clean}
 use Rattle.tool.proofs.serve.serve_in_memory.Goals as goal
 

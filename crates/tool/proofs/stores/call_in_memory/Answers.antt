@@ -1,7 +1,7 @@
 use Rattle.std.proofs.Common.{inl}
 use Rattle.sqlite.specs.Steps.{over_memory}
 use Rattle.sqlite.proofs.Callers.{memory_is_clean}
-use Rattle.world.specs.World.{no_world}
+use Rattle.model.specs.World.{no_world}
 use Rattle.tool.specs.Calls.{AnswersStep, Serves}
 use Rattle.tool.proofs.Called.{of_each, stepped}
 use Rattle.tool.proofs.stores.call_in_memory.Goals as goal

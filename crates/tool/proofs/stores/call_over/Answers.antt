@@ -1,5 +1,5 @@
 use Rattle.std.proofs.Common.{List, ℕ, Ok, Err, subst}
-use Rattle.store_requests.specs.View.{request_view}
+use Rattle.store_types.specs.View.{request_view}
 use Rattle.tool.specs.Calls.{Serves}
 use Rattle.tool.specs.Requests.{IsAskedBy}
 use Rattle.tool.proofs.Called.{asked, served, stopped_over}

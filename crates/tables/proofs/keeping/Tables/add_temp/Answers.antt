@@ -1,10 +1,10 @@
 use Rattle.std.proofs.Common.{ℕ, List, ap}
 use Rattle.std.specs.Prelude.{pos}
 use Rattle.std.specs.FinMap as finite
-use Rattle.rows.specs.Contents.{Contents}
+use Rattle.tables_sql.specs.Contents.{Contents}
 use Rattle.paths.specs.Root.{Set}
-use Rattle.world.specs.World.{temporary_cmp}
-use Rattle.index.specs.Maps.{temporary_bytes}
+use Rattle.model.specs.World.{temporary_cmp}
+use Rattle.tables_outline.specs.Maps.{temporary_bytes}
 use Rattle.tables.specs.Sessions.{keeps}
 use Rattle.tables.proofs.SessionRows.{added_follows}
 use Rattle.tables.proofs.SessionChanges.{temporary_agree, temporary_told, temporary_survive, temporary_put, temporary_undone}

@@ -3,10 +3,10 @@ use Rattle.std.specs.Ordering.{eq_by_cmp, int_cmp}
 use Rattle.paths.specs.Root.{bytes_cmp}
 use Rattle.std.specs.Prelude.{pos}
 use Rattle.std.specs.FinMap as finite
-use Rattle.rows.specs.Contents.{Contents}
-use Rattle.world.specs.World.{Pair}
-use Rattle.world.specs.Profiles.{without_generation}
-use Rattle.index.specs.Outline.{with_profile, profile_of, Outline}
+use Rattle.tables_sql.specs.Contents.{Contents}
+use Rattle.model.specs.World.{Pair}
+use Rattle.model.specs.Profiles.{without_generation}
+use Rattle.tables_outline.specs.Outline.{with_profile, profile_of, Outline}
 use Rattle.tables.specs.Kept.{Kept}
 use Rattle.tables.proofs.ProfileWrites.{profile_agrees, profile_told, profile_survive, drop_follows}
 use Rattle.tables.proofs.Kept.{agrees_failed, told_failed}

@@ -1,7 +1,7 @@
 use Rattle.std.proofs.Common.{refl, ap, ◌∙◌}
 use Rattle.std.specs.FinMap as finite
 use Rattle.paths.specs.Root.{bytes_cmp, Set}
-use Rattle.world.specs.World.{Path, Pair, pair_cmp}
+use Rattle.model.specs.World.{Path, Pair, pair_cmp}
 use Rattle.tables.proofs.RootChanges.{roots_agree, roots_told, roots_survive}
 use Rattle.tables.proofs.Kept.{agrees_failed, told_failed}
 use Rattle.tables.proofs.keeping.Tables.drop_user_root.Goals as goal

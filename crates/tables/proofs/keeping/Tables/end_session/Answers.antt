@@ -3,8 +3,8 @@ use Rattle.std.specs.Prelude.{pos}
 use Rattle.std.specs.Ordering.{eq_by_cmp, int_cmp}
 use Rattle.std.specs.FinMap as finite
 use Rattle.paths.specs.Root.{bytes_cmp}
-use Rattle.rows.specs.Contents.{Contents}
-use Rattle.index.specs.Sessions.{without_session}
+use Rattle.tables_sql.specs.Contents.{Contents}
+use Rattle.tables_outline.specs.Sessions.{without_session}
 use Rattle.tables.proofs.SessionRows.{ended_follows}
 use Rattle.tables.proofs.SessionChanges.{temporary_agree, temporary_told, temporary_survive}
 use Rattle.tables.proofs.Kept.{agrees_failed, told_failed}

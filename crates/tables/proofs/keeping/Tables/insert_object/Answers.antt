@@ -3,9 +3,9 @@ use Rattle.std.specs.FinMap as finite
 use Rattle.std.proofs.lemmas.Bool.{false≢true}
 use Rattle.std.proofs.lemmas.Option.{same_Some}
 use Rattle.sqlite.specs.Held.{state}
-use Rattle.rows.specs.Contents.{contents_of}
-use Rattle.rows.specs.Entries.{stored}
-use Rattle.world.specs.Pieces.{row_part, further_pieces}
+use Rattle.tables_sql.specs.Contents.{contents_of}
+use Rattle.tables_sql.specs.Entries.{stored}
+use Rattle.tables_world.specs.Pieces.{row_part, further_pieces}
 use Rattle.tables.specs.Kept.{Kept}
 use Rattle.tables.specs.Rewritten.{put_object}
 use Rattle.tables.proofs.Transactions.{survives_as, written_as}

@@ -1,10 +1,10 @@
 use Rattle.std.proofs.Common.{ℕ, List, ap, ◌∙◌}
 use Rattle.std.specs.FinMap as finite
-use Rattle.rows.specs.Contents.{Contents}
-use Rattle.world.specs.World.{Pair}
-use Rattle.world.specs.Profiles.{put_at}
-use Rattle.index.specs.Maps.{pair_bytes}
-use Rattle.index.specs.Outline.{profile_of}
+use Rattle.tables_sql.specs.Contents.{Contents}
+use Rattle.model.specs.World.{Pair}
+use Rattle.model.specs.Profiles.{put_at}
+use Rattle.tables_outline.specs.Maps.{pair_bytes}
+use Rattle.tables_outline.specs.Outline.{profile_of}
 use Rattle.tables.specs.Kept.{Kept}
 use Rattle.tables.specs.Rewritten.{add_generation}
 use Rattle.tables.proofs.Transactions.{survives_as, written_as}

@@ -1,9 +1,9 @@
 use Rattle.std.proofs.Common.{ℕ, List, string_bytes, ap}
 use Rattle.std.specs.FinMap as finite
 use Rattle.paths.specs.Root.{bytes_cmp, Set}
-use Rattle.world.specs.World.{Path, pair_cmp}
+use Rattle.model.specs.World.{Path, pair_cmp}
 use Rattle.tables.proofs.RootChanges.{roots_agree, roots_told, roots_survive}
-use Rattle.rows.specs.Contents.{Contents}
+use Rattle.tables_sql.specs.Contents.{Contents}
 use Rattle.tables.proofs.Transactions.{survives_as, written_as}
 use Rattle.tables.proofs.Kept.{agrees_failed, told_failed}
 use Rattle.tables.proofs.PutRoots.{permanent_put, permanent_there, permanent_undone}

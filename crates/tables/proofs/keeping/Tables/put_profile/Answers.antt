@@ -1,9 +1,9 @@
 use Rattle.std.proofs.Common.{sym, ap₂, ◌∙◌}
 use Rattle.std.specs.FinMap as finite
 use Rattle.sqlite.specs.Held.{state}
-use Rattle.world.specs.World.{Pair}
-use Rattle.world.specs.Profiles.{has_generation, put_at, switched}
-use Rattle.index.specs.Outline.{profile_of}
+use Rattle.model.specs.World.{Pair}
+use Rattle.model.specs.Profiles.{has_generation, put_at, switched}
+use Rattle.tables_outline.specs.Outline.{profile_of}
 use Rattle.tables.specs.Kept.{Kept}
 use Rattle.tables.proofs.NumbersLeft.{set_is_switch, set_is_new, there_of}
 use Rattle.tables.proofs.SetProfiles.{set_sound, set_done, set_survives}

@@ -1,5 +1,5 @@
 use Rattle.std.proofs.Common.{refl, sym, ap}
-use Rattle.rows.specs.Contents.{Contents}
+use Rattle.tables_sql.specs.Contents.{Contents}
 use Rattle.tables.specs.Rewritten.{without_objects}
 use Rattle.tables.proofs.Covered.{covered}
 use Rattle.tables.proofs.Transactions.{survives_as, written_as}

@@ -1,8 +1,8 @@
 use Rattle.std.proofs.Common.{refl}
 use Rattle.std.specs.FinMap as finite
 use Rattle.paths.specs.Root.{bytes_cmp, Set}
-use Rattle.world.specs.World.{Path, pair_cmp}
-use Rattle.index.specs.Maps.{labelled_bytes, seen_set}
+use Rattle.model.specs.World.{Path, pair_cmp}
+use Rattle.tables_outline.specs.Maps.{labelled_bytes, seen_set}
 use Rattle.tables.proofs.RootChanges.{roots_agree, roots_told, roots_survive}
 use Rattle.tables.proofs.Kept.{agrees_failed, told_failed}
 use Rattle.tables.proofs.keeping.Tables.replace_runtime.Goals as goal

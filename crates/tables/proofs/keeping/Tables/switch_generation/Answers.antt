@@ -1,10 +1,10 @@
 use Rattle.std.proofs.Common.{refl, ap, ◌∙◌}
 use Rattle.std.specs.Prelude.{pos}
 use Rattle.std.specs.FinMap as finite
-use Rattle.rows.specs.Contents.{Contents}
-use Rattle.world.specs.World.{Pair}
-use Rattle.world.specs.Profiles.{switched}
-use Rattle.index.specs.Outline.{with_profile, profile_of}
+use Rattle.tables_sql.specs.Contents.{Contents}
+use Rattle.model.specs.World.{Pair}
+use Rattle.model.specs.Profiles.{switched}
+use Rattle.tables_outline.specs.Outline.{with_profile, profile_of}
 use Rattle.tables.specs.Kept.{Kept}
 use Rattle.tables.proofs.ProfileWrites.{profile_agrees, profile_told, profile_survive, switch_follows}
 use Rattle.tables.proofs.Kept.{agrees_failed, told_failed}

@@ -5,15 +5,15 @@ use Rattle.std.specs.FinMap.Entries.{is_sorted}
 use Rattle.paths.specs.Root.{bytes_cmp}
 use Rattle.sqlite.specs.State.{HasCleanDisk}
 use Rattle.sqlite.specs.Held.{state}
-use Rattle.rows.specs.Contents.{Contents}
-use Rattle.rows.specs.Entries.{stored}
-use Rattle.world.specs.Pieces.{further_pieces}
+use Rattle.tables_sql.specs.Contents.{Contents}
+use Rattle.tables_sql.specs.Entries.{stored}
+use Rattle.tables_world.specs.Pieces.{further_pieces}
 use Rattle.tables.specs.Rewritten.{put_object}
 use Rattle.tables.proofs.Lists.{zipped, keys_count, sorted_is}
-use Rattle.table_statements.proofs.Transactions.{done_both, failed_next, steps_both}
-use Rattle.table_statements.proofs.Steps.{under_after}
+use Rattle.tables_sql.proofs.Transactions.{done_both, failed_next, steps_both}
+use Rattle.tables_sql.proofs.Steps.{under_after}
 use Rattle.tables.proofs.Failing.{err_kept}
-use Rattle.table_statements.proofs.TestFailures.{survives_both}
+use Rattle.tables_sql.proofs.TestFailures.{survives_both}
 use Rattle.tables.proofs.Transactions.{pieces_stand}
 use Rattle.tables.proofs.objects.InsertObjectChange.write.Goals as goal
 

@@ -2,7 +2,7 @@ use Rattle.std.proofs.Common.{◌≡◌, ℕ, List, IsTrue, subst, ap, sym, ◌�
 use Rattle.sqlite.specs.State.{HasCleanDisk}
 use Rattle.sqlite.specs.Held.{state}
 use Rattle.sqlite.specs.Steps.{over_memory}
-use Rattle.table_making.specs.Making.{IsMade}
+use Rattle.tables_make.specs.Making.{IsMade}
 use Rattle.paths.specs.Names.{is_store_dir}
 use Rattle.tables.proofs.Made.{made_agrees, made_tells}
 use Rattle.tables.proofs.opening.Tables+MemStore.open_in_memory.Goals as goal

@@ -1,8 +1,8 @@
 use Rattle.std.proofs.Common.{ap}
 use Rattle.sqlite.specs.Held.{state}
-use Rattle.rows.specs.Contents.{Contents}
-use Rattle.index.proofs.Orders.{bytes_total, bytes_antisymmetric}
-use Rattle.index.proofs.Puts.{retained}
+use Rattle.tables_sql.specs.Contents.{Contents}
+use Rattle.tables_outline.proofs.Orders.{bytes_total, bytes_antisymmetric}
+use Rattle.tables_outline.proofs.Puts.{retained}
 use Rattle.tables.proofs.Transactions.{done_as}
 use Rattle.tables.proofs.permanent.DropPermanentChange.write.Goals as goal
 

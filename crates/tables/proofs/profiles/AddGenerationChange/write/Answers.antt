@@ -1,9 +1,9 @@
 use Rattle.std.proofs.Common.{refl, ◌∙◌}
 use Rattle.sqlite.specs.Held.{state}
-use Rattle.rows.specs.Contents.{Contents}
-use Rattle.table_statements.proofs.Transactions.{done_both, failed_next}
-use Rattle.table_statements.proofs.Steps.{under_after}
-use Rattle.table_statements.proofs.TestFailures.{survives_both}
+use Rattle.tables_sql.specs.Contents.{Contents}
+use Rattle.tables_sql.proofs.Transactions.{done_both, failed_next}
+use Rattle.tables_sql.proofs.Steps.{under_after}
+use Rattle.tables_sql.proofs.TestFailures.{survives_both}
 use Rattle.tables.proofs.profiles.AddGenerationChange.write.Goals as goal
 
 pub insert-requires : goal.insert-requires

@@ -1,12 +1,12 @@
 use Rattle.std.proofs.Common.{sym, subst, arith, ◌∙◌}
 use Rattle.sqlite.specs.State.{HasCleanDisk}
 use Rattle.sqlite.specs.Held.{state}
-use Rattle.table_statements.proofs.Transactions.{done_both, failed_next}
-use Rattle.table_statements.proofs.Steps.{under_after}
+use Rattle.tables_sql.proofs.Transactions.{done_both, failed_next}
+use Rattle.tables_sql.proofs.Steps.{under_after}
 use Rattle.tables.specs.Rewritten.{Covers}
 use Rattle.tables.proofs.Covered.{covers_less}
 use Rattle.tables.proofs.Removed.{without_next}
-use Rattle.table_statements.proofs.TestFailures.{survives_both}
+use Rattle.tables_sql.proofs.TestFailures.{survives_both}
 use Rattle.tables.proofs.Transactions.{pieces_stand}
 use Rattle.tables.proofs.removal.RemoveObjectsChange.write.Goals as goal
 

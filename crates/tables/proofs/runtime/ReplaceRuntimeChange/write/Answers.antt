@@ -1,11 +1,11 @@
 use Rattle.std.proofs.Common.{map, ap, ◌∙◌}
 use Rattle.sqlite.specs.Held.{state}
-use Rattle.rows.specs.Contents.{Contents}
-use Rattle.index.specs.Maps.{labelled_bytes}
-use Rattle.table_statements.proofs.Transactions.{done_both, failed_next}
-use Rattle.table_statements.proofs.Steps.{under_after}
+use Rattle.tables_sql.specs.Contents.{Contents}
+use Rattle.tables_outline.specs.Maps.{labelled_bytes}
+use Rattle.tables_sql.proofs.Transactions.{done_both, failed_next}
+use Rattle.tables_sql.proofs.Steps.{under_after}
 use Rattle.tables.proofs.PutPairs.{all_put}
-use Rattle.table_statements.proofs.TestFailures.{survives_both}
+use Rattle.tables_sql.proofs.TestFailures.{survives_both}
 use Rattle.tables.proofs.runtime.ReplaceRuntimeChange.write.Goals as goal
 
 pub put_runtime-requires-clause-under_way : goal.put_runtime-requires-clause-under_way

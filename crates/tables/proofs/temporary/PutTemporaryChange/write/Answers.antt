@@ -2,13 +2,13 @@ use Rattle.std.proofs.Common.{ap, ◌∙◌}
 use Rattle.std.specs.Prelude.{pos}
 use Rattle.std.specs.FinMap as finite
 use Rattle.sqlite.specs.Held.{state}
-use Rattle.rows.specs.Contents.{Contents, Kept}
-use Rattle.table_statements.proofs.Orders.{kept_total, kept_antisymmetric}
-use Rattle.table_statements.proofs.Transactions.{done_both, failed_next}
-use Rattle.table_statements.proofs.Steps.{under_after}
-use Rattle.index.proofs.Puts.{put_over}
+use Rattle.tables_sql.specs.Contents.{Contents, Kept}
+use Rattle.tables_sql.proofs.Orders.{kept_total, kept_antisymmetric}
+use Rattle.tables_sql.proofs.Transactions.{done_both, failed_next}
+use Rattle.tables_sql.proofs.Steps.{under_after}
+use Rattle.tables_outline.proofs.Puts.{put_over}
 use Rattle.tables.proofs.SessionRows.{without_one}
-use Rattle.table_statements.proofs.TestFailures.{survives_both}
+use Rattle.tables_sql.proofs.TestFailures.{survives_both}
 use Rattle.tables.proofs.Transactions.{temp_roots_stand}
 use Rattle.tables.proofs.temporary.PutTemporaryChange.write.Goals as goal
 

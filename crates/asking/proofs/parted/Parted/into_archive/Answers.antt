@@ -1,8 +1,0 @@
-use Rattle.std.proofs.Common.{ap, ◌∙◌}
-use Rattle.intake.specs.Arriving.{bytes_in}
-use Rattle.bodies.specs.Front.{rest_of}
-use Rattle.asking.proofs.Parting.{archive_is}
-use Rattle.asking.proofs.parted.Parted.into_archive.Goals as goal
-
-pub returns : goal.returns
-returns c = archive_is c.self.inside.front (bytes_in c.self.inside.archive) c.self.invariant ∙ ap rest_of c.self.view_is

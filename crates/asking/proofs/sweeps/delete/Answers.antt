@@ -1,8 +1,0 @@
-use Rattle.std.proofs.Common.{◌≡◌, Err, refl, ap, ◌∙◌}
-use Rattle.bodies.specs.declared.error.BodyError.TheVariants.{BadBodyHead}
-use Rattle.asking.proofs.sweeps.delete.Goals as goal
-
-pub returns-in-Err-BadBodyHead : goal.returns-in-Err-BadBodyHead
-returns-in-Err-BadBodyHead c = λ target.
-    let told : c.delete_body.result ≡ Err BadBodyHead = c.in-Err-BadBodyHead.is ∙ ap (λ e. Err e) c.in-Err-BadBodyHead.field-0-is in
-    (refl, λ q is. c.delete_body.ensures.bad told is.0 is.1)

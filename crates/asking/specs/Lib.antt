@@ -1,4 +1,0 @@
-pub mod View
-pub mod Asks
-pub mod Reads
-pub mod Kept

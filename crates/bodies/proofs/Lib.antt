@@ -1,4 +1,0 @@
-pub mod Reading
-pub mod ValueLemmas
-pub mod Alone
-pub mod Fronts

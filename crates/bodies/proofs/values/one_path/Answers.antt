@@ -1,6 +1,0 @@
-use Rattle.bodies.specs.Kinds.{path_text}
-use Rattle.bodies.proofs.ValueLemmas.{single_one}
-use Rattle.bodies.proofs.values.one_path.Goals as goal
-
-pub returns-in-One : goal.returns-in-One
-returns-in-One c = rw (single_one (path_text c.args.dir.now) _ c.in-One.text c.in-One.ensures) c.path_of.ensures

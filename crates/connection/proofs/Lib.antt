@@ -1,4 +1,0 @@
-mod Told
-mod Ends
-mod Turns
-mod Received

@@ -1,4 +1,0 @@
-pub mod Answers
-pub mod Sends
-pub mod Serves
-pub mod Exchanges

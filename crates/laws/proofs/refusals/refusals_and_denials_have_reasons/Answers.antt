@@ -1,0 +1,12 @@
+use Rattle.laws.proofs.NamedLive.{denials_are_for_the_first}
+use Rattle.laws.proofs.Reasons.{refusals_have_reasons, told_are_valid}
+use Rattle.laws.proofs.refusals.refusals_and_denials_have_reasons.Goals as goal
+
+pub returns-clause-refusals : goal.returns-clause-refusals
+returns-clause-refusals c = refusals_have_reasons
+
+pub returns-clause-told : goal.returns-clause-told
+returns-clause-told c = told_are_valid
+
+pub returns-clause-denials : goal.returns-clause-denials
+returns-clause-denials c = denials_are_for_the_first

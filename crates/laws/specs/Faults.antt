@@ -1,0 +1,99 @@
+-- Laws of refusals: which fault of a request is told.
+use Rattle.std.specs.Prelude.{◌≡◌, ℕ, ◌≤◌, ◌⊎◌, Bool, List, IsTrue, IsFalse, Contains}
+use Rattle.paths.specs.Names.{is_plain_name}
+use Rattle.model.specs.World.{Path, World, has}
+use Rattle.policy.specs.Settings.{Settings}
+use Rattle.policy.specs.Caller.{Caller}
+use Rattle.model.specs.Request.{Request, set_permanent, drop_permanent, set_user_root, drop_user_root, set_profile, rollback, switch, delete_generation, add_temp, end_session, delete}
+use Rattle.model.specs.Reply.{Reply, Answer, Refusal, bad_root_name, bad_session, not_valid, no_profile, done, denied, refused, failed}
+use Rattle.model.specs.Profiles.{has_profile}
+use Rattle.model.specs.Step.{Step}
+
+-- ---- sessions
+
+-- the numbers of sessions: 1 to 4,194,304
+pub record IsInBounds (session : ℕ) : Type 0 where
+  pub lowest : 1 ≤ session
+  pub highest : session ≤ 4194304
+
+-- the first fault of a request on a session: an owner that isn't a plain name, or a number that no session has
+pub data SessionFault (owner : List ℕ) (session : ℕ) (r : Refusal) : Type 0 where
+  owner_ : IsFalse (is_plain_name owner) → r ≡ bad_root_name → SessionFault owner session r
+  number : IsTrue (is_plain_name owner) → (IsInBounds session → ⊥) → r ≡ bad_session → SessionFault owner session r
+
+-- no such fault
+pub record IsSessionOf (owner : List ℕ) (session : ℕ) : Type 0 where
+  pub owner_ : IsTrue (is_plain_name owner)
+  pub number : IsInBounds session
+
+-- A path is kept for a session where nothing is wrong with the session and the path is valid; else the first fault is told, that of
+-- the path last.
+pub record TellsTemporaryFault (s : Settings) (w : World) (c : Caller) (owner : List ℕ) (session : ℕ) (p : Path) : Type 0 where
+  pub done_ : (a : Answer) (new : World) → Step s w c (add_temp owner session p) (done a) new → IsSessionOf owner session × IsTrue (has w p)
+  pub refused_ : (r : Refusal) (new : World) → Step s w c (add_temp owner session p) (refused r) new
+      → SessionFault owner session r ⊎ (IsSessionOf owner session × IsFalse (has w p) × (r ≡ not_valid))
+
+-- a session is ended where nothing is wrong with it, whether it kept anything or not
+pub record TellsSessionFault (s : Settings) (w : World) (c : Caller) (owner : List ℕ) (session : ℕ) : Type 0 where
+  pub done_ : (a : Answer) (new : World) → Step s w c (end_session owner session) (done a) new → IsSessionOf owner session
+  pub refused_ : (r : Refusal) (new : World) → Step s w c (end_session owner session) (refused r) new → SessionFault owner session r
+
+abbrev pub SessionFaultsAreTold : Type 0
+SessionFaultsAreTold = (s : Settings) (w : World) (c : Caller) (owner : List ℕ) (session : ℕ)
+    → ((p : Path) → TellsTemporaryFault s w c owner session p) × TellsSessionFault s w c owner session
+
+-- ---- names and profiles
+
+-- a name of the request isn't plain
+abbrev pub HasBadName : Request → Type 0
+HasBadName (set_permanent name p) = IsFalse (is_plain_name name)
+HasBadName (drop_permanent name) = IsFalse (is_plain_name name)
+HasBadName (set_user_root owner name p) = IsFalse (is_plain_name owner) ⊎ IsFalse (is_plain_name name)
+HasBadName (drop_user_root owner name) = IsFalse (is_plain_name owner) ⊎ IsFalse (is_plain_name name)
+HasBadName (set_profile owner name p) = IsFalse (is_plain_name owner) ⊎ IsFalse (is_plain_name name)
+HasBadName (rollback owner name) = IsFalse (is_plain_name owner) ⊎ IsFalse (is_plain_name name)
+HasBadName (switch owner name n) = IsFalse (is_plain_name owner) ⊎ IsFalse (is_plain_name name)
+HasBadName (delete_generation owner name n) = IsFalse (is_plain_name owner) ⊎ IsFalse (is_plain_name name)
+HasBadName (add_temp owner session p) = IsFalse (is_plain_name owner)
+HasBadName (end_session owner session) = IsFalse (is_plain_name owner)
+HasBadName _ = ⊥
+
+-- the names are plain, and there is no profile of them
+pub record IsNoProfile (w : World) (owner name : List ℕ) : Type 0 where
+  pub owner_ : IsTrue (is_plain_name owner)
+  pub name_ : IsTrue (is_plain_name name)
+  pub none : IsFalse (has_profile w (owner, name))
+
+-- the request is on a generation of a profile that isn't there
+abbrev pub LacksProfile : World → Request → Type 0
+LacksProfile w (rollback owner name) = IsNoProfile w owner name
+LacksProfile w (switch owner name n) = IsNoProfile w owner name
+LacksProfile w (delete_generation owner name n) = IsNoProfile w owner name
+LacksProfile w _ = ⊥
+
+-- what a call that the rules allow is refused with, unless it fails
+abbrev pub IsRefusedWith : Refusal → Reply → Type 0
+IsRefusedWith r (refused x) = x ≡ r
+IsRefusedWith r (done a) = ⊥
+IsRefusedWith r (denied rule root) = Unit {0}
+IsRefusedWith r (failed f) = Unit {0}
+
+-- a name that isn't plain is told before any other fault
+abbrev pub NamesComeFirst : Type 0
+NamesComeFirst = (s : Settings) (w : World) (c : Caller) (q : Request) (reply : Reply) (new : World) → Step s w c q reply new → HasBadName q → IsRefusedWith bad_root_name reply
+
+-- a profile that isn't there is told before any fault of a generation
+abbrev pub ProfilesComeNext : Type 0
+ProfilesComeNext = (s : Settings) (w : World) (c : Caller) (q : Request) (reply : Reply) (new : World) → Step s w c q reply new → LacksProfile w q → IsRefusedWith no_profile reply
+
+-- of a profile a path that isn't valid is told before a number that is beyond the greatest
+abbrev pub PathsComeBeforeNumbers : Type 0
+PathsComeBeforeNumbers = (s : Settings) (w : World) (c : Caller) (owner name : List ℕ) (p : Path) (reply : Reply) (new : World) → Step s w c (set_profile owner name p) reply new
+    → IsTrue (is_plain_name owner) → IsTrue (is_plain_name name) → IsFalse (has w p) → IsRefusedWith not_valid reply
+
+-- ---- deletions
+
+-- a deletion that is done named valid paths alone
+abbrev pub NamedAreThere : Type 0
+NamedAreThere = (s : Settings) (w : World) (c : Caller) (named : List Path) (ignores : Bool) (a : Answer) (new : World)
+    → Step s w c (delete named ignores) (done a) new → (p : Path) → Contains named p → IsTrue (has w p)

@@ -1,0 +1,40 @@
+-- The law of a collection up to a limit where no references make a cycle: paths go one by one, each after all that refer to it.
+use Rattle.std.specs.Prelude.{◌≡◌, ◌↔◌, ◌⊎◌, ℕ, ◌<◌, ◌≤◌, ◌++◌, Bool, List, ◌∷◌, Some, IsTrue, IsFalse, Contains}
+use Rattle.std.specs.FinMap as finite
+use Rattle.std.specs.declared.cmp.Ordering.TheVariants.{Less}
+use Rattle.paths.specs.Root.{bytes_cmp}
+use Rattle.live.specs.Graph.{references_alone}
+use Rattle.live.specs.Reach.{Reaches}
+use Rattle.model.specs.World.{Path, Object, World, has}
+use Rattle.policy.specs.Settings.{Settings}
+use Rattle.policy.specs.Caller.{Caller}
+use Rattle.model.specs.Request.{collect}
+use Rattle.model.specs.Reply.{Answer, done}
+use Rattle.model.specs.Liveness.{graph_of, lives}
+use Rattle.model.specs.Step.{Step}
+use Rattle.laws.specs.Changes.{Weigh}
+
+-- no two paths reach each other by references
+abbrev pub HasNoCycle : World → Type 0
+HasNoCycle w = (p q : Path) → Reaches references_alone (graph_of w) p q → Reaches references_alone (graph_of w) q p → p ≡ q
+
+-- A path may go once these are gone: it is valid and dead, and isn't gone yet; all that refer to it are gone, but for itself; and the
+-- archives of those that are gone have fewer bytes than the limit.
+pub record MayGo (s : Settings) (w : World) (limit : ℕ) (gone : List Path) (p : Path) : Type 0 where
+  pub there : IsTrue (has w p)
+  pub dead : IsFalse (lives s w p)
+  pub fresh : Contains gone p → ⊥
+  pub referrers : (q : Path) (o : Object) → finite.get w.objects q ≡ Some o → IsTrue (finite.contains_key o.references p) → (q ≡ p → ⊥) → Contains gone q
+  pub wanted : (bytes : ℕ) → Weigh w gone bytes → bytes < limit
+
+-- What went is what may go, one path after another, each the least of those that may; and at the end the archives have as many bytes as the limit, or no dead path is left.
+pub record GoesOneByOne (s : Settings) (w : World) (limit : ℕ) (new : World) : Type 0 where
+  pub order : List Path
+  pub each : (front back : List Path) (p : Path) → order ≡ front ++ p ∷ back → MayGo s w limit front p
+  pub least : (front back : List Path) (p : Path) → order ≡ front ++ p ∷ back → (q : Path) → MayGo s w limit front q → bytes_cmp q p ≡ Less → ⊥
+  pub went : (p : Path) → IsTrue (has w p) → IsFalse (has new p) ↔ Contains order p
+  pub enough : (bytes : ℕ) → Weigh w order bytes → (limit ≤ bytes) ⊎ ((p : Path) → IsTrue (has w p) → IsFalse (lives s w p) → Contains order p)
+
+abbrev pub ReferrersGoFirst : Type 0
+ReferrersGoFirst = (s : Settings) (w : World) (c : Caller) (ignores : Bool) (limit : ℕ) (a : Answer) (new : World)
+    → Step s w c (collect ignores (Some limit)) (done a) new → HasNoCycle w → GoesOneByOne s w limit new

@@ -1,0 +1,46 @@
+//! Laws of adds.
+
+ghost use Rattle.std.specs.Prelude.{List, ℕ};
+ghost use Rattle.policy.specs.Settings.{Settings};
+ghost use Rattle.model.specs.World.{Path};
+ghost use Rattle.model.specs.Request.{Imported, add_source, add_text, import_object};
+ghost use Rattle.laws.specs.Changes.{AddsExactly, with_import, with_source, with_text};
+ghost use Rattle.laws.specs.Tellings.{ArchivesAreTheObjects, RecordsAdds, RecordsTell};
+ghost use Rattle.laws.specs.AddFaults.{DigestsComeFirst, MissingAreMissing, TextsAreMeasured};
+ghost use Rattle.laws.specs.AddOrder.{ImportFaultsInOrder, SourceFaultsInOrder, TextFaultsInOrder};
+
+/// An add answers the path and gains exactly the object that was handed in, or nothing where its path was valid.
+pub fn adds_are_exact()
+    ensures text { (s : Settings) (name : List ℕ) (refs : List Path) (contents : List ℕ) →
+        AddsExactly s (add_text name refs contents) (with_text s.store_dir name refs contents) }
+    ensures source { (s : Settings) (name : List ℕ) (refs : List Path) (nar : List ℕ) →
+        AddsExactly s (add_source name refs nar) (with_source s.store_dir name refs nar) }
+    ensures import { (s : Settings) (i : Imported) → AddsExactly s (import_object i) (with_import i) }
+{}
+
+/// A text is refused by the size of its archive; an import for another digest before any fault of addresses, references and
+/// derivations; and for a missing reference only where one isn't valid and isn't the object's own path.
+pub fn adds_are_refused_for_their_faults()
+    ensures size { TextsAreMeasured }
+    ensures digest { DigestsComeFirst }
+    ensures missing { MissingAreMissing }
+{}
+
+/// Of an add that has several faults the first is told: the number of references; the archive, or its size; of an import its digest; a
+/// reference to itself; an address that doesn't verify; the derivation; and at last a missing reference.
+pub fn faults_of_adds_come_in_order()
+    ensures text { TextFaultsInOrder }
+    ensures source { SourceFaultsInOrder }
+    ensures import { ImportFaultsInOrder }
+{}
+
+/// A record and an archive are those of the object, and after an add the record tells exactly what was handed in.
+pub fn records_tell_what_was_added()
+    ensures record { RecordsTell }
+    ensures archive { ArchivesAreTheObjects }
+    ensures text { (s : Settings) (name : List ℕ) (refs : List Path) (contents : List ℕ) →
+        RecordsAdds s (add_text name refs contents) (with_text s.store_dir name refs contents) }
+    ensures source { (s : Settings) (name : List ℕ) (refs : List Path) (nar : List ℕ) →
+        RecordsAdds s (add_source name refs nar) (with_source s.store_dir name refs nar) }
+    ensures import { (s : Settings) (i : Imported) → RecordsAdds s (import_object i) (with_import i) }
+{}

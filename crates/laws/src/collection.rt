@@ -1,0 +1,41 @@
+//! Laws of collection.
+
+ghost use Rattle.std.specs.Prelude.{Bool, List, Option, ℕ};
+ghost use Rattle.policy.specs.Settings.{Settings};
+ghost use Rattle.model.specs.World.{Path};
+ghost use Rattle.model.specs.Collection.{Collects, CollectsUpToALimit};
+ghost use Rattle.model.specs.Request.{collect, delete};
+ghost use Rattle.laws.specs.Changes.{FreesAsTold};
+ghost use Rattle.model.specs.Collection.{CollectsByBytes};
+ghost use Rattle.laws.specs.Kept.{EdgesAsSet, LivingKeep};
+ghost use Rattle.laws.specs.OneByOne.{ReferrersGoFirst};
+
+/// A collection keeps exactly what lives, and a second one frees nothing; with a limit some dead paths go, and no reference that is
+/// left points at one of them.
+pub fn collection_is_exact()
+    ensures all { Collects }
+    ensures limited { CollectsUpToALimit }
+{}
+
+/// What a collection or a deletion answers is exactly what went.
+pub fn the_freed_are_told()
+    ensures collection { (s : Settings) (ignores : Bool) (limit : Option ℕ) → FreesAsTold s (collect ignores limit) }
+    ensures deletion { (s : Settings) (named : List Path) (ignores : Bool) → FreesAsTold s (delete named ignores) }
+{}
+
+/// A limit counts the bytes of archives: a collection stops as soon as so many are free, and not before while a dead path is left.
+pub fn limits_count_bytes()
+    ensures { CollectsByBytes }
+{}
+
+/// Where no references make a cycle, a collection up to a limit takes one path after another, each after all that refer to it.
+pub fn referrers_go_first()
+    ensures { ReferrersGoFirst }
+{}
+
+/// An object keeps its references; its outputs, if outputs are to be kept; and its deriver, if derivations are. What a live path
+/// keeps is live.
+pub fn settings_say_what_is_kept()
+    ensures edges { EdgesAsSet }
+    ensures living { LivingKeep }
+{}

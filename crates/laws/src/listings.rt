@@ -1,0 +1,38 @@
+//! Laws of what listings and reports show.
+
+ghost use Rattle.policy.specs.Settings.{Settings};
+ghost use Rattle.model.specs.World.{Path, World, all_paths};
+ghost use Rattle.model.specs.Liveness.{dead_paths, live_paths, usage_of};
+ghost use Rattle.laws.specs.Laws.{UsageAddsUp};
+ghost use Rattle.model.specs.Lives.{FirstIsShownFirst, LivesAsSaid, TargetsLive};
+ghost use Rattle.laws.specs.Tellings.{ListingsAreTheObjects, ListingsTell, ReportsTell, RootListingsTell, TellingChangesNothing};
+
+/// A listing that is answered is that of the tree of which the object's archive is.
+pub fn listings_are_of_the_object()
+    ensures { ListingsAreTheObjects }
+{}
+
+/// Listings have exactly the paths that they name, in order, the roots of a path are exactly those that reach it, and the report
+/// tells live paths before dead ones.
+pub fn listings_tell_what_is_there()
+    ensures paths { ListingsTell }
+    ensures roots { RootListingsTell }
+    ensures report { ReportsTell }
+{}
+
+/// What lives in a world: the tests and listings, the first root of a path, and the targets of roots.
+pub fn the_living_are_listed()
+    ensures paths { (s : Settings) (w : World) (p : Path) → LivesAsSaid s w p }
+    ensures targets { TargetsLive }
+    ensures first { FirstIsShownFirst }
+{}
+
+/// Live and dead paths, and their bytes, add up to all.
+pub fn usage_adds_up()
+    ensures { (s : Settings) (w : World) → UsageAddsUp (usage_of w (live_paths s w)) (usage_of w (dead_paths s w)) (usage_of w (all_paths w)) }
+{}
+
+/// A request that only tells changes nothing: for a record, an archive, a listing or the report.
+pub fn what_only_tells_changes_nothing()
+    ensures { TellingChangesNothing }
+{}

@@ -1,0 +1,40 @@
+//! Laws of denials, refusals and failures.
+
+ghost use Rattle.laws.specs.Laws.{DenialsNameTheLiving, FailsPastTheRules, LeavesUnlessDone};
+ghost use Rattle.laws.specs.Faults.{NamedAreThere, NamesComeFirst, PathsComeBeforeNumbers, ProfilesComeNext, SessionFaultsAreTold};
+ghost use Rattle.laws.specs.Reasons.{DenialsAreForTheFirst, RefusalsHaveReasons, ToldAreValid};
+
+/// A denial for a live path is for the first path that is live of the named, in the order given, and shows its
+/// first root, as the caller sees it.
+pub fn denials_name_the_living()
+    ensures { DenialsNameTheLiving }
+{}
+
+/// A call fails only where no rule denies it, or the one on live paths alone.
+pub fn failures_come_after_the_rules()
+    ensures { FailsPastTheRules }
+{}
+
+/// A call that isn't done leaves the world.
+pub fn only_done_changes()
+    ensures { LeavesUnlessDone }
+{}
+
+/// A refusal tells the first fault: of a session, 1 to 4,194,304, before its path; a name before what it names; a profile before
+/// its generation, and a path that isn't valid before a profile that has no number left. A deletion that is done named valid paths
+/// alone.
+pub fn first_faults_are_told()
+    ensures sessions { SessionFaultsAreTold }
+    ensures names { NamesComeFirst }
+    ensures profiles { ProfilesComeNext }
+    ensures paths { PathsComeBeforeNumbers }
+    ensures named { NamedAreThere }
+{}
+
+/// A request is refused for a fault that it has, what is told of a path is told of a valid one, and a deletion is denied for the first of
+/// the named that lives.
+pub fn refusals_and_denials_have_reasons()
+    ensures refusals { RefusalsHaveReasons }
+    ensures told { ToldAreValid }
+    ensures denials { DenialsAreForTheFirst }
+{}

@@ -1,0 +1,57 @@
+//! Laws of roots.
+
+ghost use Rattle.model.specs.World.{World};
+ghost use Rattle.model.specs.Entries.{HasEachRoot};
+ghost use Rattle.model.specs.Pinning.{Pins, PinsOverRuns, PinsThroughout};
+ghost use Rattle.laws.specs.LabelsAndOrder.{AreLabelled, KindsInOrder};
+ghost use Rattle.laws.specs.RootChanges.{AddsForSessions, DropsPermanent, DropsUserRoots, EndsSessions, ReplacesAsTold, SetsPermanent, SetsUserRoots};
+ghost use Rattle.laws.specs.RootsTold.{RootsSetAreTold};
+ghost use Rattle.laws.specs.Relisted.{DropsAreTold, DroppedLabelsAreNotTold, SetsAreTold};
+
+/// Each entry of a table of roots is a root of the world, and no other root is.
+pub fn every_entry_is_a_root()
+    ensures { (w : World) → HasEachRoot w }
+{}
+
+/// A root that is set is there with its target, one that is dropped isn't, and nothing else changed: permanent and user roots,
+/// runtime roots, and what sessions keep.
+pub fn roots_change_exactly()
+    ensures set_permanent { SetsPermanent }
+    ensures drop_permanent { DropsPermanent }
+    ensures set_user { SetsUserRoots }
+    ensures drop_user { DropsUserRoots }
+    ensures runtime { ReplacesAsTold }
+    ensures add_temporary { AddsForSessions }
+    ensures end_session { EndsSessions }
+{}
+
+/// A root that was set is told to each caller who asks next, with the labels of runtime roots and of sessions hidden from those who
+/// aren't trusted.
+pub fn roots_that_were_set_are_told()
+    ensures { RootsSetAreTold }
+{}
+
+/// A root that was dropped isn't told to whoever asks next, and each other root is as before; nor is its label, but of a runtime root
+/// that has the same.
+pub fn roots_that_were_dropped_are_not_told()
+    ensures roots { DropsAreTold }
+    ensures labels { DroppedLabelsAreNotTold }
+{}
+
+/// After a root is set, listings tell it and all that stood, but for the root that it replaced.
+pub fn listings_gain_what_was_set()
+    ensures { SetsAreTold }
+{}
+
+/// Each root has its label, and roots come by their kinds: those of sessions last.
+pub fn roots_are_labelled_in_order()
+    ensures labels { AreLabelled }
+    ensures kinds { KindsInOrder }
+{}
+
+/// A root keeps what it reaches, over a step and over a run through which it stands.
+pub fn a_root_pins_what_it_reaches()
+    ensures step { Pins }
+    ensures run { PinsOverRuns }
+    ensures throughout { PinsThroughout }
+{}

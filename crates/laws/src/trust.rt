@@ -1,0 +1,36 @@
+//! Laws of what each class of callers can rely on.
+
+ghost use Rattle.laws.specs.Reliance.{NobodyPlants, NothingIsReplaced, RootsAreTheirOwners, StrangersAreDenied};
+ghost use Rattle.model.specs.Request.{collect, delete};
+ghost use Rattle.laws.specs.Planting.{NobodyPlantsInRuns};
+ghost use Rattle.laws.specs.Others.{OthersOnlyLose, OwnersMay, TrustedMay};
+ghost use Rattle.laws.specs.Leave.{AllMayAsk, NobodyIgnoresLiveness};
+
+/// A stranger changes nothing and is told nothing but the denial. A caller who isn't trusted adds nothing but what its content
+/// address says, and changes no root but his own. What stands is never replaced.
+pub fn people_can_rely_on()
+    ensures strangers { StrangersAreDenied }
+    ensures objects { NothingIsReplaced }
+    ensures plants { NobodyPlants }
+    ensures roots { RootsAreTheirOwners }
+{}
+
+/// Each object that is there after a run stood before it, or has a content address that verifies, or a trusted caller imported it.
+pub fn nobody_plants_over_runs()
+    ensures { NobodyPlantsInRuns }
+{}
+
+/// Each caller but a stranger may add what has an address, ask all that only tells, collect, and delete what doesn't live; and nobody
+/// may ask that liveness is ignored.
+pub fn all_but_strangers_may_ask()
+    ensures may { AllMayAsk }
+    ensures never { NobodyIgnoresLiveness }
+{}
+
+/// Whoever calls: what another owns only loses by it, and only by calls that drop, delete or end. A trusted caller is allowed these,
+/// and each caller but a stranger all that there is with what he owns.
+pub fn owners_are_respected()
+    ensures others { OthersOnlyLose }
+    ensures trusted { TrustedMay }
+    ensures own { OwnersMay }
+{}

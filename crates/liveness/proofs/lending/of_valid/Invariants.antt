@@ -1,9 +1,0 @@
-use Rattle.std.proofs.Common.{◌≡◌, take}
-use Rattle.std.specs.Prelude.{filter}
-use Rattle.live.specs.Handed.{roots_view}
-use Rattle.liveness.proofs.Valid.{aims_well}
-use Rattle.liveness.proofs.lending.of_valid.Given as goal
-
--- those of the first
-abbrev pub invariant-loop-root : goal.invariant-loop-root
-invariant-loop-root l = roots_view l.valid.items ≡ filter (aims_well l.index) (roots_view (take l.root-index l.roots))

@@ -1,6 +1,0 @@
-use Rattle.std.proofs.Common.{◌∙◌}
-use Rattle.liveness.proofs.Sized.{bytes_told}
-use Rattle.liveness.proofs.sizes.bytes_in.Goals as goal
-
-pub returns : goal.returns
-returns c w is = c.sum_of.ensures ∙ bytes_told w c.args.index.now is c.args.paths.now

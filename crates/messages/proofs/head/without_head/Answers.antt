@@ -1,7 +1,0 @@
-use Rattle.std.proofs.Common.{arith}
-use Rattle.messages.proofs.Heads.{too_long}
-use Rattle.messages.proofs.head.without_head.Goals as goal
-
--- src/head.rt:55:1
-pub returns-else-buf-lt-MAX_HEAD : goal.returns-else-buf-lt-MAX_HEAD
-returns-else-buf-lt-MAX_HEAD c = too_long c.args.buf.now c.requires (omega arith)

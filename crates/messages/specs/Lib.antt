@@ -1,4 +1,0 @@
-pub mod Heads
-pub mod Fields
-pub mod Messages
-pub mod Division

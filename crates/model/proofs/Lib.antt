@@ -1,0 +1,15 @@
+pub mod Deleting
+pub mod Empty
+pub mod EveryRoot
+pub mod Filtered
+pub mod Limited
+pub mod MapMembers
+pub mod Passed
+pub mod Pins
+pub mod SoundAdds
+pub mod SoundParts
+pub mod SoundProfiles
+pub mod SoundRemoval
+pub mod SoundRoots
+pub mod WorldLives
+pub mod Worlds

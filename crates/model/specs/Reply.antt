@@ -1,0 +1,103 @@
+-- What a store replies.
+use Rattle.std.specs.Prelude.{ℕ, List, Option}
+use Rattle.nar.specs.declared.error.NarError.{NarError}
+use Rattle.drv.specs.declared.error.DrvError.{DrvError}
+use Rattle.paths.specs.ContentAddress.{ContentAddress}
+use Rattle.model.specs.World.{Path, Pair}
+use Rattle.policy.specs.declared.kinds.Rule.{Rule}
+use Rattle.std.specs.Prelude.{[]}
+
+-- why a request is refused
+pub data Refusal : Type 0 where
+  -- what is wrong with an archive
+  archive : NarError → Refusal
+  -- an archive or a path that isn't that of the content address
+  ca_mismatch : Refusal
+  -- what is wrong with a derivation text
+  derivation : DrvError → Refusal
+  -- a path that isn't valid
+  not_valid : Refusal
+  -- a reference that isn't valid
+  missing_reference : Refusal
+  -- an archive of another digest than the given one
+  nar_hash_mismatch : Refusal
+  -- a content-addressed object that refers to itself
+  self_reference : Refusal
+  no_root : Refusal
+  no_profile : Refusal
+  no_generation : Refusal
+  -- the current generation isn't deleted
+  current_generation : Refusal
+  -- no generation below the current one
+  no_older_generation : Refusal
+  -- no number is left for a generation
+  generation_limit : Refusal
+  too_many_references : Refusal
+  -- a user, root or profile name that isn't a plain name
+  bad_root_name : Refusal
+  -- a label that isn't a runtime label
+  bad_label : Refusal
+  -- a number that no session has
+  bad_session : Refusal
+
+-- what a call may want
+pub data Failure : Type 0 where
+  memory : Failure
+  size : Failure
+  disk : Failure
+
+-- the record of an object: its path, the SHA-256 digest and the number of bytes of its archive, its references in the order
+-- of paths, its deriver and its content address
+pub record Info : Type 0 where
+  pub path : Path
+  pub hash : List ℕ
+  pub size : ℕ
+  pub references : List Path
+  pub deriver : Option Path
+  pub ca : Option ContentAddress
+
+-- a number of paths, and the sum of the bytes of their archives
+pub record Usage : Type 0 where
+  pub paths : ℕ
+  pub bytes : ℕ
+
+pub data Answer : Type 0 where
+  path : Path → Answer
+  record_of : Info → Answer
+  -- the bytes of an archive
+  archive_of : List ℕ → Answer
+  listing_of : List ℕ → Answer
+  paths : List Path → Answer
+  -- labels and targets
+  roots : List Pair → Answer
+  -- set, added, dropped or deleted
+  changed : Answer
+  -- the number of a generation
+  generation : ℕ → Answer
+  -- how many runtime roots there are
+  runtime_count : ℕ → Answer
+  -- how many temporary roots a session had
+  temporary_count : ℕ → Answer
+  -- the paths that went, and the sum of the bytes of their archives
+  freed : List Path → ℕ → Answer
+  -- of the live, the dead and all paths
+  usage : Usage → Usage → Usage → Answer
+
+pub data Reply : Type 0 where
+  done : Answer → Reply
+  -- the rule; for `Live` the label and the target of a root that keeps a path
+  denied : Rule → Option Pair → Reply
+  refused : Refusal → Reply
+  failed : Failure → Reply
+
+abbrev pub IsDone : Reply → Type 0
+IsDone (done a) = Unit {0}
+IsDone (denied rule root) = ⊥
+IsDone (refused r) = ⊥
+IsDone (failed f) = ⊥
+
+abbrev pub HasFailed : Reply → Type 0
+HasFailed (failed f) = Unit {0}
+HasFailed (done a) = ⊥
+HasFailed (denied rule root) = ⊥
+HasFailed (refused r) = ⊥

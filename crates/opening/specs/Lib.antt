@@ -1,3 +1,0 @@
-pub mod InTheWay
-pub mod Taken
-pub mod Opened

@@ -1,7 +1,0 @@
--- The rows of the settings.
-use Rattle.std.specs.Prelude.{List, [], ◌∷◌, ℕ, codes}
-use Rattle.world.specs.Rows.{Schema, schema_text}
-
--- the two settings of a database of a store directory, by its schema, in the order of their words
-abbrev pub two_settings : Schema → List ℕ → List (List ℕ × List ℕ)
-two_settings schema dir = (codes "schema", schema_text schema) ∷ (codes "store-dir", dir) ∷ []

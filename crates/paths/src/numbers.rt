@@ -1,0 +1,60 @@
+//! Numbers that people write: decimal digits without a leading zero.
+#![tactic(auto)]
+
+ghost use Rattle.std.specs.Prelude.{◌≡◌, ◌==◌, ◌||◌, not, slice_index};
+ghost use Rattle.paths.specs.Decimal.{has_no_leading_zero, decimal_of, number_up_to};
+
+/// The greatest number of a generation.
+const MAX_GENERATION: u64 = 9_999;
+
+/// The greatest number of a session.
+const MAX_SESSION: u64 = 4_194_304;
+
+/// Whether a text begins with a sign that std would read, or with a 0 before other bytes.
+fn has_more_in_front(text: &str) -> bool
+    ensures { result ≡ (slice_index text.now 0 == 43 || not (has_no_leading_zero text.now)) }
+{
+    let bytes = text.as_bytes();
+    if bytes.is_empty() {
+        return false;
+    }
+    bytes[0] == b'+' || (bytes[0] == b'0' && bytes.len() > 1)
+}
+
+/// The number that a text writes in decimal digits: one or more, the first of several not `0`, no sign,
+/// below 2^64. `None` for any other text.
+pub fn decimal(text: &str) -> Option<u64>
+    ensures { result ≡ decimal_of text.now }
+{
+    if has_more_in_front(text) {
+        return None;
+    }
+    match text.parse::<u64>() {
+        Ok(number) => Some(number),
+        Err(_) => None,
+    }
+}
+
+/// The number up to `most` that a text writes; any other text stands for 0.
+fn up_to(most: u64, text: &str) -> u64
+    ensures { result ≡ number_up_to most text.now }
+{
+    match decimal(text) {
+        Some(number) if number <= most => number,
+        _ => 0,
+    }
+}
+
+/// The number of a generation, 1 to 9,999. Any other text stands for 0, which no profile has.
+pub fn generation(text: &str) -> u64
+    ensures { result ≡ number_up_to 9999 text.now }
+{
+    up_to(MAX_GENERATION, text)
+}
+
+/// The number of a session, 1 to 4,194,304. Any other text stands for 0, which is no session's.
+pub fn session(text: &str) -> u64
+    ensures { result ≡ number_up_to 4194304 text.now }
+{
+    up_to(MAX_SESSION, text)
+}

@@ -1,4 +1,0 @@
-pub mod Archives
-pub mod Objects
-pub mod Results
-mod Received

@@ -1,5 +1,0 @@
-use Rattle.pure_commands.proofs.Results.{answers_to}
-use Rattle.pure_commands.proofs.sources.source_path.Goals as goal
-
-pub returns-clause-answer : goal.returns-clause-answer
-returns-clause-answer g c = answers_to _ _ _ _ _ _ _ _ _ c.source_path_result.ensures.answer c.give.ensures

@@ -1,5 +1,0 @@
-pub mod Archive
-pub mod Object
-pub mod Stop
-pub mod Stream
-pub mod Who

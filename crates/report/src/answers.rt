@@ -1,0 +1,85 @@
+//! The text of each answer.
+ghost use Rattle.std.specs.Prelude.{◌≡◌, ◌++◌, IfOk, OnOk, codes, decimal, length, string_bytes};
+ghost use Rattle.report.specs.Replies as spec;
+ghost use Rattle.model.specs.Reply.{freed};
+ghost use Rattle.report.specs.Narinfo as records;
+ghost use Rattle.report.specs.Usage as usages;
+ghost use Rattle.store_types.specs.View.{answer_view, info_view, usage_view};
+
+use paths::{StoreDir, StorePath};
+use std::alloc::{AllocError, Global};
+use std::fmt::Write;
+use store_types::{Answer, Info, Usage};
+use streams::{Pieces, in_pieces};
+
+/// A text in pieces.
+fn text_in_pieces(alloc: Global, text: String) -> Result<Pieces, AllocError>
+    ensures { IfOk result (λ pieces. pieces ≡ string_bytes text) }
+{
+    in_pieces(alloc, text.as_str().as_bytes())
+}
+
+/// The record of an object.
+fn record_text(alloc: Global, dir: &StoreDir, info: &Info) -> Result<String, AllocError>
+    ensures { IfOk result (λ text. string_bytes text ≡ records.narinfo dir.now (info_view info.now)) }
+{
+    let lent = crate::records::Info {
+        path: &info.path,
+        hash: &info.hash,
+        size: info.size,
+        references: &info.references,
+        deriver: info.deriver.as_ref(),
+        ca: info.ca,
+    };
+    crate::records::narinfo(alloc, dir, &lent)
+}
+
+/// The usage report.
+fn usage_text(alloc: Global, live: Usage, dead: Usage, total: Usage) -> Result<String, AllocError>
+    ensures { IfOk result (λ text. string_bytes text ≡ usages.usage_text (usage_view live) (usage_view dead) (usage_view total)) }
+{
+    let live = (live.paths, live.bytes);
+    let dead = (dead.paths, dead.bytes);
+    crate::usage::usage_text(alloc, live, dead, (total.paths, total.bytes))
+}
+
+/// The paths that went, a line each, and how many they were and their bytes.
+fn freed_text(
+    alloc: Global,
+    dir: &StoreDir,
+    gone: &[StorePath],
+    bytes: u128,
+) -> Result<String, AllocError>
+    ensures { IfOk result (λ text. string_bytes text ≡ spec.answer_text dir.now (freed gone.now bytes)) }
+{
+    let mut text = crate::lists::paths_text(alloc, dir, gone)?;
+    let count = gone.len();
+    write!(text, "freed {count} paths {bytes} bytes\n")?;
+    Ok(text)
+}
+
+/// The text of an answer, as it stands on a writer or in a body. An archive isn't copied.
+///
+/// # Errors
+///
+/// Memory was refused.
+pub fn answer_text(alloc: Global, dir: &StoreDir, answer: Answer) -> Result<Pieces, AllocError>
+    ensures { IfOk result (λ text. text ≡ spec.answer_text dir.now (answer_view answer)) }
+{
+    let text = match answer {
+        Answer::Archive(nar) => return Ok(nar),
+        Answer::Listing(text) => text,
+        Answer::Path(path) => crate::lists::path_line(alloc, dir, &path)?,
+        Answer::Record(info) => record_text(alloc, dir, &info)?,
+        Answer::Paths(paths) => crate::lists::paths_text(alloc, dir, &paths)?,
+        Answer::Roots(roots) => crate::lists::roots_text(alloc, dir, &roots)?,
+        Answer::Changed => String::from_str(alloc, "done\n")?,
+        Answer::Generation(number) => format!(in alloc; "generation {number}\n")?,
+        Answer::RuntimeCount(count) => format!(in alloc; "runtime roots {count}\n")?,
+        Answer::TemporaryCount(count) => format!(in alloc; "temporary roots {count}\n")?,
+        Answer::Freed(paths, bytes) => freed_text(alloc, dir, &paths, bytes)?,
+        Answer::Usage(live, dead, total) => usage_text(alloc, live, dead, total)?,
+    };
+    let pieces = text_in_pieces(alloc, text)?;
+    Ok(pieces)
+}

@@ -1,0 +1,46 @@
+//! Denials of a store as lines.
+ghost use Rattle.std.specs.Prelude.{◌≡◌, ◌++◌, IfOk, OnOk, option_map, string_bytes};
+ghost use Rattle.tables_outline.specs.Maps.{labelled_bytes};
+ghost use Rattle.report.specs.Stops.{denial_text, shown_text};
+
+use crate::lists::push_root;
+use paths::{StoreDir, StorePath};
+use policy::Rule;
+use std::alloc::{AllocError, Global};
+
+/// Appends what stands behind the word of the rule: a root, if one is shown.
+fn push_shown(
+    text: &mut String,
+    dir: &StoreDir,
+    root: Option<(String, StorePath)>,
+) -> Result<(), AllocError>
+    ensures { OnOk result (string_bytes text.new ≡ string_bytes text.old ++ shown_text dir.now (option_map labelled_bytes root)) }
+{
+    match root {
+        Some((label, target)) => {
+            text.push_str(" ")?;
+            push_root(text, dir, label.as_str(), &target)
+        }
+        None => Ok(()),
+    }
+}
+
+/// The line of a denial, with its line feed: the word of the rule, and the root that is shown, if one is.
+///
+/// # Errors
+///
+/// Memory was refused.
+pub fn denial_line(
+    alloc: Global,
+    dir: &StoreDir,
+    rule: Rule,
+    root: Option<(String, StorePath)>,
+) -> Result<String, AllocError>
+    ensures { IfOk result (λ text. string_bytes text ≡ denial_text dir.now rule (option_map labelled_bytes root)) }
+{
+    let mut text = String::from_str(alloc, "denied: ")?;
+    text.push_str(rule.as_str())?;
+    push_shown(&mut text, dir, root)?;
+    text.push_str("\n")?;
+    Ok(text)
+}

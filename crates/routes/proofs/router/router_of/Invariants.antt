@@ -1,7 +1,0 @@
-use Rattle.std.proofs.Common.{take}
-use Rattle.std.specs.Prelude.{map}
-use Rattle.routes.specs.Rows.{AreRows, row_of}
-use Rattle.routes.proofs.router.router_of.Given as goal
-
-abbrev pub invariant-loop-row : goal.invariant-loop-row
-invariant-loop-row l = AreRows l.router (map row_of (take l.row-index l.rows))

@@ -1,5 +1,0 @@
-pub mod Methods
-pub mod Patterns
-pub mod Table
-pub mod Parts
-pub mod Rows

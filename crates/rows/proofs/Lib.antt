@@ -1,2 +1,0 @@
-pub mod Unsettled
-pub mod Clauses

@@ -1,9 +1,0 @@
-use Rattle.table_entries.proofs.PermanentRootLemmas.{removal}
-use Rattle.rows.proofs.Clauses.{takes, fails_to_take}
-use Rattle.rows.proofs.permanent.delete.Goals as goal
-
-pub returns-clause-done : goal.returns-clause-done
-returns-clause-done g c clean = takes (removal c.args.name.now) c.remove.ensures.survives c.requires (λ early up. tt) clean c.remove.result (rw c.params-to_sql.ensures at (c.remove.ensures.ran clean))
-
-pub returns-clause-cause : goal.returns-clause-cause
-returns-clause-cause g c clean = fails_to_take (removal c.args.name.now) c.remove.ensures.survives c.requires (λ early up. tt) clean c.remove.result (rw c.params-to_sql.ensures at (c.remove.ensures.cause clean))

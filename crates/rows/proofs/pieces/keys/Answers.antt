@@ -1,9 +1,0 @@
-use Rattle.table_entries.proofs.PieceKeyLemmas.{keys}
-use Rattle.rows.proofs.Clauses.{reads_keys, fails_to_read}
-use Rattle.rows.proofs.pieces.keys.Goals as goal
-
-pub returns-clause-reads : goal.returns-clause-reads
-returns-clause-reads g c clean = reads_keys keys c.select.ensures.survives c.requires.ready c.requires.stands clean c.select.result (c.select.ensures.shown clean) (c.select.ensures.rises clean)
-
-pub returns-clause-cause : goal.returns-clause-cause
-returns-clause-cause g c clean = fails_to_read keys c.select.ensures.survives c.requires.ready c.requires.stands clean c.select.result (c.select.ensures.cause clean)

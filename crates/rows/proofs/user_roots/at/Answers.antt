@@ -1,9 +1,0 @@
-use Rattle.table_entries.proofs.UserRootLemmas.{at}
-use Rattle.rows.proofs.Clauses.{reads, fails_to_read}
-use Rattle.rows.proofs.user_roots.at.Goals as goal
-
-pub returns-clause-reads : goal.returns-clause-reads
-returns-clause-reads g c clean = reads (at c.args.owner.now c.args.name.now) c.select.ensures.survives c.requires.ready (λ early up. tt) clean c.select.result (rw (c.params-to_sql.ensures, c.params-to_sql-2.ensures) at (c.select.ensures.shown clean)) (c.select.ensures.rises clean)
-
-pub returns-clause-cause : goal.returns-clause-cause
-returns-clause-cause g c clean = fails_to_read (at c.args.owner.now c.args.name.now) c.select.ensures.survives c.requires.ready (λ early up. tt) clean c.select.result (rw (c.params-to_sql.ensures, c.params-to_sql-2.ensures) at (c.select.ensures.cause clean))

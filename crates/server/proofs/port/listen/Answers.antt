@@ -1,8 +1,0 @@
-use Rattle.std.proofs.Common.{inl, inr}
-use Rattle.server.proofs.port.listen.Goals as goal
-
-pub returns-in-Ok : goal.returns-in-Ok
-returns-in-Ok g c = inr c.serve_listener.ensures
-
-pub returns-in-Err : goal.returns-in-Err
-returns-in-Err g c = inl c.say.ensures

@@ -1,8 +1,0 @@
-use Rattle.server.proofs.Seen.{port_from, port_some}
-use Rattle.server.proofs.port.serve_port.Goals as goal
-
-pub returns-clause-worlds : goal.returns-clause-worlds
-returns-clause-worlds g c = λ clean w told. port_from g.S.Store (record { tables = c.args.tables; settings = c.args.config }) c.args.connections _ _ _ c.serve.ensures clean w told
-
-pub returns-clause-replies : goal.returns-clause-replies
-returns-clause-replies g c = port_some g.S.Store (record { tables = c.args.tables; settings = c.args.config }) c.args.connections _ _ _ c.serve.ensures

@@ -1,8 +1,0 @@
-use Rattle.server.proofs.Seen.{streams_from, streams_some}
-use Rattle.server.proofs.stream.serve_streams.Goals as goal
-
-pub returns-clause-worlds : goal.returns-clause-worlds
-returns-clause-worlds g c = λ clean w told. streams_from g.S.Store (record { tables = c.args.tables; settings = c.args.config }) _ _ _ _ _ _ c.serve.ensures clean w told
-
-pub returns-clause-replies : goal.returns-clause-replies
-returns-clause-replies g c = streams_some g.S.Store (record { tables = c.args.tables; settings = c.args.config }) _ _ _ _ _ _ c.serve.ensures

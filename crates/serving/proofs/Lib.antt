@@ -1,3 +1,0 @@
-mod Peers
-mod Sofar
-pub mod Seen

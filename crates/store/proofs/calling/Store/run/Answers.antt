@@ -1,0 +1,80 @@
+use Rattle.std.proofs.Common.{◌≡◌, List, [], ◌∷◌, ◌++◌, length, map, refl, sym, ap, subst, ◌∙◌, arith}
+use Rattle.std.proofs.lemmas.List.{map_push, nil_from_length}
+use Rattle.sqlite.specs.State.{HasCleanDisk}
+use Rattle.sqlite.specs.Held.{state}
+use Rattle.policy.specs.Settings.{Settings}
+use Rattle.model.specs.Reply.{Reply}
+use Rattle.tables.proofs.Kept.{clean_before}
+use Rattle.store_steps.specs.Disk.{StepOver}
+use Rattle.store_types.specs.View.{call_view, request_view, reply_view}
+use Rattle.store.proofs.Runs.{HasRun, begun, one_more, ended}
+use Rattle.store.proofs.calling.Store.run.Goals as goal
+
+pub loop-asked-init : goal.loop-asked-init
+loop-asked-init g c =
+    let all = c.into_iter-asked-iterator.ensures.into_iter_gives.0 in record {
+      settings = refl;
+      room = omega (arith, c.in_ok-replies.ensures.len, c.in_ok-replies.ensures.capacity, c.len.ensures, c.args.calls.ok.0, ap length all);
+      so_far = λ w t. (w, begun c.args.self.now.settings (map call_view c.args.calls.items) _ w _ _ (ap (map call_view) all) (ap (map reply_view) c.in_ok-replies.ensures.empty), t);
+    }
+
+pub push_reserved-requires : goal.push_reserved-requires
+push_reserved-requires g c = omega (arith, c.loop-asked.invariant.room, ap length c.in-Some.ensures.steps.0)
+
+pub loop-asked-preserved : goal.loop-asked-preserved
+loop-asked-preserved g c =
+    let first = c.in-Some.ensures.steps.0 in
+    let s = c.args.self.now.settings in
+    let told = map reply_view c.loop-asked.replies.items in
+    let reply = reply_view c.call-reply.result in record {
+      settings = c.call-reply.ensures.settings ∙ c.loop-asked.invariant.settings;
+      room = omega (arith, c.loop-asked.invariant.room, ap length first, c.push_reserved.ensures.len, c.push_reserved.ensures.capacity);
+      so_far = λ w t.
+          let m = c.loop-asked.invariant.so_far w t in
+          let n = c.call-reply.ensures.step m.0 m.2 in
+          let was = HasCleanDisk (state g.S.Store c.loop-asked.self.tables.connection) in
+          let is = HasCleanDisk (state g.S.Store c.call-reply.new.self.tables.connection) in
+          let clean : is → was = λ h. clean_before _ _ _ (c.call-reply.ensures.survives m.0 m.2) h in
+          let step = subst (λ (x : Settings). StepOver is x m.0 c.in-Some.asked.0 (request_view c.in-Some.asked.1) reply n.0) c.loop-asked.invariant.settings n.1 in
+          let grown : map reply_view c.push_reserved.new.self.items ≡ told ++ reply ∷ [] = ap (map reply_view) c.push_reserved.ensures.items ∙ map_push reply_view c.loop-asked.replies.items c.call-reply.result in (
+            n.0,
+            subst (λ (rs : List Reply). HasRun is s (map call_view c.args.calls.items) (map call_view c.next.new.self.rest.items) rs w n.0) (sym grown)
+                (one_more s (map call_view c.args.calls.items) was is clean w m.0 n.0 (map call_view c.loop-asked.asked-iterator.rest.items) (map call_view c.next.new.self.rest.items) (call_view c.in-Some.asked) told reply
+                (ap (map call_view) first) m.1 step),
+            n.2,
+          );
+    }
+
+pub loop-asked-preserved-in-Some : goal.loop-asked-preserved-in-Some
+loop-asked-preserved-in-Some g c =
+    let first = c.in-Some.ensures.steps.0 in
+    let s = c.args.self.now.settings in
+    let told = map reply_view c.loop-asked.replies.items in
+    let reply = reply_view c.call-reply.result in record {
+      settings = c.call-reply.ensures.settings ∙ c.loop-asked.invariant.settings;
+      room = omega (arith, c.loop-asked.invariant.room, ap length first, c.push_reserved.ensures.len, c.push_reserved.ensures.capacity);
+      so_far = λ w t.
+          let m = c.loop-asked.invariant.so_far w t in
+          let n = c.call-reply.ensures.step m.0 m.2 in
+          let was = HasCleanDisk (state g.S.Store c.loop-asked.self.tables.connection) in
+          let is = HasCleanDisk (state g.S.Store c.call-reply.new.self.tables.connection) in
+          let clean : is → was = λ h. clean_before _ _ _ (c.call-reply.ensures.survives m.0 m.2) h in
+          let step = subst (λ (x : Settings). StepOver is x m.0 c.in-Some.asked.0 (request_view c.in-Some.asked.1) reply n.0) c.loop-asked.invariant.settings n.1 in
+          let grown : map reply_view c.push_reserved.new.self.items ≡ told ++ reply ∷ [] = ap (map reply_view) c.push_reserved.ensures.items ∙ map_push reply_view c.loop-asked.replies.items c.call-reply.result in (
+            n.0,
+            subst (λ (rs : List Reply). HasRun is s (map call_view c.args.calls.items) (map call_view c.next.new.self.rest.items) rs w n.0) (sym grown)
+                (one_more s (map call_view c.args.calls.items) was is clean w m.0 n.0 (map call_view c.loop-asked.asked-iterator.rest.items) (map call_view c.next.new.self.rest.items) (call_view c.in-Some.asked) told reply
+                (ap (map call_view) first) m.1 step),
+            n.2,
+          );
+    }
+
+pub returns-clause-settings : goal.returns-clause-settings
+returns-clause-settings g c = c.loop-asked.invariant.settings
+
+pub returns-clause-runs : goal.returns-clause-runs
+returns-clause-runs g c w t =
+    let m = c.loop-asked.invariant.so_far w t in
+    let rest = c.loop-asked.asked-iterator.rest in
+    let none = nil_from_length rest.items (omega (arith, c.in-None.ensures.steps.0, rest.ok.0)) in
+    (m.0, ended c.args.self.now.settings (map call_view c.args.calls.items) _ w m.0 (map call_view rest.items) (map reply_view c.loop-asked.replies.items) (ap (map call_view) none) m.1, m.2)

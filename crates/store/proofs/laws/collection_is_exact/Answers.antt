@@ -1,9 +1,0 @@
-use Rattle.store.proofs.Collecting.{collects}
-use Rattle.store.proofs.Limited.{collects_up_to}
-use Rattle.store.proofs.laws.collection_is_exact.Goals as goal
-
-pub returns-clause-all : goal.returns-clause-all
-returns-clause-all c = collects
-
-pub returns-clause-limited : goal.returns-clause-limited
-returns-clause-limited c = collects_up_to

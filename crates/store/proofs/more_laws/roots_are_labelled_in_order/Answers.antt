@@ -1,8 +1,0 @@
-use Rattle.store.proofs.LabelsAndOrder.{are_labelled, kinds_in_order}
-use Rattle.store.proofs.more_laws.roots_are_labelled_in_order.Goals as goal
-
-pub returns-clause-labels : goal.returns-clause-labels
-returns-clause-labels c = are_labelled
-
-pub returns-clause-kinds : goal.returns-clause-kinds
-returns-clause-kinds c = kinds_in_order

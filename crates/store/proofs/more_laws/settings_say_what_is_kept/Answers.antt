@@ -1,8 +1,0 @@
-use Rattle.store.proofs.Kept.{edges_as_set, living_keep}
-use Rattle.store.proofs.more_laws.settings_say_what_is_kept.Goals as goal
-
-pub returns-clause-edges : goal.returns-clause-edges
-returns-clause-edges c = edges_as_set
-
-pub returns-clause-living : goal.returns-clause-living
-returns-clause-living c = living_keep

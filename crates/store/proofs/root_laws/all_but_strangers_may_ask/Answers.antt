@@ -1,8 +1,0 @@
-use Rattle.store.proofs.Leave.{nobody_ignores_liveness, all_may_ask}
-use Rattle.store.proofs.root_laws.all_but_strangers_may_ask.Goals as goal
-
-pub returns-clause-may : goal.returns-clause-may
-returns-clause-may c = all_may_ask
-
-pub returns-clause-never : goal.returns-clause-never
-returns-clause-never c = nobody_ignores_liveness

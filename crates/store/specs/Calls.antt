@@ -1,0 +1,29 @@
+-- What becomes of a store of which something is asked.
+use Rattle.std.specs.Prelude.{◌≡◌}
+use Rattle.sqlite_trees.specs.declared.store.Store.{Ghosts}
+use Rattle.sqlite.specs.State.{HasCleanDisk, Survives}
+use Rattle.sqlite.specs.Held.{state}
+use Rattle.policy.specs.Caller.{Caller}
+use Rattle.model.specs.World.{World}
+use Rattle.model.specs.Request.{Request}
+use Rattle.model.specs.Reply.{Reply}
+use Rattle.tables.specs.Kept.{Tells}
+use Rattle.store_steps.specs.Disk.{StepOver}
+use Rattle.store_steps.specs.Lasting.{Lasts}
+use Rattle.store_steps.specs.Leaving.{LeavesDone}
+use Rattle.model.specs.Reply.{IsDone}
+use Rattle.store.specs.Standing.{Standing, IsStill}
+
+module _ {S : Type 0} (g : Ghosts S) where
+  -- a caller's request had this reply
+  pub record Calls (c : Caller) (q : Request) (reply : Reply) (old new : Standing S) : Type 0 where
+    pub settings : new.settings ≡ old.settings
+    -- of each world that the tables told, a step to one that they tell now; an answer from the disk is right if that is clean
+    pub step : (w : World) → Tells g old.tables w → (next : World) × StepOver (HasCleanDisk (state g new.tables.connection)) old.settings w c q reply next × Tells g new.tables next
+    -- a denial or a refusal leaves the store as it was
+    pub still : IsStill reply → new ≡ old
+    -- what is done outlives a crash
+    pub lasts : IsDone reply → Lasts g old.tables new.tables
+    -- at any exit a crash leaves what it could leave before, or the tables of the done case, if there is one
+    pub survives : (w : World) → Tells g old.tables w → Survives (state g old.tables.connection) (state g new.tables.connection)
+        (λ db. LeavesDone old.tables.dir (state g old.tables.connection).now db old.settings w c q)

@@ -1,0 +1,134 @@
+//! What becomes of a request that no rule forbids.
+
+ghost use Rattle.std.specs.Prelude.{◌≡◌, false};
+ghost use Rattle.std.specs.List.{list_any};
+ghost use Rattle.model.specs.World.{World};
+ghost use Rattle.model.specs.Liveness.{lives};
+ghost use Rattle.model.specs.Verdict.{named_in};
+ghost use Rattle.tables.specs.Kept.{Tells};
+ghost use Rattle.store_types.specs.View.{request_view, reply_view};
+ghost use Rattle.store_steps.specs.Meets.{IsMet, reply_to};
+
+use crate::{disk, living, reading, root_listing};
+use policy::{Caller, Config};
+use sqlite::Alter;
+use std::alloc::Global;
+use store_adds::adding::add_text;
+use store_adds::imports::import_object;
+use store_adds::sources::add_source;
+use store_removal::collecting::collect;
+use store_removal::deleting::delete;
+use store_roots::permanent::{drop_permanent, set_permanent};
+use store_roots::profiles::{delete_generation, rollback, set_profile, switch};
+use store_roots::runtime::replace_runtime;
+use store_roots::sessions::{add_temp, end_session};
+use store_roots::user_roots::{drop_user_root, set_user_root};
+use store_types::{Answer, Imported, Reply, Request, Stop};
+use tables::Tables;
+
+/// Does what is asked: its tests in their order, and then its one effect and its answer.
+pub(crate) fn act<S: Alter>(
+    alloc: Global,
+    config: &Config,
+    caller: &Caller,
+    tables: &mut Tables<S>,
+    request: Request,
+) -> Result<Answer, Stop>
+    requires dir { tables.old.dir ≡ config.now.store_dir }
+    // What is deleted by name is dead.
+    requires dead { (w : World) → Tells S.Store tables.old w → list_any (lives config.now w) (named_in (request_view request)) ≡ false }
+    ensures { IsMet S.Store config.now caller.now (request_view request) result tables.old tables.new }
+{
+    match request {
+        Request::AddText {
+            name,
+            refs,
+            contents: text,
+        } => add_text(alloc, config, tables, name, refs, text),
+        Request::Info(path) => reading::info(alloc, tables.index(), path),
+        Request::Nar(path) => disk::archive(tables, path),
+        Request::Ls(path) => disk::listing(alloc, tables, path),
+        Request::List => reading::list(alloc, tables.index()),
+        Request::Live => living::list_live(alloc, config, tables.index()),
+        Request::Dead => living::list_dead(alloc, config, tables.index()),
+        Request::ListRoots => root_listing::list_roots(alloc, config, caller, tables.index()),
+        Request::RootsOf(path) => {
+            root_listing::list_roots_of(alloc, config, caller, tables.index(), path)
+        }
+        Request::Report => living::report(alloc, config, tables.index()),
+        Request::SetPermanent { name, path } => set_permanent(tables, name, path),
+        Request::DropPermanent { name } => drop_permanent(tables, name),
+        Request::SetUserRoot {
+            user: owner,
+            name,
+            path,
+        } => set_user_root(tables, (owner, name), path),
+        Request::DropUserRoot { user: owner, name } => drop_user_root(tables, (owner, name)),
+        Request::Rollback {
+            user: owner,
+            profile: name,
+        } => rollback(tables, (owner, name)),
+        Request::Switch {
+            user: owner,
+            profile: name,
+            n: number,
+        } => switch(tables, (owner, name), number),
+        Request::DeleteGeneration {
+            user: owner,
+            profile: name,
+            n,
+        } => delete_generation(tables, (owner, name), n),
+        Request::SetProfile {
+            user: owner,
+            profile: name,
+            path,
+        } => set_profile(tables, (owner, name), path),
+        Request::AddTemp {
+            owner,
+            session,
+            path,
+        } => add_temp(tables, owner, session, path),
+        Request::EndSession { owner, session } => end_session(tables, owner, session),
+        Request::ReplaceRuntime(pairs) => replace_runtime(alloc, tables, pairs),
+        Request::AddSource { name, refs, nar } => add_source(
+            alloc, config, tables, name, refs, nar,
+        ),
+        Request::Import {
+            path,
+            nar_hash,
+            refs,
+            deriver,
+            ca,
+            nar,
+        } => {
+            let object = Imported {
+                path,
+                nar_hash,
+                refs,
+                deriver,
+                ca,
+                nar,
+            };
+            import_object(alloc, config, tables, object)
+        }
+        Request::Collect {
+            ignore_liveness: ignores,
+            max_freed: limit,
+        } => collect(alloc, config, tables, ignores, limit),
+        Request::Delete {
+            paths: named,
+            ignore_liveness: ignores,
+        } => delete(alloc, tables, named, ignores),
+    }
+}
+
+/// The reply to it.
+pub(crate) fn reply(met: Result<Answer, Stop>) -> Reply
+    ensures { reply_view result ≡ reply_to met }
+{
+    match met {
+        Ok(answer) => Reply::Done(answer),
+        Err(Stop::Refused(refusal)) => Reply::Refused(refusal),
+        Err(Stop::Failed(failure)) => Reply::Failed(failure),
+    }
+}

@@ -1,0 +1,141 @@
+//! The store: its tables, its settings, and the one way of a call.
+
+ghost use Rattle.std.specs.Prelude.{◌≡◌, ◌≤◌, false, [], IfOk, option_map, vec_capacity, vec_len};
+ghost use Rattle.std.specs.List.{list_any};
+ghost use Rattle.sqlite.specs.State.{HasCleanDisk, Survives};
+ghost use Rattle.sqlite.specs.Held.{state};
+ghost use Rattle.model.specs.World.{World};
+ghost use Rattle.model.specs.Reply.{IsDone};
+ghost use Rattle.model.specs.Liveness.{lives};
+ghost use Rattle.model.specs.Verdict.{named_in};
+ghost use Rattle.tables.specs.Kept.{Tells};
+ghost use Rattle.store_steps.specs.Disk.{StepOver};
+ghost use Rattle.store.specs.Forbidden.{IsForbidden};
+ghost use Rattle.store_steps.specs.Lasting.{Lasts};
+ghost use Rattle.store_steps.specs.Leaving.{LeavesDone};
+ghost use Rattle.store_steps.specs.Meets.{IsMet};
+ghost use Rattle.store_types.specs.View.{request_view, reply_view};
+ghost use Rattle.store.specs.Standing.{IsStill};
+
+use crate::acting::{act, reply};
+use policy::{Caller, Config, Rule, class, decide};
+use sqlite::Alter;
+use std::alloc::{AllocError, Global};
+use std::marker::Model;
+use store_removal::deleting::denial;
+use store_types::{Answer, Reply, Request, Stop, operation};
+use tables::Tables;
+use tables_sql::failure::Failure;
+
+/// A store. Contracts see it as its tables and its settings.
+pub struct Store<S: Alter> {
+    alloc: Global,
+    config: Config,
+    tables: Tables<S>,
+}
+
+impl<S: Alter> Model for Store<S> {
+    ghost use Rattle.std.specs.Prelude.{◌≡◌};
+    ghost use Rattle.store.specs.Standing.{Standing, standing_code};
+
+    ghost Value = { Standing S };
+
+    ghost coded = { standing_code S.code };
+
+    ghost view = { λ t. record { tables = t.tables; settings = t.config } };
+
+    ghost invariant = { λ t. t.tables.dir ≡ t.config.store_dir };
+}
+
+impl<S: Alter> Store<S> {
+    /// The store of these tables, under these settings. They are of one store directory.
+    pub fn new(alloc: Global, config: Config, tables: Tables<S>) -> Store<S>
+        requires { tables.dir ≡ config.store_dir }
+        ensures { result ≡ record { tables = tables; settings = config } }
+    {
+        Store {
+            alloc,
+            config,
+            tables,
+        }
+    }
+
+    /// Its settings.
+    pub fn config(&self) -> &Config
+        ensures { result.now ≡ self.now.settings }
+    {
+        &self.config
+    }
+
+    /// Its tables, given up.
+    pub fn release(self) -> Tables<S>
+        ensures { result ≡ self.tables }
+    {
+        let Store {
+            alloc: _alloc,
+            config: _config,
+            tables,
+        } = self;
+        tables
+    }
+
+    /// Room for some replies.
+    pub(crate) fn room(&self, count: usize) -> Result<Vec<Reply>, AllocError>
+        ensures empty { IfOk result (λ v. v.items ≡ []) }
+        ensures len { IfOk result (λ v. vec_len v ≡ 0) }
+        ensures capacity { IfOk result (λ v. count ≤ vec_capacity v) }
+    {
+        Vec::with_capacity(self.alloc, count)
+    }
+
+    /// The reply to a request that a rule forbids, the first that does, or of which memory was refused to tell so. None where
+    /// no rule forbids it.
+    fn forbidden(&self, caller: &Caller, request: &Request) -> Option<Reply>
+        ensures { (w : World) → Tells S.Store self.now.tables w → IsForbidden self.now.settings w caller.now (request_view request.now) (option_map reply_view result) }
+    {
+        if let Some(rule) = decide(class(&self.config, caller), caller, &operation(request)) {
+            return Some(Reply::Denied(rule, None));
+        }
+        match denial(
+            self.alloc,
+            &self.config,
+            caller,
+            self.tables.index(),
+            request,
+        ) {
+            Ok(None) => None,
+            Ok(Some(root)) => Some(Reply::Denied(Rule::Live, Some(root))),
+            Err(_) => Some(Reply::Failed(Failure::Memory)),
+        }
+    }
+
+    /// Does what no rule forbids.
+    fn act(&mut self, caller: &Caller, request: Request) -> Result<Answer, Stop>
+        requires { (w : World) → Tells S.Store self.old.tables w → list_any (lives self.old.settings w) (named_in (request_view request)) ≡ false }
+        ensures settings { self.new.settings ≡ self.old.settings }
+        ensures met { IsMet S.Store self.old.settings caller.now (request_view request) result self.old.tables self.new.tables }
+    {
+        act(self.alloc, &self.config, caller, &mut self.tables, request)
+    }
+
+    /// Does what a caller asks, or says why not: the first rule that forbids it, or else the first of its tests that
+    /// fails. What isn't done changes nothing, and neither a denial nor a refusal touches the tables. Only a call that no
+    /// rule but the one on live paths forbids fails.
+    pub fn call(&mut self, caller: &Caller, request: Request) -> Reply
+        ensures settings { self.new.settings ≡ self.old.settings }
+        // Of each world that the tables told, a step to one that they tell now; an answer from the disk is right if that is clean.
+        ensures step { (w : World) → Tells S.Store self.old.tables w
+            → (next : World) × StepOver (HasCleanDisk (state S.Store self.new.tables.connection)) self.old.settings w caller.now (request_view request) (reply_view result) next × Tells S.Store self.new.tables next }
+        ensures still { IsStill (reply_view result) → self.new ≡ self.old }
+        ensures lasts { IsDone (reply_view result) → Lasts S.Store self.old.tables self.new.tables }
+        // At any exit a crash leaves what it could leave before, or the tables of the done case; where a rule denies the request
+        // or a test of it fails there is none.
+        ensures survives { (w : World) → Tells S.Store self.old.tables w → Survives (state S.Store self.old.tables.connection) (state S.Store self.new.tables.connection)
+            (λ db. LeavesDone self.old.tables.dir (state S.Store self.old.tables.connection).now db self.old.settings w caller.now (request_view request)) }
+    {
+        match self.forbidden(caller, &request) {
+            Some(forbidden) => forbidden,
+            None => reply(self.act(caller, request)),
+        }
+    }
+}

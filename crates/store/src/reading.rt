@@ -1,0 +1,30 @@
+//! What is read of the index alone.
+
+ghost use Rattle.policy.specs.Settings.{Settings};
+ghost use Rattle.policy.specs.Caller.{Caller};
+ghost use Rattle.model.specs.Request as asked;
+ghost use Rattle.store_types.specs.Meets.{Reads};
+
+use crate::records::{all_paths, record};
+use paths::StorePath;
+use std::alloc::Global;
+use store_types::{Answer, Refusal, Stop};
+use tables_outline::Index;
+
+/// The record of an object.
+pub(crate) fn info(alloc: Global, index: &Index, path: StorePath) -> Result<Answer, Stop>
+    ensures { (s : Settings) (c : Caller) → Reads s c index.now (asked.info path) result }
+{
+    let Some(object) = index.object(&path) else {
+        return Err(Stop::Refused(Refusal::NotValid));
+    };
+    Ok(Answer::Record(record(alloc, path, object)?))
+}
+
+/// All paths.
+pub(crate) fn list(alloc: Global, index: &Index) -> Result<Answer, Stop>
+    ensures { (s : Settings) (c : Caller) → Reads s c index.now asked.list result }
+{
+    let paths = all_paths(alloc, index)?;
+    Ok(Answer::Paths(paths))
+}

@@ -1,0 +1,31 @@
+-- What becomes of tables to which an object is added.
+use Rattle.std.specs.Prelude.{◌≡◌, Result, Ok, Err}
+use Rattle.sqlite_trees.specs.declared.store.Store.{Ghosts}
+use Rattle.sqlite.specs.State.{Survives}
+use Rattle.sqlite.specs.Held.{state}
+use Rattle.model.specs.World.{World}
+use Rattle.model.specs.Reply.{path}
+use Rattle.model.specs.Adds.{Added}
+use Rattle.model.specs.Effects.{with_object}
+use Rattle.tables.specs.Kept.{Kept, Tells, LeavesWorld}
+use Rattle.store_types.specs.declared.replies.Answer.{Answer}
+use Rattle.store_types.specs.declared.replies.Stop.{Stop}
+use Rattle.store_types.specs.declared.replies.Stop.TheVariants.{Refused, Failed}
+use Rattle.store_types.specs.View.{answer_view}
+use Rattle.store_steps.specs.Lasting.{Lasts}
+use Rattle.store_steps.specs.Meets.{IsAnswered, IsRefused}
+
+module _ {S : Type 0} (g : Ghosts S) where
+  -- its path is answered, and the tables tell a world with it; or the call failed, and they tell what they told
+  abbrev pub Adds : Added → Result Answer Stop → World → Kept S → Type 0
+  Adds a (Ok x) w new = (answer_view x ≡ path a.path) × Tells g new (with_object w a)
+  Adds a (Err (Failed f)) w new = Tells g new w
+  Adds a (Err (Refused r)) w new = ⊥
+
+  pub record IsAdded (a : Added) (r : Result Answer Stop) (old new : Kept S) : Type 0 where
+    pub dir : new.dir ≡ old.dir
+    pub world : (w : World) → Tells g old w → Adds a r w new
+    pub unrefused : IsRefused r → ⊥
+    pub lasts : IsAnswered r → Lasts g old new
+    pub survives : (w : World) → Tells g old w → Survives (state g old.connection) (state g new.connection)
+        (λ db. LeavesWorld old.dir (state g old.connection).now db (with_object w a))

@@ -1,0 +1,24 @@
+-- Parts of an object that is handed in, and what an outline tells of them.
+use Rattle.std.specs.Prelude.{◌||◌, Bool, List, String, string_bytes}
+use Rattle.std.specs.List.{list_all}
+use Rattle.std.specs.FinMap as finite
+use Rattle.std.specs.declared.alloc.Global.{Global}
+use Rattle.paths.specs.Root.{bytes_cmp}
+use Rattle.live.specs.Graph.{same}
+use Rattle.model.specs.World.{Path}
+use Rattle.tables_outline.specs.Maps.{seen_map}
+use Rattle.tables_outline.specs.Outline.{Outline, with_archive}
+use Rattle.model.specs.Adds as adds
+use Rattle.store_adds.specs.declared.summaries.Added.{Added}
+
+-- outputs by their names
+abbrev pub outputs_view : List (String Global × Path) → finite.FinMap bytes_cmp Path
+outputs_view entries = seen_map bytes_cmp string_bytes (λ (p : Path). p) entries
+
+-- an object with its path
+abbrev pub added_view : Added → adds.Added
+added_view a = record { path = a.path; object = with_archive a.nar a.object }
+
+-- each reference is a path of the outline, the path itself apart; not asked of a path that the outline has
+abbrev pub is_complete_in : Outline → Path → List Path → Bool
+is_complete_in o p refs = finite.contains_key o.objects p || list_all (λ r. finite.contains_key o.objects r || same r p) refs

@@ -1,0 +1,60 @@
+//! Adds.
+
+ghost use Rattle.std.specs.Prelude.{◌≡◌, length};
+ghost use Rattle.sha2.specs.Sha256.{sha256};
+ghost use Rattle.policy.specs.Caller.{Caller};
+ghost use Rattle.model.specs.World.{World};
+ghost use Rattle.model.specs.Sound.{IsSound};
+ghost use Rattle.model.specs.Request as asked;
+ghost use Rattle.model.specs.Effects.{with_object};
+ghost use Rattle.tables.specs.Kept.{Tells};
+ghost use Rattle.store_adds.specs.Parts.{added_view};
+ghost use Rattle.store_adds.specs.Adding.{IsAdded};
+ghost use Rattle.store_steps.specs.Meets.{IsMet};
+
+use crate::summaries::Added;
+use crate::texts::prepare_text;
+use paths::{Name, StorePath};
+use policy::{Config, store_dir};
+use sqlite::Alter;
+use std::alloc::Global;
+use store_types::{Answer, Stop};
+use tables::Tables;
+
+/// An object is put at its path, unless the path is valid already.
+pub fn add<S: Alter>(tables: &mut Tables<S>, added: Added) -> Result<Answer, Stop>
+    requires size { added.object.size ≡ length added.nar }
+    requires hash { added.object.hash ≡ sha256 added.nar }
+    requires sound { (w : World) → Tells S.Store tables.old w → IsSound tables.old.dir (with_object w (added_view added)) }
+    ensures { IsAdded S.Store (added_view added) result tables.old tables.new }
+{
+    let Added { path, nar, object } = added;
+    if tables.index().has(&path) {
+        return Ok(Answer::Path(path));
+    }
+    match tables.insert_object(&path, &nar, object) {
+        Ok(()) => Ok(Answer::Path(path)),
+        Err(failure) => Err(Stop::Failed(failure)),
+    }
+}
+
+/// A text is added.
+pub fn add_text<S: Alter>(
+    alloc: Global,
+    config: &Config,
+    tables: &mut Tables<S>,
+    name: Name,
+    refs: Vec<StorePath>,
+    contents: Vec<u8>,
+) -> Result<Answer, Stop>
+    requires dir { tables.old.dir ≡ config.now.store_dir }
+    ensures { (c : Caller) → IsMet S.Store config.now c (asked.add_text name refs.items contents.items) result tables.old tables.new }
+{
+    // It is a store name.
+    let _text = name.as_str();
+    let dir = store_dir(config);
+    match prepare_text(alloc, dir, tables.index(), &name, refs, &contents) {
+        Ok(added) => add(tables, added),
+        Err(stop) => Err(stop),
+    }
+}

@@ -1,0 +1,73 @@
+//! Archives of objects.
+ghost use Rattle.std.specs.Prelude.{◌≡◌, ◌≤◌, false, nat_le, IfOk, OnOk};
+ghost use Rattle.sha2.specs.Sha256.{sha256};
+ghost use Rattle.nar.specs.Tree.{regular};
+ghost use Rattle.nar.specs.Archive.{limit};
+ghost use Rattle.nar.specs.View.{tree_of};
+ghost use Rattle.model.specs.Adds as adds;
+ghost use Rattle.model.specs.Adds.{text_archive_size};
+ghost use Rattle.model.specs.Reply as replied;
+ghost use Rattle.model.specs.Tests.{unless};
+ghost use Rattle.store_types.specs.Tested.{Tested};
+ghost use Rattle.nar.specs.declared.error.NarError.TheVariants.{TooLarge as too_large};
+
+use intake::Intake;
+use nar::{NarError, Node};
+use sha2::{Digest, Sha256};
+use std::alloc::{AllocError, Global};
+use store_types::{Refusal, Stop};
+use streams::Pieces;
+
+/// A regular file that isn't executable.
+pub(crate) fn plain(contents: &[u8]) -> Node<'_>
+    ensures { tree_of result ≡ regular false contents.now }
+{
+    Node::Regular {
+        executable: false,
+        contents,
+    }
+}
+
+/// Tests that the archive of a text is small enough.
+pub(crate) fn has_archive(contents: &[u8]) -> Result<(), Stop>
+    ensures told { Tested result (unless (nat_le (text_archive_size contents.now) limit) (replied.archive too_large)) }
+    ensures fits { OnOk result (text_archive_size contents.now ≤ limit) }
+{
+    let file = plain(contents);
+    if !nar::is_writable(&file) {
+        return Err(Stop::Refused(Refusal::Archive(NarError::TooLarge)));
+    }
+    Ok(())
+}
+
+/// The archive of a text, with the digests that were taken as it was made.
+#[derive(Drop)]
+pub(crate) struct TextArchive {
+    /// Its bytes.
+    pub(crate) pieces: Pieces,
+    /// Their SHA-256 digest.
+    pub(crate) hash: [u8; 32],
+    /// The SHA-256 digest of the contents.
+    pub(crate) contents_hash: [u8; 32],
+}
+
+/// Makes the archive of a text.
+///
+/// # Errors
+///
+/// Memory was refused.
+pub(crate) fn text_archive(alloc: Global, contents: &[u8]) -> Result<TextArchive, AllocError>
+    ensures pieces { IfOk result (λ a. a.pieces ≡ adds.text_archive contents.now) }
+    ensures hash { IfOk result (λ a. a.hash ≡ sha256 a.pieces) }
+    ensures contents { IfOk result (λ a. a.contents_hash ≡ sha256 contents.now) }
+{
+    let nar = Intake::of_text(alloc, contents)?;
+    let arrived = nar.finish()?;
+    let hash = arrived.nar_hash;
+    let contents_hash = Sha256::digest(contents);
+    Ok(TextArchive {
+        pieces: arrived.pieces,
+        hash,
+        contents_hash,
+    })
+}

@@ -1,0 +1,40 @@
+//! Archives that have come.
+
+ghost use Rattle.std.specs.Prelude.{◌≡◌, IfOk, IfErr, None};
+ghost use Rattle.nar.specs.Outcome.{outcome_of};
+ghost use Rattle.model.specs.Tests.{archive_fault};
+ghost use Rattle.tables_sql.specs.declared.failure.Failure.TheVariants.{Memory as memory};
+ghost use Rattle.store_types.specs.declared.replies.Stop.TheVariants.{Failed as failed};
+ghost use Rattle.intake.specs.Arriving.{bytes_in};
+ghost use Rattle.intake.specs.Told.{IsTold};
+ghost use Rattle.store_types.specs.Tested.{Tested};
+
+use intake::{Arrived, Intake};
+use nar::NarError;
+use store_types::{Refusal, Stop};
+use tables_sql::failure::Failure;
+
+/// An archive at its end. Where memory was refused as it came, the call fails.
+pub(crate) fn arrived(nar: Intake) -> Result<Arrived, Stop>
+    ensures pieces { IfOk result (λ a. a.pieces ≡ bytes_in nar) }
+    ensures told { IfOk result IsTold }
+    ensures spent { nar ≡ None → IfOk result (λ a. ⊥) }
+    ensures failed { IfErr result (λ stop. stop ≡ failed memory) }
+{
+    match nar.finish() {
+        Ok(arrived) => Ok(arrived),
+        Err(_) => Err(Stop::Failed(Failure::Memory)),
+    }
+}
+
+/// Tests that it is an archive.
+pub(crate) fn is_archive(nar: &Arrived) -> Result<(), Stop>
+    requires { IsTold nar.now }
+    ensures { Tested result (archive_fault (outcome_of nar.now.pieces)) }
+{
+    match nar.fault {
+        None => Ok(()),
+        Some(NarError::Memory) => Err(Stop::Failed(Failure::Memory)),
+        Some(fault) => Err(Stop::Refused(Refusal::Archive(fault))),
+    }
+}

@@ -1,0 +1,149 @@
+//! Tests of what is handed in with an object.
+
+ghost use Rattle.std.specs.Prelude.{◌≡◌, ◌||◌, Some, None, IfOk, IfErr, IsTrue, not, is_none};
+ghost use Rattle.sha2.specs.Sha256.{sha256};
+ghost use Rattle.paths.specs.StorePath.{is_base_name};
+ghost use Rattle.paths.specs.ContentAddress.{verifies};
+ghost use Rattle.paths.specs.Facts.{TellsFor};
+ghost use Rattle.live.specs.Graph.{holds as is_held, same};
+ghost use Rattle.model.specs.World.{Path as PathOf};
+ghost use Rattle.model.specs.Adds.{added_import};
+ghost use Rattle.model.specs.Reply as replied;
+ghost use Rattle.model.specs.Tests as tests;
+ghost use Rattle.model.specs.Tests.{unless};
+ghost use Rattle.store_types.specs.Tested.{Tested};
+ghost use Rattle.tables_sql.specs.declared.failure.Failure.TheVariants.{Memory as memory};
+ghost use Rattle.store_types.specs.declared.replies.Stop.TheVariants.{Failed as failed};
+ghost use Rattle.intake.specs.Told.{IsTold};
+ghost use Rattle.store_adds.specs.Delivered.{delivered_view};
+ghost use Rattle.store_types.specs.View.{import_view};
+
+use crate::arrivals::arrived;
+use crate::references::are_others;
+use intake::Arrived;
+use paths::{Ca, Facts, Method, StoreDir, StorePath, VerifyError};
+use std::alloc::Global;
+use store_types::{Imported, Refusal, Stop};
+use tables_sql::failure::Failure;
+
+fn is_same(a: &[u8], b: &[u8]) -> bool
+    ensures { result ≡ same a.now b.now }
+{
+    a == b
+}
+
+/// An object that is handed in with its path, whose archive has come.
+#[derive(Drop)]
+pub(crate) struct Delivered {
+    pub(crate) path: StorePath,
+    pub(crate) nar_hash: [u8; 32],
+    pub(crate) refs: Vec<StorePath>,
+    pub(crate) deriver: Option<StorePath>,
+    pub(crate) ca: Option<Ca>,
+    pub(crate) nar: Arrived,
+}
+
+/// What is handed in, once its archive has come. Where memory was refused as that came, the call fails.
+pub(crate) fn at_end(import: Imported) -> Result<Delivered, Stop>
+    ensures same { IfOk result (λ d. delivered_view d ≡ import_view import) }
+    ensures told { IfOk result (λ d. IsTold d.nar) }
+    ensures spent { import.nar ≡ None → IfOk result (λ d. ⊥) }
+    ensures failed { IfErr result (λ stop. stop ≡ failed memory) }
+{
+    let Imported {
+        path,
+        nar_hash,
+        refs,
+        deriver,
+        ca,
+        nar,
+    } = import;
+    match arrived(nar) {
+        Ok(nar) => Ok(Delivered {
+            path,
+            nar_hash,
+            refs,
+            deriver,
+            ca,
+            nar,
+        }),
+        Err(stop) => Err(stop),
+    }
+}
+
+impl Delivered {
+    /// Its path and its deriver are base names.
+    pub(crate) fn has_base_names(&self)
+        ensures path { IsTrue (is_base_name (delivered_view self.now).path) }
+        ensures deriver { (d : PathOf) → (delivered_view self.now).deriver ≡ Some d → IsTrue (is_base_name d) }
+    {
+        let _path = self.path.as_str();
+        if let Some(deriver) = &self.deriver {
+            let _deriver = deriver.as_str();
+        }
+    }
+
+    /// Tests that the archive has the given digest.
+    pub(crate) fn has_digest(&self) -> Result<(), Stop>
+        requires { IsTold self.now.nar }
+        ensures { Tested result (unless (same (sha256 (delivered_view self.now).nar) (delivered_view self.now).nar_hash) replied.nar_hash_mismatch) }
+    {
+        if !is_same(&self.nar.nar_hash, &self.nar_hash) {
+            return Err(Stop::Refused(Refusal::NarHashMismatch));
+        }
+        Ok(())
+    }
+
+    /// Tests that it doesn't refer to itself, if it has a content address.
+    pub(crate) fn refers_to_others(&self) -> Result<(), Stop>
+        ensures { Tested result (unless (is_none (delivered_view self.now).ca || not (is_held (delivered_view self.now).refs (delivered_view self.now).path)) replied.self_reference) }
+    {
+        if self.ca.is_none() {
+            return Ok(());
+        }
+        are_others(&self.refs, &self.path)
+    }
+
+    /// Tests that its content address verifies, if it has one.
+    pub(crate) fn is_verified(&self, alloc: Global, dir: &StoreDir) -> Result<(), Stop>
+        requires { IsTold self.now.nar }
+        ensures { Tested result (unless (tests.is_verified dir.now (delivered_view self.now).path (added_import dir.now (delivered_view self.now)).object (delivered_view self.now).ca) replied.ca_mismatch) }
+    {
+        let Some(ca) = &self.ca else {
+            return Ok(());
+        };
+        if !self.fits(alloc, dir, ca)? {
+            return Err(Stop::Refused(Refusal::CaMismatch));
+        }
+        Ok(())
+    }
+
+    /// What an address of such a method asks for of the archive: contents are hashed for that of a text alone.
+    fn facts(&self, method: Method) -> Facts
+        requires { IsTold self.now.nar }
+        ensures { TellsFor method self.now.nar.pieces result }
+    {
+        match method {
+            Method::Text => self.nar.facts(),
+            Method::Source => Facts {
+                nar_hash: self.nar.nar_hash,
+                nar_size: self.nar.pieces.len() as u64,
+                plain: None,
+            },
+        }
+    }
+
+    /// Whether an address is that of the object.
+    fn fits(&self, alloc: Global, dir: &StoreDir, ca: &Ca) -> Result<bool, Stop>
+        requires { IsTold self.now.nar }
+        ensures fits { IfOk result (λ fits. fits ≡ verifies ca.now dir.now (delivered_view self.now).path (delivered_view self.now).refs (delivered_view self.now).nar) }
+        ensures failed { IfErr result (λ stop. stop ≡ failed memory) }
+    {
+        let facts = self.facts(ca.method());
+        match ca.verify_facts(alloc, dir, &self.path, &self.refs, &facts) {
+            Ok(()) => Ok(true),
+            Err(VerifyError::CaMismatch) => Ok(false),
+            Err(VerifyError::Memory) => Err(Stop::Failed(Failure::Memory)),
+        }
+    }
+}

@@ -1,0 +1,128 @@
+//! Derivations: the outputs that they record.
+ghost use Rattle.std.specs.Prelude.{◌≡◌, Ok, if◌then◌else◌, IfOk};
+ghost use Rattle.std.specs.FinMap as finite;
+ghost use Rattle.paths.specs.StorePath.{is_derivation};
+ghost use Rattle.nar.specs.declared.error.NarError.{NarError as Fault};
+ghost use Rattle.nar.specs.Outcome.{outcome_of};
+ghost use Rattle.nar.specs.View.{tree_of};
+ghost use Rattle.drv.specs.Outcome as outcome;
+ghost use Rattle.drv.specs.View.{pairs};
+ghost use Rattle.model.specs.Objects as objects;
+ghost use Rattle.model.specs.Tests.{if_derivation, outputs_fault, tree_fault};
+ghost use Rattle.store_types.specs.Tested.{Gives};
+ghost use Rattle.store_adds.specs.Parts.{outputs_view};
+
+use drv::DrvError;
+use intake::file_contents;
+use nar::Node;
+use paths::{StoreDir, StorePath};
+use std::alloc::{AllocError, Global};
+use std::collections::BTreeMap;
+use store_types::{Refusal, Stop};
+use streams::Pieces;
+use tables_sql::failure::Failure;
+
+/// The paths of outputs by their names.
+fn by_name(
+    alloc: Global,
+    found: Vec<(String, StorePath)>,
+) -> Result<BTreeMap<String, StorePath>, AllocError>
+    ensures { IfOk result (λ map. outputs_view map.entries ≡ finite.from_entries (pairs found.items)) }
+{
+    let mut left = found;
+    let mut map = BTreeMap::new(alloc);
+    while let Some((name, path)) = left.pop() {
+        map.insert(name, path)?;
+    }
+    Ok(map)
+}
+
+/// The outputs of a derivation text.
+fn outputs_of(
+    alloc: Global,
+    dir: &StoreDir,
+    text: &[u8],
+) -> Result<BTreeMap<String, StorePath>, Stop>
+    ensures { Gives (λ map. outputs_view map.entries) result (outputs_fault (outcome.outputs_of dir.now text.now)) (objects.outputs_if_sound (outcome.outputs_of dir.now text.now)) }
+{
+    match drv::outputs(alloc, text, dir) {
+        Ok(found) => Ok(by_name(alloc, found)?),
+        Err(DrvError::Memory) => Err(Stop::Failed(Failure::Memory)),
+        Err(fault) => Err(Stop::Refused(Refusal::Derivation(fault))),
+    }
+}
+
+/// The outputs of a tree as a derivation: any other node than a regular file has no text.
+fn outputs_in(
+    alloc: Global,
+    dir: &StoreDir,
+    node: &Node<'_>,
+) -> Result<BTreeMap<String, StorePath>, Stop>
+    ensures { Gives (λ map. outputs_view map.entries) result (tree_fault dir.now (Ok (tree_of node.now))) (objects.tree_outputs {E = Fault} dir.now (Ok (tree_of node.now))) }
+{
+    match node {
+        Node::Regular { contents, .. } => outputs_of(alloc, dir, contents),
+        _ => Err(Stop::Refused(Refusal::Derivation(DrvError::BadDerivation))),
+    }
+}
+
+/// The outputs of an archive as a derivation.
+fn outputs_from(
+    alloc: Global,
+    dir: &StoreDir,
+    nar: &[u8],
+) -> Result<BTreeMap<String, StorePath>, Stop>
+    ensures { Gives (λ map. outputs_view map.entries) result (tree_fault dir.now (outcome_of nar.now)) (objects.tree_outputs dir.now (outcome_of nar.now)) }
+{
+    match file_contents(alloc, nar) {
+        Ok(Some(text)) => outputs_of(alloc, dir, text),
+        Ok(None) => Err(Stop::Refused(Refusal::Derivation(DrvError::BadDerivation))),
+        Err(_) => Err(Stop::Failed(Failure::Memory)),
+    }
+}
+
+/// The same of an archive in pieces, which is joined.
+fn outputs_joined(
+    alloc: Global,
+    dir: &StoreDir,
+    nar: &Pieces,
+) -> Result<BTreeMap<String, StorePath>, Stop>
+    ensures { Gives (λ map. outputs_view map.entries) result (tree_fault dir.now (outcome_of nar.now)) (objects.tree_outputs dir.now (outcome_of nar.now)) }
+{
+    match nar.joined() {
+        Ok(nar) => outputs_from(alloc, dir, nar.as_slice()),
+        Err(_) => Err(Stop::Failed(Failure::Memory)),
+    }
+}
+
+/// The outputs that an object records, by its archive. A derivation text alone is joined.
+pub(crate) fn outputs_by(
+    alloc: Global,
+    dir: &StoreDir,
+    path: &StorePath,
+    nar: &Pieces,
+) -> Result<BTreeMap<String, StorePath>, Stop>
+    ensures { Gives (λ map. outputs_view map.entries) result (if_derivation path.now (tree_fault dir.now (outcome_of nar.now))) (objects.outputs_at dir.now path.now nar.now) }
+{
+    if path.is_derivation() {
+        outputs_joined(alloc, dir, nar)
+    } else {
+        Ok(BTreeMap::new(alloc))
+    }
+}
+
+/// The outputs that an object records: those of its tree as a derivation if its name ends in `.drv`, and else none.
+pub(crate) fn outputs_at(
+    alloc: Global,
+    dir: &StoreDir,
+    path: &StorePath,
+    node: &Node<'_>,
+) -> Result<BTreeMap<String, StorePath>, Stop>
+    ensures { Gives (λ map. outputs_view map.entries) result (if_derivation path.now (tree_fault dir.now (Ok (tree_of node.now)))) (if is_derivation path.now then objects.tree_outputs {E = Fault} dir.now (Ok (tree_of node.now)) else finite.empty) }
+{
+    if path.is_derivation() {
+        outputs_in(alloc, dir, node)
+    } else {
+        Ok(BTreeMap::new(alloc))
+    }
+}

@@ -1,0 +1,110 @@
+//! Imports: objects that are added at given paths.
+
+ghost use Rattle.std.specs.Prelude.{◌≡◌, Err, None, IfOk, OnOk, length};
+ghost use Rattle.sha2.specs.Sha256.{sha256};
+ghost use Rattle.model.specs.World.{World};
+ghost use Rattle.tables_outline.specs.Outline.{outline_of};
+ghost use Rattle.model.specs.Adds.{added_import};
+ghost use Rattle.model.specs.Soundness.{IsWellFormedImport};
+ghost use Rattle.model.specs.Tests.{first_failing, import_tests};
+ghost use Rattle.store_types.specs.Tested.{Gives};
+ghost use Rattle.store_adds.specs.Parts.{added_view, outputs_view};
+ghost use Rattle.tables_sql.specs.declared.failure.Failure.TheVariants.{Memory as memory};
+ghost use Rattle.store_types.specs.declared.replies.Stop.TheVariants.{Failed as failed};
+ghost use Rattle.intake.specs.Told.{IsTold};
+ghost use Rattle.store_adds.specs.Delivered.{delivered_view};
+ghost use Rattle.store_types.specs.View.{import_view};
+ghost use Rattle.policy.specs.Caller.{Caller};
+ghost use Rattle.store_steps.specs.Meets.{IsMet};
+ghost use Rattle.model.specs.Objects as objects;
+ghost use Rattle.model.specs.Request as asked;
+
+use crate::adding::add;
+use crate::arrivals::is_archive;
+use crate::delivered::{Delivered, at_end};
+use crate::derivations::outputs_by;
+use crate::references::{are_few, are_there};
+use crate::summaries::{Added, summary};
+use intake::Arrived;
+use paths::{StoreDir, StorePath};
+use policy::{Config, store_dir};
+use sqlite::Alter;
+use std::alloc::Global;
+use std::collections::BTreeMap;
+use store_types::{Answer, Imported, Stop};
+use tables::Tables;
+use tables_outline::Index;
+
+/// Tests an object that is handed in with its path; gives the outputs that it records.
+fn examine_import(
+    alloc: Global,
+    dir: &StoreDir,
+    index: &Index,
+    import: &Delivered,
+) -> Result<BTreeMap<String, StorePath>, Stop>
+    requires { IsTold import.now.nar }
+    ensures told { (w : World) → outline_of w ≡ index.now → Gives (λ map. outputs_view map.entries) result
+        (first_failing (import_tests dir.now w (delivered_view import.now))) (objects.outputs_at dir.now (delivered_view import.now).path (delivered_view import.now).nar) }
+    ensures formed { OnOk result (IsWellFormedImport (delivered_view import.now)) }
+    ensures hash { OnOk result ((delivered_view import.now).nar_hash ≡ sha256 (delivered_view import.now).nar) }
+{
+    import.has_base_names();
+    are_few(&import.refs)?;
+    is_archive(&import.nar)?;
+    import.has_digest()?;
+    import.refers_to_others()?;
+    import.is_verified(alloc, dir)?;
+    let outputs = outputs_by(alloc, dir, &import.path, &import.nar.pieces)?;
+    are_there(index, &import.path, &import.refs)?;
+    Ok(outputs)
+}
+
+/// The object of an import, tested. Where memory was refused as its archive came, the call fails ahead of the tests.
+pub fn prepare_import(
+    alloc: Global,
+    dir: &StoreDir,
+    index: &Index,
+    import: Imported,
+) -> Result<Added, Stop>
+    ensures told { (w : World) → outline_of w ≡ index.now → Gives added_view result
+        (first_failing (import_tests dir.now w (import_view import))) (added_import dir.now (import_view import)) }
+    ensures formed { OnOk result (IsWellFormedImport (import_view import)) }
+    ensures size { IfOk result (λ a. a.object.size ≡ length a.nar) }
+    ensures hash { IfOk result (λ a. a.object.hash ≡ sha256 a.nar) }
+    ensures spent { import.nar ≡ None → result ≡ Err (failed memory) }
+{
+    let import = at_end(import)?;
+    let outputs = examine_import(alloc, dir, index, &import)?;
+    let Delivered {
+        path,
+        nar_hash,
+        refs,
+        deriver,
+        ca,
+        nar,
+    } = import;
+    let Arrived { pieces, .. } = nar;
+    let object = summary(alloc, pieces.len(), nar_hash, refs, deriver, ca, outputs)?;
+    Ok(Added {
+        path,
+        nar: pieces,
+        object,
+    })
+}
+
+/// An object is added at a path.
+pub fn import_object<S: Alter>(
+    alloc: Global,
+    config: &Config,
+    tables: &mut Tables<S>,
+    import: Imported,
+) -> Result<Answer, Stop>
+    requires dir { tables.old.dir ≡ config.now.store_dir }
+    ensures { (c : Caller) → IsMet S.Store config.now c (asked.import_object (import_view import)) result tables.old tables.new }
+{
+    let dir = store_dir(config);
+    match prepare_import(alloc, dir, tables.index(), import) {
+        Ok(added) => add(tables, added),
+        Err(stop) => Err(stop),
+    }
+}

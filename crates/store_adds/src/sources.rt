@@ -1,0 +1,110 @@
+//! Sources: archives that are added at the paths of their contents.
+
+ghost use Rattle.std.specs.Prelude.{◌≡◌, Err, None, IfOk, OnOk, length};
+ghost use Rattle.sha2.specs.Sha256.{sha256};
+ghost use Rattle.nar.specs.Tree.{IsBytes};
+ghost use Rattle.model.specs.World.{World};
+ghost use Rattle.tables_outline.specs.Outline.{outline_of};
+ghost use Rattle.model.specs.Adds.{added_source};
+ghost use Rattle.model.specs.Tests.{first_failing, source_tests};
+ghost use Rattle.intake.specs.Arriving.{bytes_in};
+ghost use Rattle.tables_sql.specs.declared.failure.Failure.TheVariants.{Memory as memory};
+ghost use Rattle.store_types.specs.declared.replies.Stop.TheVariants.{Failed as failed};
+ghost use Rattle.intake.specs.Told.{IsTold};
+ghost use Rattle.store_types.specs.Tested.{Gives};
+ghost use Rattle.store_adds.specs.Parts.{added_view, outputs_view};
+ghost use Rattle.policy.specs.Caller.{Caller};
+ghost use Rattle.store_steps.specs.Meets.{IsMet};
+ghost use Rattle.paths.specs.Path as paths;
+ghost use Rattle.model.specs.Objects as objects;
+ghost use Rattle.model.specs.Request as asked;
+
+use crate::adding::add;
+use crate::arrivals::{arrived, is_archive};
+use crate::derivations::outputs_by;
+use crate::references::{are_few, are_others, are_there};
+use crate::summaries::{Added, summary};
+use intake::{Arrived, Intake};
+use paths::{Ca, Method, Name, StoreDir, StorePath, source_path_of};
+use policy::{Config, store_dir};
+use sqlite::Alter;
+use std::alloc::Global;
+use std::collections::BTreeMap;
+use store_types::{Answer, Stop};
+use tables::Tables;
+use tables_outline::Index;
+
+/// Tests a source object; gives the outputs that it records.
+fn examine_source(
+    alloc: Global,
+    dir: &StoreDir,
+    index: &Index,
+    path: &StorePath,
+    refs: &[StorePath],
+    nar: &Arrived,
+) -> Result<BTreeMap<String, StorePath>, Stop>
+    requires { IsTold nar.now }
+    ensures { (w : World) → outline_of w ≡ index.now → Gives (λ map. outputs_view map.entries) result
+        (first_failing (source_tests dir.now w path.now refs.now nar.now.pieces)) (objects.outputs_at dir.now path.now nar.now.pieces) }
+{
+    are_few(refs)?;
+    is_archive(nar)?;
+    are_others(refs, path)?;
+    let outputs = outputs_by(alloc, dir, path, &nar.pieces)?;
+    are_there(index, path, refs)?;
+    Ok(outputs)
+}
+
+/// The object of a source, tested. Where memory was refused as its archive came, the call fails ahead of the tests.
+pub fn prepare_source(
+    alloc: Global,
+    dir: &StoreDir,
+    index: &Index,
+    name: &Name,
+    refs: Vec<StorePath>,
+    nar: Intake,
+) -> Result<Added, Stop>
+    ensures told { (w : World) → outline_of w ≡ index.now → Gives added_view result
+        (first_failing (source_tests dir.now w (paths.source_path dir.now name.now refs.items (bytes_in nar)) refs.items (bytes_in nar))) (added_source dir.now name.now refs.items (bytes_in nar)) }
+    ensures bytes { OnOk result (IsBytes (bytes_in nar)) }
+    ensures size { IfOk result (λ a. a.object.size ≡ length a.nar) }
+    ensures hash { IfOk result (λ a. a.object.hash ≡ sha256 a.nar) }
+    ensures spent { nar ≡ None → result ≡ Err (failed memory) }
+{
+    let nar = arrived(nar)?;
+    let path = source_path_of(alloc, dir, name, &refs, &nar.nar_hash)?;
+    let outputs = examine_source(alloc, dir, index, &path, &refs, &nar)?;
+    let Arrived {
+        nar_hash,
+        pieces,
+        ..
+    } = nar;
+    let ca = Some(Ca::new(Method::Source, nar_hash));
+    let object = summary(alloc, pieces.len(), nar_hash, refs, None, ca, outputs)?;
+    Ok(Added {
+        path,
+        nar: pieces,
+        object,
+    })
+}
+
+/// An archive is added.
+pub fn add_source<S: Alter>(
+    alloc: Global,
+    config: &Config,
+    tables: &mut Tables<S>,
+    name: Name,
+    refs: Vec<StorePath>,
+    nar: Intake,
+) -> Result<Answer, Stop>
+    requires dir { tables.old.dir ≡ config.now.store_dir }
+    ensures { (c : Caller) → IsMet S.Store config.now c (asked.add_source name refs.items (bytes_in nar)) result tables.old tables.new }
+{
+    // It is a store name.
+    let _text = name.as_str();
+    let dir = store_dir(config);
+    match prepare_source(alloc, dir, tables.index(), &name, refs, nar) {
+        Ok(added) => add(tables, added),
+        Err(stop) => Err(stop),
+    }
+}

@@ -1,0 +1,62 @@
+//! Objects that are handed in, without their archives.
+
+ghost use Rattle.std.specs.Prelude.{◌≡◌, IfOk, IsTrue, length, map, string_bytes};
+ghost use Rattle.std.specs.List.{zip};
+ghost use Rattle.std.specs.FinMap as finite;
+ghost use Rattle.paths.specs.Root.{bytes_cmp, set_of};
+ghost use Rattle.tables_outline.specs.Outline.{rise};
+ghost use Rattle.store_adds.specs.Parts.{outputs_view};
+
+use crate::references::in_order;
+use paths::{Ca, StorePath};
+use std::alloc::{AllocError, Global};
+use std::collections::BTreeMap;
+use streams::Pieces;
+use tables_outline::Summary;
+
+/// An object that is handed in: its path, its archive, and all else.
+#[derive(Drop)]
+pub struct Added {
+    /// The path.
+    pub path: StorePath,
+    /// The archive.
+    pub nar: Pieces,
+    /// All else that is kept of it.
+    pub object: Summary,
+}
+
+/// The names of outputs in their order, and beside each the path at the same place.
+fn parted(
+    alloc: Global,
+    outputs: BTreeMap<String, StorePath>,
+) -> Result<(Vec<String>, Vec<StorePath>), AllocError>
+    ensures names { IfOk result (λ p. IsTrue (rise (map string_bytes p.0.items))) }
+    ensures paths { IfOk result (λ p. length p.1.items ≡ length p.0.items) }
+    ensures value { IfOk result (λ p. finite.from_entries {R = bytes_cmp} (zip (map string_bytes p.0.items) p.1.items) ≡ outputs_view outputs.entries) }
+{
+    // Names rise.
+    let _count = outputs.len();
+    let mut names = Vec::new(alloc);
+    let mut paths = Vec::new(alloc);
+    for (name, path) in outputs {
+        names.push(name)?;
+        paths.push(path)?;
+    }
+    Ok((names, paths))
+}
+
+/// The summary of an object whose archive has this size and this SHA-256.
+pub(crate) fn summary(
+    alloc: Global,
+    size: usize,
+    hash: [u8; 32],
+    refs: Vec<StorePath>,
+    deriver: Option<StorePath>,
+    ca: Option<Ca>,
+    outputs: BTreeMap<String, StorePath>,
+) -> Result<Summary, AllocError>
+    ensures { IfOk result (λ o. o ≡ record { size = size; hash = hash; references = set_of bytes_cmp refs.items; deriver = deriver; ca = ca; outputs = outputs_view outputs.entries }) }
+{
+    let (names, paths) = parted(alloc, outputs)?;
+    Ok(Summary::new(size, hash, in_order(refs), deriver, ca, names, paths))
+}

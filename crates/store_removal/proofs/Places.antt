@@ -1,0 +1,106 @@
+-- Paths among rows, and what reaches one.
+use Rattle.std.proofs.Common.{◌≡◌, ℕ, ◌+◌, ◌<◌, ◌≤◌, Bool, true, false, cond, ◌||◌, List, [], ◌∷◌, ◌++◌, length, get_or, take, refl, sym, ap, ◌∙◌, arith}
+use Rattle.std.specs.Prelude.{filter, if◌then◌else◌}
+use Rattle.std.specs.List.{list_any}
+use Rattle.std.specs.FinMap as finite
+use Rattle.std.proofs.lemmas.Bool.{false≢true, false_from_ne_true}
+use Rattle.std.proofs.lemmas.List.{length-map, take_all}
+use Rattle.std.proofs.lemmas.List.Elements.{filter_more}
+use Rattle.paths.specs.Root.{Root}
+use Rattle.live.specs.Graph.{Keep, same}
+use Rattle.live.specs.Handed.{row_view, rows_view}
+use Rattle.live.specs.Live.{roots_that_reach}
+use Rattle.live.specs.Numbering.{Row, graph_of, path_at, paths_of}
+use Rattle.live.specs.Reach.{reaches}
+use Rattle.live.specs.declared.numbered.rows.Row.{Row as Handed}
+use Rattle.live.proofs.Reach.{decided, end_valid}
+use Rattle.policy.specs.Settings.{Settings}
+use Rattle.policy.specs.Rules.{is_trusted}
+use Rattle.policy.specs.declared.kinds.Class.{Class}
+use Rattle.model.specs.World.{Pair, Path, World, roots_of}
+use Rattle.tables_outline.specs.Outline.{Outline, outline_of}
+use Rattle.tables_outline.proofs.Orders.{bytes_total, bytes_antisymmetric}
+use Rattle.tables_outline.proofs.Puts.{tied_is}
+use Rattle.tables_outline.proofs.Told.{has-told}
+use Rattle.model.specs.Liveness.{keep_of, roots_that_keep}
+use Rattle.model.specs.Seen.{each_once, seen}
+use Rattle.store_removal.specs.Linked.{links_in, rows_in}
+use Rattle.store_removal.specs.Rooted.{rooted}
+use Rattle.store_removal.proofs.Marked.{row_path}
+use Rattle.store_removal.proofs.Rising.{paths_in}
+use Rattle.store_removal.proofs.Told.{graph_told, roots_told}
+use Rattle.store_removal.proofs.Valid.{aims_well, filter_kept, reaches_from_valid}
+
+-- ---- the search for a path
+
+module _ (rows : List Handed) (i : ℕ) (h : i < length rows) (p : Path) (r : Handed) where
+  pub found_here : same p (get_or rows i r).path.now ≡ true → (i < length rows) × (path_at (rows_view rows) i ≡ p)
+  found_here e = (h, row_path rows i h r ∙ sym (tied_is bytes_antisymmetric p (get_or rows i r).path.now e))
+
+  pub not_here : same p (get_or rows i r).path.now ≡ false → filter (same p) (take i (paths_of (rows_view rows))) ≡ [] → filter (same p) (take (i + 1) (paths_of (rows_view rows))) ≡ []
+  not_here e before =
+      filter_more (same p) (paths_of (rows_view rows)) i [] below ∙ (λ j. before j ++ cond (misses j) (get_or (paths_of (rows_view rows)) i [] ∷ []) [])
+    where
+      below : i < length (paths_of (rows_view rows))
+      below =
+          let a = length-map rows row_view in
+          let b = length-map (rows_view rows) (λ (x : Row). x.0) in
+          omega (arith, h, a, b)
+
+      misses : same p (get_or (paths_of (rows_view rows)) i []) ≡ false
+      misses = ap (same p) (row_path rows i h r) ∙ e
+
+pub nowhere : (rows : List Handed) (n : ℕ) → length rows ≤ n → (p : Path) → filter (same p) (take n (paths_of (rows_view rows))) ≡ [] → filter (same p) (paths_of (rows_view rows)) ≡ []
+nowhere rows n h p none = ap (filter (same p)) (sym (take_all n (paths_of (rows_view rows)) (let a = length-map rows row_view in let b = length-map (rows_view rows) (λ (x : Row). x.0) in omega (arith, h, a, b)))) ∙ none
+
+-- ---- a path that isn't valid
+
+none_any : {X : Type 0} (f : X → Bool) (xs : List X) → filter f xs ≡ [] → list_any f xs ≡ false
+none_any f [] e = refl
+none_any {X} f (x ∷ xs) e = by (f x) e (none_any f xs)
+  where
+    by : (b : Bool) → cond b (x ∷ filter f xs) (filter f xs) ≡ [] → (filter f xs ≡ [] → list_any f xs ≡ false) → (b || list_any f xs) ≡ false
+    by true e later = absurd cc
+    by false e later = later e
+
+none_pass : {X : Type 0} (f : X → Bool) (xs : List X) → ((x : X) → f x ≡ false) → filter f xs ≡ []
+none_pass f [] h = refl
+none_pass f (x ∷ xs) h = ap (λ b. cond b (x ∷ filter f xs) (filter f xs)) (h x) ∙ none_pass f xs h
+
+abbrev no_pairs : List Pair
+no_pairs = []
+
+nothing_seen : (class : Class) → [] ≡ seen class []
+nothing_seen class = by (is_trusted class)
+  where
+    by : (b : Bool) → no_pairs ≡ (if b then no_pairs else each_once no_pairs)
+    by true = refl
+    by false = refl
+
+-- nothing reaches it
+pub unreached : (keep : Keep) (o : Outline) (rows : List Row) (a p : Path) → rows ≡ rows_in o → filter (same p) (paths_of rows) ≡ [] → reaches keep (graph_of (rows_in o)) a p ≡ false
+unreached keep o rows a p is none = false_from_ne_true (reaches keep (graph_of (rows_in o)) a p) (λ e.
+    let g = graph_of (rows_in o) in
+    let valid = end_valid keep g a p ((decided keep g a p).0 e) in
+    false≢true (sym missing ∙ sym (has-told bytes_total bytes_antisymmetric (λ _ x. links_in x) o.objects p) ∙ valid))
+  where
+    missing : finite.contains_key o.objects p ≡ false
+    missing = finite.contains_key-keys o.objects p ∙ none_any (same p) (finite.keys o.objects) (ap (filter (same p)) (sym (ap paths_of is ∙ paths_in o)) ∙ none)
+
+-- no root keeps it
+pub none_kept : (s : Settings) (o : Outline) (rows : List Row) (p : Path) → rows ≡ rows_in o → filter (same p) (paths_of rows) ≡ [] → (w : World) → outline_of w ≡ o → [] ≡ roots_that_keep s w p
+none_kept s o rows p is none w told =
+    sym (none_pass (λ (r : Root). reaches (keep_of s) (graph_of (rows_in o)) r.target p) (roots_of (rooted o)) (λ r. unreached (keep_of s) o rows r.target p is none))
+    ∙ λ i. roots_that_reach (keep_of s) (graph_told w o told i) (roots_told w o told i) p
+
+pub none_keeps : (s : Settings) (o : Outline) (rows : List Row) (p : Path) → rows ≡ rows_in o → filter (same p) (paths_of rows) ≡ [] → (class : Class) (w : World) → outline_of w ≡ o → [] ≡ seen class (roots_that_keep s w p)
+none_keeps s o rows p is none class w told = nothing_seen class ∙ ap (seen class) (none_kept s o rows p is none w told)
+
+-- ---- the roots that keep a path
+
+pub keeping_told : (s : Settings) (o : Outline) (keep : Keep) (rows : List Row) (valid : List Root) (p q : Path) → keep ≡ keep_of s → rows ≡ rows_in o → valid ≡ filter (aims_well o) (roots_of (rooted o)) → q ≡ p
+    → (w : World) → outline_of w ≡ o → roots_that_reach keep (graph_of rows) valid q ≡ roots_that_keep s w p
+keeping_told s o keep rows valid p q k r v same w told =
+    (λ i. roots_that_reach (k i) (graph_of (r i)) (v i) (same i))
+    ∙ filter_kept (λ (x : Root). reaches (keep_of s) (graph_of (rows_in o)) x.target p) (aims_well o) (λ x h. reaches_from_valid (keep_of s) o x.target p h) (roots_of (rooted o))
+    ∙ (λ i. roots_that_reach (keep_of s) (graph_told w o told i) (roots_told w o told i) p)

@@ -1,0 +1,63 @@
+-- Objects go, or there are none that do.
+use Rattle.std.proofs.Common.{◌≡◌, ◌<◌, List, [], ◌∷◌, false, not, Result, Ok, length, refl, sym, ap, ◌∙◌, arith}
+use Rattle.std.specs.Prelude.{ℕ, ◌==◌, OnOk, OnErr, IsTrue}
+use Rattle.std.specs.Cmp.Lexicographic.{nat_list_cmp_total}
+use Rattle.std.specs.FinMap as finite
+use Rattle.std.proofs.lemmas.Bool.{false≢true}
+use Rattle.sqlite_trees.specs.declared.store.Store.{Ghosts}
+use Rattle.sqlite.specs.State.{HasCleanDisk, Survives}
+use Rattle.sqlite.specs.Held.{state}
+use Rattle.tables_sql.specs.Calls.{IsDurable}
+use Rattle.tables_sql.specs.declared.failure.Failure.{Failure}
+use Rattle.live.specs.Graph.{holds}
+use Rattle.policy.specs.Settings.{Settings}
+use Rattle.policy.specs.Caller.{Caller}
+use Rattle.model.specs.World.{Path, World, Objects}
+use Rattle.tables_outline.specs.Outline.{outline_of}
+use Rattle.model.specs.Reply.{freed}
+use Rattle.model.specs.Request.{Request}
+use Rattle.model.proofs.MapMembers.{bytes_antisymmetric}
+use Rattle.model.proofs.Worlds.{get-keeping}
+use Rattle.tables.specs.Kept.{Kept, Tells, LeavesWorld}
+use Rattle.store_types.specs.declared.replies.Answer.{Answer}
+use Rattle.store_types.specs.View.{answer_view}
+use Rattle.store_steps.specs.Meets.{IsMet}
+use Rattle.store_removal.specs.Removing.{Removes, without}
+use Rattle.store_steps.specs.Writing.{answered}
+use Rattle.store_steps.proofs.Untouched.{survives_still, lasts_still}
+use Rattle.store_steps.proofs.Written.{met_by_writing}
+
+-- a list that isn't empty has an item
+pub positive : {X : Type 0} (l : List X) → (length l == 0) ≡ false → 0 < length l
+positive [] h = absurd (false≢true (sym h))
+positive (x ∷ xs) h = omega arith
+
+-- where nothing goes, all stays
+none_gone : (objects : Objects) → finite.retain_keys objects (λ p. not (holds [] p)) ≡ objects
+none_gone objects = finite.same_map nat_list_cmp_total bytes_antisymmetric _ _ (λ q. get-keeping objects (λ p. not (holds [] p)) q)
+
+module _ {S : Type 0} (g : Ghosts S) (s : Settings) (c : Caller) (q : Request) (k : Kept S) (gone : List Path) (bytes : ℕ) (a : Answer) (seen : answer_view a ≡ freed gone bytes)
+    (removes : (w : World) → outline_of w ≡ k.outline → Removes s w c q gone bytes) where
+  -- nothing goes
+  pub met_by_none : gone ≡ [] → IsMet g s c q (Ok a) k k
+  met_by_none none = record {
+    dir = refl;
+    world = λ w t.
+        let r = removes w t.outline in
+        (w, (r.passes, λ _. seen ∙ r.answers, sym (ap (λ (m : Objects). record w { objects = m }) (none_gone w.objects)) ∙ ap (without w) (sym none) ∙ r.becomes), t);
+    still = λ h. absurd h;
+    lasts = λ _. lasts_still g k;
+    survives = λ w t. survives_still (state g k.connection) _;
+  }
+
+  -- these go
+  pub met_by_removing : (new : Kept S) (handed : List Path) → handed ≡ gone → new.dir ≡ k.dir
+      → ((w : World) → Tells g k w → Survives (state g k.connection) (state g new.connection) (λ db. LeavesWorld k.dir (state g k.connection).now db (without w handed)))
+      → (r : Result (Unit {0}) Failure)
+      → OnOk r ((w : World) → Tells g k w → Tells g new (without w handed))
+      → OnErr r ((w : World) → Tells g k w → Tells g new w)
+      → OnOk r (IsTrue (state g new.connection).is_open → IsDurable (state g new.connection))
+      → (HasCleanDisk (state g new.connection) → OnOk r (IsTrue (state g k.connection).is_open × IsTrue (state g new.connection).is_open))
+      → IsMet g s c q (answered r a) k new
+  met_by_removing new handed same dir left =
+      met_by_writing g s c q k new (λ w. without w handed) a (λ w is. (removes w is).passes) (λ w is. seen ∙ (removes w is).answers) (λ w is. ap (without w) same ∙ (removes w is).becomes) dir left

@@ -1,0 +1,70 @@
+-- What an outline tells of the roots and of what lives in its world.
+use Rattle.std.proofs.Common.{◌≡◌, List, [], ◌∷◌, map, sym, ap, ◌∙◌, T}
+use Rattle.std.specs.Prelude.{not, filter}
+use Rattle.std.specs.declared.cmp.Ordering.{Ordering}
+use Rattle.std.specs.Ordering.{is_lt}
+use Rattle.std.specs.FinMap as finite
+use Rattle.std.specs.FinMap.Entries.{is_sorted, below_all}
+use Rattle.paths.specs.Root.{bytes_cmp}
+use Rattle.live.specs.Live.{is_live}
+use Rattle.live.specs.Numbering.{graph_of}
+use Rattle.policy.specs.Settings.{Settings}
+use Rattle.model.specs.World.{Path, Object, World, all_paths, roots_of}
+use Rattle.tables_outline.specs.Outline.{Outline, Outlined, outlined, outline_of}
+use Rattle.tables_outline.proofs.Orders.{bytes_total, bytes_antisymmetric}
+use Rattle.tables_outline.proofs.Ordered.{both_T, from_both, listed_as}
+use Rattle.model.specs.Liveness as spec
+use Rattle.model.specs.Liveness.{linked}
+use Rattle.store_removal.specs.Linked.{row_in, rows_in, lives_in}
+use Rattle.store_removal.specs.Rooted.{rooted}
+use Rattle.store_removal.proofs.RootOrder.{map-map}
+
+module _ {K X Y : Type 0} (R : K → K → Ordering) (f : X → Y) where
+  abbrev with_values : List (K × X) → List (K × Y)
+  with_values es = map (λ (e : K × X). let d : K × Y = (e.0, f e.1) in d) es
+
+  below_mapped : (k : K) (es : List (K × X)) → T (below_all R k es) → T (below_all R k (with_values es))
+  below_mapped k [] h = tt
+  below_mapped k (e ∷ es) h =
+      let parts = both_T (is_lt (R k e.0)) (below_all R k es) h in
+      from_both (is_lt (R k e.0)) (below_all R k (with_values es)) parts.0 (below_mapped k es parts.1)
+
+  sorted_mapped : (es : List (K × X)) → T (is_sorted R es) → T (is_sorted R (with_values es))
+  sorted_mapped [] h = tt
+  sorted_mapped (e ∷ es) h =
+      let parts = both_T (below_all R e.0 es) (is_sorted R es) h in
+      from_both (below_all R e.0 (with_values es)) (is_sorted R (with_values es)) (below_mapped e.0 es parts.0) (sorted_mapped es parts.1)
+
+-- the entries of the objects, each outlined
+pub entries_outlined : (w : World) → finite.entries (outline_of w).objects ≡ map (λ (e : Path × Object). let d : Path × Outlined = (e.0, outlined e.1) in d) (finite.entries w.objects)
+entries_outlined w = listed_as bytes_total bytes_antisymmetric _ (sorted_mapped bytes_cmp outlined (finite.entries w.objects) (finite.entries_sorted w.objects))
+
+-- the same paths
+pub paths_told : (w : World) (o : Outline) → outline_of w ≡ o → finite.keys o.objects ≡ all_paths w
+paths_told w o is =
+    ap (λ (x : Outline). finite.keys x.objects) (sym is) ∙ ap (map (λ (e : Path × Outlined). e.0)) (entries_outlined w)
+    ∙ map-map (λ (e : Path × Object). let d : Path × Outlined = (e.0, outlined e.1) in d) (λ e. e.0) (finite.entries w.objects)
+
+-- the same roots
+pub roots_told : (w : World) (o : Outline) → outline_of w ≡ o → roots_of (rooted o) ≡ roots_of w
+roots_told w o is = ap (λ (x : Outline). roots_of (rooted x)) (sym is)
+
+-- the same graph
+graph_outlined : (w : World) → graph_of (rows_in (outline_of w)) ≡ spec.graph_of w
+unfolding linked
+graph_outlined w =
+    ap (λ (es : List (Path × Outlined)). finite.from_entries (map row_in es)) (entries_outlined w)
+    ∙ ap finite.from_entries (map-map (λ (e : Path × Object). let d : Path × Outlined = (e.0, outlined e.1) in d) row_in (finite.entries w.objects))
+
+pub graph_told : (w : World) (o : Outline) → outline_of w ≡ o → graph_of (rows_in o) ≡ spec.graph_of w
+graph_told w o is = ap (λ (x : Outline). graph_of (rows_in x)) (sym is) ∙ graph_outlined w
+
+-- the same lives
+pub lives_told : (s : Settings) (w : World) (o : Outline) → outline_of w ≡ o → lives_in s o ≡ spec.lives s w
+lives_told s w o is = λ i p. is_live (spec.keep_of s) (graph_told w o is i) (roots_told w o is i) p
+
+pub live_told : (s : Settings) (w : World) (o : Outline) → outline_of w ≡ o → filter (lives_in s o) (finite.keys o.objects) ≡ spec.live_paths s w
+live_told s w o is = λ i. filter (lives_told s w o is i) (paths_told w o is i)
+
+pub dead_told : (s : Settings) (w : World) (o : Outline) → outline_of w ≡ o → filter (λ p. not (lives_in s o p)) (finite.keys o.objects) ≡ spec.dead_paths s w
+dead_told s w o is = λ i. filter (λ p. not (lives_told s w o is i p)) (paths_told w o is i)

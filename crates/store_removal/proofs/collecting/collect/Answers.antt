@@ -1,0 +1,33 @@
+use Rattle.std.proofs.Common.{refl, sym, ap₂, ◌∙◌}
+use Rattle.model.specs.Request.{collect}
+use Rattle.model.specs.Reply.{freed}
+use Rattle.model.specs.Effects.{effect}
+use Rattle.tables_sql.specs.declared.failure.Failure.TheVariants.{Memory}
+use Rattle.store_types.specs.declared.replies.Stop.TheVariants.{Failed}
+use Rattle.store_removal.specs.Removing.{without}
+use Rattle.store_steps.proofs.Written.{sound_as, met_by_stopping}
+use Rattle.store_removal.proofs.Collected.{collected_left, sound_left}
+use Rattle.store_removal.proofs.collecting.collect.Goals as goal
+
+pub remove-requires : goal.remove-requires
+remove-requires g c =
+    let s = c.args.config.now in
+    let gone = c.in-Ok.gone in
+    let asked = collect c.args.ignores c.args.limit in
+    sound_as g.S.Store c.args.tables.now (λ w. without w gone.paths.items) (λ w. effect s w asked)
+    (λ w t. collected_left s w c.args.ignores c.args.limit gone.paths.items (c.in-Ok.ensures.paths w (t.outline ∙ sym c.index.ensures)))
+    (λ w t. sound_left s w c.args.ignores c.args.limit c.args.tables.now.dir t.sound)
+
+pub returns-in-Ok : goal.returns-in-Ok
+returns-in-Ok g c caller =
+    let s = c.args.config.now in
+    let gone = c.in-Ok.gone in
+    c.remove.ensures s caller (collect c.args.ignores c.args.limit) (λ w is. record {
+      passes = refl;
+      answers = ap₂ freed (c.in-Ok.ensures.paths w (is ∙ sym c.index.ensures)) (c.in-Ok.ensures.bytes w (is ∙ sym c.index.ensures));
+      becomes = collected_left s w c.args.ignores c.args.limit gone.paths.items (c.in-Ok.ensures.paths w (is ∙ sym c.index.ensures));
+    })
+
+pub returns-in-Err : goal.returns-in-Err
+returns-in-Err g c caller =
+    met_by_stopping g.S.Store c.args.config.now caller (collect c.args.ignores c.args.limit) c.args.tables.now (Failed Memory) c.index.result.now c.index.ensures (λ w is. tt)

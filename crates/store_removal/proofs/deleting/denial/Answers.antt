@@ -1,0 +1,14 @@
+use Rattle.std.proofs.Common.{List, subst, sym, ap, ◌∙◌}
+use Rattle.model.specs.Request as asked
+use Rattle.model.specs.World.{Path}
+use Rattle.store_removal.specs.Found.{IsDenial}
+use Rattle.store_types.specs.View.{request_view}
+use Rattle.store_removal.proofs.Denied.{denied_as}
+use Rattle.store_removal.proofs.deleting.denial.Goals as goal
+
+pub returns-in_ok-root-in-Delete : goal.returns-in_ok-root-in-Delete
+returns-in_ok-root-in-Delete c w is =
+    let s = c.args.config.now in
+    subst (λ (q : asked.Request). IsDenial s w c.args.caller.now q c.in_ok-root-in-Delete.root)
+    (ap (λ (ps : List Path). asked.delete ps c.in-Delete.field-1) c.deref.ensures.value ∙ ap request_view (sym c.in-Delete.is))
+    (denied_as s w c.args.caller.now c.deref.result.now c.in-Delete.field-1 c.class.result c.class.ensures c.in_ok-root-in-Delete.root (c.in_ok-root-in-Delete.ensures.root w is) (c.in_ok-root-in-Delete.ensures.lives w is))

@@ -1,0 +1,48 @@
+use Rattle.std.proofs.Common.{◌≡◌, ◌<◌, ℕ, length, map, subst, sym, ap, ◌∙◌}
+use Rattle.std.specs.Prelude.{filter}
+use Rattle.std.proofs.lemmas.Result.{IfOk-weaker}
+use Rattle.live.specs.Handed.{roots_view, rows_view}
+use Rattle.live.specs.Keeping.{keep_view}
+use Rattle.live.specs.Numbering.{path_at}
+use Rattle.model.specs.World.{roots_of}
+use Rattle.tables_outline.specs.Maps.{labelled_bytes}
+use Rattle.model.specs.Seen.{seen}
+use Rattle.store_removal.specs.Rooted.{rooted}
+use Rattle.store_removal.specs.View.{root_view}
+use Rattle.store_removal.proofs.Marked.{handed_rise, valid_targets}
+use Rattle.store_removal.proofs.Places.{keeping_told, none_keeps}
+use Rattle.store_removal.proofs.Valid.{aims_well}
+use Rattle.store_removal.proofs.reaching.seen_roots_of.Goals as goal
+
+pub returns-in_default : goal.returns-in_default
+returns-in_default c w is =
+    ap (map labelled_bytes) c.new.ensures.items
+    ∙ none_keeps c.args.config.now c.args.index.now (rows_view c.deref.result.now) c.args.path.now (ap rows_view c.deref.ensures.value ∙ c.in_ok-rows.ensures) c.in_default.ensures.none c.args.class w is
+
+pub reaching-requires-clause-rows : goal.reaching-requires-clause-rows
+reaching-requires-clause-rows c = handed_rise c.args.index.now (rows_view c.deref-4.result.now) (ap rows_view c.deref-4.ensures.value ∙ c.in_ok-rows.ensures)
+
+pub reaching-requires-clause-targets : goal.reaching-requires-clause-targets
+reaching-requires-clause-targets c =
+    let o = c.args.index.now in
+    let valid : roots_view c.deref-5.result.now ≡ filter (aims_well o) (roots_of (rooted o)) =
+    ap roots_view c.deref-5.ensures.value ∙ c.in_ok-valid.ensures
+    ∙ ap (filter (aims_well o)) (ap roots_view c.deref-3.ensures.value ∙ c.in_ok-given.ensures ∙ ap (map root_view) c.deref-2.ensures.value ∙ c.in_ok-roots.ensures) in
+    valid_targets o (rows_view c.deref-4.result.now) (ap rows_view c.deref-4.ensures.value ∙ c.in_ok-rows.ensures) (roots_view c.deref-5.result.now) valid
+
+pub reaching-requires-clause-place : goal.reaching-requires-clause-place
+reaching-requires-clause-place c = subst (λ (n : ℕ). c.in-Some.place < n) (ap length (c.deref.ensures.value ∙ sym c.deref-4.ensures.value)) c.in-Some.ensures.found.0
+
+pub returns : goal.returns
+returns c =
+    let o = c.args.index.now in
+    let rows = ap rows_view c.deref-4.ensures.value ∙ c.in_ok-rows.ensures in
+    let valid : roots_view c.deref-5.result.now ≡ filter (aims_well o) (roots_of (rooted o)) =
+    ap roots_view c.deref-5.ensures.value ∙ c.in_ok-valid.ensures
+    ∙ ap (filter (aims_well o)) (ap roots_view c.deref-3.ensures.value ∙ c.in_ok-given.ensures ∙ ap (map root_view) c.deref-2.ensures.value ∙ c.in_ok-roots.ensures) in
+    let at : path_at (rows_view c.deref-4.result.now) c.in-Some.place ≡ c.args.path.now =
+    ap (λ rs. path_at (rows_view rs) c.in-Some.place) (c.deref-4.ensures.value ∙ sym c.deref.ensures.value) ∙ c.in-Some.ensures.found.1 in
+    IfOk-weaker c.seen.result _ _
+    (λ v e w is. e ∙ ap (seen c.args.class) (ap roots_view c.deref-6.ensures.value ∙ c.in_ok-reaching.ensures
+    ∙ keeping_told c.args.config.now o (keep_view c.keep_of.result) (rows_view c.deref-4.result.now) (roots_view c.deref-5.result.now) c.args.path.now (path_at (rows_view c.deref-4.result.now) c.in-Some.place) c.keep_of.ensures rows valid at w is))
+    c.seen.ensures

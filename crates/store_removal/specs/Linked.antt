@@ -1,0 +1,30 @@
+-- What lives in an outline.
+use Rattle.std.specs.Prelude.{Bool, not, if◌then◌else◌, List, map}
+use Rattle.std.specs.FinMap as finite
+use Rattle.live.specs.Graph.{Links}
+use Rattle.live.specs.Live.{is_live}
+use Rattle.live.specs.Numbering.{Row, graph_of}
+use Rattle.policy.specs.Settings.{Settings}
+use Rattle.model.specs.World.{Path, roots_of}
+use Rattle.tables_outline.specs.Outline.{Outline, Outlined}
+use Rattle.model.specs.Liveness.{keep_of}
+use Rattle.store_removal.specs.Rooted.{rooted}
+
+-- what an object points to
+abbrev pub links_in : Outlined → Links
+links_in o = record { references = finite.keys o.references; outputs = finite.values o.outputs; deriver = o.deriver }
+
+abbrev pub row_in : Path × Outlined → Row
+row_in e = (e.0, links_in e.1)
+
+-- the valid paths, each with what its object points to
+abbrev pub rows_in : Outline → List Row
+rows_in o = map row_in (finite.entries o.objects)
+
+-- whether some root reaches a path
+abbrev pub lives_in : Settings → Outline → Path → Bool
+lives_in s o p = is_live (keep_of s) (graph_of (rows_in o)) (roots_of (rooted o)) p
+
+-- a path that lives where those are wanted, and one that is dead where these are
+abbrev pub is_wanted : Bool → Bool → Bool
+is_wanted wanted lives = if wanted then lives else not lives

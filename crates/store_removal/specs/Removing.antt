@@ -1,0 +1,21 @@
+-- Objects go.
+use Rattle.std.specs.Prelude.{◌≡◌, ℕ, not, List, None}
+use Rattle.policy.specs.Settings.{Settings}
+use Rattle.policy.specs.Caller.{Caller}
+use Rattle.live.specs.Graph.{holds}
+use Rattle.model.specs.World.{Path, World}
+use Rattle.model.specs.Request.{Request}
+use Rattle.model.specs.Reply.{freed}
+use Rattle.model.specs.Tests.{refusal}
+use Rattle.model.specs.Effects.{effect, keeping}
+use Rattle.model.specs.Answers.{answer}
+
+-- without these paths
+abbrev pub without : World → List Path → World
+without w gone = keeping w (λ p. not (holds gone p))
+
+-- no test of a request fails; these paths go, it answers them with their bytes, and nothing else changes
+pub record Removes (s : Settings) (w : World) (c : Caller) (q : Request) (gone : List Path) (bytes : ℕ) : Type 0 where
+  pub passes : refusal s w q ≡ None
+  pub answers : freed gone bytes ≡ answer s w c q
+  pub becomes : without w gone ≡ effect s w q

@@ -1,0 +1,14 @@
+-- How much paths of an outline take.
+use Rattle.std.specs.Prelude.{ℕ, List}
+use Rattle.std.specs.List.{sum_by}
+use Rattle.std.specs.Option.{option_map_or}
+use Rattle.std.specs.FinMap as finite
+use Rattle.model.specs.World.{Path}
+use Rattle.tables_outline.specs.Outline.{Outline}
+
+-- the bytes of a path's archive
+abbrev pub size_in : Outline → Path → ℕ
+size_in o p = option_map_or (λ x. x.size) (finite.get o.objects p) 0
+
+abbrev pub bytes_within : Outline → List Path → ℕ
+bytes_within o ps = sum_by (size_in o) ps

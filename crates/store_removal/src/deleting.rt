@@ -1,0 +1,137 @@
+//! Objects are deleted by name.
+
+ghost use Rattle.std.specs.Prelude.{◌≡◌, ◌<◌, All, Bool, [], IfOk, false, filter, length, map, not};
+ghost use Rattle.std.specs.List.{list_any, list_all};
+ghost use Rattle.live.specs.Graph.{same};
+ghost use Rattle.live.specs.Handed.{rows_view};
+ghost use Rattle.live.specs.Numbering.{Rise, graph_of, path_at, paths_of};
+ghost use Rattle.live.specs.Reach.{refers_to_any};
+ghost use Rattle.model.specs.World.{Path, World, has};
+ghost use Rattle.tables_outline.specs.Outline.{outline_of};
+ghost use Rattle.model.specs.Reply.{not_valid};
+ghost use Rattle.model.specs.Tests.{unless};
+ghost use Rattle.store_removal.specs.Found.{IsDenial, found_view};
+ghost use Rattle.store_types.specs.Tested.{Gives};
+ghost use Rattle.store_types.specs.View.{request_view};
+ghost use Rattle.policy.specs.Settings.{Settings};
+ghost use Rattle.model.specs.Sound.{IsSound};
+ghost use Rattle.model.specs.Effects.{keeping};
+ghost use Rattle.tables.specs.Kept.{Tells};
+ghost use Rattle.store_steps.specs.Meets.{IsMet};
+ghost use Rattle.model.specs.Liveness as spec;
+ghost use Rattle.policy.specs.Caller as callers;
+ghost use Rattle.model.specs.Request as asked;
+
+use crate::keeping::first_kept;
+use crate::linking::rows;
+use crate::reaching::place_of;
+use crate::removing::{Found, remove};
+use crate::sizes::bytes_in;
+use live::{Graph, Row, referrers};
+use paths::StorePath;
+use policy::{Caller, Config, class};
+use sqlite::Alter;
+use std::alloc::{AllocError, Global};
+use store_steps::there::are_valid;
+use store_types::{Answer, Request, Stop};
+use tables::Tables;
+use tables_outline::Index;
+
+/// The places of those of some paths that are rows'.
+fn places(alloc: Global, rows: &[Row], named: &[StorePath]) -> Result<Vec<usize>, AllocError>
+    ensures inside { IfOk result (λ v. All (λ k. k < length rows.now) v.items) }
+    // A test that none but a row's path passes, passes for one of them if it does for one of the paths.
+    ensures those { IfOk result (λ v. (test : Path → Bool) → ((p : Path) → filter (same p) (paths_of (rows_view rows.now)) ≡ [] → test p ≡ false)
+        → list_any test (map (path_at (rows_view rows.now)) v.items) ≡ list_any test named.now) }
+{
+    let mut places = Vec::new(alloc);
+    for path in named {
+        if let Some(place) = place_of(rows, path) {
+            places.push(place)?;
+        }
+    }
+    Ok(places)
+}
+
+/// The paths at some places.
+pub fn paths_at(alloc: Global, rows: &[Row], places: &[usize]) -> Result<Vec<StorePath>, AllocError>
+    requires { All (λ k. k < length rows.now) places.now }
+    ensures { IfOk result (λ v. v.items ≡ map (path_at (rows_view rows.now)) places.now) }
+{
+    let mut paths = Vec::new(alloc);
+    for place in places {
+        paths.push(rows[*place].path.clone()?)?;
+    }
+    Ok(paths)
+}
+
+/// The paths at some places and all that reach them by references, in order.
+fn referring(alloc: Global, rows: &[Row], places: &[usize]) -> Result<Vec<StorePath>, AllocError>
+    requires rise { Rise (paths_of (rows_view rows.now)) }
+    requires inside { All (λ k. k < length rows.now) places.now }
+    ensures { IfOk result (λ v. v.items ≡ filter (refers_to_any (graph_of (rows_view rows.now)) (map (path_at (rows_view rows.now)) places.now)) (paths_of (rows_view rows.now))) }
+{
+    let graph = Graph::new(alloc, rows)?;
+    let going = referrers(alloc, &graph, places)?;
+    paths_at(alloc, rows, &going)
+}
+
+/// Those of the named paths that are valid and all that reach one by references, named or not, in order.
+pub fn deleted_paths(
+    alloc: Global,
+    index: &Index,
+    named: &[StorePath],
+) -> Result<Vec<StorePath>, AllocError>
+    ensures { IfOk result (λ v. (w : World) → outline_of w ≡ index.now → v.items ≡ spec.deleted_paths w named.now) }
+{
+    let rows = rows(alloc, index)?;
+    let places = places(alloc, &rows, named)?;
+    referring(alloc, &rows, &places)
+}
+
+/// What a denial shows where a path that is to be deleted by name lives: the first root of the first that does, as the caller sees
+/// it.
+pub fn denial(
+    alloc: Global,
+    config: &Config,
+    caller: &Caller,
+    index: &Index,
+    request: &Request,
+) -> Result<Option<(String, StorePath)>, AllocError>
+    ensures { IfOk result (λ root. (w : World) → outline_of w ≡ index.now → IsDenial config.now w caller.now (request_view request.now) root) }
+{
+    match request {
+        Request::Delete { paths: named, .. } => {
+            let root = first_kept(alloc, config, class(config, caller), index, named)?;
+            Ok(root)
+        }
+        _ => Ok(None),
+    }
+}
+
+/// The named paths and all that reach them by references, if the named are valid.
+pub fn find_deleted(alloc: Global, index: &Index, named: &[StorePath]) -> Result<Found, Stop>
+    ensures { (w : World) → outline_of w ≡ index.now → Gives found_view result
+        (unless (list_all (has w) named.now) not_valid) (spec.deleted_paths w named.now, spec.bytes_in w (spec.deleted_paths w named.now)) }
+{
+    are_valid(index, named)?;
+    let paths = deleted_paths(alloc, index, named)?;
+    let bytes = bytes_in(index, &paths);
+    Ok(Found { paths, bytes })
+}
+
+/// The named objects go, and all that refer to them. That the world is sound without these is the caller's condition.
+pub fn delete<S: Alter>(
+    alloc: Global,
+    tables: &mut Tables<S>,
+    named: Vec<StorePath>,
+    ignores: bool,
+) -> Result<Answer, Stop>
+    requires { (w : World) → Tells S.Store tables.old w → IsSound tables.old.dir (keeping w (λ p. not (spec.goes_with w named.items p))) }
+    ensures { (s : Settings) (c : callers.Caller) → IsMet S.Store s c (asked.delete named.items ignores) result tables.old tables.new }
+{
+    match find_deleted(alloc, tables.index(), &named) {
+        Ok(gone) => remove(tables, gone),
+        Err(stop) => Err(stop),
+    }
+}

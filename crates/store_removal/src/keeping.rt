@@ -1,0 +1,75 @@
+//! What keeps the first of some paths that lives.
+
+ghost use Rattle.std.specs.Prelude.{◌≡◌, ◌<◌, ℕ, IfOk, IfSome, Option, find, is_some, length, option_map};
+ghost use Rattle.std.specs.List.{list_any};
+ghost use Rattle.paths.specs.Root.{Root as TheRoot};
+ghost use Rattle.live.specs.Handed.{rows_view};
+ghost use Rattle.model.specs.World.{Path, World};
+ghost use Rattle.tables_outline.specs.Maps.{labelled_bytes};
+ghost use Rattle.tables_outline.specs.Outline.{outline_of};
+ghost use Rattle.model.specs.Liveness as spec;
+ghost use Rattle.model.specs.Seen as sights;
+ghost use Rattle.model.specs.Verdict.{root_of_first};
+ghost use Rattle.store_removal.specs.Keeping.{AreMarked, first_value};
+
+use crate::lending::{lent, of_valid};
+use crate::linking::rows;
+use crate::living::{keep_of, marks};
+use crate::reaching::place_of;
+use crate::root_lists::root_list;
+use crate::seen::seen_root;
+use live::{Marks, Row};
+use paths::StorePath;
+use policy::{Class, Config};
+use std::alloc::{AllocError, Global};
+use tables_outline::Index;
+
+/// The place of the first root of a path, by the marks of the rows.
+fn mark_of(rows: &[Row], marks: &Marks, path: &StorePath) -> Option<usize>
+    requires { length marks.now.first ≡ length rows.now }
+    ensures inside { IfSome result (λ k. k < marks.now.none) }
+    ensures root { (root : ℕ → TheRoot) (root_of : Path → Option TheRoot) → AreMarked (rows_view rows.now) marks.now root root_of → option_map root result ≡ root_of path.now }
+{
+    match place_of(rows, path) {
+        Some(place) => marks.first_root(place),
+        None => None,
+    }
+}
+
+/// The place of the first root of the first of some paths that has one, by the marks of the rows.
+fn first_mark(rows: &[Row], marks: &Marks, named: &[StorePath]) -> Option<usize>
+    requires { length marks.now.first ≡ length rows.now }
+    ensures inside { IfSome result (λ k. k < marks.now.none) }
+    ensures root { (root : ℕ → TheRoot) (root_of : Path → Option TheRoot) → AreMarked (rows_view rows.now) marks.now root root_of → option_map root result ≡ first_value root_of named.now }
+{
+    for path in named {
+        if let Some(root) = mark_of(rows, marks, path) {
+            return Some(root);
+        }
+    }
+    None
+}
+
+/// The label and the target of the first root of the first of some paths that lives, as a caller of a class sees them; none where
+/// each is dead.
+pub fn first_kept(
+    alloc: Global,
+    config: &Config,
+    class: Class,
+    index: &Index,
+    named: &[StorePath],
+) -> Result<Option<(String, StorePath)>, AllocError>
+    ensures root { IfOk result (λ r. (w : World) → outline_of w ≡ index.now → option_map labelled_bytes r ≡ option_map (sights.seen_root class) (root_of_first config.now w (find (spec.lives config.now w) named.now))) }
+    ensures lives { IfOk result (λ r. (w : World) → outline_of w ≡ index.now → is_some r ≡ list_any (spec.lives config.now w) named.now) }
+{
+    let rows = rows(alloc, index)?;
+    let roots = root_list(alloc, index)?;
+    let given = lent(alloc, &roots)?;
+    let valid = of_valid(alloc, index, &given)?;
+    let marks = marks(alloc, keep_of(config), &rows, &valid)?;
+    let Some(place) = first_mark(&rows, &marks, named) else {
+        return Ok(None);
+    };
+    let root = seen_root(alloc, class, valid[place])?;
+    Ok(Some(root))
+}

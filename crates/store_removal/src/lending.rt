@@ -1,0 +1,56 @@
+//! Roots, lent.
+
+ghost use Rattle.std.specs.Prelude.{◌≡◌, IfOk, filter, map};
+ghost use Rattle.std.specs.FinMap as finite;
+ghost use Rattle.live.specs.Handed as handed;
+ghost use Rattle.live.specs.Handed.{roots_view};
+ghost use Rattle.store_removal.specs.View.{kind_view, root_view};
+
+use crate::root::{Kind, Root};
+use std::alloc::{AllocError, Global};
+use tables_outline::Index;
+
+/// A kind of roots, as `live` has it.
+fn kind_of(kind: Kind) -> live::Kind
+    ensures { handed.kind_view result ≡ kind_view kind }
+{
+    match kind {
+        Kind::Permanent => live::Kind::Permanent,
+        Kind::User => live::Kind::User,
+        Kind::Profile => live::Kind::Profile,
+        Kind::Runtime => live::Kind::Runtime,
+        Kind::Temporary => live::Kind::Temporary,
+    }
+}
+
+/// Roots, lent.
+pub(crate) fn lent<'a>(alloc: Global, roots: &'a [Root]) -> Result<Vec<live::Root<'a>>, AllocError>
+    ensures { IfOk result (λ v. roots_view v.items ≡ map root_view roots.now) }
+{
+    let mut given = Vec::new(alloc);
+    for root in roots {
+        given.push(live::Root {
+            kind: kind_of(root.kind),
+            target: &root.target,
+            label: root.label.as_str(),
+        })?;
+    }
+    Ok(given)
+}
+
+/// Those of the roots whose targets are valid.
+pub(crate) fn of_valid<'a>(
+    alloc: Global,
+    index: &Index,
+    roots: &[live::Root<'a>],
+) -> Result<Vec<live::Root<'a>>, AllocError>
+    ensures { IfOk result (λ v. roots_view v.items ≡ filter (λ r. finite.contains_key index.now.objects r.target) (roots_view roots.now)) }
+{
+    let mut valid = Vec::new(alloc);
+    for root in roots {
+        if index.has(root.target) {
+            valid.push(*root)?;
+        }
+    }
+    Ok(valid)
+}

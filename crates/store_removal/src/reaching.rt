@@ -1,0 +1,94 @@
+//! Which roots reach a path.
+
+ghost use Rattle.std.specs.Prelude.{◌≡◌, ◌<◌, All, [], IfNone, IfOk, IfSome, filter, length, map};
+ghost use Rattle.live.specs.Graph.{same};
+ghost use Rattle.live.specs.Handed.{roots_view, rows_view};
+ghost use Rattle.live.specs.Live.{roots_that_reach};
+ghost use Rattle.live.specs.Keeping.{keep_view};
+ghost use Rattle.live.specs.Numbering.{AllValid, Rise, graph_of, path_at, paths_of, root_at};
+ghost use Rattle.model.specs.World.{World};
+ghost use Rattle.tables_outline.specs.Maps.{labelled_bytes};
+ghost use Rattle.tables_outline.specs.Outline.{outline_of};
+ghost use Rattle.model.specs.Liveness.{roots_that_keep};
+ghost use Rattle.model.specs.Seen.{seen as seen_by};
+
+use crate::lending::{lent, of_valid};
+use crate::linking::rows;
+use crate::living::keep_of;
+use crate::root_lists::root_list;
+use crate::seen::seen;
+use live::{Graph, Keep, Root, Roots, Row, roots_of};
+use paths::StorePath;
+use policy::{Class, Config};
+use std::alloc::{AllocError, Global};
+use tables_outline::Index;
+
+/// The place of a path among rows, if it is there.
+pub(crate) fn place_of(rows: &[Row], path: &StorePath) -> Option<usize>
+    ensures found { IfSome result (λ i. (i < length rows.now) × (path_at (rows_view rows.now) i ≡ path.now)) }
+    ensures none { IfNone result (filter (same path.now) (paths_of (rows_view rows.now)) ≡ []) }
+{
+    for place in 0..rows.len() {
+        if path == rows[place].path {
+            return Some(place);
+        }
+    }
+    None
+}
+
+/// The roots at some places.
+fn roots_at<'a>(
+    alloc: Global,
+    roots: &[Root<'a>],
+    places: &[usize],
+) -> Result<Vec<Root<'a>>, AllocError>
+    requires { All (λ k. k < length roots.now) places.now }
+    ensures { IfOk result (λ v. roots_view v.items ≡ map (root_at (roots_view roots.now)) places.now) }
+{
+    let mut chosen = Vec::new(alloc);
+    for place in places {
+        chosen.push(roots[*place])?;
+    }
+    Ok(chosen)
+}
+
+/// The roots that reach the path at a place, in order.
+fn reaching<'a>(
+    alloc: Global,
+    keep: Keep,
+    rows: &[Row],
+    roots: &[Root<'a>],
+    place: usize,
+) -> Result<Vec<Root<'a>>, AllocError>
+    requires rows { Rise (paths_of (rows_view rows.now)) }
+    requires targets { AllValid (rows_view rows.now) (roots_view roots.now) }
+    requires place { place < length rows.now }
+    ensures { IfOk result (λ v. roots_view v.items ≡ roots_that_reach (keep_view keep) (graph_of (rows_view rows.now)) (roots_view roots.now) (path_at (rows_view rows.now) place)) }
+{
+    let graph = Graph::new(alloc, rows)?;
+    let aims = Roots::new(alloc, rows, roots)?;
+    let places = roots_of(alloc, &graph, &aims, keep, place)?;
+    roots_at(alloc, roots, &places)
+}
+
+/// The roots that reach a path in their order, each its label and its target, as a caller of a class sees them. None reaches
+/// a path that isn't valid.
+pub fn seen_roots_of(
+    alloc: Global,
+    config: &Config,
+    class: Class,
+    index: &Index,
+    path: &StorePath,
+) -> Result<Vec<(String, StorePath)>, AllocError>
+    ensures { IfOk result (λ v. (w : World) → outline_of w ≡ index.now → map labelled_bytes v.items ≡ seen_by class (roots_that_keep config.now w path.now)) }
+{
+    let rows = rows(alloc, index)?;
+    let Some(place) = place_of(&rows, path) else {
+        return Ok(Vec::new(alloc));
+    };
+    let roots = root_list(alloc, index)?;
+    let given = lent(alloc, &roots)?;
+    let valid = of_valid(alloc, index, &given)?;
+    let reaching = reaching(alloc, keep_of(config), &rows, &valid, place)?;
+    seen(alloc, class, &reaching)
+}

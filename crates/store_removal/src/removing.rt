@@ -1,0 +1,49 @@
+//! Objects go.
+
+ghost use Rattle.std.specs.Prelude.{◌≡◌, ◌<◌, true, false, [], length};
+ghost use Rattle.policy.specs.Settings.{Settings};
+ghost use Rattle.policy.specs.Caller.{Caller};
+ghost use Rattle.model.specs.World.{World};
+ghost use Rattle.model.specs.Sound.{IsSound};
+ghost use Rattle.tables_outline.specs.Outline.{outline_of};
+ghost use Rattle.tables.specs.Kept.{Tells};
+ghost use Rattle.store_steps.specs.Meets.{IsMet};
+ghost use Rattle.store_removal.specs.Removing.{Removes, without};
+ghost use Rattle.model.specs.Request as asked;
+
+use paths::StorePath;
+use sqlite::Alter;
+use store_steps::writing::answered;
+use store_types::{Answer, Stop};
+use tables::Tables;
+
+/// Paths in order, and the sum of the bytes of their archives.
+#[derive(Drop)]
+pub struct Found {
+    /// The paths.
+    pub paths: Vec<StorePath>,
+    /// The sum of the bytes.
+    pub bytes: u128,
+}
+
+/// Whether there is no path.
+fn is_nothing(paths: &[StorePath]) -> bool
+    ensures none { result ≡ true → paths.now ≡ [] }
+    ensures some { result ≡ false → 0 < length paths.now }
+{
+    paths.is_empty()
+}
+
+/// The objects of some paths go, if there are any. That the world is sound without them is the caller's condition.
+pub(crate) fn remove<S: Alter>(tables: &mut Tables<S>, gone: Found) -> Result<Answer, Stop>
+    requires { (w : World) → Tells S.Store tables.old w → IsSound tables.old.dir (without w gone.paths.items) }
+    // A request is met on which these go, and nothing else.
+    ensures { (s : Settings) (c : Caller) (q : asked.Request) → ((w : World) → outline_of w ≡ tables.old.outline → Removes s w c q gone.paths.items gone.bytes)
+        → IsMet S.Store s c q result tables.old tables.new }
+{
+    let Found { paths, bytes } = gone;
+    if is_nothing(&paths) {
+        return Ok(Answer::Freed(paths, bytes));
+    }
+    answered(tables.remove_objects(&paths), Answer::Freed(paths, bytes))
+}

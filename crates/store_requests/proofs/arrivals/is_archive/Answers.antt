@@ -1,9 +1,0 @@
-use Rattle.nar.specs.Outcome.{outcome_of}
-use Rattle.store_requests.proofs.ArchiveFaults.{no_fault, a_fault}
-use Rattle.store_requests.proofs.arrivals.is_archive.Goals as goal
-
-pub returns-in-None : goal.returns-in-None
-returns-in-None c = no_fault (outcome_of c.args.nar.now.pieces) c.args.nar.now.fault c.requires.fault c.in-None.is
-
-pub returns-in-Some : goal.returns-in-Some
-returns-in-Some c = a_fault (outcome_of c.args.nar.now.pieces) c.args.nar.now.fault c.in-Some.fault c.requires.fault c.in-Some.is

@@ -1,7 +1,0 @@
-use Rattle.std.proofs.Common.{ℕ, List, ap}
-use Rattle.store.specs.Request.{Imported}
-use Rattle.store_requests.specs.View.{import_view}
-use Rattle.store_requests.proofs.imported.at_end.Goals as goal
-
-pub returns-in-Ok-clause-same : goal.returns-in-Ok-clause-same
-returns-in-Ok-clause-same c = ap (λ (b : List ℕ). let i : Imported = record (import_view c.args.import) { nar = b } in i) c.in-Ok.ensures.pieces

@@ -1,6 +1,0 @@
-use Rattle.std.proofs.Common.{◌∙◌}
-use Rattle.store_requests.proofs.Passing.{pass}
-use Rattle.store_requests.proofs.permanent.may_set.Goals as goal
-
-pub returns : goal.returns
-returns c s w is = pass _ _ c.in_ok-is_named.ensures ∙ pass _ _ (c.in_ok-is_valid.ensures w is)

@@ -1,6 +1,0 @@
-use Rattle.std.proofs.Common.{◌∙◌}
-use Rattle.store_requests.proofs.Passing.{pass}
-use Rattle.store_requests.proofs.profiles.may_switch.Goals as goal
-
-pub returns-clause-told : goal.returns-clause-told
-returns-clause-told c s w is = pass _ _ c.in_ok-are_named.ensures ∙ pass _ _ (c.in_ok-has_profile.ensures.told w is) ∙ pass _ _ (c.in_ok-has_generation.ensures w is)

@@ -1,7 +1,0 @@
-use Rattle.std.proofs.Common.{refl, ap, ◌∙◌}
-use Rattle.store.specs.Reply.{paths}
-use Rattle.store_requests.proofs.Outlined.{all_outlined}
-use Rattle.store_requests.proofs.reading.list.Goals as goal
-
-pub returns : goal.returns
-returns c s caller w is = (refl, ap paths (c.in_ok-paths.ensures ∙ all_outlined c.args.index.now w is), refl)

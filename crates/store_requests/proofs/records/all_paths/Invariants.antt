@@ -1,6 +1,0 @@
-use Rattle.std.proofs.Common.{◌≡◌, ◌++◌}
-use Rattle.store_requests.proofs.records.all_paths.Given as goal
-
--- what is listed, and what is left
-abbrev pub invariant-loop-path : goal.invariant-loop-path
-invariant-loop-path l = l.paths.items ++ l.path-iterator ≡ l.initial.path-iterator

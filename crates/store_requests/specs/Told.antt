@@ -1,9 +1,0 @@
--- What is told of an object without its archive.
-use Rattle.std.specs.FinMap as finite
-use Rattle.world.specs.World.{Path}
-use Rattle.index.specs.Outline.{Outlined}
-use Rattle.store.specs.Reply.{Info}
-
--- its record
-abbrev pub info_in : Path → Outlined → Info
-info_in p o = record { path = p; hash = o.hash; size = o.size; references = finite.keys o.references; deriver = o.deriver; ca = o.ca }

@@ -1,0 +1,2 @@
+pub mod ProfileChanges
+pub mod RuntimePairs

@@ -1,0 +1,6 @@
+use Rattle.std.proofs.Common.{◌∙◌}
+use Rattle.store_steps.proofs.Passing.{pass}
+use Rattle.store_roots.proofs.user_roots.may_set.Goals as goal
+
+pub returns : goal.returns
+returns c s w is = pass _ _ c.in_ok-are_named.ensures ∙ pass _ _ (c.in_ok-is_valid.ensures w is)

@@ -1,0 +1,11 @@
+//! Roots, profiles and sessions.
+#![tactic(auto)]
+
+mod generations;
+mod labels;
+mod naming;
+pub mod permanent;
+pub mod profiles;
+pub mod runtime;
+pub mod sessions;
+pub mod user_roots;

@@ -1,0 +1,75 @@
+//! User roots are set and dropped.
+
+ghost use Rattle.std.specs.Prelude.{◌≡◌, string_bytes};
+ghost use Rattle.policy.specs.Settings.{Settings};
+ghost use Rattle.model.specs.World.{World};
+ghost use Rattle.tables_outline.specs.Outline.{outline_of};
+ghost use Rattle.model.specs.Tests.{refusal};
+ghost use Rattle.store_types.specs.Tested.{Tested};
+ghost use Rattle.policy.specs.Caller.{Caller};
+ghost use Rattle.store_steps.specs.Meets.{IsMet};
+ghost use Rattle.model.specs.Request as asked;
+
+use crate::naming::are_named;
+use paths::StorePath;
+use sqlite::Alter;
+use store_steps::there::{has_user_root, is_valid};
+use store_steps::writing::answered;
+use store_types::{Answer, Stop};
+use tables::Tables;
+use tables_outline::Index;
+
+/// Tests a user root that is to be set.
+pub fn may_set(index: &Index, owned: &(String, String), path: &StorePath) -> Result<(), Stop>
+    ensures { (s : Settings) (w : World) → outline_of w ≡ index.now → Tested result (refusal s w (asked.set_user_root (string_bytes owned.now.0) (string_bytes owned.now.1) path.now)) }
+{
+    are_named(owned)?;
+    is_valid(index, path)?;
+    Ok(())
+}
+
+/// Tests a user root that is to be dropped.
+pub fn may_drop(index: &Index, owned: &(String, String)) -> Result<(), Stop>
+    ensures { (s : Settings) (w : World) → outline_of w ≡ index.now → Tested result (refusal s w (asked.drop_user_root (string_bytes owned.now.0) (string_bytes owned.now.1))) }
+{
+    are_named(owned)?;
+    has_user_root(index, owned)?;
+    Ok(())
+}
+
+/// A user root is set or replaced.
+pub fn set_user_root<S: Alter>(
+    tables: &mut Tables<S>,
+    owned: (String, String),
+    path: StorePath,
+) -> Result<Answer, Stop>
+    ensures { (s : Settings) (c : Caller) → IsMet S.Store s c (asked.set_user_root (string_bytes owned.0) (string_bytes owned.1) path) result tables.old tables.new }
+{
+    match may_set(tables.index(), &owned, &path) {
+        Ok(()) => {
+            answered(
+                tables.put_user_root(owned.0.as_str(), owned.1.as_str(), &path),
+                Answer::Changed,
+            )
+        }
+        Err(stop) => Err(stop),
+    }
+}
+
+/// A user root is dropped.
+pub fn drop_user_root<S: Alter>(
+    tables: &mut Tables<S>,
+    owned: (String, String),
+) -> Result<Answer, Stop>
+    ensures { (s : Settings) (c : Caller) → IsMet S.Store s c (asked.drop_user_root (string_bytes owned.0) (string_bytes owned.1)) result tables.old tables.new }
+{
+    match may_drop(tables.index(), &owned) {
+        Ok(()) => {
+            answered(
+                tables.drop_user_root(owned.0.as_str(), owned.1.as_str()),
+                Answer::Changed,
+            )
+        }
+        Err(stop) => Err(stop),
+    }
+}

@@ -1,0 +1,62 @@
+-- Tables that a request leaves as they were.
+use Rattle.std.proofs.Common.{◌≡◌, Result, Ok, Err, refl, sym, ◌∙◌, inl, inr}
+use Rattle.sqlite_trees.specs.declared.store.Store.{Ghosts}
+use Rattle.sqlite_trees.specs.Tree.{Trees}
+use Rattle.sqlite.specs.State.{State, Survives}
+use Rattle.sqlite.specs.Held.{state}
+use Rattle.tables_sql.proofs.Transactions.{survives_none}
+use Rattle.policy.specs.Settings.{Settings}
+use Rattle.policy.specs.Caller.{Caller}
+use Rattle.model.specs.World.{World}
+use Rattle.tables_outline.specs.Outline.{Outline, outline_of}
+use Rattle.model.specs.Request.{Request}
+use Rattle.model.specs.Tests.{refusal}
+use Rattle.tables.specs.Kept.{Kept}
+use Rattle.store_types.specs.declared.replies.Answer.{Answer}
+use Rattle.store_types.specs.declared.replies.Stop.{Stop}
+use Rattle.store_types.specs.declared.replies.Stop.TheVariants.{Refused, Failed}
+use Rattle.store_types.specs.Tested.{Stops}
+use Rattle.store_steps.specs.Lasting.{Lasts}
+use Rattle.store_types.specs.Meets.{Meets, Reads}
+use Rattle.store_steps.specs.Meets.{MeetsOver, IsMet}
+
+-- nothing happened
+pub survives_still : (s : State) (P : Trees → Type 0) → Survives s s P
+survives_still s P =
+    let none = survives_none s in
+    record { clean = none.clean; shield = none.shield; counts = none.counts; limit = none.limit; closes = none.closes; crash = λ clean db left. inl left }
+
+-- the same of a crash, with less said of what it may leave
+pub survives_as : (s t : State) (P Q : Trees → Type 0) → ((db : Trees) → P db → Q db) → Survives s t P → Survives s t Q
+survives_as s t P Q less h = record {
+  clean = h.clean;
+  shield = h.shield;
+  counts = h.counts;
+  limit = h.limit;
+  closes = h.closes;
+  crash = λ clean db left. elim (h.crash clean db left) [ inl was ↦ inl was | inr is ↦ inr (less db is) ];
+}
+
+pub lasts_still : {S : Type 0} (g : Ghosts S) (k : Kept S) → Lasts g k k
+lasts_still g k clean = inr (record { told = λ w t. t; same = λ _. refl; durable = λ _ h. h })
+
+-- an answer that is right is so over any disk
+pub over : (is_clean : Type 0) (s : Settings) (w : World) (c : Caller) (q : Request) (r : Result Answer Stop) (next : World) → Meets s w c q r next → MeetsOver is_clean s w c q r next
+over is_clean s w c q (Ok a) next m = (m.0, λ _. m.1, m.2)
+over is_clean s w c q (Err stop) next m = m
+
+module _ {S : Type 0} (g : Ghosts S) where
+  -- what is answered from the outline alone
+  pub met_by_reading : (s : Settings) (c : Caller) (q : Request) (r : Result Answer Stop) (k : Kept S) (o : Outline) → o ≡ k.outline → Reads s c o q r → IsMet g s c q r k k
+  met_by_reading s c q r k o same h = record {
+    dir = refl;
+    world = λ w t. (w, over _ s w c q r w (h w (t.outline ∙ sym same)), t);
+    still = λ _. refl;
+    lasts = λ _. lasts_still g k;
+    survives = λ w t. survives_still (state g k.connection) _;
+  }
+
+-- what stops the tests of a request
+pub reads_stopped : (s : Settings) (c : Caller) (o : Outline) (q : Request) (stop : Stop) → ((w : World) → outline_of w ≡ o → Stops stop (refusal s w q)) → Reads s c o q (Err stop)
+reads_stopped s c o q (Refused r) h w is = (h w is, refl)
+reads_stopped s c o q (Failed f) h w is = refl

@@ -1,0 +1,19 @@
+-- What a call that is done leaves of the disk.
+use Rattle.std.specs.Prelude.{◌≡◌, ◌⊎◌, IsTrue}
+use Rattle.sqlite_trees.specs.declared.store.Store.{Ghosts}
+use Rattle.sqlite.specs.State.{HasCleanDisk}
+use Rattle.sqlite.specs.Held.{state}
+use Rattle.tables_sql.specs.Calls.{IsDurable}
+use Rattle.model.specs.World.{World}
+use Rattle.tables.specs.Kept.{Kept, Tells}
+
+module _ {S : Type 0} (g : Ghosts S) where
+  -- nothing was done: each world that was told is told still; and while the connection is open, the database is the one that it was, and a crash leaves no more of it than before
+  pub record IsUntouched (old new : Kept S) : Type 0 where
+    pub told : (w : World) → Tells g old w → Tells g new w
+    pub same : IsTrue (state g new.connection).is_open → (state g new.connection).now ≡ (state g old.connection).now
+    pub durable : IsTrue (state g new.connection).is_open → IsDurable (state g old.connection) → IsDurable (state g new.connection)
+
+  -- Over a clean disk the connection is open, and a crash leaves nothing but what was committed; or nothing was done.
+  abbrev pub Lasts : Kept S → Kept S → Type 0
+  Lasts old new = HasCleanDisk (state g new.connection) → (IsTrue (state g new.connection).is_open × IsDurable (state g new.connection)) ⊎ IsUntouched old new

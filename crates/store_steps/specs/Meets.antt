@@ -1,0 +1,62 @@
+-- What becomes over tables of a request that no rule forbids.
+use Rattle.std.specs.Prelude.{◌≡◌, None, Result, Ok, Err, IsTrue}
+use Rattle.sqlite_trees.specs.declared.store.Store.{Ghosts}
+use Rattle.sqlite.specs.State.{HasCleanDisk, Survives}
+use Rattle.sqlite.specs.Held.{state}
+use Rattle.policy.specs.Settings.{Settings}
+use Rattle.policy.specs.Caller.{Caller}
+use Rattle.model.specs.World.{World}
+use Rattle.model.specs.Request.{Request}
+use Rattle.model.specs.Reply as replied
+use Rattle.model.specs.Tests.{refusal}
+use Rattle.model.specs.Effects.{effect}
+use Rattle.model.specs.Answers.{answer}
+use Rattle.tables.specs.Kept.{Kept, Tells}
+use Rattle.store_types.specs.declared.replies.Answer.{Answer}
+use Rattle.store_types.specs.declared.replies.Stop.{Stop}
+use Rattle.store_types.specs.declared.replies.Stop.TheVariants.{Refused, Failed}
+use Rattle.store_types.specs.View.{answer_view, refusal_view, failure_view}
+use Rattle.store_steps.specs.Lasting.{Lasts}
+use Rattle.store_steps.specs.Leaving.{LeavesPassed}
+use Rattle.store_steps.specs.Disk.{reads_disk}
+use Rattle.store_types.specs.Meets.{Meets}
+
+-- the same over a disk: an answer from it is the right one if the disk is clean
+abbrev pub MeetsOver : Type 0 → Settings → World → Caller → Request → Result Answer Stop → World → Type 0
+MeetsOver is_clean s w c q (Ok a) new = (refusal s w q ≡ None) × ((IsTrue (reads_disk q) → is_clean) → answer_view a ≡ answer s w c q) × (new ≡ effect s w q)
+MeetsOver is_clean s w c q (Err stop) new = Meets s w c q (Err stop) new
+
+-- what is replied
+abbrev pub reply_to : Result Answer Stop → replied.Reply
+reply_to (Ok a) = replied.done (answer_view a)
+reply_to (Err (Refused r)) = replied.refused (refusal_view r)
+reply_to (Err (Failed f)) = replied.failed (failure_view f)
+
+abbrev pub IsAnswered : Result Answer Stop → Type 0
+IsAnswered (Ok a) = Unit {0}
+IsAnswered (Err stop) = ⊥
+
+abbrev pub IsRefused : Result Answer Stop → Type 0
+IsRefused (Err (Refused r)) = Unit {0}
+IsRefused _ = ⊥
+
+module _ {S : Type 0} (g : Ghosts S) where
+  -- a request over tables
+  pub record IsMet (s : Settings) (c : Caller) (q : Request) (r : Result Answer Stop) (old new : Kept S) : Type 0 where
+    pub dir : new.dir ≡ old.dir
+    -- of each world that they told, what becomes of it is told now
+    pub world : (w : World) → Tells g old w → (next : World) × MeetsOver (HasCleanDisk (state g new.connection)) s w c q r next × Tells g new next
+    -- a refusal leaves them as they were
+    pub still : IsRefused r → new ≡ old
+    -- what is done outlives a crash
+    pub lasts : IsAnswered r → Lasts g old new
+    -- a crash leaves what it could leave before, or what is done where no test fails
+    pub survives : (w : World) → Tells g old w → Survives (state g old.connection) (state g new.connection)
+        (λ db. LeavesPassed old.dir (state g old.connection).now db s w q)
+
+  -- something is read of the disk: the tables tell what they told
+  pub record OnlyReads (old new : Kept S) : Type 0 where
+    pub dir : new.dir ≡ old.dir
+    pub told : (w : World) → Tells g old w → Tells g new w
+    pub lasts : Lasts g old new
+    pub survives : Survives (state g old.connection) (state g new.connection) (λ _. ⊥)

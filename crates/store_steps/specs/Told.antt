@@ -1,0 +1,9 @@
+-- What is told of an object without its archive.
+use Rattle.std.specs.FinMap as finite
+use Rattle.model.specs.World.{Path}
+use Rattle.tables_outline.specs.Outline.{Outlined}
+use Rattle.model.specs.Reply.{Info}
+
+-- its record
+abbrev pub info_in : Path → Outlined → Info
+info_in p o = record { path = p; hash = o.hash; size = o.size; references = finite.keys o.references; deriver = o.deriver; ca = o.ca }

@@ -1,0 +1,17 @@
+//! What a write answers.
+
+ghost use Rattle.std.specs.Prelude.{◌≡◌};
+ghost use Rattle.store_steps.specs.Writing.{answered as answer_of};
+
+use store_types::{Answer, Stop};
+use tables_sql::failure::Failure;
+
+/// The answer where it was written, and else the failure.
+pub fn answered(written: Result<(), Failure>, answer: Answer) -> Result<Answer, Stop>
+    ensures { result ≡ answer_of written answer }
+{
+    match written {
+        Ok(()) => Ok(answer),
+        Err(failure) => Err(Stop::Failed(failure)),
+    }
+}

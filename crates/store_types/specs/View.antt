@@ -1,0 +1,108 @@
+-- What the values of the program stand for.
+use Rattle.std.specs.Prelude.{map, option_map, string_bytes}
+use Rattle.policy.specs.Caller.{Caller}
+use Rattle.model.specs.Request as asked
+use Rattle.model.specs.Reply as replied
+use Rattle.tables_outline.specs.Maps.{labelled_bytes}
+use Rattle.intake.specs.Arriving.{bytes_in}
+use Rattle.tables_sql.specs.declared.failure.Failure.{Failure}
+use Rattle.tables_sql.specs.declared.failure.Failure.TheVariants.{Memory, Size, Disk}
+use Rattle.store_types.specs.declared.requests.Imported.{Imported}
+use Rattle.store_types.specs.declared.requests.Request.{Request}
+use Rattle.store_types.specs.declared.requests.Request.TheVariants.{AddText, Info as InfoOf, Nar, Ls, List as ListAll, Live, Dead, ListRoots, RootsOf, Report, SetPermanent, DropPermanent, SetUserRoot, DropUserRoot, Rollback, Switch, DeleteGeneration, SetProfile, AddTemp, EndSession, ReplaceRuntime, AddSource, Import, Collect, Delete}
+use Rattle.store_types.specs.declared.replies.Info.{Info}
+use Rattle.store_types.specs.declared.replies.Usage.{Usage}
+use Rattle.store_types.specs.declared.replies.Answer.{Answer}
+use Rattle.store_types.specs.declared.replies.Answer.TheVariants.{Path, Record, Archive, Listing, Paths, Roots, Changed, Generation, RuntimeCount, TemporaryCount, Freed, Usage as UsageOf}
+use Rattle.store_types.specs.declared.replies.Refusal.{Refusal}
+use Rattle.store_types.specs.declared.replies.Refusal.TheVariants.{Archive as BadArchive, CaMismatch, Derivation, NotValid, MissingReference, NarHashMismatch, SelfReference, NoRoot, NoProfile, NoGeneration, CurrentGeneration, NoOlderGeneration, GenerationLimit, TooManyReferences, BadRootName, BadLabel, BadSession}
+use Rattle.store_types.specs.declared.replies.Reply.{Reply}
+use Rattle.store_types.specs.declared.replies.Reply.TheVariants.{Done, Denied, Refused, Failed}
+
+-- what is handed in with its path; no bytes, where memory was refused as its archive came
+abbrev pub import_view : Imported → asked.Imported
+import_view i = record { path = i.path; nar_hash = i.nar_hash; refs = i.refs.items; deriver = i.deriver; ca = i.ca; nar = bytes_in i.nar }
+
+abbrev pub request_view : Request → asked.Request
+request_view (AddText name refs contents) = asked.add_text name refs.items contents.items
+request_view (InfoOf p) = asked.info p
+request_view (Nar p) = asked.nar p
+request_view (Ls p) = asked.ls p
+request_view ListAll = asked.list
+request_view Live = asked.list_live
+request_view Dead = asked.list_dead
+request_view ListRoots = asked.list_roots
+request_view (RootsOf p) = asked.list_roots_of p
+request_view Report = asked.report
+request_view (SetPermanent name p) = asked.set_permanent (string_bytes name) p
+request_view (DropPermanent name) = asked.drop_permanent (string_bytes name)
+request_view (SetUserRoot owner name p) = asked.set_user_root (string_bytes owner) (string_bytes name) p
+request_view (DropUserRoot owner name) = asked.drop_user_root (string_bytes owner) (string_bytes name)
+request_view (Rollback owner name) = asked.rollback (string_bytes owner) (string_bytes name)
+request_view (Switch owner name n) = asked.switch (string_bytes owner) (string_bytes name) n
+request_view (DeleteGeneration owner name n) = asked.delete_generation (string_bytes owner) (string_bytes name) n
+request_view (SetProfile owner name p) = asked.set_profile (string_bytes owner) (string_bytes name) p
+request_view (AddTemp owner session p) = asked.add_temp (string_bytes owner) session p
+request_view (EndSession owner session) = asked.end_session (string_bytes owner) session
+request_view (ReplaceRuntime pairs) = asked.replace_runtime (map labelled_bytes pairs.items)
+request_view (AddSource name refs nar) = asked.add_source name refs.items (bytes_in nar)
+request_view (Import p hash refs deriver ca nar) = asked.import_object (record { path = p; nar_hash = hash; refs = refs.items; deriver = deriver; ca = ca; nar = bytes_in nar })
+request_view (Collect ignores limit) = asked.collect ignores limit
+request_view (Delete named ignores) = asked.delete named.items ignores
+
+-- a caller's request
+abbrev pub call_view : Caller × Request → Caller × asked.Request
+call_view call = (call.0, request_view call.1)
+
+-- the record of an object
+abbrev pub info_view : Info → replied.Info
+info_view i = record { path = i.path; hash = i.hash; size = i.size; references = i.references.items; deriver = i.deriver; ca = i.ca }
+
+-- a number of paths and the sum of their bytes
+abbrev pub usage_view : Usage → replied.Usage
+usage_view u = record { paths = u.paths; bytes = u.bytes }
+
+abbrev pub answer_view : Answer → replied.Answer
+answer_view (Path p) = replied.path p
+answer_view (Record i) = replied.record_of (info_view i)
+answer_view (Archive b) = replied.archive_of b
+answer_view (Listing text) = replied.listing_of (string_bytes text)
+answer_view (Paths ps) = replied.paths ps.items
+answer_view (Roots rs) = replied.roots (map labelled_bytes rs.items)
+answer_view Changed = replied.changed
+answer_view (Generation n) = replied.generation n
+answer_view (RuntimeCount n) = replied.runtime_count n
+answer_view (TemporaryCount n) = replied.temporary_count n
+answer_view (Freed ps n) = replied.freed ps.items n
+answer_view (UsageOf live dead total) = replied.usage (usage_view live) (usage_view dead) (usage_view total)
+
+abbrev pub refusal_view : Refusal → replied.Refusal
+refusal_view (BadArchive e) = replied.archive e
+refusal_view CaMismatch = replied.ca_mismatch
+refusal_view (Derivation e) = replied.derivation e
+refusal_view NotValid = replied.not_valid
+refusal_view MissingReference = replied.missing_reference
+refusal_view NarHashMismatch = replied.nar_hash_mismatch
+refusal_view SelfReference = replied.self_reference
+refusal_view NoRoot = replied.no_root
+refusal_view NoProfile = replied.no_profile
+refusal_view NoGeneration = replied.no_generation
+refusal_view CurrentGeneration = replied.current_generation
+refusal_view NoOlderGeneration = replied.no_older_generation
+refusal_view GenerationLimit = replied.generation_limit
+refusal_view TooManyReferences = replied.too_many_references
+refusal_view BadRootName = replied.bad_root_name
+refusal_view BadLabel = replied.bad_label
+refusal_view BadSession = replied.bad_session
+
+-- what a call wanted
+abbrev pub failure_view : Failure → replied.Failure
+failure_view Memory = replied.memory
+failure_view Size = replied.size
+failure_view Disk = replied.disk
+
+abbrev pub reply_view : Reply → replied.Reply
+reply_view (Done a) = replied.done (answer_view a)
+reply_view (Denied rule root) = replied.denied rule (option_map labelled_bytes root)
+reply_view (Refused r) = replied.refused (refusal_view r)
+reply_view (Failed f) = replied.failed (failure_view f)

@@ -1,0 +1,10 @@
+//! Requests, replies and refusals as values.
+#![tactic(auto)]
+
+mod replies;
+mod requests;
+mod rules;
+
+pub use replies::{Answer, Info, Refusal, Reply, Stop, Usage};
+pub use requests::{Imported, Request};
+pub use rules::operation;

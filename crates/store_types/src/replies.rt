@@ -1,0 +1,154 @@
+//! What a store replies.
+
+ghost use Rattle.std.specs.Prelude.{◌≡◌};
+ghost use Rattle.store_types.specs.declared.replies.Stop.TheVariants.{Failed as failed};
+ghost use Rattle.tables_sql.specs.declared.failure.Failure.TheVariants.{Memory as memory};
+
+use drv::DrvError;
+use nar::NarError;
+use paths::{Ca, StorePath};
+use policy::Rule;
+use std::alloc::{AllocError, AllocFailed};
+use streams::Pieces;
+use tables_sql::failure::Failure;
+
+/// The record of an object.
+#[derive(Drop)]
+pub struct Info {
+    /// Its path.
+    pub path: StorePath,
+    /// The SHA-256 digest of its archive.
+    pub hash: [u8; 32],
+    /// The number of bytes of its archive.
+    pub size: usize,
+    /// Its references, in order.
+    pub references: Vec<StorePath>,
+    /// Its deriver, if it is recorded.
+    pub deriver: Option<StorePath>,
+    /// Its content address, if it is recorded.
+    pub ca: Option<Ca>,
+}
+
+/// A number of paths, and the sum of the bytes of their archives.
+#[derive(Clone, Copy, PartialEq, Eq, Debug)]
+pub struct Usage {
+    /// The number of paths.
+    pub paths: usize,
+    /// The sum of the bytes.
+    pub bytes: u128,
+}
+
+/// The answer to a request that is done.
+#[derive(Drop)]
+pub enum Answer {
+    /// The path of what is added.
+    Path(StorePath),
+    /// The record of an object.
+    Record(Info),
+    /// The bytes of an archive.
+    Archive(Pieces),
+    /// The listing of an archive.
+    Listing(String),
+    /// Paths, in order.
+    Paths(Vec<StorePath>),
+    /// Labels and targets of roots, in the order of roots.
+    Roots(Vec<(String, StorePath)>),
+    /// Set, added, dropped, deleted or kept for a session.
+    Changed,
+    /// The number of the current generation.
+    Generation(u32),
+    /// The number of runtime roots.
+    RuntimeCount(usize),
+    /// The number of temporary roots that a session had.
+    TemporaryCount(usize),
+    /// The paths that went, and the sum of the bytes of their archives.
+    Freed(Vec<StorePath>, u128),
+    /// Of the live, the dead and all paths.
+    Usage(Usage, Usage, Usage),
+}
+
+/// Why a request is refused.
+#[derive(Clone, Copy, PartialEq, Eq, Debug)]
+pub enum Refusal {
+    /// What is wrong with an archive.
+    Archive(NarError),
+    /// The content address isn't that of the path, the references and the archive.
+    CaMismatch,
+    /// What is wrong with a derivation text.
+    Derivation(DrvError),
+    /// The path isn't valid.
+    NotValid,
+    /// A reference isn't valid.
+    MissingReference,
+    /// The archive has another digest than the given one.
+    NarHashMismatch,
+    /// A content-addressed object refers to itself.
+    SelfReference,
+    /// No root has this name.
+    NoRoot,
+    /// No profile has this owner and name.
+    NoProfile,
+    /// The profile has no generation of this number.
+    NoGeneration,
+    /// The current generation isn't deleted.
+    CurrentGeneration,
+    /// No generation is below the current one.
+    NoOlderGeneration,
+    /// No number is left for a generation.
+    GenerationLimit,
+    /// More than 4,096 references.
+    TooManyReferences,
+    /// A user, root or profile name isn't a plain name.
+    BadRootName,
+    /// A label isn't a runtime label.
+    BadLabel,
+    /// No session has this number.
+    BadSession,
+}
+
+/// What a store replies.
+#[derive(Drop)]
+pub enum Reply {
+    /// The request is done.
+    Done(Answer),
+    /// The first rule that forbids the request; for a live path the label and the target of its first root, as the caller
+    /// sees them.
+    Denied(Rule, Option<(String, StorePath)>),
+    /// The first test that fails.
+    Refused(Refusal),
+    /// The call failed, and nothing changed.
+    Failed(Failure),
+}
+
+/// Why a request isn't done, where no rule forbids it.
+#[derive(Clone, Copy)]
+pub enum Stop {
+    /// The first test that fails.
+    Refused(Refusal),
+    /// The call failed.
+    Failed(Failure),
+}
+
+impl From<AllocError> for Stop {
+    ghost from_gives = { λ _ e. e ≡ failed memory };
+
+    fn from(_e: AllocError) -> Stop {
+        Stop::Failed(Failure::Memory)
+    }
+}
+
+impl<T: Drop> From<AllocFailed<T>> for Stop {
+    ghost from_gives = { λ _ e. e ≡ failed memory };
+
+    fn from(_e: AllocFailed<T>) -> Stop {
+        Stop::Failed(Failure::Memory)
+    }
+}
+
+impl From<Failure> for Stop {
+    ghost from_gives = { λ f e. e ≡ failed f };
+
+    fn from(failure: Failure) -> Stop {
+        Stop::Failed(failure)
+    }
+}

@@ -1,6 +1,0 @@
-use Rattle.std.proofs.Common.{◌≡◌, map, take}
-use Rattle.table_forms.specs.Shapes.{wanted_column}
-use Rattle.table_forms.proofs.form.are_columns.Given as goal
-
-abbrev pub invariant-loop-at : goal.invariant-loop-at
-invariant-loop-at l = take l.at l.columns ≡ map wanted_column (take l.at l.wanted)

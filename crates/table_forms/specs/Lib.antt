@@ -1,5 +1,0 @@
-pub mod Forms
-pub mod OurTables
-pub mod Shapes
-pub mod Standing
-pub mod Finding

@@ -1,5 +1,0 @@
-use Rattle.table_statements.proofs.Steps.{leaves_by}
-use Rattle.table_statements.proofs.transaction.commit.Goals as goal
-
-pub returns-clause-leaves : goal.returns-clause-leaves
-returns-clause-leaves g c = leaves_by _ _ c.commit.ensures.survives

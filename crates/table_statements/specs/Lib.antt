@@ -1,9 +1,0 @@
-pub use Rattle.table_forms.specs.Forms
-pub use Rattle.table_forms.specs.Standing
-pub mod Contents
-pub mod Frozen
-pub mod Texts
-pub mod Calls
-pub mod Queries
-pub mod Failures
-pub mod Reading

@@ -1,0 +1,38 @@
+-- When somebody else's tables stand in the way of ours: then a database isn't taken up, though our tables may be there soundly, or nothing of ours.
+use Rattle.std.specs.Prelude.{Bool, not, ◌||◌, ◌&&◌, is_some}
+use Rattle.std.specs.List.{list_any}
+use Rattle.sqlite_schema.specs.declared.schema.Schema.{Schema}
+use Rattle.sqlite_schema.specs.declared.schema.Table.{Table}
+use Rattle.sqlite_schema.specs.Names.{table_named, index_named, view_named}
+use Rattle.sqlite.specs.Does.{lacks_sequence}
+use Rattle.tables_schema.specs.Forms.{all_tables}
+use Rattle.tables_schema.specs.Standing.{tree_named, is_unreferred, is_alone, is_unguarded}
+use Rattle.tables_schema.specs.Finding.{is_unawaited}
+
+-- a table has the name of this one of ours
+abbrev pub is_there : Schema → Table → Bool
+is_there s t = is_some (table_named s t.name)
+
+-- something has its name: a table, an index, or a view, a trigger or a table that the schema doesn't show
+abbrev pub is_taken : Schema → Table → Bool
+is_taken s t = is_there s t || (is_some (index_named s t.name) || is_some (view_named s t.name))
+
+-- something of ours is there: one of our eleven names is taken
+abbrev pub has_ours : Schema → Bool
+has_ours s = list_any (is_taken s) all_tables
+
+-- it is there, and something acts on it: a foreign key refers to it, a table of another name has its tree, or a unique index other than that of its key keeps rows out of it
+abbrev pub is_acted_on : Schema → Table → Bool
+is_acted_on s t = is_there s t && not (is_unreferred s (tree_named s t.name) && (is_alone s t.name (tree_named s t.name) && is_unguarded s (tree_named s t.name) t.primary))
+
+-- it isn't there, and a foreign key waits for it
+abbrev pub is_awaited : Schema → Table → Bool
+is_awaited s t = not (is_there s t) && not (is_unawaited s t.name)
+
+-- it isn't there, and can't be made: a table counts its rowids, and there is no counter
+abbrev pub is_kept_out : Schema → Table → Bool
+is_kept_out s t = not (is_there s t) && lacks_sequence s
+
+-- one of these of one of our tables: somebody else's tables stand in the way
+abbrev pub are_others_in_the_way : Schema → Bool
+are_others_in_the_way s = list_any (λ t. is_acted_on s t || (is_awaited s t || is_kept_out s t)) all_tables

@@ -1,0 +1,36 @@
+-- What opening a file says of it.
+use Rattle.std.specs.Prelude.{ℕ, List, IsTrue}
+use Rattle.sqlite_disk.specs.declared.Disk as disk
+use Rattle.sqlite_disk.specs.declared.calls.Calls as calls
+use Rattle.sqlite_disk.specs.declared.modelled.Modelled.{Modelled}
+use Rattle.sqlite_disk.specs.declared.start.Start.{Ghosts}
+use Rattle.sqlite_std_file.specs.declared.host.Host.{Host}
+use Rattle.sqlite_wal.specs.Recovery.{Image}
+use Rattle.sqlite_store.specs.declared.store.FileStore.{FileStore}
+use Rattle.sqlite.specs.State.{HasCleanDisk, Survives}
+use Rattle.sqlite.specs.Held.{Held}
+use Rattle.sqlite.specs.Start.{FindsIn}
+use Rattle.sqlite.specs.Files.{over_files, file_state}
+use Rattle.tables_sql.specs.Calls.{IsDurable}
+use Rattle.tables_open.specs.Opened.{IsAsOpened, FailsToOpenFile}
+use Rattle.tables.specs.Kept.{Kept}
+use Rattle.tables.specs.declared.refusing.Unopened.{Unopened}
+use Rattle.tables.specs.declared.refusing.Unopened.TheVariants.{File, Store}
+use Rattle.tables.specs.Taken.{TakesUp, LeavesTaken, IsCause}
+
+module _ {D : Type 0} {g : disk.Ghosts D} where
+  -- The files held this, a connection opened over them, and it was taken up as the store of a directory.
+  pub record Opens (held : Image) (dir : List ℕ) (t : Kept (FileStore D g)) : Type 0 where
+    pub was : Held (FileStore D g)
+    pub conn : Held (FileStore D g)
+    pub opened : IsAsOpened held was conn
+    pub found : HasCleanDisk (file_state t.connection) → FindsIn held (file_state conn)
+    pub took : HasCleanDisk (file_state t.connection) → TakesUp over_files dir (file_state conn).now t
+    pub durable : IsTrue (file_state t.connection).is_open → IsDurable (file_state t.connection)
+    pub survives : Survives (file_state conn) (file_state t.connection) (LeavesTaken dir (file_state conn).now)
+
+module _ {S : Type 0} {c : calls.Ghosts Host} {start : Ghosts S} {g : disk.Ghosts (Modelled Host S c start)} where
+  -- Why files that held this aren't taken up: no connection is taken up over them, or one is and the store isn't.
+  abbrev pub IsUnopened : Image → List ℕ → Unopened (FileStore (Modelled Host S c start) g) (Modelled Host S c start) g → Type 0
+  IsUnopened held dir (File e) = FailsToOpenFile held e
+  IsUnopened held dir (Store e) = (was : Held (FileStore (Modelled Host S c start) g)) × (conn : Held (FileStore (Modelled Host S c start) g)) × IsAsOpened held was conn × (HasCleanDisk (file_state e.conn) → IsCause dir (file_state conn).now e.cause)

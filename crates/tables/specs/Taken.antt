@@ -1,0 +1,142 @@
+-- What taking up a database says of it.
+use Rattle.std.specs.Prelude.{◌≡◌, ◌≢◌, ◌⊎◌, ◌↔◌, ℕ, false, List, None, IsTrue, IsFalse, ⊤}
+use Rattle.std.specs.List.{AllByRecursion}
+use Rattle.std.specs.FinMap as finite
+use Rattle.sqlite_trees.specs.declared.store.Store.{Ghosts}
+use Rattle.sqlite_schema.specs.declared.schema.Schema.{Schema as Shown}
+use Rattle.sqlite_schema.specs.declared.schema.Table.{Table}
+use Rattle.sqlite.specs.Effect.{Database}
+use Rattle.sqlite.specs.State.{State}
+use Rattle.sqlite.specs.Held.{state}
+use Rattle.tables_schema.specs.Forms.{our_tables, piece, temp_root}
+use Rattle.tables_schema.specs.Standing.{IsKnown, tree_named}
+use Rattle.tables_schema.specs.Finding.{HasNone, HasFirst, HasSecond, HasThird}
+use Rattle.tables_sql.specs.Contents.{contents_of}
+use Rattle.tables_sql.specs.Texts.{AreReadable}
+use Rattle.tables_sql.specs.Frozen.{SparesFrozen}
+use Rattle.tables_sql.specs.Calls.{Remains, HasFurther, KeepsTheirs}
+use Rattle.tables_make.specs.Making.{LeavesMade, all_created}
+use Rattle.tables_make.specs.Migrated.{lacking, migrated_contents, LeavesMigrated}
+use Rattle.model.specs.World.{no_world}
+use Rattle.tables_world.specs.Rows.{Schema, one, two, three, has_pieces, has_temporary}
+use Rattle.tables_world.specs.Told.{IsSoundBy, world_in}
+use Rattle.tables_outline.specs.Outline.{Outline, outline_of}
+use Rattle.tables.specs.Others.{KeepsOthers}
+use Rattle.tables.specs.Kept.{Kept, Tells}
+use Rattle.tables.specs.InTheWay.{is_taken, has_ours, are_others_in_the_way}
+use Rattle.tables.specs.declared.refusing.Cause.{Cause}
+use Rattle.tables.specs.declared.refusing.Cause.TheVariants.{BadSchema, OtherStoreDir, Failed}
+
+-- the same connection without a limit on steps
+abbrev pub unlimited : State → State
+unlimited s = record s { step_limit = None }
+
+-- each further table that a schema has stands, and one that it hasn't holds nothing
+pub record HasFurtherOf (schema : Schema) (db : Database) : Type 0 where
+  pub pieces : IsTrue (has_pieces schema) → HasFurther db piece
+  pub no_pieces : IsFalse (has_pieces schema) → (contents_of db).pieces ≡ finite.empty
+  pub temporary : IsTrue (has_temporary schema) → HasFurther db temp_root
+  pub no_temporary : IsFalse (has_temporary schema) → (contents_of db).temp_roots ≡ finite.empty
+
+-- our tables are those of a schema, and the names of those that it lacks are free
+abbrev pub HasTablesOf : Schema → Shown → Type 0
+HasTablesOf one s = HasFirst s
+HasTablesOf two s = HasSecond s
+HasTablesOf three s = HasThird s
+
+-- the tables of a schema stand, and of no other, and their texts can be read; the further ones too, as the schema has them
+pub record IsFoundBy (schema : Schema) (db : Database) : Type 0 where
+  pub tables : HasTablesOf schema db.schema
+  pub only : (other : Schema) → HasTablesOf other db.schema → other ≡ schema
+  pub some : ¬ HasNone db.schema
+  pub readable : AreReadable (contents_of db)
+  pub further : HasFurtherOf schema db
+
+-- the tables of a schema stand, their texts can be read, and their rows are those of a database of this store directory
+pub record HoldsBy (schema : Schema) (dir : List ℕ) (db : Database) : Type 0 where
+  pub tables : HasTablesOf schema db.schema
+  pub readable : AreReadable (contents_of db)
+  pub sound : IsSoundBy schema dir (contents_of db)
+
+-- the same by one of the three schemas
+abbrev pub HoldsStore : List ℕ → Database → Type 0
+HoldsStore dir db = (schema : Schema) × HoldsBy schema dir db
+
+-- the rows are sound by a schema, and have this outline
+abbrev pub AreRead : Schema → List ℕ → Database → Outline → Type 0
+AreRead schema dir db outline = IsSoundBy schema dir (contents_of db) × (outline_of (world_in (contents_of db)) ≡ outline)
+
+module _ {S : Type 0} (g : Ghosts S) where
+  -- A store of the third schema was there: nothing changed, the connection is open, and the tables tell the world of its rows.
+  pub record TakesOver (dir : List ℕ) (db : Database) (t : Kept S) : Type 0 where
+    pub holds : HoldsBy three dir db
+    pub is_open : IsTrue (state g t.connection).is_open
+    pub same : (state g t.connection).now ≡ db
+    pub told : Tells g t (world_in (contents_of db))
+
+  -- None of our tables was there: they were made beside the tables of others, and tell the new world.
+  pub record TakesNew (db : Database) (t : Kept S) : Type 0 where
+    pub none : HasNone db.schema
+    pub is_open : IsTrue (state g t.connection).is_open
+    pub others : KeepsOthers db (state g t.connection).now
+    pub told : Tells g t no_world
+
+  -- A store of an earlier schema was there: what it held was brought to the third, beside the tables of others, and the tables tell the world of the rows that it had.
+  pub record TakesMigrated (from : Schema) (dir : List ℕ) (db : Database) (t : Kept S) : Type 0 where
+    pub holds : HoldsBy from dir db
+    pub is_open : IsTrue (state g t.connection).is_open
+    pub schema : (state g t.connection).now.schema ≡ all_created db.schema (lacking from)
+    pub contents_are : contents_of (state g t.connection).now ≡ migrated_contents from dir (contents_of db)
+    pub theirs : KeepsTheirs db (state g t.connection).now
+    pub frozen : SparesFrozen db (state g t.connection).now
+    pub told : Tells g t (world_in (contents_of db))
+
+  -- one of these
+  abbrev pub TakesUp : List ℕ → Database → Kept S → Type 0
+  TakesUp dir db t = TakesNew db t ⊎ (TakesOver dir db t ⊎ (TakesMigrated one dir db t ⊎ TakesMigrated two dir db t))
+
+-- none of our tables was there, and this is what a crash may leave of making them, if it leaves any of it
+abbrev pub LeavesNew : List ℕ → Database → Remains → Type 0
+LeavesNew dir db left = HasNone db.schema × LeavesMade dir db left
+
+-- a store of an earlier schema was there, and this is what a crash may leave of bringing it to the third, if it leaves any of it
+abbrev pub LeavesBrought : Schema → List ℕ → Database → Remains → Type 0
+LeavesBrought from dir db left = HoldsBy from dir db × LeavesMigrated from dir db left
+
+-- What a crash may leave of taking up a database, beside what it could leave before: the new tables, or those that were brought to the third schema.
+abbrev pub LeavesTaken : List ℕ → Database → Remains → Type 0
+LeavesTaken dir db left = LeavesNew dir db left ⊎ (LeavesBrought one dir db left ⊎ LeavesBrought two dir db left)
+
+-- a table of ours is there in exactly its form, whatever stands beside it
+abbrev pub HasItsForm : Shown → Table → Type 0
+HasItsForm s t = (at : ℕ) × IsKnown s t.name at (record t { tree = tree_named s t.name })
+
+-- our tables are there by a schema, each in exactly its form, and nothing has the name of one that it lacks
+abbrev pub HasFormsOf : Schema → Shown → Type 0
+HasFormsOf one s = AllByRecursion (HasItsForm s) our_tables × (is_taken s piece ≡ false) × (is_taken s temp_root ≡ false)
+HasFormsOf two s = AllByRecursion (HasItsForm s) our_tables × HasItsForm s piece × (is_taken s temp_root ≡ false)
+HasFormsOf three s = AllByRecursion (HasItsForm s) our_tables × HasItsForm s piece × HasItsForm s temp_root
+
+-- our tables are there by a schema, their texts can be read, and their rows are those of a database of this store directory, whatever stands beside them
+pub record IsThereBy (schema : Schema) (dir : List ℕ) (db : Database) : Type 0 where
+  pub forms : HasFormsOf schema db.schema
+  pub readable : AreReadable (contents_of db)
+  pub sound : IsSoundBy schema dir (contents_of db)
+
+-- the same by one of the three schemas
+abbrev pub IsThere : List ℕ → Database → Type 0
+IsThere dir db = (schema : Schema) × IsThereBy schema dir db
+
+-- Why a database isn't taken up: our tables are there soundly by no schema and for no directory, though something of ours is there; or somebody else's stand in their way; or the store of another directory is there.
+abbrev pub IsCause : List ℕ → Database → Cause → Type 0
+IsCause dir db BadSchema = (IsTrue (has_ours db.schema) × ((d : List ℕ) → ¬ IsThere d db)) ⊎ IsTrue (are_others_in_the_way db.schema)
+IsCause dir db OtherStoreDir = (d : List ℕ) × HoldsStore d db × (d ≢ dir)
+IsCause dir db (Failed f) = ⊤
+
+-- neither is nothing of ours there, with nothing waiting for it, nor the store of some directory
+abbrev pub IsNoStore : Database → Type 0
+IsNoStore db = ¬ HasNone db.schema × ((d : List ℕ) → ¬ HoldsStore d db)
+
+-- By the definitions, a database is refused as no store exactly where it is neither taken up as the store of some directory nor given new tables.
+abbrev pub RefusesTheRest : Type 0
+RefusesTheRest = (dir : List ℕ) (db : Database) → IsCause dir db BadSchema ↔ IsNoStore db

@@ -1,0 +1,104 @@
+//! Taking up a connection.
+
+ghost use Rattle.std.specs.Prelude.{◌≡◌, false, IsTrue, IfOk, IfErr, MatchResult};
+ghost use Rattle.sqlite.specs.State.{HasCleanDisk, Survives};
+ghost use Rattle.sqlite.specs.Held.{state};
+ghost use Rattle.tables_sql.specs.Calls.{KeepsShown, IsDurable};
+ghost use Rattle.tables_open.specs.Opened.{IsFound};
+ghost use Rattle.tables.specs.Taken.{TakesUp, LeavesTaken, IsCause, unlimited};
+
+use crate::earlier::take_earlier;
+use crate::keeping::Tables;
+use crate::refusing::{Cause, Unadopted};
+use crate::taking::{take_new, take_ours};
+use paths::StoreDir;
+use sqlite::{Alter, Connection};
+use std::alloc::Global;
+use tables_open::file;
+use tables_open::file::{Opened, Untold};
+use tables_schema::recognising::Recognised;
+use tables_world::Schema;
+
+/// Takes up a connection of which it was found what it holds of ours.
+pub(crate) fn take<S: Alter>(
+    alloc: Global,
+    conn: Connection<S>,
+    found: Recognised,
+    dir: &StoreDir,
+) -> Result<Tables<S>, Unadopted<S>>
+    requires alone { conn.in_transaction ≡ false }
+    requires found { HasCleanDisk (state S.Store conn) → IsFound found (state S.Store conn) }
+    ensures dir { IfOk result (λ t. t.dir ≡ dir.now) }
+    ensures took { IfOk result (λ t. HasCleanDisk (state S.Store t.connection) → TakesUp S.Store dir.now (state S.Store conn).now t) }
+    ensures alone { IfErr result (λ e. e.conn.in_transaction ≡ false) }
+    ensures cause { IfErr result (λ e. HasCleanDisk (state S.Store e.conn) → IsCause dir.now (state S.Store conn).now e.cause) }
+    ensures same { IfErr result (λ e. HasCleanDisk (state S.Store e.conn) → KeepsShown (state S.Store conn) (state S.Store e.conn)) }
+    ensures durable { MatchResult result (λ t. IsTrue (state S.Store t.connection).is_open → IsDurable (state S.Store t.connection)) (λ e. IsTrue (state S.Store e.conn).is_open → IsDurable (state S.Store e.conn)) }
+    ensures survives { MatchResult result (λ t. Survives (state S.Store conn) (state S.Store t.connection) (LeavesTaken dir.now (state S.Store conn).now)) (λ e. Survives (state S.Store conn) (state S.Store e.conn) (LeavesTaken dir.now (state S.Store conn).now)) }
+{
+    match found {
+        Recognised::Nothing => take_new(alloc, conn, dir),
+        Recognised::First => take_earlier(alloc, conn, dir, Schema::One),
+        Recognised::Second => take_earlier(alloc, conn, dir, Schema::Two),
+        Recognised::Third => take_ours(alloc, conn, dir),
+        Recognised::Other => {
+            let cause = Cause::BadSchema;
+            Err(Unadopted { conn, cause })
+        }
+    }
+}
+
+/// Takes up a connection that has no limit on steps.
+fn take_unlimited<S: Alter>(
+    alloc: Global,
+    conn: Connection<S>,
+    dir: &StoreDir,
+) -> Result<Tables<S>, Unadopted<S>>
+    requires alone { conn.in_transaction ≡ false }
+    ensures dir { IfOk result (λ t. t.dir ≡ dir.now) }
+    ensures took { IfOk result (λ t. HasCleanDisk (state S.Store t.connection) → TakesUp S.Store dir.now (state S.Store conn).now t) }
+    ensures alone { IfErr result (λ e. e.conn.in_transaction ≡ false) }
+    ensures cause { IfErr result (λ e. HasCleanDisk (state S.Store e.conn) → IsCause dir.now (state S.Store conn).now e.cause) }
+    ensures same { IfErr result (λ e. HasCleanDisk (state S.Store e.conn) → KeepsShown (state S.Store conn) (state S.Store e.conn)) }
+    ensures durable { MatchResult result (λ t. IsTrue (state S.Store t.connection).is_open → IsDurable (state S.Store t.connection)) (λ e. IsTrue (state S.Store e.conn).is_open → IsDurable (state S.Store e.conn)) }
+    ensures survives { MatchResult result (λ t. Survives (state S.Store conn) (state S.Store t.connection) (LeavesTaken dir.now (state S.Store conn).now)) (λ e. Survives (state S.Store conn) (state S.Store e.conn) (LeavesTaken dir.now (state S.Store conn).now)) }
+{
+    match file::take_up(alloc, conn) {
+        Ok(opened) => {
+            let Opened { conn, found } = opened;
+            take(alloc, conn, found, dir)
+        }
+        Err(untold) => {
+            let Untold { conn, failure } = untold;
+            let cause = Cause::Failed(failure);
+            Err(Unadopted { conn, cause })
+        }
+    }
+}
+
+/// Takes up a connection as the store of a directory. All of its rows are read and tested; where none of our tables is there, they
+/// are made, and those of an earlier schema are brought to the third. At an error the connection is handed back, with our tables as they
+/// were. A limit on steps is cleared in either case.
+///
+/// # Errors
+///
+/// `BadSchema` where something of ours is there that isn't a store, or somebody else's tables stand in the way of ours: they act on one
+/// that is there, wait for one that isn't, or keep one from being made. Then `OtherStoreDir` where it is the store of another
+/// directory; a failure of the database, or want of memory.
+pub fn adopt<S: Alter>(
+    alloc: Global,
+    mut conn: Connection<S>,
+    dir: &StoreDir,
+) -> Result<Tables<S>, Unadopted<S>>
+    requires alone { conn.in_transaction ≡ false }
+    ensures dir { IfOk result (λ t. t.dir ≡ dir.now) }
+    ensures took { IfOk result (λ t. HasCleanDisk (state S.Store t.connection) → TakesUp S.Store dir.now (state S.Store conn).now t) }
+    ensures alone { IfErr result (λ e. e.conn.in_transaction ≡ false) }
+    ensures cause { IfErr result (λ e. HasCleanDisk (state S.Store e.conn) → IsCause dir.now (state S.Store conn).now e.cause) }
+    ensures same { IfErr result (λ e. HasCleanDisk (state S.Store e.conn) → KeepsShown (state S.Store conn) (state S.Store e.conn)) }
+    ensures durable { MatchResult result (λ t. IsTrue (state S.Store t.connection).is_open → IsDurable (state S.Store t.connection)) (λ e. IsTrue (state S.Store e.conn).is_open → IsDurable (state S.Store e.conn)) }
+    ensures survives { MatchResult result (λ t. Survives (unlimited (state S.Store conn)) (state S.Store t.connection) (LeavesTaken dir.now (state S.Store conn).now)) (λ e. Survives (unlimited (state S.Store conn)) (state S.Store e.conn) (LeavesTaken dir.now (state S.Store conn).now)) }
+{
+    conn.set_step_limit(None);
+    take_unlimited(alloc, conn, dir)
+}

@@ -1,0 +1,42 @@
+//! Taking up a file.
+
+ghost use Rattle.std.specs.Prelude.{◌≡◌, IfOk, IfErr};
+ghost use Rattle.sqlite_wal.specs.Files.{image_at};
+ghost use Rattle.tables.specs.Opened.{Opens, IsUnopened};
+
+use crate::adopting::take;
+use crate::keeping::Tables;
+use crate::refusing::Unopened;
+use paths::StoreDir;
+use sqlite::{FileFrom, FileStore, Start};
+use std::rt::HostRuntime;
+use tables_open::file;
+use tables_open::file::Opened;
+
+/// Opens the file at a path as the store of a directory; where the file is missing or has none of our tables, they are made.
+/// `start` stands for what the file held, which no code reads: a theorem is stated over any, and a program passes `Unknown`.
+///
+/// # Errors
+///
+/// `sqlite` didn't open the file, what it holds can't be told, or it isn't taken up.
+pub fn open<S: Start>(
+    rt: &HostRuntime,
+    path: &str,
+    dir: &StoreDir,
+    start: S,
+) -> Result<Tables<FileStore<FileFrom<S>>>, Unopened<FileStore<FileFrom<S>>, FileFrom<S>>>
+    ensures dir { IfOk result (λ t. t.dir ≡ dir.now) }
+    ensures took { IfOk result (λ t. Opens (image_at S.Start) dir.now t) }
+    ensures cause { IfErr result (λ e. IsUnopened (image_at S.Start) dir.now e) }
+{
+    match file::open(rt, path, start) {
+        Ok(opened) => {
+            let Opened { conn, found } = opened;
+            match take(rt.alloc(), conn, found, dir) {
+                Ok(tables) => Ok(tables),
+                Err(unadopted) => Err(Unopened::Store(unadopted)),
+            }
+        }
+        Err(unopened) => Err(Unopened::File(unopened)),
+    }
+}

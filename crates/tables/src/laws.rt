@@ -1,0 +1,8 @@
+//! Laws of the definitions: each is the contract of a function that does nothing.
+
+ghost use Rattle.tables.specs.Taken.{RefusesTheRest};
+
+/// A database is refused as no store exactly where it is neither taken up as the store of some directory nor given new tables.
+pub fn no_store_is_the_rest()
+    ensures { RefusesTheRest }
+{}

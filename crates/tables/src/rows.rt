@@ -1,0 +1,97 @@
+//! All rows, read and tested, and the directory compared.
+
+ghost use Rattle.std.specs.Prelude.{◌≡◌, ◌↔◌, List, ℕ, false, IsTrue, IfOk, IfErr, OnOk, MatchOption};
+ghost use Rattle.sqlite.specs.State.{HasCleanDisk, IsUnchanged, Survives};
+ghost use Rattle.sqlite.specs.Held.{state};
+ghost use Rattle.tables_sql.specs.Contents.{contents_of};
+ghost use Rattle.tables_sql.specs.Calls.{IsReady, KeepsShown};
+ghost use Rattle.tables_world.specs.Told.{IsSoundBy, world_in};
+ghost use Rattle.tables_world.specs.View.{schema_view};
+ghost use Rattle.tables_outline.specs.Outline.{outline_of};
+ghost use Rattle.tables.specs.Taken.{HasFurtherOf, IsFoundBy, AreRead, IsCause};
+
+use crate::refusing::Cause;
+use paths::StoreDir;
+use sqlite::{Alter, Connection};
+use std::alloc::Global;
+use tables_objects::take_objects;
+use tables_outline::Index;
+use tables_roots::{settings, take_roots};
+use tables_sql::failure::Failure;
+use tables_world::Schema;
+
+/// What the rows of a store say: its directory, and all that is kept in memory.
+#[derive(Drop)]
+pub(crate) struct Taken {
+    pub(crate) dir: StoreDir,
+    pub(crate) index: Index,
+}
+
+/// The store directory and the outline of the rows, if they are sound by their schema.
+fn read<S: Alter>(
+    alloc: Global,
+    conn: &mut Connection<S>,
+    schema: Schema,
+) -> Result<Option<Taken>, Failure>
+    requires alone { conn.old.in_transaction ≡ false }
+    requires ready { HasCleanDisk (state S.Store conn.old) → IsTrue (state S.Store conn.old).is_open → IsReady (state S.Store conn.old) }
+    requires further { HasCleanDisk (state S.Store conn.old) → IsTrue (state S.Store conn.old).is_open → HasFurtherOf (schema_view schema) (state S.Store conn.old).now }
+    ensures alone { conn.new.in_transaction ≡ false }
+    ensures told { HasCleanDisk (state S.Store conn.new) → IfOk result (λ o. MatchOption o
+        ((dir : List ℕ) → ¬ IsSoundBy (schema_view schema) dir (contents_of (state S.Store conn.old).now))
+        (λ r. IsSoundBy (schema_view schema) r.dir (contents_of (state S.Store conn.old).now) × (outline_of (world_in (contents_of (state S.Store conn.old).now)) ≡ r.index))) }
+    ensures unchanged { HasCleanDisk (state S.Store conn.new) → OnOk result (IsUnchanged (state S.Store conn.old) (state S.Store conn.new)) }
+    ensures same { HasCleanDisk (state S.Store conn.new) → KeepsShown (state S.Store conn.old) (state S.Store conn.new) }
+    ensures ready { HasCleanDisk (state S.Store conn.new) → IsTrue (state S.Store conn.new).is_open → IsReady (state S.Store conn.new) }
+    ensures survives { Survives (state S.Store conn.old) (state S.Store conn.new) (λ _. ⊥) }
+{
+    let Some(dir) = settings::read(alloc, conn, schema)? else {
+        return Ok(None);
+    };
+    let mut index = Index::new(alloc);
+    if !take_objects(alloc, conn, schema, &dir, &mut index)? {
+        return Ok(None);
+    }
+    if !take_roots(alloc, conn, schema, &mut index)? {
+        return Ok(None);
+    }
+    Ok(Some(Taken { dir, index }))
+}
+
+fn is_same(a: &StoreDir, b: &StoreDir) -> bool
+    ensures { IsTrue result ↔ a.now ≡ b.now }
+{
+    a.as_str() == b.as_str()
+}
+
+/// What the rows say, if they are sound by their schema, and then the directory that they name is this one.
+pub(crate) fn read_as<S: Alter>(
+    alloc: Global,
+    conn: &mut Connection<S>,
+    dir: &StoreDir,
+    schema: Schema,
+) -> Result<Taken, Cause>
+    requires alone { conn.old.in_transaction ≡ false }
+    requires ready { HasCleanDisk (state S.Store conn.old) → IsReady (state S.Store conn.old) }
+    requires found { HasCleanDisk (state S.Store conn.old) → IsFoundBy (schema_view schema) (state S.Store conn.old).now }
+    ensures alone { conn.new.in_transaction ≡ false }
+    ensures dir { IfOk result (λ r. r.dir ≡ dir.now) }
+    ensures told { HasCleanDisk (state S.Store conn.new) → IfOk result (λ r. AreRead (schema_view schema) r.dir (state S.Store conn.old).now r.index) }
+    ensures unchanged { HasCleanDisk (state S.Store conn.new) → OnOk result (IsUnchanged (state S.Store conn.old) (state S.Store conn.new)) }
+    ensures cause { HasCleanDisk (state S.Store conn.new) → IfErr result (λ e. IsCause dir.now (state S.Store conn.old).now e) }
+    ensures same { HasCleanDisk (state S.Store conn.new) → KeepsShown (state S.Store conn.old) (state S.Store conn.new) }
+    ensures ready { HasCleanDisk (state S.Store conn.new) → IsTrue (state S.Store conn.new).is_open → IsReady (state S.Store conn.new) }
+    ensures survives { Survives (state S.Store conn.old) (state S.Store conn.new) (λ _. ⊥) }
+{
+    match read(alloc, conn, schema) {
+        Ok(Some(taken)) => {
+            if is_same(&taken.dir, dir) {
+                Ok(taken)
+            } else {
+                Err(Cause::OtherStoreDir)
+            }
+        }
+        Ok(None) => Err(Cause::BadSchema),
+        Err(failure) => Err(Cause::Failed(failure)),
+    }
+}

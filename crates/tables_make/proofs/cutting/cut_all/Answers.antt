@@ -1,0 +1,52 @@
+use Rattle.std.proofs.Common.{◌≡◌, ◌+◌, ◌∷◌, drop, length, map, string_bytes, arith, refl, sym, ap, ◌∙◌, List}
+use Rattle.sqlite.specs.Held.{state}
+use Rattle.tables_sql.specs.Contents.{contents_of}
+use Rattle.tables_sql.proofs.Going.{goes_first, goes_next, goes_done}
+use Rattle.tables_sql.proofs.Steps.{clean_before}
+use Rattle.tables_sql.proofs.TestFailures.{survives_both}
+use Rattle.tables_sql.proofs.Transactions.{survives_none}
+use Rattle.tables_sql.proofs.Under.{piece_after}
+use Rattle.model.specs.World.{Path}
+use Rattle.tables_make.specs.Cutting.{cut_object, cut_objects}
+use Rattle.tables_make.proofs.Steps.{left_at, none_left}
+use Rattle.tables_make.proofs.cutting.cut_all.Goals as goal
+
+pub bases-init : goal.bases-init
+bases-init g c =
+    let first = state g.S.Store c.args.tx.now.conn.now in
+    record {
+      same_reference = refl;
+      goes = λ clean. goes_first cut_objects (map string_bytes c.args.bases.now) first (c.requires.under_way clean) (c.requires.is_open clean);
+      stands = c.requires.stands;
+      survives = survives_none first;
+    }
+
+pub bases-preserved : goal.bases-preserved
+bases-preserved g c =
+    let first = state g.S.Store c.args.tx.now.conn.now in
+    let now = state g.S.Store c.bases.tx.conn.now in
+    let next = state g.S.Store c.cut.new.tx.conn.now in
+    let was = contents_of now.now in
+    let all = c.args.bases.now in
+    let item = c.base-item.result in
+    let left : List Path = map string_bytes (drop c.bases.base-index all) in
+    let rest : List Path = map string_bytes (drop (c.bases.base-index + 1) all) in
+    let split : left ≡ string_bytes item ∷ rest = ap (map string_bytes) (left_at all c.bases.base-index item c.bases-test.true c.base-item.is) in
+    let same : cut_objects left was ≡ cut_objects rest (cut_object c.as_str.result.now was) =
+    ap (λ (ps : List Path). cut_objects ps was) split ∙ ap (λ p. cut_objects rest (cut_object p was)) (sym c.as_str.ensures.value) in
+    record {
+      same_reference = c.in_ok-cut.ensures.same_reference ∙ c.bases.invariant.same_reference;
+      goes = λ clean. goes_next cut_objects (map string_bytes all) first now next left rest _ (c.bases.invariant.goes (clean_before now next _ c.cut.ensures.survives clean)) (c.in_ok-cut.ensures.done clean) same;
+      stands = λ clean. piece_after now next _ (c.in_ok-cut.ensures.done clean) (c.bases.invariant.stands (clean_before now next _ c.cut.ensures.survives clean));
+      survives = survives_both first now next c.bases.invariant.survives c.cut.ensures.survives;
+    }
+
+pub returns-clause-done : goal.returns-clause-done
+returns-clause-done g c = λ clean.
+    let first = state g.S.Store c.args.tx.now.conn.now in
+    let now = state g.S.Store c.bases.tx.conn.now in
+    let all = c.args.bases.now in
+    let end : c.bases.base-index ≡ length all = omega arith in
+    let none = ap (λ n. map string_bytes (drop n all)) end ∙ ap (map string_bytes) (none_left all) in
+    goes_done cut_objects (map string_bytes all) first now (map string_bytes (drop c.bases.base-index all))
+    (ap (λ (ps : List Path). cut_objects ps (contents_of now.now)) none) (c.bases.invariant.goes clean)

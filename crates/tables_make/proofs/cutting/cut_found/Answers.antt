@@ -1,0 +1,22 @@
+use Rattle.std.proofs.Common.{refl, arith, ◌≤◌, length}
+use Rattle.sqlite.specs.Held.{state}
+use Rattle.tables_sql.specs.Contents.{contents_of}
+use Rattle.tables_sql.proofs.Steps.{changes_none, clean_before}
+use Rattle.tables_sql.specs.Entries.{stored_of}
+use Rattle.tables_make.proofs.Grown.{on_done}
+use Rattle.tables_make.proofs.Steps.{changes_at, short_cut, long_cut}
+use Rattle.tables_make.proofs.cutting.cut_found.Goals as goal
+
+pub returns-then-len-gt-PIECE_SIZE-clause-done : goal.returns-then-len-gt-PIECE_SIZE-clause-done
+returns-then-len-gt-PIECE_SIZE-clause-done g c clean =
+    let a = state g.S.Store c.args.tx.now.conn.now in
+    let b = state g.S.Store c.put_cut.new.tx.conn.now in
+    let it = stored_of c.args.object.now in
+    on_done c.put_cut.result _ _ (changes_at a b _ _ (long_cut it.0 it.0 it.1 (contents_of a.now) refl (c.requires.there (clean_before a b _ c.put_cut.ensures.survives clean)))) (c.put_cut.ensures.done clean)
+
+pub returns-else-len-gt-PIECE_SIZE-clause-done : goal.returns-else-len-gt-PIECE_SIZE-clause-done
+returns-else-len-gt-PIECE_SIZE-clause-done g c clean =
+    let a = state g.S.Store c.args.tx.now.conn.now in
+    let it = stored_of c.args.object.now in
+    let short : length it.1.nar ≤ 65536 = omega arith in
+    changes_at a a (λ x. x) _ (short_cut it.0 it.1 (contents_of a.now) short (c.requires.there clean)) (changes_none a (c.requires.under_way clean) (c.requires.is_open clean))

@@ -1,0 +1,65 @@
+use Rattle.std.proofs.Common.{◌≡◌, ℕ, ◌+◌, ◌<◌, ◌∷◌, [], length, take, drop, refl, sym, ap, ap₂, ◌∙◌, List}
+use Rattle.std.specs.Prelude.{ℤ, pos}
+use Rattle.std.proofs.lemmas.List.{take_min, drop_min}
+use Rattle.sqlite.specs.Held.{state}
+use Rattle.tables_sql.specs.Contents.{Contents, contents_of}
+use Rattle.tables_sql.proofs.Going.{goes_first, goes_next, goes_done}
+use Rattle.tables_sql.proofs.Steps.{clean_before}
+use Rattle.tables_sql.proofs.TestFailures.{survives_both}
+use Rattle.tables_sql.proofs.Transactions.{survives_none}
+use Rattle.tables_sql.proofs.Under.{piece_after}
+use Rattle.tables_world.specs.Pieces.{piece_size, pieces_by}
+use Rattle.tables_make.specs.Cutting.{put_pieces}
+use Rattle.tables_make.proofs.Cuts.{size, first_piece, no_piece, no_end, at_end}
+use Rattle.tables_make.proofs.cutting.put_pieces.Goals as goal
+
+pub pieces-init : goal.pieces-init
+pieces-init g c =
+    let first = state g.S.Store c.args.tx.now.conn.now in
+    record {
+      same_reference = refl;
+      goes = λ clean. goes_first (λ es (x : Contents). record x { pieces = put_pieces c.args.base.now es x.pieces }) (pieces_by c.args.bytes.now 1 c.args.bytes.now) first (c.requires.under_way clean) (c.requires.is_open clean);
+      stands = c.requires.stands;
+      survives = survives_none first;
+    }
+
+pub pieces-preserved : goal.pieces-preserved
+pieces-preserved g c =
+    let base = c.args.base.now in
+    let first = state g.S.Store c.args.tx.now.conn.now in
+    let now = state g.S.Store c.pieces.tx.conn.now in
+    let next = state g.S.Store c.insert.new.tx.conn.now in
+    let change : List (ℤ × List ℕ) → Contents → Contents = λ es x. record x { pieces = put_pieces base es x.pieces } in
+    let was = contents_of now.now in
+    let bytes = c.pieces.rest.now in
+    let n = c.pieces.number in
+    let front = c.split_at.result.0.now in
+    let after = c.split_at.result.1.now in
+    let some : 0 < length bytes = no_end bytes (sym c.is_empty.ensures ∙ c.if-is_empty.false) in
+    let front_is : front ≡ take piece_size bytes = c.split_at.ensures.front ∙ ap (λ k. take k bytes) c.min.ensures ∙ take_min 65536 bytes ∙ ap (λ k. take k bytes) (sym size) in
+    let after_is : after ≡ drop piece_size bytes = c.split_at.ensures.back ∙ ap (λ k. drop k bytes) c.min.ensures ∙ drop_min 65536 bytes ∙ ap (λ k. drop k bytes) (sym size) in
+    let split : pieces_by bytes n bytes ≡ (pos n, front) ∷ pieces_by after (n + 1) after =
+    first_piece bytes n some ∙ ap₂ (λ p (r : List ℕ). (pos n, p) ∷ pieces_by r (n + 1) r) (sym front_is) (sym after_is) in
+    record {
+      same_reference = c.in_ok-insert.ensures.same_reference ∙ c.pieces.invariant.same_reference;
+      goes = λ clean. goes_next change (pieces_by c.args.bytes.now 1 c.args.bytes.now) first now next (pieces_by bytes n bytes) (pieces_by after (n + 1) after) _
+          (c.pieces.invariant.goes (clean_before now next _ c.insert.ensures.survives clean)) (c.in_ok-insert.ensures.done clean) (ap (λ es. change es was) split);
+      stands = λ clean. piece_after now next _ (c.in_ok-insert.ensures.done clean) (c.pieces.invariant.stands (clean_before now next _ c.insert.ensures.survives clean));
+      survives = survives_both first now next c.pieces.invariant.survives c.insert.ensures.survives;
+    }
+
+pub returns-then-is_empty-clause-same_reference : goal.returns-then-is_empty-clause-same_reference
+returns-then-is_empty-clause-same_reference g c = c.pieces.invariant.same_reference
+
+pub returns-then-is_empty-clause-done : goal.returns-then-is_empty-clause-done
+returns-then-is_empty-clause-done g c clean =
+    let first = state g.S.Store c.args.tx.now.conn.now in
+    let now = state g.S.Store c.pieces.tx.conn.now in
+    let bytes = c.pieces.rest.now in
+    let end : bytes ≡ [] = at_end bytes (sym c.is_empty.ensures ∙ c.if-is_empty.true) in
+    let none : pieces_by bytes c.pieces.number bytes ≡ [] = ap (pieces_by bytes c.pieces.number) end ∙ no_piece bytes c.pieces.number in
+    goes_done (λ es (x : Contents). record x { pieces = put_pieces c.args.base.now es x.pieces }) (pieces_by c.args.bytes.now 1 c.args.bytes.now) first now (pieces_by bytes c.pieces.number bytes)
+    (ap (λ es. record (contents_of now.now) { pieces = put_pieces c.args.base.now es (contents_of now.now).pieces }) none) (c.pieces.invariant.goes clean)
+
+pub returns-then-is_empty-clause-survives : goal.returns-then-is_empty-clause-survives
+returns-then-is_empty-clause-survives g c = c.pieces.invariant.survives

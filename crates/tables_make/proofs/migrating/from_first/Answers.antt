@@ -1,0 +1,61 @@
+use Rattle.std.proofs.Common.{◌≡◌, List, ℕ, map, string_bytes, sym, ap, subst, ◌∙◌}
+use Rattle.std.specs.FinMap as finite
+use Rattle.sqlite.specs.Effect.{Database}
+use Rattle.sqlite.specs.Held.{state}
+use Rattle.sqlite.proofs.StateLemmas.{survives_then}
+use Rattle.sqlite_trees.specs.Tree.{Trees}
+use Rattle.tables_schema.specs.Finding.{HasFirst}
+use Rattle.tables_sql.specs.Contents.{Contents, contents_of}
+use Rattle.tables_sql.specs.Calls.{Leaves}
+use Rattle.tables_sql.proofs.Steps.{clean_before}
+use Rattle.tables_make.specs.Further.{grown}
+use Rattle.tables_world.specs.Rows.{one}
+use Rattle.tables_world.specs.Told.{IsSoundBy}
+use Rattle.model.specs.World.{Path}
+use Rattle.tables_make.specs.Cutting.{cut_objects, renumbered}
+use Rattle.tables_make.specs.Migrated.{lacking, migrated_contents, LeavesMigrated}
+use Rattle.tables_make.proofs.Grown.{grown_as, grown_from, on_done, shown_err}
+use Rattle.tables_make.proofs.Rewritten.{first_written}
+use Rattle.tables_make.proofs.migrating.from_first.Goals as goal
+
+-- what was written by the names that were read is the whole migration
+written : (a b : Database) (names : List Path) (dir : List ℕ) → b ≡ a → names ≡ finite.keys (contents_of a).objects → IsSoundBy one dir (contents_of a)
+    → renumbered (cut_objects names (contents_of b)) ≡ migrated_contents one dir (contents_of a)
+written a b names dir same are sound = ap (λ (ps : List Path). renumbered (cut_objects ps (contents_of b))) are ∙ ap (λ (x : Database). renumbered (cut_objects (finite.keys (contents_of a).objects) (contents_of x))) same ∙ first_written dir (contents_of a) sound
+
+pub commit_first-requires-clause-first : goal.commit_first-requires-clause-first
+commit_first-requires-clause-first g c clean is_open =
+    let a = state g.S.Store c.args.conn.now in
+    let b = state g.S.Store c.keys.new.conn in
+    let same = (c.in_ok-bases.ensures.reads clean).0.0 in
+    subst (λ (x : Database). HasFirst x.schema) (sym same.now_is) (c.requires.first (clean_before a b _ c.keys.ensures.survives clean) same.was_open)
+
+pub returns-clause-done : goal.returns-clause-done
+returns-clause-done g c clean =
+    let a = state g.S.Store c.args.conn.now in
+    let b = state g.S.Store c.keys.new.conn in
+    let d = state g.S.Store c.commit_first.new.conn in
+    let reads = c.in_ok-bases.ensures.reads (clean_before b d _ c.commit_first.ensures.survives clean) in
+    let names = ap (map string_bytes) c.deref.ensures.value ∙ reads.1 in
+    on_done c.commit_first.result _ _ (λ done dir sound. grown_as (lacking one) _ _ a d (written a.now b.now (map string_bytes c.deref.result.now) dir reads.0.0.now_is names sound) (grown_from (lacking one) _ a b d reads.0 done)) (c.commit_first.ensures.done clean)
+
+pub returns-clause-failed : goal.returns-clause-failed
+returns-clause-failed g c clean =
+    let a = state g.S.Store c.args.conn.now in
+    let b = state g.S.Store c.keys.new.conn in
+    let d = state g.S.Store c.commit_first.new.conn in
+    shown_err c.commit_first.result a b d (c.keys.ensures.same (clean_before b d _ c.commit_first.ensures.survives clean)) (c.commit_first.ensures.failed clean)
+
+pub returns-clause-survives : goal.returns-clause-survives
+returns-clause-survives g c =
+    let a = state g.S.Store c.args.conn.now in
+    let b = state g.S.Store c.keys.new.conn in
+    let d = state g.S.Store c.commit_first.new.conn in
+    let was : Trees → Type 0 = λ db. Leaves (grown (lacking one) b.now) db (renumbered (cut_objects (map string_bytes c.deref.result.now) (contents_of b.now))) in
+    let after : Trees → Type 0 = λ db. (dir : List ℕ) → IsSoundBy one dir (contents_of a.now) → LeavesMigrated one dir a.now db in
+    survives_then a b d (λ _. ⊥) was after (λ clean db none. absurd none) (λ clean db l dir sound.
+    let reads = c.in_ok-bases.ensures.reads (clean_before b d _ c.commit_first.ensures.survives clean) in
+    let names = ap (map string_bytes) c.deref.ensures.value ∙ reads.1 in
+    subst (λ (x : Contents). Leaves (grown (lacking one) a.now) db x) (written a.now b.now (map string_bytes c.deref.result.now) dir reads.0.0.now_is names sound)
+    (subst (λ (x : Database). Leaves (grown (lacking one) x) db (renumbered (cut_objects (map string_bytes c.deref.result.now) (contents_of b.now)))) reads.0.0.now_is l))
+    c.keys.ensures.survives c.commit_first.ensures.survives

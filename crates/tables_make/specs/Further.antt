@@ -1,0 +1,28 @@
+-- What the making of further tables leaves, inside a transaction that goes on: they stand after all that was there, and hold no row.
+use Rattle.std.specs.Prelude.{◌≡◌, true, List, IsTrue}
+use Rattle.std.specs.List.{AllByRecursion}
+use Rattle.sqlite_schema.specs.declared.schema.Table.{Table}
+use Rattle.sqlite.specs.Effect.{Database}
+use Rattle.sqlite.specs.State.{State}
+use Rattle.tables_sql.specs.Contents.{contents_of}
+use Rattle.tables_sql.specs.Frozen.{SparesFrozen}
+use Rattle.tables_sql.specs.Calls.{IsOurs, HasFurther, KeepsFurther, KeepsTheirs}
+use Rattle.tables_make.specs.Making.{all_created}
+
+-- a database with these tables beside what it has
+abbrev pub grown : List Table → Database → Database
+grown tables db = record db { schema = all_created db.schema tables }
+
+-- Inside a transaction, which goes on: these tables were made after what was there. They hold no row, so our tables hold what they held; each other table keeps its rows, also where the schema doesn't show it, and a further table that stood still does.
+pub record MakesFurther (tables : List Table) (old new : State) : Type 0 where
+  pub was_open : IsTrue old.is_open
+  pub is_open : IsTrue new.is_open
+  pub schema : new.now.schema ≡ all_created old.now.schema tables
+  pub contents : contents_of new.now ≡ contents_of old.now
+  pub theirs : KeepsTheirs old.now new.now
+  pub frozen : SparesFrozen old.now new.now
+  pub ours : IsOurs new.now
+  pub stand : AllByRecursion (HasFurther new.now) tables
+  pub further : KeepsFurther old.now new.now
+  pub committed : new.committed ≡ old.committed
+  pub mode : new.in_transaction ≡ true

@@ -1,0 +1,98 @@
+//! Our tables are made beside whatever tables there are.
+
+ghost use Rattle.std.specs.Prelude.{◌≡◌, ◌<◌, true, map, length, [], ◌∷◌, ℕ, Ok, OnOk, IfErr};
+ghost use Rattle.sqlite.specs.State.{HasCleanDisk, KeepsCommit, Survives, ExecutesInside};
+ghost use Rattle.sqlite.specs.Held.{state};
+ghost use Rattle.tables_schema.specs.OurTables.{form};
+ghost use Rattle.tables_sql.specs.declared.failure.Failure.{Failure};
+ghost use Rattle.tables_sql.specs.Failures.{IsWriteFailure, without_size};
+ghost use Rattle.tables_make.specs.Making.{making_text, are_apart, IsMaking, Makes, FailsToMakeThese};
+
+use sqlite::{Alter, Transaction};
+use tables_schema::our_table::OurTable;
+use tables_sql::failure::Failure;
+use tables_sql::statement::without_size;
+
+/// The text that makes the table.
+fn text(table: OurTable) -> &'static str
+    ensures { result.now ≡ making_text table }
+{
+    match table {
+        OurTable::Meta => {
+            "CREATE TABLE meta (word TEXT NOT NULL, val TEXT NOT NULL, PRIMARY KEY (word)) STRICT"
+        }
+        OurTable::Object => {
+            "CREATE TABLE object (base TEXT NOT NULL, nar BLOB NOT NULL, hash BLOB NOT NULL, deriver TEXT, ca TEXT, PRIMARY KEY (base)) STRICT"
+        }
+        OurTable::Refs => {
+            "CREATE TABLE refs (base TEXT NOT NULL, target TEXT NOT NULL, PRIMARY KEY (base, target)) STRICT"
+        }
+        OurTable::Outs => {
+            "CREATE TABLE outs (base TEXT NOT NULL, name TEXT NOT NULL, target TEXT NOT NULL, PRIMARY KEY (base, name)) STRICT"
+        }
+        OurTable::Permanent => {
+            "CREATE TABLE permanent (name TEXT NOT NULL, target TEXT NOT NULL, PRIMARY KEY (name)) STRICT"
+        }
+        OurTable::UserRoot => {
+            "CREATE TABLE user_root (owner TEXT NOT NULL, name TEXT NOT NULL, target TEXT NOT NULL, PRIMARY KEY (owner, name)) STRICT"
+        }
+        OurTable::Profile => {
+            "CREATE TABLE profile (owner TEXT NOT NULL, name TEXT NOT NULL, cur INTEGER NOT NULL, PRIMARY KEY (owner, name)) STRICT"
+        }
+        OurTable::Generation => {
+            "CREATE TABLE generation (owner TEXT NOT NULL, name TEXT NOT NULL, num INTEGER NOT NULL, target TEXT NOT NULL, PRIMARY KEY (owner, name, num)) STRICT"
+        }
+        OurTable::Runtime => {
+            "CREATE TABLE runtime (label TEXT NOT NULL, target TEXT NOT NULL, PRIMARY KEY (label, target)) STRICT"
+        }
+        OurTable::Piece => {
+            "CREATE TABLE piece (base TEXT NOT NULL, num INTEGER NOT NULL, bytes BLOB NOT NULL, PRIMARY KEY (base, num)) STRICT"
+        }
+        OurTable::TempRoot => {
+            "CREATE TABLE temp_root (owner TEXT NOT NULL, session INTEGER NOT NULL, target TEXT NOT NULL, PRIMARY KEY (owner, session, target)) STRICT"
+        }
+    }
+}
+
+fn create<S: Alter>(tx: &mut Transaction<'_, S>, text: &str) -> Result<(), Failure>
+    requires { HasCleanDisk (state S.Store tx.old.conn.now) → (state S.Store tx.old.conn.now).in_transaction ≡ true }
+    ensures same_reference { tx.new.conn.ghost_name ≡ tx.old.conn.ghost_name }
+    ensures ran { HasCleanDisk (state S.Store tx.new.conn.now) → OnOk result ((count : ℕ) × ExecutesInside 0 text.now [] (state S.Store tx.old.conn.now) (state S.Store tx.new.conn.now) (Ok count)) }
+    ensures cause { HasCleanDisk (state S.Store tx.new.conn.now) → IfErr result (λ f. (g : Failure) × (f ≡ without_size g) × IsWriteFailure text.now [] (state S.Store tx.old.conn.now) (state S.Store tx.new.conn.now) g) }
+    ensures kept { HasCleanDisk (state S.Store tx.new.conn.now) → KeepsCommit (state S.Store tx.old.conn.now) (state S.Store tx.new.conn.now) }
+    ensures survives { Survives (state S.Store tx.old.conn.now) (state S.Store tx.new.conn.now) (λ _. ⊥) }
+{
+    match tx.execute(text, &[]) {
+        Ok(_) => Ok(()),
+        Err(error) => Err(without_size(Failure::from(error))),
+    }
+}
+
+/// The table, with no row.
+pub(crate) fn one<S: Alter>(tx: &mut Transaction<'_, S>, table: OurTable) -> Result<(), Failure>
+    requires { HasCleanDisk (state S.Store tx.old.conn.now) → IsMaking (form table ∷ []) (state S.Store tx.old.conn.now) }
+    ensures same_reference { tx.new.conn.ghost_name ≡ tx.old.conn.ghost_name }
+    ensures makes { HasCleanDisk (state S.Store tx.new.conn.now) → OnOk result (Makes (form table ∷ []) (state S.Store tx.old.conn.now) (state S.Store tx.new.conn.now)) }
+    ensures cause { HasCleanDisk (state S.Store tx.new.conn.now) → IfErr result (FailsToMakeThese (form table ∷ []) ⊥ ⊥ (state S.Store tx.old.conn.now) (state S.Store tx.new.conn.now)) }
+    ensures kept { HasCleanDisk (state S.Store tx.new.conn.now) → KeepsCommit (state S.Store tx.old.conn.now) (state S.Store tx.new.conn.now) }
+    ensures survives { Survives (state S.Store tx.old.conn.now) (state S.Store tx.new.conn.now) (λ _. ⊥) }
+{
+    create(tx, text(table))
+}
+
+/// These tables, one after another.
+pub(crate) fn all<S: Alter>(tx: &mut Transaction<'_, S>, tables: &[OurTable]) -> Result<(), Failure>
+    requires some { 0 < length tables.now }
+    requires apart { are_apart (map form tables.now) ≡ true }
+    requires making { HasCleanDisk (state S.Store tx.old.conn.now) → IsMaking (map form tables.now) (state S.Store tx.old.conn.now) }
+    ensures same_reference { tx.new.conn.ghost_name ≡ tx.old.conn.ghost_name }
+    ensures makes { HasCleanDisk (state S.Store tx.new.conn.now) → OnOk result (Makes (map form tables.now) (state S.Store tx.old.conn.now) (state S.Store tx.new.conn.now)) }
+    ensures cause { HasCleanDisk (state S.Store tx.new.conn.now) → IfErr result (FailsToMakeThese (map form tables.now) ⊥ ⊥ (state S.Store tx.old.conn.now) (state S.Store tx.new.conn.now)) }
+    ensures kept { HasCleanDisk (state S.Store tx.new.conn.now) → KeepsCommit (state S.Store tx.old.conn.now) (state S.Store tx.new.conn.now) }
+    ensures survives { Survives (state S.Store tx.old.conn.now) (state S.Store tx.new.conn.now) (λ _. ⊥) }
+{
+    'tables: for table in tables {
+        one(tx, *table)?;
+    }
+    Ok(())
+}

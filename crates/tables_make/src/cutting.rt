@@ -1,0 +1,128 @@
+//! Archives, cut: an object's row keeps the first part, and the rest goes into pieces.
+
+ghost use Rattle.std.specs.Prelude.{◌≡◌, ◌<◌, IsTrue, OnOk, OnErr, length, map, string_bytes, Some};
+ghost use Rattle.std.specs.FinMap as finite;
+ghost use Rattle.sqlite.specs.State.{HasCleanDisk, KeepsCommit, Survives};
+ghost use Rattle.sqlite.specs.Held.{state};
+ghost use Rattle.tables_schema.specs.Forms.{piece};
+ghost use Rattle.tables_sql.specs.Contents.{contents_of};
+ghost use Rattle.tables_sql.specs.Calls.{IsUnderWay, Changes, HasFurther};
+ghost use Rattle.tables_sql.specs.Entries.{stored_of};
+ghost use Rattle.tables_world.specs.Pieces.{pieces_by};
+ghost use Rattle.tables_make.specs.Cutting.{put_pieces, cut_row, cut_object, cut_objects};
+
+use sqlite::{Alter, Transaction};
+use std::alloc::Global;
+use tables_rows::objects::Object;
+use tables_rows::{objects, pieces};
+use tables_sql::failure::Failure;
+
+/// The most bytes of an archive in one row.
+const PIECE_SIZE: usize = 65_536;
+
+/// Adds the pieces of what is left of an archive, numbered from 1.
+pub(crate) fn put_pieces<S: Alter>(
+    tx: &mut Transaction<'_, S>,
+    base: &str,
+    bytes: &[u8],
+) -> Result<(), Failure>
+    requires under_way { HasCleanDisk (state S.Store tx.old.conn.now) → IsUnderWay (state S.Store tx.old.conn.now) }
+    requires is_open { HasCleanDisk (state S.Store tx.old.conn.now) → IsTrue (state S.Store tx.old.conn.now).is_open }
+    requires stands { HasCleanDisk (state S.Store tx.old.conn.now) → HasFurther (state S.Store tx.old.conn.now).now piece }
+    ensures same_reference { tx.new.conn.ghost_name ≡ tx.old.conn.ghost_name }
+    ensures done { HasCleanDisk (state S.Store tx.new.conn.now) → OnOk result (Changes (state S.Store tx.old.conn.now) (state S.Store tx.new.conn.now)
+        (λ c. record c { pieces = put_pieces base.now (pieces_by bytes.now 1 bytes.now) c.pieces })) }
+    ensures failed { HasCleanDisk (state S.Store tx.new.conn.now) → OnErr result (KeepsCommit (state S.Store tx.old.conn.now) (state S.Store tx.new.conn.now)) }
+    ensures survives { Survives (state S.Store tx.old.conn.now) (state S.Store tx.new.conn.now) (λ _. ⊥) }
+{
+    let mut rest = bytes;
+    'pieces: for number in 1..u32::MAX {
+        if rest.is_empty() {
+            return Ok(());
+        }
+        let (front, after) = rest.split_at(PIECE_SIZE.min(rest.len()));
+        pieces::insert(tx, base, number, front)?;
+        rest = after;
+    }
+    // No memory holds so many.
+    Err(Failure::Memory)
+}
+
+/// Puts an object again whose archive is longer than a row takes: its first part, and the pieces of the rest.
+pub(crate) fn put_cut<S: Alter>(tx: &mut Transaction<'_, S>, object: &Object) -> Result<(), Failure>
+    requires under_way { HasCleanDisk (state S.Store tx.old.conn.now) → IsUnderWay (state S.Store tx.old.conn.now) }
+    requires is_open { HasCleanDisk (state S.Store tx.old.conn.now) → IsTrue (state S.Store tx.old.conn.now).is_open }
+    requires stands { HasCleanDisk (state S.Store tx.old.conn.now) → HasFurther (state S.Store tx.old.conn.now).now piece }
+    requires long { 65536 < length object.now.nar.items }
+    ensures same_reference { tx.new.conn.ghost_name ≡ tx.old.conn.ghost_name }
+    ensures done { HasCleanDisk (state S.Store tx.new.conn.now) → OnOk result (Changes (state S.Store tx.old.conn.now) (state S.Store tx.new.conn.now) (cut_row (stored_of object.now).0 (stored_of object.now).1)) }
+    ensures failed { HasCleanDisk (state S.Store tx.new.conn.now) → OnErr result (KeepsCommit (state S.Store tx.old.conn.now) (state S.Store tx.new.conn.now)) }
+    ensures survives { Survives (state S.Store tx.old.conn.now) (state S.Store tx.new.conn.now) (λ _. ⊥) }
+{
+    let base = object.base.as_str();
+    let (first, rest) = object.nar.split_at(PIECE_SIZE);
+    objects::delete(tx, base)?;
+    objects::insert(tx, base, first, &object.hash, &object.deriver, &object.ca)?;
+    put_pieces(tx, base, rest)
+}
+
+/// Cuts the archive of an object that is there, if it is longer than a row takes.
+pub(crate) fn cut_found<S: Alter>(
+    tx: &mut Transaction<'_, S>,
+    object: &Object,
+) -> Result<(), Failure>
+    requires under_way { HasCleanDisk (state S.Store tx.old.conn.now) → IsUnderWay (state S.Store tx.old.conn.now) }
+    requires is_open { HasCleanDisk (state S.Store tx.old.conn.now) → IsTrue (state S.Store tx.old.conn.now).is_open }
+    requires stands { HasCleanDisk (state S.Store tx.old.conn.now) → HasFurther (state S.Store tx.old.conn.now).now piece }
+    requires there { HasCleanDisk (state S.Store tx.old.conn.now) → finite.get (contents_of (state S.Store tx.old.conn.now).now).objects (stored_of object.now).0 ≡ Some (stored_of object.now).1 }
+    ensures same_reference { tx.new.conn.ghost_name ≡ tx.old.conn.ghost_name }
+    ensures done { HasCleanDisk (state S.Store tx.new.conn.now) → OnOk result (Changes (state S.Store tx.old.conn.now) (state S.Store tx.new.conn.now) (cut_object (stored_of object.now).0)) }
+    ensures failed { HasCleanDisk (state S.Store tx.new.conn.now) → OnErr result (KeepsCommit (state S.Store tx.old.conn.now) (state S.Store tx.new.conn.now)) }
+    ensures survives { Survives (state S.Store tx.old.conn.now) (state S.Store tx.new.conn.now) (λ _. ⊥) }
+{
+    if object.nar.len() > PIECE_SIZE {
+        put_cut(tx, object)
+    } else {
+        Ok(())
+    }
+}
+
+/// Cuts the archive of one object, if it is there. The archive is read for that.
+pub(crate) fn cut<S: Alter>(
+    alloc: Global,
+    tx: &mut Transaction<'_, S>,
+    base: &str,
+) -> Result<(), Failure>
+    requires under_way { HasCleanDisk (state S.Store tx.old.conn.now) → IsUnderWay (state S.Store tx.old.conn.now) }
+    requires stands { HasCleanDisk (state S.Store tx.old.conn.now) → IsTrue (state S.Store tx.old.conn.now).is_open → HasFurther (state S.Store tx.old.conn.now).now piece }
+    ensures same_reference { tx.new.conn.ghost_name ≡ tx.old.conn.ghost_name }
+    ensures done { HasCleanDisk (state S.Store tx.new.conn.now) → OnOk result (Changes (state S.Store tx.old.conn.now) (state S.Store tx.new.conn.now) (cut_object base.now)) }
+    ensures failed { HasCleanDisk (state S.Store tx.new.conn.now) → OnErr result (KeepsCommit (state S.Store tx.old.conn.now) (state S.Store tx.new.conn.now)) }
+    ensures survives { Survives (state S.Store tx.old.conn.now) (state S.Store tx.new.conn.now) (λ _. ⊥) }
+{
+    let found = objects::get_within(alloc, tx, base)?;
+    match found {
+        Some(object) => cut_found(tx, &object),
+        None => Ok(()),
+    }
+}
+
+/// Cuts the archives of some objects, one after another.
+pub(crate) fn cut_all<S: Alter>(
+    alloc: Global,
+    tx: &mut Transaction<'_, S>,
+    bases: &[String],
+) -> Result<(), Failure>
+    requires under_way { HasCleanDisk (state S.Store tx.old.conn.now) → IsUnderWay (state S.Store tx.old.conn.now) }
+    requires is_open { HasCleanDisk (state S.Store tx.old.conn.now) → IsTrue (state S.Store tx.old.conn.now).is_open }
+    requires stands { HasCleanDisk (state S.Store tx.old.conn.now) → HasFurther (state S.Store tx.old.conn.now).now piece }
+    ensures same_reference { tx.new.conn.ghost_name ≡ tx.old.conn.ghost_name }
+    ensures done { HasCleanDisk (state S.Store tx.new.conn.now) → OnOk result (Changes (state S.Store tx.old.conn.now) (state S.Store tx.new.conn.now) (cut_objects (map string_bytes bases.now))) }
+    ensures failed { HasCleanDisk (state S.Store tx.new.conn.now) → OnErr result (KeepsCommit (state S.Store tx.old.conn.now) (state S.Store tx.new.conn.now)) }
+    ensures survives { Survives (state S.Store tx.old.conn.now) (state S.Store tx.new.conn.now) (λ _. ⊥) }
+{
+    'bases: for base in bases {
+        cut(alloc, tx, base.as_str())?;
+    }
+    Ok(())
+}

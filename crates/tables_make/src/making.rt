@@ -1,0 +1,97 @@
+//! Making our tables, all at once, beside whatever tables there are.
+
+ghost use Rattle.std.specs.Prelude.{◌≡◌, [], ◌∷◌, false, codes, IsSome, IfErr, OnOk, OnErr, IsTrue};
+ghost use Rattle.sqlite_value.specs.declared.value.Value.TheVariants.{Text};
+ghost use Rattle.sqlite.specs.Effect.{IsDatabase};
+ghost use Rattle.sqlite.specs.State.{HasCleanDisk, KeepsCommit, Survives};
+ghost use Rattle.sqlite.specs.Held.{state};
+ghost use Rattle.tables_schema.specs.Forms.{meta};
+ghost use Rattle.tables_schema.specs.Finding.{HasNone};
+ghost use Rattle.tables_sql.specs.Failures.{IsWriteFailure};
+ghost use Rattle.tables_make.specs.Making.{IsMaking, HasMeta, Puts, MakesMeta, MakesAll, IsMade, IsMadeIn, IsMadeOf, LeavesMade, IsTooLong, FailsToMakeThese, FailsToMake, other_tables};
+ghost use Rattle.tables_sql.specs.Calls.{IsDurable};
+
+use crate::creating;
+use sqlite::{Alter, Connection, Transaction, params};
+use tables_schema::our_table::{OurTable, schema_tables};
+use tables_schema::recognising::Recognised;
+use tables_sql::failure::Failure;
+
+fn put<S: Alter>(tx: &mut Transaction<'_, S>, word: &str, value: &str) -> Result<(), Failure>
+    requires { HasCleanDisk (state S.Store tx.old.conn.now) → HasMeta (state S.Store tx.old.conn.now) }
+    ensures same_reference { tx.new.conn.ghost_name ≡ tx.old.conn.ghost_name }
+    ensures puts { HasCleanDisk (state S.Store tx.new.conn.now) → OnOk result (Puts word.now value.now (state S.Store tx.old.conn.now) (state S.Store tx.new.conn.now)) }
+    ensures cause { HasCleanDisk (state S.Store tx.new.conn.now) → IfErr result (IsWriteFailure (codes "INSERT INTO meta (word, val) VALUES (?1, ?2)") (Text word.now ∷ Text value.now ∷ []) (state S.Store tx.old.conn.now) (state S.Store tx.new.conn.now)) }
+    ensures kept { HasCleanDisk (state S.Store tx.new.conn.now) → KeepsCommit (state S.Store tx.old.conn.now) (state S.Store tx.new.conn.now) }
+    ensures survives { Survives (state S.Store tx.old.conn.now) (state S.Store tx.new.conn.now) (λ _. ⊥) }
+{
+    tx.execute(
+        "INSERT INTO meta (word, val) VALUES (?1, ?2)",
+        params![word, value],
+    )?;
+    Ok(())
+}
+
+/// `meta` with its two settings.
+fn settle<S: Alter>(tx: &mut Transaction<'_, S>, store_dir: &str) -> Result<(), Failure>
+    requires { HasCleanDisk (state S.Store tx.old.conn.now) → IsMaking (meta ∷ other_tables) (state S.Store tx.old.conn.now) }
+    ensures same_reference { tx.new.conn.ghost_name ≡ tx.old.conn.ghost_name }
+    ensures makes { HasCleanDisk (state S.Store tx.new.conn.now) → OnOk result (MakesMeta store_dir.now (state S.Store tx.old.conn.now) (state S.Store tx.new.conn.now)) }
+    ensures cause { HasCleanDisk (state S.Store tx.new.conn.now) → IfErr result (FailsToMakeThese (meta ∷ []) (IsTooLong store_dir.now) (IsSome (state S.Store tx.old.conn.now).step_limit) (state S.Store tx.old.conn.now) (state S.Store tx.new.conn.now)) }
+    ensures kept { HasCleanDisk (state S.Store tx.new.conn.now) → KeepsCommit (state S.Store tx.old.conn.now) (state S.Store tx.new.conn.now) }
+    ensures survives { Survives (state S.Store tx.old.conn.now) (state S.Store tx.new.conn.now) (λ _. ⊥) }
+{
+    creating::one(tx, OurTable::Meta)?;
+    put(tx, "schema", "3")?;
+    put(tx, "store-dir", store_dir)
+}
+
+fn make_all<S: Alter>(tx: &mut Transaction<'_, S>, store_dir: &str) -> Result<(), Failure>
+    requires { HasCleanDisk (state S.Store tx.old.conn.now) → IsMaking (meta ∷ other_tables) (state S.Store tx.old.conn.now) }
+    ensures same_reference { tx.new.conn.ghost_name ≡ tx.old.conn.ghost_name }
+    ensures makes { HasCleanDisk (state S.Store tx.new.conn.now) → OnOk result (MakesAll store_dir.now (state S.Store tx.old.conn.now) (state S.Store tx.new.conn.now)) }
+    ensures cause { HasCleanDisk (state S.Store tx.new.conn.now) → IfErr result (FailsToMake store_dir.now (state S.Store tx.old.conn.now) (state S.Store tx.new.conn.now)) }
+    ensures kept { HasCleanDisk (state S.Store tx.new.conn.now) → KeepsCommit (state S.Store tx.old.conn.now) (state S.Store tx.new.conn.now) }
+    ensures survives { Survives (state S.Store tx.old.conn.now) (state S.Store tx.new.conn.now) (λ _. ⊥) }
+{
+    settle(tx, store_dir)?;
+    creating::all(tx, &schema_tables(Recognised::Third)[1..])
+}
+
+#[tactic(auto, using(crate::proofs::Settles::committed_made))]
+fn make_and_commit<S: Alter>(conn: &mut Connection<S>, store_dir: &str) -> Result<(), Failure>
+    requires alone { conn.old.in_transaction ≡ false }
+    requires sound { HasCleanDisk (state S.Store conn.old) → IsTrue (state S.Store conn.old).is_open → IsDatabase (state S.Store conn.old).now }
+    requires none { HasCleanDisk (state S.Store conn.old) → IsTrue (state S.Store conn.old).is_open → HasNone (state S.Store conn.old).now.schema }
+    ensures alone { conn.new.in_transaction ≡ false }
+    ensures done { HasCleanDisk (state S.Store conn.new) → OnOk result (IsMadeIn store_dir.now (state S.Store conn.old) (state S.Store conn.new)) }
+    ensures cause { HasCleanDisk (state S.Store conn.new) → IfErr result (FailsToMake store_dir.now (state S.Store conn.old) (state S.Store conn.new)) }
+    ensures was_open { HasCleanDisk (state S.Store conn.new) → IsTrue (state S.Store conn.new).is_open → IsTrue (state S.Store conn.old).is_open }
+    ensures failed { HasCleanDisk (state S.Store conn.new) → IsTrue (state S.Store conn.new).is_open → OnErr result (((state S.Store conn.new).now ≡ (state S.Store conn.old).committed) × ((state S.Store conn.new).committed ≡ (state S.Store conn.old).committed)) }
+    ensures survives { Survives (state S.Store conn.old) (state S.Store conn.new) (λ db. IsTrue (state S.Store conn.old).is_open × IsMadeOf store_dir.now (state S.Store conn.old).now db) }
+{
+    let mut tx = conn.transaction();
+    make_all(&mut tx, store_dir)?;
+    tx.commit()?;
+    Ok(())
+}
+
+/// Makes our eleven tables beside whatever tables there are, `meta` with the settings `schema` = `3` and `store-dir`,
+/// the others with no row: all at once, or nothing. Then the connection is ready for transactions.
+pub fn make<S: Alter>(conn: &mut Connection<S>, store_dir: &str) -> Result<(), Failure>
+    requires alone { conn.old.in_transaction ≡ false }
+    requires none { HasCleanDisk (state S.Store conn.old) → IsTrue (state S.Store conn.old).is_open → HasNone (state S.Store conn.old).now.schema }
+    ensures alone { conn.new.in_transaction ≡ false }
+    ensures done { HasCleanDisk (state S.Store conn.new) → OnOk result (IsMade store_dir.now (state S.Store conn.old) (state S.Store conn.new)) }
+    ensures cause { HasCleanDisk (state S.Store conn.new) → IfErr result (FailsToMake store_dir.now (state S.Store conn.old) (state S.Store conn.new)) }
+    ensures was_open { HasCleanDisk (state S.Store conn.new) → IsTrue (state S.Store conn.new).is_open → IsTrue (state S.Store conn.old).is_open }
+    ensures failed { HasCleanDisk (state S.Store conn.new) → IsTrue (state S.Store conn.new).is_open → OnErr result (((state S.Store conn.new).now ≡ (state S.Store conn.old).committed) × ((state S.Store conn.new).committed ≡ (state S.Store conn.old).committed)) }
+    ensures durable { IsTrue (state S.Store conn.new).is_open → IsDurable (state S.Store conn.new) }
+    ensures survives { Survives (state S.Store conn.old) (state S.Store conn.new) (LeavesMade store_dir.now (state S.Store conn.old).now) }
+{
+    // What an open connection shows lists its schema.
+    let _listed = conn.schema();
+    // And a text is UTF-8.
+    let _text = store_dir.as_bytes();
+    make_and_commit(conn, store_dir)
+}

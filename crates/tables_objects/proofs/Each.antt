@@ -1,0 +1,73 @@
+-- Objects that are taken one after another: what is left decides, and makes the rest.
+use Rattle.std.proofs.Common.{◌≡◌, ℕ, suc, ◌+◌, ◌<◌, List, [], ◌∷◌, map, length, get_or, drop, drop-cons, arith, Result, Ok, Err, refl, sym, ap, ap₂, subst, ◌∙◌, IsTrue, String, Global, string_bytes}
+use Rattle.std.specs.Prelude.{◌↔◌, IfOk, OnOk}
+use Rattle.std.specs.List.{AllByRecursion}
+use Rattle.sqlite.specs.State.{State, IsUnchanged}
+use Rattle.tables_sql.specs.Calls.{KeepsShown}
+use Rattle.tables_sql.specs.Contents.{Contents}
+use Rattle.model.specs.World.{Path}
+use Rattle.tables_world.specs.Rows.{Schema}
+use Rattle.tables_outline.specs.Outline.{Outline}
+use Rattle.tables_objects.specs.Taken.{IsSoundOne, with_object, with_objects}
+
+-- what is left begins with the item at this place
+pub left_at : {A : Type 0} (xs : List A) (i : ℕ) (x : A) → i < length xs → x ≡ get_or xs i x → drop i xs ≡ x ∷ drop (i + 1) xs
+left_at xs i x h is =
+    let next : suc i ≡ i + 1 = omega arith in
+    drop-cons xs i x h ∙ ap₂ (λ y n. y ∷ drop n xs) (sym is) next
+
+pub shown_of : (a b : State) → IsUnchanged a b → KeepsShown a b
+shown_of a b h = record { was_open = λ _. h.0.was_open; now = λ _. h.0.now_is; committed = λ _. h.0.committed_is }
+
+pub no_change : (s : State) → IsTrue s.is_open → IsUnchanged s s
+no_change s is_open = (
+  record { was_open = is_open; is_open = is_open; now_is = refl; committed_is = refl; mode = refl },
+  record { changes = refl; last_rowid = refl },
+  refl,
+)
+
+module _ (schema : Schema) (dir : List ℕ) (c : Contents) (all : List Path) where
+  abbrev P : Path → Type 0
+  P = IsSoundOne schema dir c
+
+  abbrev pub Decides : List (String Global) → Type 0
+  Decides left = AllByRecursion P (map string_bytes left) ↔ AllByRecursion P all
+
+  -- the next one was sound
+  pub decides_next : (left rest : List (String Global)) (x : String Global) → left ≡ x ∷ rest → P (string_bytes x) → Decides left → Decides rest
+  decides_next left rest x split one h =
+      let now : Decides (x ∷ rest) = subst Decides split h in
+      (λ later. now.0 (one, later), λ every. (now.1 every).1)
+
+  pub decides_one : (left rest : List (String Global)) (x : String Global) → left ≡ x ∷ rest → Decides left → AllByRecursion P all → P (string_bytes x)
+  decides_one left rest x split h every =
+      let now : Decides (x ∷ rest) = subst Decides split h in
+      (now.1 every).0
+
+  pub decides_all : (left : List (String Global)) → left ≡ [] → Decides left → AllByRecursion P all
+  decides_all left none h = let now : Decides [] = subst Decides none h in now.0 tt
+
+module _ (c : Contents) (o : Outline) (all : List Path) where
+  abbrev pub Makes : List (String Global) → Outline → Type 0
+  Makes left now = record now { objects = with_objects c (map string_bytes left) now.objects } ≡ record o { objects = with_objects c all o.objects }
+
+  pub makes_next : (left rest : List (String Global)) (x : String Global) (now next : Outline) → left ≡ x ∷ rest → next ≡ record now { objects = with_object c (string_bytes x) now.objects } → Makes left now → Makes rest next
+  makes_next left rest x now next split is h =
+      ap (λ (n : Outline). record n { objects = with_objects c (map string_bytes rest) n.objects }) is
+      ∙ ap (λ (l : List (String Global)). record now { objects = with_objects c (map string_bytes l) now.objects }) (sym split) ∙ h
+
+  pub makes_all : (left : List (String Global)) (now : Outline) → left ≡ [] → Makes left now → now ≡ record o { objects = with_objects c all o.objects }
+  makes_all left now none h = sym (ap (λ (l : List (String Global)). record now { objects = with_objects c (map string_bytes l) now.objects }) none) ∙ h
+
+-- an answer in other words
+pub if_ok : {A E : Type 0} (r : Result A E) (P Q : A → Type 0) → ((x : A) → P x → Q x) → IfOk r P → IfOk r Q
+if_ok (Ok x) P Q f h = f x h
+if_ok (Err e) P Q f h = h
+
+pub on_ok : {A E : Type 0} (r : Result A E) (P Q : Type 0) → (P → Q) → OnOk r P → OnOk r Q
+on_ok (Ok x) P Q f h = f h
+on_ok (Err e) P Q f h = h
+
+pub any_ok : {A E : Type 0} (r : Result A E) (Q : A → Type 0) → ((x : A) → Q x) → IfOk r Q
+any_ok (Ok x) Q f = f x
+any_ok (Err e) Q f = tt

@@ -1,0 +1,63 @@
+-- Texts among the paths of all objects.
+use Rattle.std.proofs.Common.{◌≡◌, List, [], ◌∷◌, ◌++◌, map, Bool, true, false, ◌&&◌, refl, sym, ap, subst, ◌∙◌, append_assoc}
+use Rattle.std.specs.Prelude.{◌||◌}
+use Rattle.std.specs.Borrow.{Bor}
+use Rattle.std.specs.List.{list_all, list_any}
+use Rattle.std.specs.Ordering.{eq_by_cmp}
+use Rattle.std.specs.FinMap as finite
+use Rattle.paths.specs.StorePath.{is_base_name}
+use Rattle.paths.specs.Root.{bytes_cmp}
+use Rattle.tables_sql.specs.Contents.{Numbered}
+use Rattle.tables_sql.specs.declared.references.Reference.{Reference}
+use Rattle.tables_sql.specs.declared.outputs.Output.{Output}
+use Rattle.tables_sql.specs.declared.pieces.PieceKey.{PieceKey}
+use Rattle.tables_sql.specs.Entries.{reference_of, output_of, numbered_in}
+use Rattle.model.specs.World.{Path, Pair}
+use Rattle.tables_objects.specs.Known.{lent, is_known, is_known_reference, is_known_output, is_known_piece}
+use Rattle.tables_objects.specs.Rising.{Rises}
+use Rattle.tables_objects.specs.Taken.{Objects, is_object, is_reference, is_output, is_owned}
+use Rattle.tables_objects.proofs.Lists.{map-append}
+use Rattle.tables_objects.proofs.OwnRows.{keys_rise}
+
+-- one path more is lent
+pub lent_more : (paths : List (Bor Path)) (b : Bor Path) (rest : List Path) → lent (paths ++ b ∷ []) ++ rest ≡ lent paths ++ b.now ∷ rest
+lent_more paths b rest = ap (λ l. l ++ rest) (map-append (λ (p : Bor Path). p.now) paths (b ∷ [])) ∙ append_assoc (lent paths) (b.now ∷ []) rest
+
+pub any_lent : (q : Path → Bool) (paths : List (Bor Path)) → list_any q (lent paths) ≡ list_any (λ (b : Bor Path). q b.now) paths
+any_lent q [] = refl
+any_lent q (b ∷ paths) = ap (λ x. q b.now || x) (any_lent q paths)
+
+-- the paths of all objects
+module _ (objects : Objects) (paths : List Path) (all : paths ≡ finite.keys objects) where
+  pub all_rise : Rises paths
+  all_rise = subst Rises (sym all) (keys_rise (finite.entries objects) (finite.entries_sorted objects))
+
+  known_is : is_known paths ≡ is_object objects
+  known_is i p = is_base_name p && (ap (list_any (λ q. eq_by_cmp bytes_cmp p q)) all ∙ sym (finite.contains_key-keys objects p)) i
+
+  pub references_told : (rows same : List Reference) → rows ≡ same → (b : Bool) → b ≡ list_all (is_known_reference paths) (map reference_of rows) → b ≡ list_all (is_reference objects) (map reference_of same)
+  references_told rows same is b h =
+      h ∙ (λ i. list_all (λ (e : Pair × Unit {0}). known_is i e.0.0 && known_is i e.0.1) (map reference_of rows)) ∙ ap (λ l. list_all (is_reference objects) (map reference_of l)) is
+
+  pub outputs_told : (rows same : List Output) → rows ≡ same → (b : Bool) → b ≡ list_all (is_known_output paths) (map output_of rows) → b ≡ list_all (is_output objects) (map output_of same)
+  outputs_told rows same is b h =
+      h ∙ (λ i. list_all (λ (e : Pair × Path). known_is i e.0.0) (map output_of rows)) ∙ ap (λ l. list_all (is_output objects) (map output_of l)) is
+
+  pub pieces_told : (rows same : List PieceKey) → rows ≡ same → (b : Bool) → b ≡ list_all (is_known_piece paths) (map numbered_in rows) → b ≡ list_all (is_owned objects) (map numbered_in same)
+  pieces_told rows same is b h =
+      h ∙ (λ i. list_all (λ (k : Numbered). known_is i k.0) (map numbered_in rows)) ∙ ap (λ l. list_all (is_owned objects) (map numbered_in l)) is
+
+-- ---- tests one after another
+
+pub and_no : (a b : Bool) → b ≡ false → (a && b) ≡ false
+and_no true b h = h
+and_no false b h = refl
+
+pub first_fails : (a b c : Bool) → a ≡ false → false ≡ ((a && b) && c)
+first_fails a b c h = sym (ap (λ x. (x && b) && c) h)
+
+pub second_fails : (a b c : Bool) → a ≡ true → b ≡ false → false ≡ ((a && b) && c)
+second_fails a b c h k = sym (ap (λ x. (x && b) && c) h ∙ ap (λ x. x && c) k)
+
+pub both_pass : (a b c r : Bool) → a ≡ true → b ≡ true → r ≡ c → r ≡ ((a && b) && c)
+both_pass a b c r h k is = is ∙ sym (ap (λ x. (x && b) && c) h ∙ ap (λ x. x && c) k)

@@ -1,0 +1,17 @@
+pub mod AllObjects
+pub mod AllTests
+pub mod Columns
+pub mod Cut
+pub mod Each
+pub mod EachEntry
+pub mod Fronts
+pub mod Known
+pub mod Lists
+pub mod OfArchive
+pub mod OfText
+pub mod OwnRows
+pub mod Paths
+pub mod ReadRows
+pub mod SameOutputs
+pub mod SoundRows
+pub mod Takes

@@ -1,0 +1,99 @@
+//! All rows of references and outputs, and which pieces there are: read once, and tested beside the objects of the index.
+
+ghost use Rattle.std.specs.Prelude.{◌≡◌, ◌&&◌, false, IsTrue, IsFalse, IfOk, map};
+ghost use Rattle.std.specs.List.{list_all};
+ghost use Rattle.std.specs.FinMap as finite;
+ghost use Rattle.sqlite.specs.State.{HasCleanDisk, IsUnchanged, Survives};
+ghost use Rattle.sqlite.specs.Held.{state};
+ghost use Rattle.tables_schema.specs.Forms.{piece};
+ghost use Rattle.tables_sql.specs.Contents.{contents_of};
+ghost use Rattle.tables_sql.specs.Calls.{HasFurther, IsReady, KeepsShown};
+ghost use Rattle.tables_world.specs.Rows.{has_pieces};
+ghost use Rattle.tables_world.specs.View.{schema_view};
+ghost use Rattle.tables_sql.specs.Entries.{numbered_in, output_of, reference_of};
+ghost use Rattle.tables_objects.specs.Rows.{AreJoined};
+ghost use Rattle.tables_objects.specs.Taken.{is_output, is_owned, is_reference};
+
+use crate::members::{are_outputs, are_owned, are_references, paths_in};
+use sqlite::{Alter, Connection};
+use std::alloc::{AllocError, Global};
+use tables_outline::Index;
+use tables_rows::{outputs, pieces, references};
+use tables_sql::failure::Failure;
+use tables_sql::outputs::Output;
+use tables_sql::pieces::PieceKey;
+use tables_sql::references::Reference;
+use tables_world::Schema;
+
+/// All references and outputs, and which pieces there are, each in order.
+#[derive(Drop)]
+pub(crate) struct Joined {
+    pub(crate) references: Vec<Reference>,
+    pub(crate) outputs: Vec<Output>,
+    pub(crate) pieces: Vec<PieceKey>,
+}
+
+/// Which pieces there are; none, where the schema has no table of them.
+fn keys_of<S: Alter>(
+    alloc: Global,
+    conn: &mut Connection<S>,
+    schema: Schema,
+) -> Result<Vec<PieceKey>, Failure>
+    requires alone { conn.old.in_transaction ≡ false }
+    requires ready { HasCleanDisk (state S.Store conn.old) → IsTrue (state S.Store conn.old).is_open → IsReady (state S.Store conn.old) }
+    requires opened { HasCleanDisk (state S.Store conn.old) → IsTrue (state S.Store conn.old).is_open }
+    requires stands { HasCleanDisk (state S.Store conn.old) → IsTrue (has_pieces (schema_view schema)) → IsTrue (state S.Store conn.old).is_open → HasFurther (state S.Store conn.old).now piece }
+    requires no_table { HasCleanDisk (state S.Store conn.old) → IsFalse (has_pieces (schema_view schema)) → IsTrue (state S.Store conn.old).is_open → (contents_of (state S.Store conn.old).now).pieces ≡ finite.empty }
+    ensures alone { conn.new.in_transaction ≡ false }
+    ensures reads { HasCleanDisk (state S.Store conn.new) → IfOk result (λ all. IsUnchanged (state S.Store conn.old) (state S.Store conn.new)
+        × (map numbered_in all.items ≡ finite.keys (contents_of (state S.Store conn.old).now).pieces)) }
+    ensures same { HasCleanDisk (state S.Store conn.new) → KeepsShown (state S.Store conn.old) (state S.Store conn.new) }
+    ensures ready { HasCleanDisk (state S.Store conn.new) → IsTrue (state S.Store conn.new).is_open → IsReady (state S.Store conn.new) }
+    ensures survives { Survives (state S.Store conn.old) (state S.Store conn.new) (λ _. ⊥) }
+{
+    if !schema.has_pieces() {
+        return Ok(Vec::new(alloc));
+    }
+    pieces::keys(alloc, conn)
+}
+
+/// All references and outputs, and which pieces there are.
+pub(crate) fn read_joined<S: Alter>(
+    alloc: Global,
+    conn: &mut Connection<S>,
+    schema: Schema,
+) -> Result<Joined, Failure>
+    requires alone { conn.old.in_transaction ≡ false }
+    requires ready { HasCleanDisk (state S.Store conn.old) → IsTrue (state S.Store conn.old).is_open → IsReady (state S.Store conn.old) }
+    requires stands { HasCleanDisk (state S.Store conn.old) → IsTrue (has_pieces (schema_view schema)) → IsTrue (state S.Store conn.old).is_open → HasFurther (state S.Store conn.old).now piece }
+    requires no_table { HasCleanDisk (state S.Store conn.old) → IsFalse (has_pieces (schema_view schema)) → IsTrue (state S.Store conn.old).is_open → (contents_of (state S.Store conn.old).now).pieces ≡ finite.empty }
+    ensures alone { conn.new.in_transaction ≡ false }
+    ensures reads { HasCleanDisk (state S.Store conn.new) → IfOk result (λ all. IsUnchanged (state S.Store conn.old) (state S.Store conn.new) × AreJoined (contents_of (state S.Store conn.old).now) all) }
+    ensures same { HasCleanDisk (state S.Store conn.new) → KeepsShown (state S.Store conn.old) (state S.Store conn.new) }
+    ensures ready { HasCleanDisk (state S.Store conn.new) → IsTrue (state S.Store conn.new).is_open → IsReady (state S.Store conn.new) }
+    ensures survives { Survives (state S.Store conn.old) (state S.Store conn.new) (λ _. ⊥) }
+{
+    let references = references::all(alloc, conn)?;
+    let outputs = outputs::all(alloc, conn)?;
+    let pieces = keys_of(alloc, conn, schema)?;
+    Ok(Joined {
+        references,
+        outputs,
+        pieces,
+    })
+}
+
+/// Whether each reference, each output and each piece belongs to an object, and each reference leads to one.
+pub(crate) fn are_joined(alloc: Global, index: &Index, joined: &Joined) -> Result<bool, AllocError>
+    ensures { IfOk result (λ ok. ok ≡ ((list_all (is_reference index.now.objects) (map reference_of joined.now.references.items) && list_all (is_output index.now.objects) (map output_of joined.now.outputs.items))
+        && list_all (is_owned index.now.objects) (map numbered_in joined.now.pieces.items))) }
+{
+    let paths = paths_in(alloc, index)?;
+    if !are_references(&paths, &joined.references) {
+        return Ok(false);
+    }
+    if !are_outputs(&paths, &joined.outputs) {
+        return Ok(false);
+    }
+    Ok(are_owned(&paths, &joined.pieces))
+}

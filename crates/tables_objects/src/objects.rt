@@ -1,0 +1,146 @@
+//! One object, tested by its rows.
+
+ghost use Rattle.std.specs.Prelude.{◌≡◌, None, IfOk, IsTrue, MatchOption, is_some, length, map, string_bytes};
+ghost use Rattle.std.specs.List.{zip};
+ghost use Rattle.std.specs.FinMap as finite;
+ghost use Rattle.sha2.specs.Sha256.{sha256};
+ghost use Rattle.paths.specs.Root.{bytes_cmp, set_of};
+ghost use Rattle.tables_sql.specs.Entries.{stored_of};
+ghost use Rattle.intake.specs.Told.{IsTold};
+ghost use Rattle.model.specs.Objects.{outputs_at};
+ghost use Rattle.tables_outline.specs.Outline.{rise};
+ghost use Rattle.tables_objects.specs.Cut.{parts_of, whole_of};
+ghost use Rattle.tables_objects.specs.Tested.{IsListed, IsRecorded, IsSoundArchive, IsSoundAt, kept_of, named_of, targets_of};
+
+use crate::address::{are_same, fits_address};
+use crate::outputs::{Listed, recorded};
+use crate::passing::archive_of;
+use crate::references::paths_of;
+use crate::texts::{address_of, deriver_of, path_of};
+use intake::Arrived;
+use paths::{Ca, StoreDir, StorePath};
+use std::alloc::{AllocError, Global};
+use tables_outline::Summary;
+use tables_sql::objects::Object;
+use tables_sql::outputs::Output;
+use tables_sql::pieces::Piece;
+use tables_sql::references::Reference;
+
+/// The most references of an object.
+const MOST_REFERENCES: usize = 4096;
+
+/// The outputs of an object, where its rows have exactly those that its archive records.
+fn sound_outputs(
+    alloc: Global,
+    dir: &StoreDir,
+    path: &StorePath,
+    archive: &Arrived,
+    rows: &[Output],
+) -> Result<Option<Listed>, AllocError>
+    requires told { IsTold archive.now }
+    requires sound { archive.now.fault ≡ None }
+    ensures { IfOk result (λ o. MatchOption o
+        (¬ (IsRecorded dir.now path.now archive.now.pieces × (named_of rows.now ≡ finite.entries (outputs_at dir.now path.now archive.now.pieces))))
+        (λ l. IsRecorded dir.now path.now archive.now.pieces × (named_of rows.now ≡ finite.entries (outputs_at dir.now path.now archive.now.pieces)) × IsListed (map string_bytes l.names.items) l.paths.items (outputs_at dir.now path.now archive.now.pieces))) }
+{
+    recorded(alloc, dir, path, &archive.pieces, rows)
+}
+
+/// What is kept of an object with this archive.
+fn summary_of(
+    archive: &Arrived,
+    refs: Vec<StorePath>,
+    deriver: Option<StorePath>,
+    ca: Option<Ca>,
+    outputs: Listed,
+) -> Summary
+    requires refs { IsTrue (rise refs.items) }
+    requires names { IsTrue (rise (map string_bytes outputs.names.items)) }
+    requires paths { length outputs.paths.items ≡ length (map string_bytes outputs.names.items) }
+    ensures { result ≡ record { size = length archive.now.pieces; hash = archive.now.nar_hash; references = set_of bytes_cmp refs.items; deriver = deriver; ca = ca; outputs = finite.from_entries (zip (map string_bytes outputs.names.items) outputs.paths.items) } }
+{
+    let Listed { names, paths } = outputs;
+    let size = archive.pieces.len();
+    Summary::new(size, archive.nar_hash, refs, deriver, ca, names, paths)
+}
+
+/// Whether what has passed is no archive.
+fn has_fault(archive: &Arrived) -> bool
+    ensures { result ≡ is_some archive.now.fault }
+{
+    archive.fault.is_some()
+}
+
+/// What is kept of an object, where its digest, its address and its outputs are those of its archive.
+fn sound_archive(
+    alloc: Global,
+    dir: &StoreDir,
+    path: &StorePath,
+    archive: &Arrived,
+    hash: &[u8],
+    refs: Vec<StorePath>,
+    deriver: Option<StorePath>,
+    ca: Option<Ca>,
+    outputs: &[Output],
+) -> Result<Option<Summary>, AllocError>
+    requires told { IsTold archive.now }
+    requires refs { IsTrue (rise refs.items) }
+    ensures { IfOk result (λ o. MatchOption o
+        (¬ IsSoundArchive dir.now path.now archive.now.pieces hash.now ca refs.items (named_of outputs.now))
+        (λ s. IsSoundArchive dir.now path.now archive.now.pieces hash.now ca refs.items (named_of outputs.now)
+        × (s ≡ record { size = length archive.now.pieces; hash = sha256 archive.now.pieces; references = set_of bytes_cmp refs.items; deriver = deriver; ca = ca; outputs = outputs_at dir.now path.now archive.now.pieces }))) }
+{
+    if !are_same(hash, &archive.nar_hash) {
+        return Ok(None);
+    }
+    if has_fault(archive) {
+        return Ok(None);
+    }
+    if !fits_address(alloc, dir, path, archive, ca, &refs)? {
+        return Ok(None);
+    }
+    match sound_outputs(alloc, dir, path, archive, outputs)? {
+        Some(listed) => Ok(Some(summary_of(archive, refs, deriver, ca, listed))),
+        None => Ok(None),
+    }
+}
+
+/// The path of an object and what is kept of it, where its rows are sound. That each reference is an object isn't asked here.
+pub(crate) fn sound_object(
+    alloc: Global,
+    dir: &StoreDir,
+    object: Object,
+    pieces: Vec<Piece>,
+    references: &[Reference],
+    outputs: &[Output],
+) -> Result<Option<(StorePath, Summary)>, AllocError>
+    ensures { IfOk result (λ o. MatchOption o
+        (¬ IsSoundAt dir.now (stored_of object).0 (whole_of (stored_of object).1 (parts_of pieces.items)) (targets_of references.now) (named_of outputs.now))
+        (λ s. IsSoundAt dir.now (stored_of object).0 (whole_of (stored_of object).1 (parts_of pieces.items)) (targets_of references.now) (named_of outputs.now)
+        × (s.0 ≡ (stored_of object).0)
+        × (s.1 ≡ kept_of dir.now (stored_of object).0 (whole_of (stored_of object).1 (parts_of pieces.items)) (targets_of references.now)))) }
+{
+    if references.len() > MOST_REFERENCES {
+        return Ok(None);
+    }
+    let Some(path) = path_of(alloc, object.base.as_str())? else {
+        return Ok(None);
+    };
+    let Some(deriver) = deriver_of(alloc, &object.deriver)? else {
+        return Ok(None);
+    };
+    let Some(ca) = address_of(alloc, &object.ca)? else {
+        return Ok(None);
+    };
+    let Some(refs) = paths_of(alloc, references)? else {
+        return Ok(None);
+    };
+    let Object { nar, hash, .. } = object;
+    let archive = archive_of(alloc, nar, pieces)?;
+    match sound_archive(
+        alloc, dir, &path, &archive, &hash, refs, deriver, ca, outputs,
+    )? {
+        Some(summary) => Ok(Some((path, summary))),
+        None => Ok(None),
+    }
+}

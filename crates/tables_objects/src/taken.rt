@@ -1,0 +1,58 @@
+//! All objects of the rows, tested and put into the index, and what is tested beside them.
+
+ghost use Rattle.std.specs.Prelude.{◌≡◌, ◌↔◌, false, IsTrue, IsFalse, IfOk, OnOk};
+ghost use Rattle.std.specs.FinMap as finite;
+ghost use Rattle.sqlite.specs.State.{HasCleanDisk, IsUnchanged, Survives};
+ghost use Rattle.sqlite.specs.Held.{state};
+ghost use Rattle.tables_schema.specs.Forms.{piece};
+ghost use Rattle.tables_sql.specs.Contents.{contents_of};
+ghost use Rattle.tables_sql.specs.Calls.{HasFurther, IsReady, KeepsShown};
+ghost use Rattle.tables_world.specs.Rows.{has_pieces};
+ghost use Rattle.tables_world.specs.View.{schema_view};
+ghost use Rattle.tables_world.specs.Told.{rows_of, world_in};
+ghost use Rattle.tables_outline.specs.Outline.{outline_of};
+ghost use Rattle.tables_objects.specs.Taken.{AreSoundInPieces};
+
+use crate::joined::{are_joined, read_joined};
+use crate::taking::take_all;
+use paths::StoreDir;
+use sqlite::{Alter, Connection};
+use std::alloc::Global;
+use tables_outline::Index;
+use tables_sql::failure::Failure;
+use tables_world::Schema;
+
+/// Whether the objects of the rows are sound in a store directory, by their schema: each archive cut the right way, each object beside
+/// its whole archive, its references and its outputs, each reference one of an object to an object, and each output and each piece one
+/// of an object. If so, they are put into the index, which has no objects before. Archives are read one after another. The first
+/// schema has no table of pieces.
+///
+/// # Errors
+///
+/// Memory or the disk failed. The rows are as they were, and the index may have some of the objects.
+pub fn take_objects<S: Alter>(
+    alloc: Global,
+    conn: &mut Connection<S>,
+    schema: Schema,
+    dir: &StoreDir,
+    index: &mut Index,
+) -> Result<bool, Failure>
+    requires alone { conn.old.in_transaction ≡ false }
+    requires ready { HasCleanDisk (state S.Store conn.old) → IsTrue (state S.Store conn.old).is_open → IsReady (state S.Store conn.old) }
+    requires stands { HasCleanDisk (state S.Store conn.old) → IsTrue (has_pieces (schema_view schema)) → IsTrue (state S.Store conn.old).is_open → HasFurther (state S.Store conn.old).now piece }
+    requires no_table { HasCleanDisk (state S.Store conn.old) → IsFalse (has_pieces (schema_view schema)) → IsTrue (state S.Store conn.old).is_open → (contents_of (state S.Store conn.old).now).pieces ≡ finite.empty }
+    requires empty { index.old.objects ≡ finite.empty }
+    ensures alone { conn.new.in_transaction ≡ false }
+    ensures told { HasCleanDisk (state S.Store conn.new) → IfOk result (λ ok. IsTrue ok ↔ AreSoundInPieces (schema_view schema) dir.now (rows_of (contents_of (state S.Store conn.old).now))) }
+    ensures taken { HasCleanDisk (state S.Store conn.new) → IfOk result (λ ok. IsTrue ok → index.new ≡ record index.old { objects = (outline_of (world_in (contents_of (state S.Store conn.old).now))).objects }) }
+    ensures unchanged { HasCleanDisk (state S.Store conn.new) → OnOk result (IsUnchanged (state S.Store conn.old) (state S.Store conn.new)) }
+    ensures same { HasCleanDisk (state S.Store conn.new) → KeepsShown (state S.Store conn.old) (state S.Store conn.new) }
+    ensures ready { HasCleanDisk (state S.Store conn.new) → IsTrue (state S.Store conn.new).is_open → IsReady (state S.Store conn.new) }
+    ensures survives { Survives (state S.Store conn.old) (state S.Store conn.new) (λ _. ⊥) }
+{
+    let joined = read_joined(alloc, conn, schema)?;
+    if !take_all(alloc, conn, schema, dir, index, &joined)? {
+        return Ok(false);
+    }
+    Ok(are_joined(alloc, index, &joined)?)
+}

@@ -1,0 +1,10 @@
+pub mod Asking
+pub mod OneAfterAnother
+pub mod Opened
+pub mod OurRowids
+pub mod OwnRowids
+pub mod ReadableRows
+pub mod RowidFailures
+pub mod RowidQueries
+pub mod Tested
+pub mod Tests

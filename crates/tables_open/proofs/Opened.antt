@@ -1,0 +1,158 @@
+-- By which schema a connection is ready, where the rowids and texts that it shows were tested; and what is told of files that weren't taken up.
+use Rattle.std.proofs.Common.{◌≡◌, ◌≢◌, ◌↔◌, ◌<◌, ◌++◌, List, [], ◌∷◌, length, arith, Bool, true, false, Result, Ok, Err, IfOk, IsTrue, refl, sym, ap, subst, ◌∙◌}
+use Rattle.std.specs.List.{AllByRecursion}
+use Rattle.sqlite_wal.specs.Recovery.{Image}
+use Rattle.sqlite_schema.specs.declared.schema.Schema.{Schema}
+use Rattle.sqlite_schema.specs.declared.schema.Table.{Table}
+use Rattle.sqlite.specs.State.{State, IsUnchanged}
+use Rattle.sqlite.specs.Files.{AreFoundIn}
+use Rattle.sqlite.specs.Start.{FindsIn}
+use Rattle.tables_schema.specs.declared.recognising.Recognised.{Recognised}
+use Rattle.tables_schema.specs.declared.recognising.Recognised.TheVariants.{First, Second, Third, Nothing, Other}
+use Rattle.tables_schema.specs.Standing.{Stands}
+use Rattle.tables_sql.specs.Texts.{AreReadable, AreReadableRows, HasReadableRows}
+use Rattle.tables_schema.specs.declared.our_table.OurTable.{OurTable}
+use Rattle.tables_schema.specs.OurTables.{schema_tables, form}
+use Rattle.tables_open.specs.Tables.{HasOwnRowids, HasReadableTexts}
+use Rattle.tables_open.specs.Opened.{IsRecognised, IsBySchema, IsReadyBy, IsFound}
+use Rattle.sqlite.specs.Effect.{Database, IsDatabase}
+use Rattle.tables_sql.specs.declared.failure.Failure.{Failure}
+use Rattle.tables_schema.specs.Forms.{piece, our_tables, further_tables}
+use Rattle.tables_sql.specs.Contents.{contents_of, rows_named}
+use Rattle.tables_sql.specs.Calls.{IsKeyed, IsOurs, IsWhole, HasFurther, IsReady}
+use Rattle.sqlite.proofs.Callers.{unchanged_then}
+use Rattle.tables_sql.proofs.ReadableMaps.{readable_by_maps}
+use Rattle.tables_sql.proofs.ReadableFurther.{pieces_by_maps, temp_roots_by_maps, no_pieces, no_temp_roots}
+use Rattle.sqlite_trees.proofs.ListLemmas.{all-append}
+use Rattle.tables_sql.proofs.Lists.{one_list}
+
+-- ---- what the tests told
+
+-- rowids were tested, and then it was told of the texts: of what the connection showed at first
+pub then_told : (K R : Database → Type 0) (a m n : State) (r : Result Bool Failure) → IsUnchanged a m × K a.now → IfOk r (λ b. IsUnchanged m n × (IsTrue b ↔ R m.now)) → IfOk r (λ b. IsUnchanged a n × K a.now × (IsTrue b ↔ R a.now))
+then_told K R a m n (Err e) keyed told = tt
+then_told K R a m n (Ok b) keyed told = (unchanged_then a m n keyed.0 told.0, keyed.1, subst (λ (d : Database). IsTrue b ↔ R d) keyed.0.0.now_is told.1)
+
+-- ---- what is found then
+
+module _ (r : Recognised) (a n : State) (by : IsRecognised r a.now.schema) (same : IsUnchanged a n) (settled : a.now ≡ a.committed) where
+  still : (q : Recognised) → IsBySchema q a.now → IsBySchema q n.now
+  still q = subst (IsBySchema q) (sym same.0.now_is)
+
+  pub settled_still : n.now ≡ n.committed
+  settled_still = same.0.now_is ∙ settled ∙ sym same.0.committed_is
+
+  -- the texts can be read
+  pub found_so : AreReadable (contents_of a.now) → IsReadyBy r n → IsFound r n
+  found_so readable ready = record {
+    by_schema = still r (record {
+      nothing = by.nothing;
+      first = (λ is. (by.first.0 is, readable), λ both. by.first.1 both.0);
+      second = (λ is. (by.second.0 is, readable), λ both. by.second.1 both.0);
+      third = (λ is. (by.third.0 is, readable), λ both. by.third.1 both.0);
+    });
+    ready = ready;
+    settled = settled_still;
+  }
+
+  -- they can't
+  pub found_other : r ≢ Nothing → ¬ AreReadable (contents_of a.now) → IsFound Other n
+  found_other some unreadable = record {
+    by_schema = still Other (record {
+      nothing = (λ is. absurd cc, λ none. absurd (some (by.nothing.1 none)));
+      first = (λ is. absurd cc, λ both. absurd (unreadable both.1));
+      second = (λ is. absurd cc, λ both. absurd (unreadable both.1));
+      third = (λ is. absurd cc, λ both. absurd (unreadable both.1));
+    });
+    ready = tt;
+    settled = settled_still;
+  }
+
+  -- by a test that tells whether they can
+  pub found_if : (P : Type 0) (b : Bool) → IsTrue b ↔ P → P ↔ AreReadable (contents_of a.now) → (P → IsReadyBy r n) → r ≢ Nothing → (b ≡ true → IsFound r n) × (b ≡ false → IsFound Other n)
+  found_if P b told maps ready some = (
+    λ yes. found_so (maps.0 (told.0 yes)) (ready (told.0 yes)),
+    λ no. found_other some (λ readable. let yes : b ≡ true = told.1 (maps.1 readable) in absurd cc),
+  )
+
+-- there are no tables of ours, or they are no schema's
+pub found_none : (r : Recognised) (a n : State) → IsRecognised r a.now.schema → IsUnchanged a n → a.now ≡ a.committed → r ≢ First → r ≢ Second → r ≢ Third → IsFound r n
+found_none First a n by same settled one two three = absurd (one refl)
+found_none Second a n by same settled one two three = absurd (two refl)
+found_none Third a n by same settled one two three = absurd (three refl)
+found_none r a n by same settled one two three = record {
+  by_schema = subst (IsBySchema r) (sym same.0.now_is) (record {
+    nothing = by.nothing;
+    first = (λ is. absurd (one is), λ both. by.first.1 both.0);
+    second = (λ is. absurd (two is), λ both. by.second.1 both.0);
+    third = (λ is. absurd (three is), λ both. by.third.1 both.0);
+  });
+  ready = tt;
+  settled = settled_still r a n by same settled;
+}
+
+-- ---- by each schema
+
+-- what the tests of these tables told
+abbrev pub Tested : List OurTable → State → State → Bool → Type 0
+Tested ts a n b = IsUnchanged a n × AllByRecursion (HasOwnRowids a.now) ts × (IsTrue b ↔ AllByRecursion (HasReadableTexts a.now) ts)
+
+module _ (a n : State) (b : Bool) (sound : IsDatabase a.now) (settled : a.now ≡ a.committed) where
+  abbrev Keyed : Table → Type 0
+  Keyed t = IsKeyed (rows_named a.now t.name)
+
+  abbrev Readable : Table → Type 0
+  Readable t = AreReadableRows t (rows_named a.now t.name)
+
+  ready_by : IsUnchanged a n → IsOurs a.now → IsReady n
+  ready_by same ours = record { ours = subst IsOurs (sym same.0.now_is) ours; settled = same.0.now_is ∙ settled ∙ sym same.0.committed_is }
+
+  pub found_by : (r : Recognised) → 0 < length (schema_tables r) → IsRecognised r a.now.schema → Tested (schema_tables r) a n b → (b ≡ true → IsFound r n) × (b ≡ false → IsFound Other n)
+  unfolding HasReadableRows
+  found_by First some by told =
+      let has = by.first.0 refl in
+      let maps = readable_by_maps a.now sound has.0 told.1 _ _ (no_pieces a.now has.1) (no_temp_roots a.now has.2) in
+      found_if First a n by told.0 settled (HasReadableRows a.now) b told.2 (λ rows. maps.0 (rows, tt, tt), λ readable. (maps.1 readable).0)
+      (λ rows. ready_by told.0 (record { sound = sound; has = has.0; keyed = told.1; readable = rows })) (λ is. absurd cc)
+  found_by Second some by told =
+      let has = by.second.0 refl in
+      let keyed = one_list Keyed our_tables (piece ∷ []) told.1 in
+      let maps = readable_by_maps a.now sound has.0 keyed.0 _ _ (pieces_by_maps a.now sound has.1 keyed.1.0) (no_temp_roots a.now has.2) in
+      found_if Second a n by told.0 settled (AllByRecursion Readable (our_tables ++ piece ∷ [])) b told.2
+      (λ rows. let each = one_list Readable our_tables (piece ∷ []) rows in maps.0 (each.0, each.1.0, tt), λ readable. let all = maps.1 readable in all-append Readable our_tables (piece ∷ []) all.0 (all.1, tt))
+      (λ rows.
+      let each = one_list Readable our_tables (piece ∷ []) rows in (
+        ready_by told.0 (record { sound = sound; has = has.0; keyed = keyed.0; readable = each.0 }),
+        subst (λ (d : Database). HasFurther d piece) (sym told.0.0.now_is) (record { stands = has.1; keyed = keyed.1.0; readable = each.1.0 }),
+      )) (λ is. absurd cc)
+  found_by Third some by told =
+      let has = by.third.0 refl in
+      let keyed = one_list Keyed our_tables further_tables told.1 in
+      let maps = readable_by_maps a.now sound has.0 keyed.0 _ _ (pieces_by_maps a.now sound has.1 keyed.1.0) (temp_roots_by_maps a.now sound has.2 keyed.1.1.0) in
+      found_if Third a n by told.0 settled (AllByRecursion Readable (our_tables ++ further_tables)) b told.2
+      (λ rows. let each = one_list Readable our_tables further_tables rows in maps.0 (each.0, each.1.0, each.1.1.0), λ readable. let all = maps.1 readable in all-append Readable our_tables further_tables all.0 (all.1, (all.2, tt)))
+      (λ rows.
+      let each = one_list Readable our_tables further_tables rows in
+      let ours : IsOurs a.now = record { sound = sound; has = has.0; keyed = keyed.0; readable = each.0 } in (
+        ready_by told.0 ours,
+        subst IsWhole (sym told.0.0.now_is) (record {
+          ours = ours;
+          pieces = record { stands = has.1; keyed = keyed.1.0; readable = each.1.0 };
+          temp_roots = record { stands = has.2; keyed = keyed.1.1.0; readable = each.1.1.0 };
+        }),
+      )) (λ is. absurd cc)
+  found_by Nothing some by told = absurd (omega (arith, some))
+  found_by Other some by told = absurd (omega (arith, some))
+
+-- ---- which tables stand, and why it fails
+
+pub stand_by : (r : Recognised) (s : Schema) → IsRecognised r s → AllByRecursion (λ t. Stands s (form t)) (schema_tables r)
+stand_by First s by = (by.first.0 refl).0
+stand_by Second s by = let has = by.second.0 refl in all-append (Stands s) our_tables (piece ∷ []) has.0 (has.1, tt)
+stand_by Third s by = let has = by.third.0 refl in all-append (Stands s) our_tables further_tables has.0 (has.1, (has.2, tt))
+stand_by Nothing s by = tt
+stand_by Other s by = tt
+
+-- what the file held is what the last commit still is
+pub held_still : (image : Image) (old new : State) → new.committed ≡ old.committed → FindsIn image old → FindsIn image new
+held_still image old new same h = record { holds = λ db held. ap (λ (d : Database). d.trees) same ∙ h.holds db held; reads = subst (λ (d : Database). AreFoundIn image d.trees) (sym same) h.reads }

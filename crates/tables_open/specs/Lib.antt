@@ -1,0 +1,12 @@
+pub use Rattle.tables_schema.specs.Forms
+pub use Rattle.tables_schema.specs.OurTables
+pub use Rattle.tables_schema.specs.Standing
+pub use Rattle.tables_schema.specs.Finding
+pub use Rattle.tables_sql.specs.Contents
+pub use Rattle.tables_sql.specs.Texts
+pub use Rattle.tables_sql.specs.Frozen
+pub use Rattle.tables_sql.specs.Calls
+pub use Rattle.tables_sql.specs.Failures
+pub mod Opened
+pub mod Pages
+pub mod Tables

@@ -1,0 +1,107 @@
+-- What taking up a connection says of it, and why a file isn't taken up.
+use Rattle.std.specs.Prelude.{◌≡◌, ◌↔◌, ◌⊎◌, ⊤, true, false, ℤ, List, map, Option, Some, None, IsTrue}
+use Rattle.std.specs.List.{AllByRecursion, IsDistinct}
+use Rattle.std.specs.Ordering.{eq_by_cmp, int_cmp}
+use Rattle.sqlite_value.specs.declared.value.Value.TheVariants.{Int}
+use Rattle.sqlite_value.specs.Order.{Row, column}
+use Rattle.sqlite_disk.specs.declared.Disk as disk
+use Rattle.sqlite_disk.specs.declared.calls.Calls as calls
+use Rattle.sqlite_disk.specs.declared.modelled.Modelled.{Modelled}
+use Rattle.sqlite_disk.specs.declared.start.Start.{Ghosts}
+use Rattle.sqlite_std_file.specs.File.{IsFresh}
+use Rattle.sqlite_std_file.specs.declared.host.Host.{Host}
+use Rattle.sqlite_wal.specs.Recovery.{Image}
+use Rattle.sqlite_schema.specs.declared.schema.Schema.{Schema}
+use Rattle.sqlite_store.specs.FileStore.{view}
+use Rattle.sqlite_store.specs.declared.store.FileStore.{FileStore}
+use Rattle.sqlite.specs.Effect.{Database}
+use Rattle.sqlite.specs.State.{State, HasCleanDisk, Survives}
+use Rattle.sqlite.specs.Held.{Held, IsNew}
+use Rattle.sqlite.specs.Start.{FindsIn}
+use Rattle.sqlite.specs.Opening.{is_open_error}
+use Rattle.sqlite.specs.Files.{file_state, IsOpened, IsBlankAs, IsCleanLeft, FailsToOpenFiles, LeavesFiles}
+use Rattle.sqlite.specs.declared.file.Leftover.{Leftover}
+use Rattle.sqlite.specs.declared.error.Error.{Error}
+use Rattle.sqlite.specs.declared.error.Error.TheVariants.{SqliteFailure}
+use Rattle.sqlite.specs.declared.error.ErrorCode.TheVariants.{CannotOpen, OutOfMemory, DatabaseBusy}
+use Rattle.tables_sql.specs.declared.failure.Failure.{Failure}
+use Rattle.tables_open.specs.declared.file.Unopened.{Unopened}
+use Rattle.tables_open.specs.declared.file.Unopened.TheVariants.{Refused, Untold}
+use Rattle.tables_schema.specs.declared.recognising.Recognised.{Recognised}
+use Rattle.tables_schema.specs.declared.recognising.Recognised.TheVariants.{First, Second, Third, Nothing, Other}
+use Rattle.tables_schema.specs.Standing.{Stands}
+use Rattle.tables_schema.specs.Finding.{HasNone, HasFirst, HasSecond, HasThird}
+use Rattle.tables_schema.specs.Forms.{piece, all_tables}
+use Rattle.tables_sql.specs.Contents.{contents_of, rows_named}
+use Rattle.tables_sql.specs.Texts.{AreReadable}
+use Rattle.tables_sql.specs.Calls.{IsKeyed, IsWhole, HasFurther, IsReady, KeepsShown}
+use Rattle.tables_sql.specs.Failures.{opening_failure, FailsToTest}
+
+-- by which schema our tables stand, if they do
+pub record IsRecognised (r : Recognised) (s : Schema) : Type 0 where
+  pub nothing : r ≡ Nothing ↔ HasNone s
+  pub first : r ≡ First ↔ HasFirst s
+  pub second : r ≡ Second ↔ HasSecond s
+  pub third : r ≡ Third ↔ HasThird s
+
+-- by which schema the database has our tables, with texts that can be read; or it has none of them, or is something else
+pub record IsBySchema (r : Recognised) (db : Database) : Type 0 where
+  pub nothing : r ≡ Nothing ↔ HasNone db.schema
+  pub first : r ≡ First ↔ HasFirst db.schema × AreReadable (contents_of db)
+  pub second : r ≡ Second ↔ HasSecond db.schema × AreReadable (contents_of db)
+  pub third : r ≡ Third ↔ HasThird db.schema × AreReadable (contents_of db)
+
+-- where our tables stand by a schema the connection is ready, and the further tables of that schema can be read and written too
+abbrev pub IsReadyBy : Recognised → State → Type 0
+IsReadyBy Nothing s = ⊤
+IsReadyBy First s = IsReady s
+IsReadyBy Second s = IsReady s × HasFurther s.now piece
+IsReadyBy Third s = IsReady s × IsWhole s.now
+IsReadyBy Other s = ⊤
+
+-- this is what the database holds of ours; and if it holds the tables of a schema, it is ready
+pub record IsFound (r : Recognised) (s : State) : Type 0 where
+  pub by_schema : IsBySchema r s.now
+  pub ready : IsReadyBy r s
+  pub settled : s.now ≡ s.committed
+
+-- what the rows show first are integers that differ
+abbrev pub ShowIds : List Row → Type 0
+ShowIds rows = (ids : List ℤ) × (map (λ row. column row 0) rows ≡ map Int ids) × IsDistinct (eq_by_cmp int_cmp) ids
+
+-- our tables stand by one of the schemas, and in one of those that stand two rows share a rowid or a rowid is no integer
+abbrev pub HasUnkeyed : Database → Type 0
+HasUnkeyed db =
+    (HasFirst db.schema ⊎ (HasSecond db.schema ⊎ HasThird db.schema)) × ¬ AllByRecursion (λ t. Stands db.schema t → IsKeyed (rows_named db t.name)) all_tables
+
+-- Why opening failed. That is what its test may have found.
+abbrev pub FailsToOpen : State → State → Failure → Type 0
+FailsToOpen old new = FailsToTest old new (HasUnkeyed old.now)
+
+module _ {D : Type 0} {g : disk.Ghosts D} where
+  -- all that `sqlite` says of a connection that it opened over files which held this
+  pub record IsOpenedOver (held : Image) (conn : Held (FileStore D g)) : Type 0 where
+    pub fresh : IsNew conn
+    pub opened : HasCleanDisk (file_state conn) → IsOpened conn
+    pub found : HasCleanDisk (file_state conn) → FindsIn held (file_state conn)
+    pub sums : HasCleanDisk (file_state conn) → IsBlankAs false held → (view conn.store).has_sums ≡ false
+    pub guarded : HasCleanDisk (file_state conn) → (file_state conn).IsShielded
+
+  -- `sqlite` opened it over files which held this, and it is as it was
+  pub record IsAsOpened (held : Image) (was now : Held (FileStore D g)) : Type 0 where
+    pub opened : IsOpenedOver held was
+    pub alone : now.in_transaction ≡ false
+    pub same : HasCleanDisk (file_state now) → KeepsShown (file_state was) (file_state now)
+    pub survives : Survives (file_state was) (file_state now) (λ _. ⊥)
+
+module _ {S : Type 0} {c : calls.Ghosts Host} {start : Ghosts S} {g : disk.Ghosts (Modelled Host S c start)} where
+  -- all that `sqlite` says of an error of an open, and of what is left of the files
+  abbrev pub Refuses : Error → Option (Leftover (Modelled Host S c start) g) → Type 0
+  Refuses e None = (e ≡ SqliteFailure CannotOpen) ⊎ ((e ≡ SqliteFailure OutOfMemory) ⊎ (e ≡ SqliteFailure DatabaseBusy))
+  Refuses e (Some left) =
+      IsTrue (is_open_error e) × ((files : _) × IsFresh true files.log × IsFresh false files.db × (IsCleanLeft left → FailsToOpenFiles files left e × LeavesFiles files left))
+
+  -- Why files that held this weren't taken up: `sqlite` refused them for an error, of which this is the failure; or it opened them, and what they hold of ours can't be told.
+  abbrev pub FailsToOpenFile : Image → Unopened (FileStore (Modelled Host S c start) g) (Modelled Host S c start) g → Type 0
+  FailsToOpenFile held (Refused failure left) = (e : Error) × (failure ≡ opening_failure e) × Refuses e left
+  FailsToOpenFile held (Untold it) = (was : _) × IsAsOpened held was it.conn × (HasCleanDisk (file_state it.conn) → FailsToOpen (file_state was) (file_state it.conn) it.failure)

@@ -1,0 +1,109 @@
+//! Opening a file: a database with what it holds of ours, or why it isn't taken up.
+
+ghost use Rattle.std.specs.Prelude.{◌≡◌, false, None, IsTrue, IsErrAnd, IfOk, IfErr, MatchResult, codes};
+ghost use Rattle.sqlite.specs.State.{HasCleanDisk, IsUnchanged, Survives};
+ghost use Rattle.sqlite.specs.Held.{state};
+ghost use Rattle.sqlite_wal.specs.Files.{image_at};
+ghost use Rattle.sqlite.specs.Files.{file_state};
+ghost use Rattle.sqlite.specs.Start.{FindsIn};
+ghost use Rattle.tables_sql.specs.Failures.{opening_failure};
+ghost use Rattle.tables_open.specs.Opened.{IsFound, FailsToOpen, IsAsOpened, FailsToOpenFile};
+ghost use Rattle.tables_sql.specs.Calls.{KeepsShown};
+
+use crate::connecting::connect;
+use crate::opening;
+use sqlite::{Alter, Connection, Error, ErrorCode, FileFrom, FileStore, Leftover, Start};
+use sqlite_disk::Disk;
+use std::alloc::Global;
+use std::rt::HostRuntime;
+use tables_schema::recognising::Recognised;
+use tables_sql::failure::Failure;
+
+/// A database that was opened, and by which schema it holds our tables. If it does, it is ready for transactions.
+pub struct Opened<S: Alter> {
+    /// The connection, outside a transaction.
+    pub conn: Connection<S>,
+    /// What the database holds of ours.
+    pub found: Recognised,
+}
+
+/// A database that was opened, but what it holds of ours can't be told.
+pub struct Untold<S: Alter> {
+    /// The connection, as it was, outside a transaction.
+    pub conn: Connection<S>,
+    /// Why it can't be told.
+    pub failure: Failure,
+}
+
+/// Why a file wasn't taken up. `S` is the store of a connection, over files `D`.
+pub enum Unopened<S: Alter, D: Disk> {
+    /// `sqlite` didn't open it.
+    Refused {
+        /// The failure that kept it from being opened; none, where it is something else than a database.
+        failure: Option<Failure>,
+        /// What is left of the files, once they were opened.
+        left: Option<Leftover<D>>,
+    },
+    /// It was opened, but what it holds of ours can't be told.
+    Untold(Untold<S>),
+}
+
+/// Which failure kept a file from being opened; none, where it is something else than a database.
+fn opening_failure(error: Error) -> Option<Failure>
+    ensures { result ≡ opening_failure error }
+{
+    match error {
+        Error::SqliteFailure(ErrorCode::OutOfMemory) => Some(Failure::Memory),
+        Error::SqliteFailure(ErrorCode::TooBig) => Some(Failure::Size),
+        Error::SqliteFailure(
+            ErrorCode::SystemIoFailure | ErrorCode::DiskFull | ErrorCode::Closed,
+        ) => Some(Failure::Disk),
+        _ => None,
+    }
+}
+
+/// Takes up a connection: finds what its database holds of ours. Nothing changes, and where it can't be told, the connection is
+/// handed back beside the failure.
+pub fn take_up<S: Alter>(alloc: Global, mut conn: Connection<S>) -> Result<Opened<S>, Untold<S>>
+    requires alone { conn.in_transaction ≡ false }
+    ensures alone { MatchResult result (λ it. it.conn.in_transaction ≡ false) (λ e. e.conn.in_transaction ≡ false) }
+    ensures found { IfOk result (λ it. HasCleanDisk (state S.Store it.conn) → IsFound it.found (state S.Store it.conn)) }
+    ensures unchanged { IfOk result (λ it. HasCleanDisk (state S.Store it.conn) → IsUnchanged (state S.Store conn) (state S.Store it.conn)) }
+    ensures cause { IfErr result (λ e. HasCleanDisk (state S.Store e.conn) → FailsToOpen (state S.Store conn) (state S.Store e.conn) e.failure) }
+    ensures same { MatchResult result (λ it. HasCleanDisk (state S.Store it.conn) → KeepsShown (state S.Store conn) (state S.Store it.conn)) (λ e. HasCleanDisk (state S.Store e.conn) → KeepsShown (state S.Store conn) (state S.Store e.conn)) }
+    ensures survives { MatchResult result (λ it. Survives (state S.Store conn) (state S.Store it.conn) (λ _. ⊥)) (λ e. Survives (state S.Store conn) (state S.Store e.conn) (λ _. ⊥)) }
+{
+    match opening::open(alloc, &mut conn) {
+        Ok(found) => Ok(Opened { conn, found }),
+        Err(failure) => Err(Untold { conn, failure }),
+    }
+}
+
+/// Opens the file at a path, or makes an empty database there, and takes it up. `start` stands for what the file held, which no
+/// code reads: a theorem is stated over any, and a program passes `Unknown`, or `Wary` where a torn write may leave any bytes.
+/// Want of memory, and something else than a database with nothing left, need no cause: `sqlite` gives none for memory, for a path
+/// that can't be opened, or for a file that another connection has open.
+pub fn open<S: Start>(
+    rt: &HostRuntime,
+    path: &str,
+    start: S,
+) -> Result<Opened<FileStore<FileFrom<S>>>, Unopened<FileStore<FileFrom<S>>, FileFrom<S>>>
+    ensures memory { path.now ≡ codes ":memory:" → IsErrAnd result (λ e. (left : _) × (e ≡ Unopened.Refused None left)) }
+    ensures alone { IfOk result (λ it. it.conn.in_transaction ≡ false) }
+    ensures found { IfOk result (λ it. HasCleanDisk (file_state it.conn) → IsFound it.found (file_state it.conn)) }
+    ensures opened { IfOk result (λ it. (was : _) × IsAsOpened (image_at S.Start) was it.conn) }
+    ensures held { IfOk result (λ it. HasCleanDisk (file_state it.conn) → FindsIn (image_at S.Start) (file_state it.conn)) }
+    ensures guarded { IfOk result (λ it. HasCleanDisk (file_state it.conn) → (file_state it.conn).IsShielded) }
+    ensures cause { IfErr result (FailsToOpenFile (image_at S.Start)) }
+{
+    match connect(rt, path, start) {
+        Ok(conn) => match take_up(rt.alloc(), conn) {
+            Ok(opened) => Ok(opened),
+            Err(untold) => Err(Unopened::Untold(untold)),
+        },
+        Err((error, left)) => Err(Unopened::Refused {
+            failure: opening_failure(error),
+            left,
+        }),
+    }
+}

@@ -1,0 +1,99 @@
+//! Taking up a connection: by which schema its database has our tables, and that their rows can be told apart and their texts read.
+
+ghost use Rattle.std.specs.Prelude.{◌≡◌, ◌≢◌, ◌↔◌, ◌<◌, length, false, IsTrue, IfOk, IfErr, OnOk};
+ghost use Rattle.sqlite.specs.Effect.{IsDatabase};
+ghost use Rattle.sqlite.specs.State.{HasCleanDisk, IsLive, IsUnchanged, Survives};
+ghost use Rattle.sqlite.specs.Held.{state};
+ghost use Rattle.tables_schema.specs.Finding.{HasNone, HasFirst, HasSecond, HasThird};
+ghost use Rattle.tables_schema.specs.OurTables.{schema_tables};
+ghost use Rattle.tables_sql.specs.Calls.{KeepsShown};
+ghost use Rattle.tables_open.specs.Opened.{IsFound, IsRecognised, FailsToOpen};
+ghost use Rattle.tables_sql.specs.Failures.{FailsToTest};
+ghost use Rattle.tables_schema.specs.declared.recognising.Recognised.TheVariants.{First, Second, Third, Nothing};
+
+use crate::testing;
+use sqlite::{Alter, Connection};
+use std::alloc::Global;
+use tables_schema::our_table::schema_tables;
+use tables_schema::recognising;
+use tables_schema::recognising::Recognised;
+use tables_sql::failure::Failure;
+
+/// The schema, whose tables stand, or `Other` where a text in one of them isn't UTF-8. Fails with `Disk` if two rows of a table share a
+/// rowid, or a rowid is no integer. Nothing changes.
+fn taken_up<S: Alter>(
+    alloc: Global,
+    conn: &mut Connection<S>,
+    schema: Recognised,
+) -> Result<Recognised, Failure>
+    requires some { 0 < length (schema_tables schema) }
+    requires alone { conn.old.in_transaction ≡ false }
+    requires settled { HasCleanDisk (state S.Store conn.old) → IsTrue (state S.Store conn.old).is_open → (state S.Store conn.old).now ≡ (state S.Store conn.old).committed }
+    requires sound { HasCleanDisk (state S.Store conn.old) → IsTrue (state S.Store conn.old).is_open → IsDatabase (state S.Store conn.old).now }
+    requires recognised { IsRecognised schema (state S.Store conn.old).now.schema }
+    ensures alone { conn.new.in_transaction ≡ false }
+    ensures unchanged { HasCleanDisk (state S.Store conn.new) → OnOk result (IsUnchanged (state S.Store conn.old) (state S.Store conn.new)) }
+    ensures found { HasCleanDisk (state S.Store conn.new) → IfOk result (λ r. IsFound r (state S.Store conn.new)) }
+    ensures some { IfOk result (λ r. r ≢ Nothing) }
+    ensures cause { HasCleanDisk (state S.Store conn.new) → IfErr result (FailsToOpen (state S.Store conn.old) (state S.Store conn.new)) }
+    ensures same { HasCleanDisk (state S.Store conn.new) → KeepsShown (state S.Store conn.old) (state S.Store conn.new) }
+    ensures survives { Survives (state S.Store conn.old) (state S.Store conn.new) (λ _. ⊥) }
+{
+    if testing::all(alloc, conn, schema_tables(schema))? {
+        Ok(schema)
+    } else {
+        Ok(Recognised::Other)
+    }
+}
+
+/// Succeeds only if no fault has shut the connection. Nothing changes.
+fn probe<S: Alter>(conn: &mut Connection<S>) -> Result<(), Failure>
+    requires alone { conn.old.in_transaction ≡ false }
+    requires settled { HasCleanDisk (state S.Store conn.old) → IsTrue (state S.Store conn.old).is_open → (state S.Store conn.old).now ≡ (state S.Store conn.old).committed }
+    ensures alone { conn.new.in_transaction ≡ false }
+    ensures unchanged { HasCleanDisk (state S.Store conn.new) → OnOk result (IsUnchanged (state S.Store conn.old) (state S.Store conn.new)) }
+    ensures cause { HasCleanDisk (state S.Store conn.new) → IfErr result (FailsToTest (state S.Store conn.old) (state S.Store conn.new) ⊥) }
+    ensures same { HasCleanDisk (state S.Store conn.new) → KeepsShown (state S.Store conn.old) (state S.Store conn.new) }
+    ensures survives { Survives (state S.Store conn.old) (state S.Store conn.new) (λ _. ⊥) }
+{
+    conn.query_all("SELECT 1", &[])?;
+    Ok(())
+}
+
+/// By which schema the connection has our tables, whatever they hold.
+pub fn recognise<S: Alter>(conn: &Connection<S>) -> Recognised
+    ensures nothing { result ≡ Nothing ↔ HasNone (state S.Store conn.now).now.schema }
+    ensures first { result ≡ First ↔ HasFirst (state S.Store conn.now).now.schema }
+    ensures second { result ≡ Second ↔ HasSecond (state S.Store conn.now).now.schema }
+    ensures third { result ≡ Third ↔ HasThird (state S.Store conn.now).now.schema }
+    ensures live { IsLive (state S.Store conn.now) }
+{
+    recognising::recognise(conn.schema())
+}
+
+/// What the connection's database holds of ours: `First`, `Second` or `Third` if the tables of that schema stand and each text in them
+/// is UTF-8. Then the connection is ready for transactions. Nothing changes. It fails for want of memory, for a fault of the disk, where
+/// an earlier one has shut the connection, where a limit on steps stops it, and if two rows of a table of ours share a rowid or a rowid is no integer.
+pub fn open<S: Alter>(alloc: Global, conn: &mut Connection<S>) -> Result<Recognised, Failure>
+    requires alone { conn.old.in_transaction ≡ false }
+    ensures alone { conn.new.in_transaction ≡ false }
+    ensures unchanged { HasCleanDisk (state S.Store conn.new) → OnOk result (IsUnchanged (state S.Store conn.old) (state S.Store conn.new)) }
+    ensures found { HasCleanDisk (state S.Store conn.new) → IfOk result (λ r. IsFound r (state S.Store conn.new)) }
+    ensures nothing { IfOk result (λ r. r ≡ Nothing ↔ HasNone (state S.Store conn.old).now.schema) }
+    ensures cause { HasCleanDisk (state S.Store conn.new) → IfErr result (FailsToOpen (state S.Store conn.old) (state S.Store conn.new)) }
+    ensures same { HasCleanDisk (state S.Store conn.new) → KeepsShown (state S.Store conn.old) (state S.Store conn.new) }
+    ensures survives { Survives (state S.Store conn.old) (state S.Store conn.new) (λ _. ⊥) }
+{
+    // Outside a transaction, what is shown is what the last commit left.
+    let settled = conn.is_autocommit();
+    prove!(settled);
+    match recognise(conn) {
+        Recognised::First => taken_up(alloc, conn, Recognised::First),
+        Recognised::Second => taken_up(alloc, conn, Recognised::Second),
+        Recognised::Third => taken_up(alloc, conn, Recognised::Third),
+        found => {
+            probe(conn)?;
+            Ok(found)
+        }
+    }
+}

@@ -1,0 +1,10 @@
+mod Generations
+pub mod Ordered
+pub mod Orders
+pub mod ProfileEntries
+pub mod Puts
+pub mod SessionTrees
+pub mod SetTrees
+pub mod Told
+pub mod Trees
+pub mod Written

@@ -1,0 +1,47 @@
+//! All roots of an index, lent.
+
+ghost use Rattle.std.specs.Prelude.{◌≡◌, map, string_bytes};
+ghost use Rattle.std.specs.FinMap as finite;
+ghost use Rattle.tables_outline.specs.Maps.{labelled_bytes, pair_bytes, temporary_bytes};
+
+use crate::outline::Index;
+use paths::StorePath;
+use std::collections::{BTreeMap, BTreeSet};
+
+impl Index {
+    /// All permanent roots, lent, in the order of their names.
+    pub fn permanent_roots(&self) -> &BTreeMap<String, StorePath>
+        ensures { map (λ e. (string_bytes e.0, e.1)) result.now.entries ≡ finite.entries self.now.permanent }
+    {
+        // Names rise.
+        let _count = self.permanent.len();
+        &self.permanent
+    }
+
+    /// All user roots, lent, in the order of their owners and names.
+    pub fn user_roots(&self) -> &BTreeMap<(String, String), StorePath>
+        ensures { map (λ e. (pair_bytes e.0, e.1)) result.now.entries ≡ finite.entries self.now.user_roots }
+    {
+        // Owners and names rise.
+        let _count = self.user_roots.len();
+        &self.user_roots
+    }
+
+    /// All runtime roots, lent, in the order of their labels and targets.
+    pub fn runtime_roots(&self) -> &BTreeSet<(String, StorePath)>
+        ensures { map labelled_bytes result.now.keys ≡ finite.keys self.now.runtime }
+    {
+        // Labels and targets rise.
+        let _count = self.runtime.len();
+        &self.runtime
+    }
+
+    /// All temporary roots, lent, in the order of their owners, sessions and paths.
+    pub fn temporary_roots(&self) -> &BTreeSet<(String, u32, StorePath)>
+        ensures { map temporary_bytes result.now.keys ≡ finite.keys self.now.temporary }
+    {
+        // Owners, sessions and paths rise.
+        let _count = self.temporary.len();
+        &self.temporary
+    }
+}

@@ -1,0 +1,57 @@
+//! The index: the outline of a world, in memory.
+
+ghost use Rattle.std.specs.Prelude.{◌≡◌};
+ghost use Rattle.model.specs.World.{no_world};
+ghost use Rattle.tables_outline.specs.Outline.{outline_of};
+
+use crate::profiles::Profile;
+use crate::summary::Summary;
+use paths::StorePath;
+use std::alloc::Global;
+use std::collections::{BTreeMap, BTreeSet};
+use std::marker::Model;
+
+/// All that the tables tell of a world but the bytes of archives.
+#[derive(Drop)]
+pub struct Index {
+    pub(crate) objects: BTreeMap<StorePath, Summary>,
+    pub(crate) permanent: BTreeMap<String, StorePath>,
+    pub(crate) user_roots: BTreeMap<(String, String), StorePath>,
+    pub(crate) profiles: BTreeMap<(String, String), Profile>,
+    pub(crate) runtime: BTreeSet<(String, StorePath)>,
+    pub(crate) temporary: BTreeSet<(String, u32, StorePath)>,
+}
+
+impl Model for Index {
+    ghost use Rattle.tables_outline.specs.Outline.{Outline, outline_code};
+
+    ghost Value = { Outline };
+
+    ghost coded = { outline_code };
+
+    ghost use Rattle.tables_outline.specs.Index.{index_view};
+
+    ghost view = { index_view };
+}
+
+impl Index {
+    /// That of a world without anything.
+    pub fn new(alloc: Global) -> Index
+        ensures { result ≡ outline_of no_world }
+    {
+        let objects = BTreeMap::new(alloc);
+        let permanent = BTreeMap::new(alloc);
+        let user_roots = BTreeMap::new(alloc);
+        let profiles = BTreeMap::new(alloc);
+        let runtime = BTreeSet::new(alloc);
+        let temporary = BTreeSet::new(alloc);
+        Index {
+            objects,
+            permanent,
+            user_roots,
+            profiles,
+            runtime,
+            temporary,
+        }
+    }
+}

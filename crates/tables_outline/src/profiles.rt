@@ -1,0 +1,101 @@
+//! Profiles.
+
+ghost use Rattle.std.specs.Prelude.{◌≡◌, nat_le, is_some, IfSome, OnOk, OnErr};
+ghost use Rattle.std.specs.FinMap as finite;
+ghost use Rattle.model.specs.Profiles.{has_generation, highest, is_highest, last_number, number_for, previous, put_at, switched, without_generation};
+ghost use Rattle.tables_outline.specs.Index.{profile_view};
+
+use paths::StorePath;
+use std::alloc::AllocError;
+use std::collections::BTreeMap;
+
+/// The greatest number of a generation.
+const LAST_NUMBER: u32 = 9999;
+
+/// A profile: the targets of its generations by number, and the number of the current one.
+#[derive(Drop)]
+pub struct Profile {
+    pub generations: BTreeMap<u32, StorePath>,
+    pub current: u32,
+}
+
+impl Profile {
+    /// Whether there is a generation of a number.
+    pub fn has_generation(&self, number: u32) -> bool
+        ensures { result ≡ has_generation (profile_view self.now) number }
+    {
+        self.generations.contains_key(&number)
+    }
+
+    fn highest(&self) -> u32
+        ensures { result ≡ highest (profile_view self.now) }
+    {
+        self.generations.keys().copied().last().unwrap_or(0)
+    }
+
+    fn is_highest(&self, target: &StorePath) -> bool
+        ensures { result ≡ is_highest (profile_view self.now) target.now }
+    {
+        match self.generations.get(&self.highest()) {
+            Some(there) => there.as_str() == target.as_str(),
+            None => false,
+        }
+    }
+
+    /// The number that a path gets, if one is left: that of the highest generation if it is the path's, else the next.
+    pub fn number_left(&self, target: &StorePath) -> Option<u32>
+        ensures fits { is_some result ≡ nat_le (number_for (profile_view self.now) target.now) last_number }
+        ensures number { IfSome result (λ n. n ≡ number_for (profile_view self.now) target.now) }
+    {
+        let highest = self.highest();
+        if self.is_highest(target) {
+            return if highest <= LAST_NUMBER {
+                Some(highest)
+            } else {
+                None
+            };
+        }
+        if highest < LAST_NUMBER {
+            Some(highest + 1)
+        } else {
+            None
+        }
+    }
+
+    /// The greatest number below the current one.
+    pub fn previous(&self) -> Option<u32>
+        ensures { result ≡ previous (profile_view self.now) }
+    {
+        let current = self.current;
+        self.generations
+            .keys()
+            .copied()
+            .filter(|number| *number < current)
+            .last()
+    }
+
+    /// Puts a path at a number, which becomes current.
+    pub(crate) fn put(&mut self, number: u32, target: StorePath) -> Result<(), AllocError>
+        ensures done { OnOk result (profile_view self.new ≡ put_at (profile_view self.old) number target) }
+        ensures failed { OnErr result (profile_view self.new ≡ profile_view self.old) }
+    {
+        self.generations.insert(number, target)?;
+        self.current = number;
+        Ok(())
+    }
+
+    /// Drops a generation, if it is there. It takes no memory.
+    pub(crate) fn drop_generation(&mut self, number: u32)
+        ensures { profile_view self.new ≡ without_generation (profile_view self.old) number }
+    {
+        self.generations.remove(&number);
+    }
+
+    /// Drops a generation, and makes another number current. It takes no memory.
+    pub(crate) fn undo(&mut self, number: u32, current: u32)
+        ensures { profile_view self.new ≡ switched (without_generation (profile_view self.old) number) current }
+    {
+        self.drop_generation(number);
+        self.current = current;
+    }
+}

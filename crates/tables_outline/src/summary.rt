@@ -1,0 +1,115 @@
+//! Objects without the bytes of their archives.
+
+ghost use Rattle.std.specs.Prelude.{◌≡◌, List, ℕ, IsTrue, length, map, string_bytes, option_map};
+ghost use Rattle.std.specs.FinMap as finite;
+ghost use Rattle.std.specs.FinMap.Entries.{is_sorted};
+ghost use Rattle.std.specs.List.{zip};
+ghost use Rattle.paths.specs.Root.{bytes_cmp, set_of};
+ghost use Rattle.tables_outline.specs.Outline.{rise};
+
+use paths::{Ca, StorePath};
+use std::marker::Model;
+
+/// An object but for the bytes of its archive. Contracts see its references as a set, and its outputs as a map.
+#[derive(Drop)]
+pub struct Summary {
+    size: usize,
+    hash: [u8; 32],
+    references: Vec<StorePath>,
+    deriver: Option<StorePath>,
+    ca: Option<Ca>,
+    names: Vec<String>,
+    outputs: Vec<StorePath>,
+}
+
+impl Model for Summary {
+    ghost use Rattle.tables_outline.specs.Outline.{Outlined, outlined_code};
+
+    ghost Value = { Outlined };
+
+    ghost coded = { outlined_code };
+
+    ghost use Rattle.tables_outline.specs.Summary.{summary_view, IsOrdered};
+
+    ghost view = { summary_view };
+
+    ghost invariant = { IsOrdered };
+}
+
+impl Summary {
+    /// The summary of an object: the size in bytes and the SHA-256 of its archive, its references in order, its deriver
+    /// and its content address, and its outputs, each name beside the path at the same place, in the order of names.
+    pub fn new(
+        size: usize,
+        hash: [u8; 32],
+        references: Vec<StorePath>,
+        deriver: Option<StorePath>,
+        ca: Option<Ca>,
+        names: Vec<String>,
+        outputs: Vec<StorePath>,
+    ) -> Summary
+        requires references { IsTrue (rise references.items) }
+        requires names { IsTrue (rise (map string_bytes names.items)) }
+        requires paths { length outputs.items ≡ length names.items }
+        ensures { result ≡ record { size = size; hash = hash; references = set_of bytes_cmp references.items; deriver = deriver; ca = ca; outputs = finite.from_entries (zip (map string_bytes names.items) outputs.items) } }
+    {
+        Summary {
+            size,
+            hash,
+            references,
+            deriver,
+            ca,
+            names,
+            outputs,
+        }
+    }
+
+    /// The size of the archive in bytes.
+    pub fn size(&self) -> usize
+        ensures { result ≡ self.now.size }
+    {
+        self.size
+    }
+
+    /// The SHA-256 of the archive.
+    pub fn hash(&self) -> &[u8; 32]
+        ensures { result.now ≡ self.now.hash }
+    {
+        &self.hash
+    }
+
+    /// The references, in order.
+    pub fn references(&self) -> &[StorePath]
+        ensures { result.now ≡ finite.keys self.now.references }
+    {
+        self.references.as_slice()
+    }
+
+    /// The deriver, if one is recorded.
+    pub fn deriver(&self) -> Option<&StorePath>
+        ensures { option_map (λ p. p.now) result ≡ self.now.deriver }
+    {
+        self.deriver.as_ref()
+    }
+
+    /// The content address, if one is recorded.
+    pub fn ca(&self) -> Option<Ca>
+        ensures { result ≡ self.now.ca }
+    {
+        self.ca
+    }
+
+    /// The names of the outputs, in order.
+    pub fn names(&self) -> &[String]
+        ensures { map string_bytes result.now ≡ finite.keys self.now.outputs }
+    {
+        self.names.as_slice()
+    }
+
+    /// The paths of the outputs, in the order of their names.
+    pub fn outputs(&self) -> &[StorePath]
+        ensures { result.now ≡ finite.values self.now.outputs }
+    {
+        self.outputs.as_slice()
+    }
+}

@@ -1,0 +1,120 @@
+-- Temporary roots that are put into the index one after another, and what is tested of them.
+use Rattle.std.proofs.Common.{◌≡◌, ℤ, pos, negsuc, List, [], ◌∷◌, map, Bool, true, false, cond, Some, None, Option, is_some, refl, sym, ap, ◌∙◌, IsTrue}
+use Rattle.std.specs.Prelude.{◌↔◌, ℕ}
+use Rattle.std.specs.List.{list_all}
+use Rattle.std.specs.declared.cmp.Ordering.{Ordering}
+use Rattle.std.specs.Ordering.{eq_by_cmp}
+use Rattle.std.specs.Cmp.{IsTotalOrder}
+use Rattle.std.specs.FinMap as finite
+use Rattle.std.specs.FinMap.Entries.{find as find_entry}
+use Rattle.std.proofs.lemmas.Bool.{false≢true}
+use Rattle.tables_sql.specs.declared.temp_roots.TempRoot.{TempRoot}
+use Rattle.tables_sql.specs.Entries.{temp_root_of}
+use Rattle.tables_sql.specs.Contents.{Contents, Kept, kept_cmp}
+use Rattle.tables_sql.proofs.Orders.{kept_total, kept_antisymmetric}
+use Rattle.paths.specs.Names.{is_plain_name}
+use Rattle.paths.specs.Root.{Set, set_of}
+use Rattle.model.specs.World.{Temporary, temporary_cmp}
+use Rattle.tables_world.specs.Rows.{temporary_in}
+use Rattle.tables_world.specs.Told.{rows_of, world_in}
+use Rattle.tables_world.specs.Parts.{IsSoundSession}
+use Rattle.model.proofs.Empty.{no_entries, no_key}
+use Rattle.tables_outline.specs.Maps.{put_all}
+use Rattle.tables_outline.specs.Outline.{Outline}
+use Rattle.tables_outline.proofs.Orders.{temporary_total, temporary_antisymmetric}
+use Rattle.tables_roots.specs.Taken.{all_pass, all_put, Objects, is_session_number, is_temporary_root, are_temporary, AreObjects}
+use Rattle.tables_roots.proofs.EachEntry.{tested_entries}
+use Rattle.tables_roots.proofs.Rows.{pass_each}
+use Rattle.tables_roots.proofs.SoundRoots.{first_true, second_true, both_true, some_key, from_target, to_target}
+
+abbrev pub put_temporary : TempRoot → Outline → Outline
+put_temporary r o = record o { temporary = finite.insert o.temporary (temporary_in (temp_root_of r).0) tt }
+
+pub temporary_pass : (xs : List TempRoot) (o : Outline) → all_pass (λ r (p : Outline). is_temporary_root p.objects (temp_root_of r)) put_temporary xs o ≡ list_all (is_temporary_root o.objects) (map temp_root_of xs)
+temporary_pass = pass_each temp_root_of is_temporary_root put_temporary (λ x o. refl)
+
+-- what a row makes a member of
+abbrev pub member : Kept × Unit {0} → Temporary × Unit {0}
+member e = (temporary_in e.0, tt)
+
+pub temporary_put : (xs : List TempRoot) (o : Outline) → all_put put_temporary xs o ≡ record o { temporary = put_all (map member (map temp_root_of xs)) o.temporary }
+temporary_put [] o = refl
+temporary_put (x ∷ xs) o = temporary_put xs (put_temporary x o)
+
+-- ---- members that are put one after another make the set of all
+
+abbrev either : Option (Unit {0}) → Option (Unit {0}) → Option (Unit {0})
+either (Some x) o = Some x
+either None o = o
+
+module _ {K : Type 0} {R : K → K → Ordering} (o : IsTotalOrder R) (alike : finite.IsAntisymmetric R) where
+  get-members : (es : List (K × Unit {0})) (m : Set R) (q : K) → finite.get (put_all es m) q ≡ either (find_entry R q es) (finite.get m q)
+  get-members [] m q = refl
+  get-members (e ∷ es) m q =
+      get-members es (finite.insert m e.0 e.1) q ∙ ap (either (find_entry R q es)) (finite.get-insert o m e.0 e.1 q) ∙ by (eq_by_cmp R q e.0) (find_entry R q es)
+    where
+      by : (b : Bool) (g : Option (Unit {0})) → either g (cond b (Some e.1) (finite.get m q)) ≡ either (cond b (Some e.1) g) (finite.get m q)
+      by false g = refl
+      by true None = refl
+      by true (Some x) = refl
+
+  or_none : (g : Option (Unit {0})) → either g None ≡ g
+  or_none None = refl
+  or_none (Some x) = refl
+
+  members_put : (es : List (K × Unit {0})) → put_all es finite.empty ≡ finite.from_entries {R = R} es
+  members_put es = finite.same_map o alike _ _ (λ q.
+      get-members es finite.empty q ∙ ap (either (find_entry R q es)) (finite.get-empty R q) ∙ or_none (find_entry R q es) ∙ sym (finite.get-from_entries o es q))
+
+members_of : (es : List (Kept × Unit {0})) → map member es ≡ map (λ (t : Temporary). let d : Temporary × Unit {0} = (t, tt) in d) (map temporary_in (map (λ (e : Kept × Unit {0}). e.0) es))
+members_of [] = refl
+members_of (e ∷ es) = ap (λ (l : List (Temporary × Unit {0})). (temporary_in e.0, tt) ∷ l) (members_of es)
+
+-- all rows make what the world has
+pub temporary_again : (m : Set kept_cmp) → put_all (map member (finite.entries m)) finite.empty ≡ set_of temporary_cmp (map temporary_in (finite.keys m))
+temporary_again m =
+    members_put temporary_total temporary_antisymmetric (map member (finite.entries m))
+    ∙ ap (finite.from_entries {R = temporary_cmp}) (members_of (finite.entries m))
+
+-- where there are no rows, there are no temporary roots
+pub none_kept : (c : Contents) → c.temp_roots ≡ finite.empty → (world_in c).temporary ≡ finite.empty
+none_kept c none =
+    sym (temporary_again c.temp_roots)
+    ∙ ap (λ (es : List (Kept × Unit {0})). put_all {R = temporary_cmp} (map member es) finite.empty) (ap finite.entries none ∙ no_entries (Unit {0}) kept_cmp)
+
+-- ---- the tests
+
+is_natural : (z : ℤ) → is_session_number z ≡ true → (k : ℕ) × (z ≡ pos k)
+is_natural (pos k) h = (k, refl)
+is_natural (negsuc k) h = absurd (false≢true h)
+
+module _ (objects : Objects) (c : Contents) (are : AreObjects objects c) where
+  session_from : (k : Kept) → is_temporary_root objects (k, tt) ≡ true → IsSoundSession (rows_of c) k
+  session_from k h =
+      let rest = second_true (is_plain_name k.0) _ h in
+      let number = first_true (is_session_number k.1) _ rest in
+      let n = is_natural k.1 number in
+      record {
+        owner = first_true (is_plain_name k.0) _ h;
+        number = n.0;
+        is_number = n.1;
+        session = sym (ap is_session_number n.1) ∙ number;
+        target = from_target objects c are k.2 (second_true (is_session_number k.1) _ rest);
+      }
+
+  session_to : (k : Kept) → IsSoundSession (rows_of c) k → is_temporary_root objects (k, tt) ≡ true
+  session_to k s =
+      both_true (is_plain_name k.0) _ s.owner
+      (both_true (is_session_number k.1) _ (ap is_session_number s.is_number ∙ s.session) (to_target objects c are k.2 s.target))
+
+  pub sessions_sound : (are_temporary objects c ≡ true) ↔ ((k : Kept) → IsTrue (finite.contains_key c.temp_roots k) → IsSoundSession (rows_of c) k)
+  sessions_sound = (
+    λ h k there.
+        let x = some_key (finite.get c.temp_roots k) there in
+        session_from k ((tested_entries kept_total kept_antisymmetric c.temp_roots (is_temporary_root objects)).0 h k x.0 x.1),
+    λ sound. (tested_entries kept_total kept_antisymmetric c.temp_roots (is_temporary_root objects)).1 (λ k x e. session_to k (sound k (ap is_some e))),
+  )
+
+-- none is unsound where there are no rows
+pub no_session : (c : Contents) → c.temp_roots ≡ finite.empty → (k : Kept) → IsTrue (finite.contains_key c.temp_roots k) → IsSoundSession (rows_of c) k
+no_session c none k there = absurd (no_key (Unit {0}) kept_cmp k (sym (ap (λ (m : Set kept_cmp). finite.contains_key m k) none) ∙ there))

@@ -1,0 +1,46 @@
+-- Two reads, one after another.
+use Rattle.std.proofs.Common.{◌≡◌, Bool, true, false, ◌&&◌, Result, Ok, Err, IfOk, sym, ap, ◌∙◌, IsTrue}
+use Rattle.std.specs.Prelude.{◌↔◌, OnOk}
+use Rattle.std.proofs.lemmas.Bool.{false≢true}
+use Rattle.sqlite.specs.State.{State, IsUnchanged}
+use Rattle.sqlite.proofs.Callers.{unchanged_then}
+use Rattle.tables_sql.specs.declared.failure.Failure.{Failure}
+use Rattle.tables_sql.specs.Contents.{Contents}
+use Rattle.tables_world.specs.Told.{rows_of}
+use Rattle.tables_world.specs.Parts.{AreSoundRoots}
+use Rattle.tables_outline.specs.Outline.{Outline}
+use Rattle.tables_roots.specs.Taken.{Objects, are_fixed, are_moving, AreObjects}
+use Rattle.tables_roots.proofs.SoundRoots.{roots_sound}
+
+-- the first passed, so the second decides
+pub told_next : (r : Result Bool Failure) (x y z : Bool) → x ≡ true → y ≡ z → IfOk r (λ ok. ok ≡ y) → IfOk r (λ ok. ok ≡ (x && z))
+told_next (Ok v) x y z first same h = h ∙ same ∙ sym (ap (λ b. b && z) first)
+told_next (Err e) x y z first same h = tt
+
+pub taken_next : (r : Result Bool Failure) (o x y : Outline) → x ≡ y → IfOk r (λ ok. IsTrue ok → o ≡ x) → IfOk r (λ ok. IsTrue ok → o ≡ y)
+taken_next (Ok v) o x y same h = λ ok. h ok ∙ same
+taken_next (Err e) o x y same h = tt
+
+pub unchanged_next : (r : Result Bool Failure) (a b c : State) → IsUnchanged a b → OnOk r (IsUnchanged b c) → OnOk r (IsUnchanged a c)
+unchanged_next (Ok v) a b c first next = unchanged_then a b c first next
+unchanged_next (Err e) a b c first next = tt
+
+-- ---- all roots
+
+module _ (objects : Objects) (c : Contents) where
+  pub roots_unsound : are_fixed objects c ≡ false → AreObjects objects c → IsTrue false ↔ AreSoundRoots (rows_of c)
+  roots_unsound failed are = (
+    λ h. absurd (false≢true h),
+    λ sound. sym (ap (λ b. b && are_moving objects c) failed) ∙ (roots_sound objects c are).1 sound,
+  )
+
+  pub roots_told : are_fixed objects c ≡ true → (ok : Bool) → ok ≡ are_moving objects c → AreObjects objects c → IsTrue ok ↔ AreSoundRoots (rows_of c)
+  roots_told passed ok is are =
+      let all : ok ≡ (are_fixed objects c && are_moving objects c) = is ∙ sym (ap (λ b. b && are_moving objects c) passed) in (
+        λ h. (roots_sound objects c are).0 (sym all ∙ h),
+        λ sound. all ∙ (roots_sound objects c are).1 sound,
+      )
+
+  pub roots_told_next : (r : Result Bool Failure) → are_fixed objects c ≡ true → (y : Bool) → y ≡ are_moving objects c → IfOk r (λ ok. ok ≡ y) → IfOk r (λ ok. AreObjects objects c → (IsTrue ok ↔ AreSoundRoots (rows_of c)))
+  roots_told_next (Ok v) passed y same h = roots_told passed v (h ∙ same)
+  roots_told_next (Err e) passed y same h = tt

@@ -1,0 +1,71 @@
+//! Generations of profiles.
+
+ghost use Rattle.std.specs.Prelude.{◌≡◌, false, IsTrue, IfOk, OnOk};
+ghost use Rattle.std.specs.List.{list_all};
+ghost use Rattle.std.specs.FinMap as finite;
+ghost use Rattle.sqlite.specs.State.{HasCleanDisk, IsUnchanged, Survives};
+ghost use Rattle.sqlite.specs.Held.{state};
+ghost use Rattle.tables_sql.specs.Contents.{contents_of};
+ghost use Rattle.tables_sql.specs.Calls.{IsReady, KeepsShown};
+ghost use Rattle.tables_world.specs.Told.{world_in};
+ghost use Rattle.tables_roots.specs.Taken.{is_generation, bare_profiles};
+
+use crate::numbers::number_of;
+use crate::taking;
+use crate::taking::Taken;
+use crate::targets::target_of;
+use sqlite::{Alter, Connection};
+use std::alloc::{AllocError, Global};
+use tables_outline::Index;
+use tables_rows::generations as stored;
+use tables_rows::generations::Generation;
+use tables_sql::failure::Failure;
+
+impl Taken for Generation {
+    ghost use Rattle.std.specs.Prelude.{string_bytes};
+    ghost use Rattle.tables_sql.specs.Entries.{generation_in};
+    ghost use Rattle.tables_world.specs.Rows.{number_in};
+    ghost use Rattle.tables_outline.specs.Filling.{with_generation};
+    ghost use Rattle.tables_roots.specs.Taken.{is_generation};
+
+    ghost passes = { λ r o. is_generation o.objects o.profiles (generation_in r) };
+
+    ghost put = { λ r o. record o { profiles = with_generation (string_bytes r.owner, string_bytes r.name) (number_in r.number) (string_bytes r.target) o.profiles } };
+
+    fn take(self, alloc: Global, index: &mut Index) -> Result<bool, AllocError> {
+        let Generation {
+            owner,
+            name,
+            number,
+            target,
+        } = self;
+        let Some(number) = number_of(number) else {
+            return Ok(false);
+        };
+        let Some(path) = target_of(alloc, index, target.as_str())? else {
+            return Ok(false);
+        };
+        index.add_generation(&(owner, name), number, path)
+    }
+}
+
+/// Whether the generations of the rows are sound beside the objects and the profiles of the index. If so, they are put into the index.
+pub(crate) fn read<S: Alter>(
+    alloc: Global,
+    conn: &mut Connection<S>,
+    index: &mut Index,
+) -> Result<bool, Failure>
+    requires alone { conn.old.in_transaction ≡ false }
+    requires ready { HasCleanDisk (state S.Store conn.old) → IsTrue (state S.Store conn.old).is_open → IsReady (state S.Store conn.old) }
+    requires profiles { HasCleanDisk (state S.Store conn.old) → index.old.profiles ≡ bare_profiles (contents_of (state S.Store conn.old).now).profiles }
+    ensures alone { conn.new.in_transaction ≡ false }
+    ensures told { HasCleanDisk (state S.Store conn.new) → IfOk result (λ ok. ok ≡ list_all (is_generation index.old.objects (contents_of (state S.Store conn.old).now).profiles) (finite.entries (contents_of (state S.Store conn.old).now).generations)) }
+    ensures taken { HasCleanDisk (state S.Store conn.new) → IfOk result (λ ok. IsTrue ok → index.new ≡ record index.old { profiles = (world_in (contents_of (state S.Store conn.old).now)).profiles }) }
+    ensures unchanged { HasCleanDisk (state S.Store conn.new) → OnOk result (IsUnchanged (state S.Store conn.old) (state S.Store conn.new)) }
+    ensures same { HasCleanDisk (state S.Store conn.new) → KeepsShown (state S.Store conn.old) (state S.Store conn.new) }
+    ensures ready { HasCleanDisk (state S.Store conn.new) → IsTrue (state S.Store conn.new).is_open → IsReady (state S.Store conn.new) }
+    ensures survives { Survives (state S.Store conn.old) (state S.Store conn.new) (λ _. ⊥) }
+{
+    let generations = stored::all(alloc, conn)?;
+    Ok(taking::take_all(alloc, index, generations)?)
+}

@@ -1,0 +1,97 @@
+//! Profiles, and their generations.
+
+ghost use Rattle.std.specs.Prelude.{◌≡◌, false, IsTrue, IfOk, OnOk};
+ghost use Rattle.std.specs.List.{list_all};
+ghost use Rattle.std.specs.FinMap as finite;
+ghost use Rattle.sqlite.specs.State.{HasCleanDisk, IsUnchanged, Survives};
+ghost use Rattle.sqlite.specs.Held.{state};
+ghost use Rattle.tables_sql.specs.Contents.{contents_of};
+ghost use Rattle.tables_sql.specs.Calls.{IsReady, KeepsShown};
+ghost use Rattle.tables_world.specs.Told.{world_in};
+ghost use Rattle.tables_roots.specs.Taken.{is_profile, bare_profiles, are_profiles};
+
+use crate::numbers::number_of;
+use crate::taking::Taken;
+use crate::{generations, taking};
+use paths::is_plain_name;
+use sqlite::{Alter, Connection};
+use std::alloc::{AllocError, Global};
+use tables_outline::Index;
+use tables_rows::profiles as stored;
+use tables_rows::profiles::Profile;
+use tables_sql::failure::Failure;
+
+impl Taken for Profile {
+    ghost use Rattle.std.specs.Prelude.{string_bytes};
+    ghost use Rattle.std.specs.FinMap as finite;
+    ghost use Rattle.tables_sql.specs.Entries.{current_of};
+    ghost use Rattle.tables_roots.specs.Taken.{is_profile, bare};
+
+    ghost passes = { λ r o. is_profile (current_of r) };
+
+    ghost put = { λ r o. record o { profiles = finite.insert o.profiles (string_bytes r.owner, string_bytes r.name) (bare r.current) } };
+
+    fn take(self, alloc: Global, index: &mut Index) -> Result<bool, AllocError> {
+        let Profile {
+            owner,
+            name,
+            current,
+        } = self;
+        if !is_plain_name(owner.as_str()) || !is_plain_name(name.as_str()) {
+            return Ok(false);
+        }
+        let Some(number) = number_of(current) else {
+            return Ok(false);
+        };
+        index.add_profile(alloc, (owner, name), number)?;
+        Ok(true)
+    }
+}
+
+/// Whether the rows of profiles are sound beside nothing else. If so, they are put into the index, without generations.
+fn read_bare<S: Alter>(
+    alloc: Global,
+    conn: &mut Connection<S>,
+    index: &mut Index,
+) -> Result<bool, Failure>
+    requires alone { conn.old.in_transaction ≡ false }
+    requires ready { HasCleanDisk (state S.Store conn.old) → IsTrue (state S.Store conn.old).is_open → IsReady (state S.Store conn.old) }
+    requires empty { HasCleanDisk (state S.Store conn.old) → index.old.profiles ≡ finite.empty }
+    ensures alone { conn.new.in_transaction ≡ false }
+    ensures told { HasCleanDisk (state S.Store conn.new) → IfOk result (λ ok. ok ≡ list_all is_profile (finite.entries (contents_of (state S.Store conn.old).now).profiles)) }
+    ensures taken { HasCleanDisk (state S.Store conn.new) → IfOk result (λ ok. IsTrue ok → index.new ≡ record index.old { profiles = bare_profiles (contents_of (state S.Store conn.old).now).profiles }) }
+    ensures unchanged { HasCleanDisk (state S.Store conn.new) → OnOk result (IsUnchanged (state S.Store conn.old) (state S.Store conn.new)) }
+    ensures same { HasCleanDisk (state S.Store conn.new) → KeepsShown (state S.Store conn.old) (state S.Store conn.new) }
+    ensures ready { HasCleanDisk (state S.Store conn.new) → IsTrue (state S.Store conn.new).is_open → IsReady (state S.Store conn.new) }
+    ensures survives { Survives (state S.Store conn.old) (state S.Store conn.new) (λ _. ⊥) }
+{
+    let profiles = stored::all(alloc, conn)?;
+    Ok(taking::take_all(alloc, index, profiles)?)
+}
+
+/// Whether the profiles of the rows are sound, and their generations beside the objects of the index, and each profile has a
+/// generation of its current number. If so, they are put into the index.
+pub fn read<S: Alter>(
+    alloc: Global,
+    conn: &mut Connection<S>,
+    index: &mut Index,
+) -> Result<bool, Failure>
+    requires alone { conn.old.in_transaction ≡ false }
+    requires ready { HasCleanDisk (state S.Store conn.old) → IsTrue (state S.Store conn.old).is_open → IsReady (state S.Store conn.old) }
+    requires empty { HasCleanDisk (state S.Store conn.old) → index.old.profiles ≡ finite.empty }
+    ensures alone { conn.new.in_transaction ≡ false }
+    ensures told { HasCleanDisk (state S.Store conn.new) → IfOk result (λ ok. ok ≡ are_profiles index.old.objects (contents_of (state S.Store conn.old).now)) }
+    ensures taken { HasCleanDisk (state S.Store conn.new) → IfOk result (λ ok. IsTrue ok → index.new ≡ record index.old { profiles = (world_in (contents_of (state S.Store conn.old).now)).profiles }) }
+    ensures unchanged { HasCleanDisk (state S.Store conn.new) → OnOk result (IsUnchanged (state S.Store conn.old) (state S.Store conn.new)) }
+    ensures same { HasCleanDisk (state S.Store conn.new) → KeepsShown (state S.Store conn.old) (state S.Store conn.new) }
+    ensures ready { HasCleanDisk (state S.Store conn.new) → IsTrue (state S.Store conn.new).is_open → IsReady (state S.Store conn.new) }
+    ensures survives { Survives (state S.Store conn.old) (state S.Store conn.new) (λ _. ⊥) }
+{
+    if !read_bare(alloc, conn, index)? {
+        return Ok(false);
+    }
+    if !generations::read(alloc, conn, index)? {
+        return Ok(false);
+    }
+    Ok(index.has_currents())
+}

@@ -1,0 +1,67 @@
+//! The settings.
+
+ghost use Rattle.std.specs.Prelude.{◌≡◌, List, ℕ, false, IsTrue, IfOk, OnOk, MatchOption, map};
+ghost use Rattle.sqlite.specs.State.{HasCleanDisk, IsUnchanged, Survives};
+ghost use Rattle.sqlite.specs.Held.{state};
+ghost use Rattle.tables_sql.specs.Contents.{contents_of};
+ghost use Rattle.tables_sql.specs.Calls.{IsReady, KeepsShown};
+ghost use Rattle.tables_sql.specs.Entries.{setting_of};
+ghost use Rattle.paths.specs.Names.{is_store_dir};
+ghost use Rattle.tables_world.specs.Rows.{settings};
+ghost use Rattle.tables_world.specs.View.{schema_view};
+ghost use Rattle.tables_roots.specs.Settings.{two_settings};
+
+use paths::{StoreDir, StoreDirError};
+use sqlite::{Alter, Connection};
+use std::alloc::{AllocError, Global};
+use tables_rows::meta as stored;
+use tables_rows::meta::Setting;
+use tables_sql::failure::Failure;
+use tables_world::Schema;
+
+/// The store directory of these settings, if they are the two of a database of a schema.
+fn directory_of(
+    alloc: Global,
+    all: &[Setting],
+    schema: Schema,
+) -> Result<Option<StoreDir>, AllocError>
+    ensures { IfOk result (λ o. MatchOption o
+        ((dir : List ℕ) → IsTrue (is_store_dir dir) → ¬ (map setting_of all.now ≡ two_settings (schema_view schema) dir))
+        (λ d. IsTrue (is_store_dir d) × (map setting_of all.now ≡ two_settings (schema_view schema) d))) }
+{
+    let [form, place] = all else {
+        return Ok(None);
+    };
+    if form.word.as_str() != "schema" || form.value.as_str() != schema.text() {
+        return Ok(None);
+    }
+    if place.word.as_str() != "store-dir" {
+        return Ok(None);
+    }
+    match StoreDir::parse(alloc, place.value.as_str()) {
+        Ok(dir) => Ok(Some(dir)),
+        Err(StoreDirError::BadStoreDir) => Ok(None),
+        Err(StoreDirError::Memory) => Err(AllocError),
+    }
+}
+
+/// The store directory of the settings, if the rows are the two of a database of this schema.
+pub fn read<S: Alter>(
+    alloc: Global,
+    conn: &mut Connection<S>,
+    schema: Schema,
+) -> Result<Option<StoreDir>, Failure>
+    requires alone { conn.old.in_transaction ≡ false }
+    requires ready { HasCleanDisk (state S.Store conn.old) → IsTrue (state S.Store conn.old).is_open → IsReady (state S.Store conn.old) }
+    ensures alone { conn.new.in_transaction ≡ false }
+    ensures told { HasCleanDisk (state S.Store conn.new) → IfOk result (λ o. MatchOption o
+        ((dir : List ℕ) → IsTrue (is_store_dir dir) → ¬ ((contents_of (state S.Store conn.old).now).meta ≡ settings (schema_view schema) dir))
+        (λ d. IsTrue (is_store_dir d) × ((contents_of (state S.Store conn.old).now).meta ≡ settings (schema_view schema) d))) }
+    ensures unchanged { HasCleanDisk (state S.Store conn.new) → OnOk result (IsUnchanged (state S.Store conn.old) (state S.Store conn.new)) }
+    ensures same { HasCleanDisk (state S.Store conn.new) → KeepsShown (state S.Store conn.old) (state S.Store conn.new) }
+    ensures ready { HasCleanDisk (state S.Store conn.new) → IsTrue (state S.Store conn.new).is_open → IsReady (state S.Store conn.new) }
+    ensures survives { Survives (state S.Store conn.old) (state S.Store conn.new) (λ _. ⊥) }
+{
+    let all = stored::all(alloc, conn)?;
+    Ok(directory_of(alloc, all.as_slice(), schema)?)
+}

@@ -1,0 +1,69 @@
+//! User roots.
+
+ghost use Rattle.std.specs.Prelude.{◌≡◌, false, IsTrue, IfOk, OnOk};
+ghost use Rattle.std.specs.List.{list_all};
+ghost use Rattle.std.specs.FinMap as finite;
+ghost use Rattle.sqlite.specs.State.{HasCleanDisk, IsUnchanged, Survives};
+ghost use Rattle.sqlite.specs.Held.{state};
+ghost use Rattle.tables_sql.specs.Contents.{contents_of};
+ghost use Rattle.tables_sql.specs.Calls.{IsReady, KeepsShown};
+ghost use Rattle.tables_roots.specs.Taken.{is_user_root};
+
+use crate::taking;
+use crate::taking::Taken;
+use crate::targets::target_of;
+use paths::is_plain_name;
+use sqlite::{Alter, Connection};
+use std::alloc::{AllocError, Global};
+use tables_outline::Index;
+use tables_rows::user_roots as stored;
+use tables_rows::user_roots::UserRoot;
+use tables_sql::failure::Failure;
+
+impl Taken for UserRoot {
+    ghost use Rattle.std.specs.Prelude.{string_bytes};
+    ghost use Rattle.std.specs.FinMap as finite;
+    ghost use Rattle.tables_sql.specs.Entries.{user_root_of};
+    ghost use Rattle.tables_roots.specs.Taken.{is_user_root};
+
+    ghost passes = { λ r o. is_user_root o.objects (user_root_of r) };
+
+    ghost put = { λ r o. record o { user_roots = finite.insert o.user_roots (string_bytes r.owner, string_bytes r.name) (string_bytes r.target) } };
+
+    fn take(self, alloc: Global, index: &mut Index) -> Result<bool, AllocError> {
+        let UserRoot {
+            owner,
+            name,
+            target,
+        } = self;
+        if !is_plain_name(owner.as_str()) || !is_plain_name(name.as_str()) {
+            return Ok(false);
+        }
+        let Some(path) = target_of(alloc, index, target.as_str())? else {
+            return Ok(false);
+        };
+        index.put_user_root((owner, name), path)?;
+        Ok(true)
+    }
+}
+
+/// Whether the user roots of the rows are sound beside the objects of the index. If so, they are put into the index.
+pub fn read<S: Alter>(
+    alloc: Global,
+    conn: &mut Connection<S>,
+    index: &mut Index,
+) -> Result<bool, Failure>
+    requires alone { conn.old.in_transaction ≡ false }
+    requires ready { HasCleanDisk (state S.Store conn.old) → IsTrue (state S.Store conn.old).is_open → IsReady (state S.Store conn.old) }
+    requires empty { HasCleanDisk (state S.Store conn.old) → index.old.user_roots ≡ finite.empty }
+    ensures alone { conn.new.in_transaction ≡ false }
+    ensures told { HasCleanDisk (state S.Store conn.new) → IfOk result (λ ok. ok ≡ list_all (is_user_root index.old.objects) (finite.entries (contents_of (state S.Store conn.old).now).user_roots)) }
+    ensures taken { HasCleanDisk (state S.Store conn.new) → IfOk result (λ ok. IsTrue ok → index.new ≡ record index.old { user_roots = (contents_of (state S.Store conn.old).now).user_roots }) }
+    ensures unchanged { HasCleanDisk (state S.Store conn.new) → OnOk result (IsUnchanged (state S.Store conn.old) (state S.Store conn.new)) }
+    ensures same { HasCleanDisk (state S.Store conn.new) → KeepsShown (state S.Store conn.old) (state S.Store conn.new) }
+    ensures ready { HasCleanDisk (state S.Store conn.new) → IsTrue (state S.Store conn.new).is_open → IsReady (state S.Store conn.new) }
+    ensures survives { Survives (state S.Store conn.old) (state S.Store conn.new) (λ _. ⊥) }
+{
+    let roots = stored::all(alloc, conn)?;
+    Ok(taking::take_all(alloc, index, roots)?)
+}

@@ -1,0 +1,17 @@
+//! The statements of each table.
+#![tactic(auto)]
+
+pub mod generations;
+mod getting_within;
+pub mod meta;
+pub mod objects;
+pub mod outputs;
+pub mod permanent;
+pub mod pieces;
+pub mod profiles;
+mod reading;
+pub mod references;
+pub mod runtime;
+pub mod temp_roots;
+pub mod user_roots;
+mod within;

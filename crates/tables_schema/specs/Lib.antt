@@ -1,0 +1,5 @@
+pub mod Finding
+pub mod Forms
+pub mod OurTables
+pub mod Shapes
+pub mod Standing

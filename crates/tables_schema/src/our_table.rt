@@ -1,0 +1,48 @@
+//! Our tables by their names, and those of each schema.
+
+ghost use Rattle.std.specs.Prelude.{◌≡◌};
+ghost use Rattle.tables_schema.specs.OurTables.{schema_tables};
+
+use crate::recognising::Recognised;
+
+/// A table of ours, by its name.
+#[derive(Clone, Copy)]
+pub enum OurTable {
+    Meta,
+    Object,
+    Refs,
+    Outs,
+    Permanent,
+    UserRoot,
+    Profile,
+    Generation,
+    Runtime,
+    Piece,
+    TempRoot,
+}
+
+const ALL: [OurTable; 11] = [
+    OurTable::Meta,
+    OurTable::Object,
+    OurTable::Refs,
+    OurTable::Outs,
+    OurTable::Permanent,
+    OurTable::UserRoot,
+    OurTable::Profile,
+    OurTable::Generation,
+    OurTable::Runtime,
+    OurTable::Piece,
+    OurTable::TempRoot,
+];
+
+/// The tables of a schema, in the order in which they are made in a new database.
+pub fn schema_tables(schema: Recognised) -> &'static [OurTable]
+    ensures { result.now ≡ schema_tables schema }
+{
+    match schema {
+        Recognised::First => &ALL[..9],
+        Recognised::Second => &ALL[..10],
+        Recognised::Third => &ALL,
+        Recognised::Nothing | Recognised::Other => &[],
+    }
+}

@@ -1,0 +1,50 @@
+-- A table that every schema of ours has, described: that all nine stand says enough of it.
+use Rattle.std.proofs.Common.{◌≡◌, List, Bool, true, length}
+use Rattle.std.specs.declared.cmp.Ordering.{Ordering}
+use Rattle.std.specs.Cmp.{IsTotalOrder}
+use Rattle.std.specs.FinMap as finite
+use Rattle.sqlite_value.specs.Order.{Row}
+use Rattle.sqlite_schema.specs.declared.schema.Schema.{Schema}
+use Rattle.sqlite_schema.specs.declared.schema.Table.{Table}
+use Rattle.sqlite.specs.Effect.{Database}
+use Rattle.sqlite.specs.State.{State}
+use Rattle.tables_schema.specs.Forms.{strict, is_our_name}
+use Rattle.tables_schema.specs.Standing.{Stands, HasTables, tree_named}
+use Rattle.tables_sql.specs.Contents.{Contents, contents_of, map_of, rows_named}
+use Rattle.tables_sql.specs.Calls.{IsKeyed, IsOurs}
+use Rattle.tables_sql.proofs.Rising.{AreKept}
+use Rattle.tables_sql.proofs.Writes.{SetsRows}
+use Rattle.tables_sql.proofs.Description.{Description}
+
+-- its form, the order of its keys, what its rows are, which of the maps they make, and that it stands, is kept and is written so
+abbrev pub one_of_nine : {K X : Type 0} (t : Table) {order : K → K → Ordering} → IsTotalOrder order → finite.IsAntisymmetric order → (kind : Row → Bool) (entry : Row → K × X)
+    → (of : Contents → finite.FinMap order X) (put : Contents → finite.FinMap order X → Contents)
+    → is_our_name t.name ≡ true
+    → ((db : Database) → HasTables db.schema → of (contents_of db) ≡ map_of order kind entry (rows_named db t.name))
+    → ((s : Schema) → HasTables s → Stands s (strict t.name t.columns t.primary))
+    → ((db : Database) → IsOurs db → IsKeyed (rows_named db t.name))
+    → ((db : Database) → IsOurs db → AreKept kind (λ r. (entry r).0) (length t.columns) (rows_named db t.name))
+    → ((old new : State) → HasTables old.now.schema → (rows : List Row) → SetsRows old new (tree_named old.now.schema t.name) rows → (m : finite.FinMap order X) → map_of order kind entry rows ≡ m → contents_of new.now ≡ put (contents_of old.now) m)
+    → Description K X
+one_of_nine t {order} total same kind entry of put named held stands keyed kept written = record {
+  name = t.name;
+  columns = t.columns;
+  key = t.primary;
+  order = order;
+  total = total;
+  same = same;
+  kind = kind;
+  entry = entry;
+  IsIn = HasTables;
+  IsOwn = λ db. Unit {0};
+  within = λ db ours mine. ours.has;
+  of = of;
+  put = put;
+  held = held;
+  named = named;
+  stands = stands;
+  keyed = λ db ours mine. keyed db ours;
+  kept = λ db ours mine. kept db ours;
+  written = λ old new rows has here sets m is. written old new has rows sets m is;
+  still = λ old new rows stands sets keyed readable mine. tt;
+}

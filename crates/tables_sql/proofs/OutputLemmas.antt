@@ -1,0 +1,98 @@
+-- The table of outputs, described once, and what the texts of its statements mean.
+use Rattle.std.proofs.Common.{ℕ, List, [], ◌∷◌, codes, true, ◌&&◌, refl}
+use Rattle.std.specs.Ordering.{eq_by_cmp}
+use Rattle.std.specs.List.{AllByRecursion}
+use Rattle.sqlite_value.specs.declared.value.Value.TheVariants.{Int, Text}
+use Rattle.sqlite_value.specs.Order.{bytes}
+use Rattle.sqlite_tied.specs.Compute.{everything}
+use Rattle.tables_schema.specs.Forms.{outs}
+use Rattle.tables_sql.specs.Contents.{texts_cmp, is_text, is_triple, target_of, Bytes, Pair}
+use Rattle.tables_sql.specs.Queries.{IsSelect}
+use Rattle.tables_sql.specs.Entries.{output_of, ShowsOutput, IsTripleRow}
+use Rattle.tables_sql.proofs.Orders.{pair_total, pair_antisymmetric}
+use Rattle.tables_sql.proofs.Truths.{cast_null, and_so}
+use Rattle.tables_sql.proofs.Means.{insert_means}
+use Rattle.tables_sql.proofs.Ordered.{Place, IsColumn}
+use Rattle.tables_sql.proofs.ContentsLemmas.{outs_set}
+use Rattle.tables_sql.proofs.Parts.{IsAsked, added, selected, removed, said_one}
+use Rattle.tables_sql.proofs.KeyOrders.{by_pair}
+use Rattle.tables_sql.proofs.Legible.{triple_row}
+use Rattle.tables_sql.proofs.FreeKeys.{agreed_two}
+use Rattle.tables_sql.proofs.Kept.{outs_kept}
+use Rattle.tables_sql.proofs.OneOfNine.{one_of_nine}
+use Rattle.tables_sql.proofs.Description.{Description, Addition, Removal, Reading, Selection}
+
+-- ---- the table
+
+abbrev pub table : Description Pair Bytes
+table =
+    one_of_nine outs pair_total pair_antisymmetric is_triple target_of (λ c. c.outs) (λ c m. record c { outs = m })
+    refl (λ db has. refl) (λ s has. has.1.1.1.0) (λ db ours. ours.keyed.1.1.1.0) outs_kept outs_set
+
+-- ---- one more
+
+abbrev pub insert_text : List ℕ
+insert_text = codes "INSERT INTO outs (base, name, target) VALUES (?1, ?2, ?3)"
+
+pub addition : (base : List ℕ) (name : List ℕ) (target : List ℕ) → Addition table insert_text (Text base ∷ Text name ∷ Text target ∷ []) (Text base ∷ Text name ∷ Text target ∷ []) (base, name) target
+unfolding everything
+addition base name target =
+    added table (λ s at tree found. (_, insert_means insert_text refl s at (codes "outs") outs.columns outs.primary tree _ found refl, refl, refl, refl, refl, refl))
+    (λ rows. rw cast_null refl) (refl, refl, λ id. (refl, refl, refl))
+    (λ id r kind h. let e = agreed_two (Text base) (Text name) (Int id) (Text target ∷ []) r (and_so _ _ (and_so _ _ kind).0) h in λ i. (e.0 i, e.1 i))
+
+-- ---- reading them
+
+abbrev pub places : List Place
+places = (codes "base", 0) ∷ (codes "name", 1) ∷ (codes "target", 2) ∷ []
+
+pub places_are : AllByRecursion (IsColumn outs.name outs.columns outs.primary) places
+unfolding everything
+places_are = ((refl, (_, refl, refl, refl)), ((refl, (_, refl, refl, refl)), ((refl, (_, refl, refl, refl)), tt)))
+
+abbrev pub reading : Reading table ShowsOutput output_of IsTripleRow
+reading = record {
+  shown = places;
+  by = 2;
+  fits = λ params filter tree r t h. (λ i. is_text (h.0 i) && is_text (h.1 i) && is_text (h.2 i), λ i. ((bytes (h.0 i), bytes (h.1 i)), bytes (h.2 i)));
+  legible = λ params filter tree. triple_row;
+  orders = λ params filter tree a b h k. by_pair a b (and_so _ _ h).0 (and_so _ _ k).0;
+}
+
+abbrev pub all_text : List ℕ
+all_text = codes "SELECT base, name, target FROM outs ORDER BY base, name"
+
+pub all_asked : IsAsked table reading all_text []
+unfolding everything
+all_asked = ((_, _, _, _, refl, refl, refl), refl, λ s at tree known. (rw (known.low, known.by_tree), rw (known.low, known.by_tree) refl))
+
+abbrev pub all : Selection table reading all_text [] (λ _. true)
+all = selected table reading places_are refl all_text [] all_asked (λ r kind. refl)
+
+abbrev pub of_text : List ℕ
+of_text = codes "SELECT base, name, target FROM outs WHERE base = ?1 ORDER BY base, name"
+
+pub of : (base : List ℕ) → Selection table reading of_text (Text base ∷ []) (λ k. eq_by_cmp texts_cmp k.0 base)
+unfolding everything
+of base =
+    selected table reading places_are refl of_text (Text base ∷ []) ((_, _, _, _, refl, refl, refl), refl, λ s at tree known. (rw (known.low, known.by_tree), rw (known.low, known.by_tree) refl))
+    (λ r kind. said_one (Text base) r (and_so _ _ (and_so _ _ kind).0).0)
+
+-- ---- those gone
+
+abbrev pub delete_of_text : List ℕ
+delete_of_text = codes "DELETE FROM outs WHERE base = ?1"
+
+pub removal : (base : List ℕ) → Removal table delete_of_text (Text base ∷ []) (λ k. eq_by_cmp texts_cmp k.0 base)
+unfolding everything
+removal base =
+    removed table places places_are refl delete_of_text (Text base ∷ []) ((_, _, _, _, refl, refl, refl), refl, λ s at tree known. (rw (known.low, known.by_tree), rw (known.low, known.by_tree) refl))
+    (λ r kind. said_one (Text base) r (and_so _ _ (and_so _ _ kind).0).0)
+
+-- ---- they are SELECTs
+
+pub all_read : IsSelect all_text
+all_read = all.reads
+
+pub of_read : IsSelect of_text
+of_read = (of []).reads

@@ -1,0 +1,98 @@
+-- The table of references, described once, and what the texts of its statements mean.
+use Rattle.std.proofs.Common.{ℕ, List, [], ◌∷◌, codes, true, ◌&&◌, refl}
+use Rattle.std.specs.Ordering.{eq_by_cmp}
+use Rattle.std.specs.List.{AllByRecursion}
+use Rattle.sqlite_value.specs.declared.value.Value.TheVariants.{Int, Text}
+use Rattle.sqlite_value.specs.Order.{bytes}
+use Rattle.sqlite_tied.specs.Compute.{everything}
+use Rattle.tables_schema.specs.Forms.{refs}
+use Rattle.tables_sql.specs.Contents.{texts_cmp, is_text, is_pair, member_of, Pair}
+use Rattle.tables_sql.specs.Queries.{IsSelect}
+use Rattle.tables_sql.specs.Entries.{reference_of, ShowsReference, IsPairRow}
+use Rattle.tables_sql.proofs.Orders.{pair_total, pair_antisymmetric}
+use Rattle.tables_sql.proofs.Truths.{cast_null, and_so}
+use Rattle.tables_sql.proofs.Means.{insert_means}
+use Rattle.tables_sql.proofs.Ordered.{Place, IsColumn}
+use Rattle.tables_sql.proofs.ContentsLemmas.{refs_set}
+use Rattle.tables_sql.proofs.Parts.{IsAsked, added, selected, removed, said_one}
+use Rattle.tables_sql.proofs.KeyOrders.{by_pair}
+use Rattle.tables_sql.proofs.Legible.{pair_row}
+use Rattle.tables_sql.proofs.FreeKeys.{agreed_two}
+use Rattle.tables_sql.proofs.Kept.{refs_kept}
+use Rattle.tables_sql.proofs.OneOfNine.{one_of_nine}
+use Rattle.tables_sql.proofs.Description.{Description, Addition, Removal, Reading, Selection}
+
+-- ---- the table
+
+abbrev pub table : Description Pair (Unit {0})
+table =
+    one_of_nine refs pair_total pair_antisymmetric is_pair member_of (λ c. c.refs) (λ c m. record c { refs = m })
+    refl (λ db has. refl) (λ s has. has.1.1.0) (λ db ours. ours.keyed.1.1.0) refs_kept refs_set
+
+-- ---- one more
+
+abbrev pub insert_text : List ℕ
+insert_text = codes "INSERT INTO refs (base, target) VALUES (?1, ?2)"
+
+pub addition : (base target : List ℕ) → Addition table insert_text (Text base ∷ Text target ∷ []) (Text base ∷ Text target ∷ []) (base, target) tt
+unfolding everything
+addition base target =
+    added table (λ s at tree found. (_, insert_means insert_text refl s at (codes "refs") refs.columns refs.primary tree _ found refl, refl, refl, refl, refl, refl))
+    (λ rows. rw cast_null refl) (refl, refl, λ id. (refl, refl, refl))
+    (λ id r kind h. let e = agreed_two (Text base) (Text target) (Int id) [] r (and_so _ _ kind) h in λ i. (e.0 i, e.1 i))
+
+-- ---- reading them
+
+abbrev pub places : List Place
+places = (codes "base", 0) ∷ (codes "target", 1) ∷ []
+
+pub places_are : AllByRecursion (IsColumn refs.name refs.columns refs.primary) places
+unfolding everything
+places_are = ((refl, (_, refl, refl, refl)), ((refl, (_, refl, refl, refl)), tt))
+
+abbrev pub reading : Reading table ShowsReference reference_of IsPairRow
+reading = record {
+  shown = places;
+  by = 2;
+  fits = λ params filter tree r t h. (λ i. is_text (h.0 i) && is_text (h.1 i), λ i. ((bytes (h.0 i), bytes (h.1 i)), tt));
+  legible = λ params filter tree. pair_row;
+  orders = λ params filter tree. by_pair;
+}
+
+abbrev pub all_text : List ℕ
+all_text = codes "SELECT base, target FROM refs ORDER BY base, target"
+
+pub all_asked : IsAsked table reading all_text []
+unfolding everything
+all_asked = ((_, _, _, _, refl, refl, refl), refl, λ s at tree known. (rw (known.low, known.by_tree), rw (known.low, known.by_tree) refl))
+
+abbrev pub all : Selection table reading all_text [] (λ _. true)
+all = selected table reading places_are refl all_text [] all_asked (λ r kind. refl)
+
+abbrev pub of_text : List ℕ
+of_text = codes "SELECT base, target FROM refs WHERE base = ?1 ORDER BY base, target"
+
+pub of : (base : List ℕ) → Selection table reading of_text (Text base ∷ []) (λ k. eq_by_cmp texts_cmp k.0 base)
+unfolding everything
+of base =
+    selected table reading places_are refl of_text (Text base ∷ []) ((_, _, _, _, refl, refl, refl), refl, λ s at tree known. (rw (known.low, known.by_tree), rw (known.low, known.by_tree) refl))
+    (λ r kind. said_one (Text base) r (and_so _ _ kind).0)
+
+-- ---- those gone
+
+abbrev pub delete_of_text : List ℕ
+delete_of_text = codes "DELETE FROM refs WHERE base = ?1"
+
+pub removal : (base : List ℕ) → Removal table delete_of_text (Text base ∷ []) (λ k. eq_by_cmp texts_cmp k.0 base)
+unfolding everything
+removal base =
+    removed table places places_are refl delete_of_text (Text base ∷ []) ((_, _, _, _, refl, refl, refl), refl, λ s at tree known. (rw (known.low, known.by_tree), rw (known.low, known.by_tree) refl))
+    (λ r kind. said_one (Text base) r (and_so _ _ kind).0)
+
+-- ---- they are SELECTs
+
+pub all_read : IsSelect all_text
+all_read = all.reads
+
+pub of_read : IsSelect of_text
+of_read = (of []).reads

@@ -1,0 +1,110 @@
+-- What a call makes of the tables that a connection shows.
+use Rattle.std.specs.Prelude.{◌≡◌, true, false, List, [], map, IsTrue}
+use Rattle.std.specs.List.{AllByRecursion, IsDistinct}
+use Rattle.std.specs.Ordering.{eq_by_cmp}
+use Rattle.sqlite_value.specs.Order.{Row, value_cmp}
+use Rattle.sqlite_rules.specs.Lists.{Has}
+use Rattle.sqlite_trees.specs.View.{is_int}
+use Rattle.sqlite_trees.specs.Tree.{Trees, rowid}
+use Rattle.sqlite.specs.Effect.{Database, IsDatabase}
+use Rattle.sqlite.specs.State.{State}
+use Rattle.sqlite_schema.specs.declared.schema.Table.{Table}
+use Rattle.tables_schema.specs.Forms.{piece, temp_root, our_tables, further_tables, is_our_name}
+use Rattle.tables_schema.specs.Standing.{HasTables, Stands}
+use Rattle.tables_sql.specs.Contents.{Contents, contents_of, rows_named}
+use Rattle.tables_sql.specs.Frozen.{SparesUnshown, SparesFrozen}
+use Rattle.tables_sql.specs.Texts.{AreReadableRows, HasReadableRows}
+
+-- what a disk holds once its connection is gone, as an opening after a crash finds it
+abbrev pub Remains : Type 0
+Remains = Trees
+
+-- the database that a disk holds then, by the schema that was shown
+abbrev pub after_crash : Database → Remains → Database
+after_crash old left = record old { trees = left }
+
+-- each row has a rowid of its own, an integer: the list of rowids has no value twice, so no row stands there twice
+pub record IsKeyed (rows : List Row) : Type 0 where
+  pub ints : (a : Row) → Has rows a → IsTrue (is_int (rowid a))
+  pub apart : IsDistinct (eq_by_cmp value_cmp) (map rowid rows)
+
+-- all nine tables stand in the schema, each row obeys it, rowids are apart, and each text is UTF-8
+pub record IsOurs (db : Database) : Type 0 where
+  pub sound : IsDatabase db
+  pub has : HasTables db.schema
+  pub keyed : AllByRecursion (λ t. IsKeyed (rows_named db t.name)) our_tables
+  pub readable : HasReadableRows db
+
+-- a further table stands too, with the same of its rows
+pub record HasFurther (db : Database) (t : Table) : Type 0 where
+  pub stands : Stands db.schema t
+  pub keyed : IsKeyed (rows_named db t.name)
+  pub readable : AreReadableRows t (rows_named db t.name)
+
+-- all eleven tables stand, with the same of the rows of each
+pub record IsWhole (db : Database) : Type 0 where
+  pub ours : IsOurs db
+  pub pieces : HasFurther db piece
+  pub temp_roots : HasFurther db temp_root
+
+-- each further table that stood so does still
+unfoldable pub KeepsFurther : Database → Database → Type 0
+KeepsFurther old new = AllByRecursion (λ t. HasFurther old t → HasFurther new t) further_tables
+
+-- what the connection shows is ours, and so did the last commit leave it
+pub record IsReady (s : State) : Type 0 where
+  pub ours : IsOurs s.now
+  pub settled : s.now ≡ s.committed
+
+-- A transaction is under way over our tables, unless a fault has shut the connection.
+pub record IsUnderWay (s : State) : Type 0 where
+  pub ours : IsTrue s.is_open → IsOurs s.now
+  pub mode : s.in_transaction ≡ true
+
+-- each table with a name that is none of ours has the rows that it had
+abbrev pub KeepsTheirs : Database → Database → Type 0
+KeepsTheirs old new = AllByRecursion (λ t. is_our_name t.name ≡ false → new.trees t.tree ≡ old.trees t.tree) old.schema.tables
+
+-- what a crash may leave, or a commit: our tables hold this, each other table has the rows that it had, and what the schema doesn't show is kept
+pub record Leaves (old : Database) (left : Remains) (contents : Contents) : Type 0 where
+  pub ours : contents_of (after_crash old left) ≡ contents
+  pub theirs : KeepsTheirs old (after_crash old left)
+  pub frozen : SparesFrozen old (after_crash old left)
+
+-- Inside a transaction, which goes on: our tables hold what the change makes of what they held, each other table has the rows that it had, what the schema doesn't show is as it was, and so are the savepoints.
+pub record Changes (old new : State) (change : Contents → Contents) : Type 0 where
+  pub was_open : IsTrue old.is_open
+  pub is_open : IsTrue new.is_open
+  pub schema : new.now.schema ≡ old.now.schema
+  pub contents : contents_of new.now ≡ change (contents_of old.now)
+  pub theirs : KeepsTheirs old.now new.now
+  pub unshown : SparesUnshown old.now new.now
+  pub ours : IsOurs new.now
+  pub further : KeepsFurther old.now new.now
+  pub committed : new.committed ≡ old.committed
+  pub mode : new.in_transaction ≡ true
+  pub marks : new.marks ≡ old.marks
+
+-- All nine tables stand and nothing is uncommitted, unless a fault has shut the connection. Rowids and texts aren't tested yet.
+pub record HasSettledTables (s : State) : Type 0 where
+  pub has : IsTrue s.is_open → HasTables s.now.schema
+  pub settled : IsTrue s.is_open → s.now ≡ s.committed
+
+-- Where the connection is still open it was open, and it shows what it showed, with the same last commit.
+pub record KeepsShown (old new : State) : Type 0 where
+  pub was_open : IsTrue new.is_open → IsTrue old.is_open
+  pub now : IsTrue new.is_open → new.now ≡ old.now
+  pub committed : IsTrue new.is_open → new.committed ≡ old.committed
+
+-- The transaction was committed: the tables hold what it saw, and so did the last commit leave them.
+pub record IsCommitted (old new : State) : Type 0 where
+  pub was_open : IsTrue old.is_open
+  pub is_open : IsTrue new.is_open
+  pub now : new.now ≡ old.now
+  pub ready : IsReady new
+  pub mode : new.in_transaction ≡ false
+  pub unmarked : new.marks ≡ []
+
+-- What a crash leaves is what the last commit left, and nothing else.
+abbrev pub IsDurable : State → Type 0
+IsDurable s = (left : Remains) → s.may_leave left → left ≡ s.committed.trees

@@ -1,0 +1,10 @@
+pub use Rattle.tables_schema.specs.Forms
+pub use Rattle.tables_schema.specs.Standing
+pub mod Calls
+pub mod Contents
+pub mod Entries
+pub mod Failures
+pub mod Frozen
+pub mod Queries
+pub mod Reading
+pub mod Texts

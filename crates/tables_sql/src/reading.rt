@@ -1,0 +1,78 @@
+//! Queries outside a transaction: their rows are read one at a time.
+
+ghost use Rattle.std.specs.Prelude.{◌≡◌, ◌⊎◌, ◌++◌, ◌∷◌, [], true, false, List, IsTrue, IfOk, IfErr, OnOk, length};
+ghost use Rattle.std.specs.List.{AllZip, AllAdjacentBelow};
+ghost use Rattle.sqlite_value.specs.declared.value.Value.{Value};
+ghost use Rattle.sqlite_value.specs.Order.{Row as Values};
+ghost use Rattle.sqlite.specs.State.{HasCleanDisk, Survives};
+ghost use Rattle.sqlite.specs.Held.{state};
+ghost use Rattle.sqlite.specs.Values.{bound};
+ghost use Rattle.tables_sql.specs.declared.failure.Failure.TheVariants.{Memory, Disk};
+ghost use Rattle.tables_sql.specs.Reading.{IsAmiss};
+ghost use Rattle.tables_sql.specs.Failures.{IsQueryFailure};
+ghost use Rattle.tables_sql.specs.Calls.{KeepsShown};
+ghost use Rattle.tables_sql.specs.Queries.{IsSelect, HasBegunWith, IsAnswered};
+
+use crate::entry::Entry;
+use crate::failure::Failure;
+use sqlite::types::ValueRef;
+use sqlite::{Alter, Connection, Row};
+use std::alloc::Global;
+
+/// What is made of the rows of an answer, which it is given one at a time.
+pub trait Sink: Sized + Drop {
+    // It was made of these rows.
+    ghost is_of: { List (List Value) → Self → Type 0 };
+
+    // It takes no answer that begins with these rows.
+    ghost is_amiss: { List (List Value) → Type 0 };
+
+    fn take(&mut self, row: &Row) -> Result<(), Failure>
+        ensures taken { OnOk result ((rows : List (List Value)) → is_of rows self.old → is_of (rows ++ row.now ∷ []) self.new) }
+        ensures refused { IfErr result (λ f. (f ≡ Memory) ⊎ ((f ≡ Disk) × ((rows : List (List Value)) → is_of rows self.old → is_amiss (rows ++ row.now ∷ [])))) };
+}
+
+/// HasBegunWith the rows that a query shows to `sink`, one at a time, up to the first that it doesn't take. Nothing changes.
+pub fn read_into<S: Alter, T: Sink>(
+    conn: &mut Connection<S>,
+    text: &str,
+    params: &[ValueRef<'_>],
+    mut sink: T,
+) -> Result<T, Failure>
+    requires reads { IsSelect text.now }
+    requires empty { T.is_of [] sink }
+    ensures alone { conn.old.in_transaction ≡ false → conn.new.in_transaction ≡ false }
+    ensures shown { HasCleanDisk (state S.Store conn.new) → IfOk result (λ it. (rows : List Values) × IsAnswered text.now (bound params.now) (state S.Store conn.old) (state S.Store conn.new) rows × T.is_of rows it) }
+    ensures cause { HasCleanDisk (state S.Store conn.new) → IfErr result (λ f. IsQueryFailure text.now (bound params.now) (state S.Store conn.old) (state S.Store conn.new) f
+        ⊎ ((rows : List Values) × HasBegunWith text.now (bound params.now) (state S.Store conn.old) (state S.Store conn.new) rows × ((f ≡ Memory) ⊎ ((f ≡ Disk) × T.is_amiss rows)))) }
+    ensures survives { Survives (state S.Store conn.old) (state S.Store conn.new) (λ _. ⊥) }
+{
+    let mut rows = conn.query(text, params)?;
+    'rows: for _ in 0..u64::MAX {
+        let Some(row) = rows.next()? else {
+            return Ok(sink);
+        };
+        sink.take(row)?;
+    }
+    // No memory holds so many.
+    Err(Failure::Memory)
+}
+
+/// The entries that a query shows, which must rise: an honest disk gives no others.
+pub fn select<S: Alter, T: Entry>(
+    alloc: Global,
+    conn: &mut Connection<S>,
+    text: &str,
+    params: &[ValueRef<'_>],
+) -> Result<Vec<T>, Failure>
+    requires { IsSelect text.now }
+    ensures alone { conn.old.in_transaction ≡ false → conn.new.in_transaction ≡ false }
+    ensures shown { HasCleanDisk (state S.Store conn.new) → IfOk result (λ all. (rows : List Values) × IsAnswered text.now (bound params.now) (state S.Store conn.old) (state S.Store conn.new) rows × AllZip T.is_shown rows all.items) }
+    ensures rises { HasCleanDisk (state S.Store conn.new) → IfOk result (λ all. AllAdjacentBelow (λ x y. true ≡ T.is_below x y) all.items (length all.items)) }
+    ensures cause { HasCleanDisk (state S.Store conn.new) → IfErr result (λ f. IsQueryFailure text.now (bound params.now) (state S.Store conn.old) (state S.Store conn.new) f
+        ⊎ ((rows : List Values) × HasBegunWith text.now (bound params.now) (state S.Store conn.old) (state S.Store conn.new) rows × ((f ≡ Memory) ⊎ ((f ≡ Disk) × IsAmiss T.is_legible T.is_shown T.is_below rows)))) }
+    ensures same { HasCleanDisk (state S.Store conn.new) → (IsTrue (state S.Store conn.old).is_open → (state S.Store conn.old).now ≡ (state S.Store conn.old).committed) → KeepsShown (state S.Store conn.old) (state S.Store conn.new) }
+    ensures survives { Survives (state S.Store conn.old) (state S.Store conn.new) (λ _. ⊥) }
+{
+    read_into(conn, text, params, Vec::new(alloc))
+}

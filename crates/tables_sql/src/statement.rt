@@ -1,0 +1,107 @@
+//! The ways to run a statement inside a transaction.
+
+ghost use Rattle.std.specs.Prelude.{◌≡◌, ◌≢◌, IfErr, OnOk, OnErr, Ok, ℕ, true};
+ghost use Rattle.sqlite.specs.State.{HasCleanDisk, IsUnchanged, KeepsCommit, Survives, ExecutesInside};
+ghost use Rattle.sqlite.specs.Held.{state};
+ghost use Rattle.sqlite.specs.Values.{bound};
+ghost use Rattle.sqlite.specs.declared.error.Error.TheVariants.{SqliteFailure};
+ghost use Rattle.sqlite.specs.declared.error.ErrorCode.TheVariants.{OperationInterrupted};
+ghost use Rattle.tables_sql.specs.Failures.{failure_of, FailsWith, IsWriteFailure, IsAdditionFailure, without_size};
+ghost use Rattle.tables_sql.specs.Calls.{IsUnderWay};
+
+use crate::failure::Failure;
+use sqlite::types::ValueRef;
+use sqlite::{Alter, Error, ErrorCode, Transaction};
+
+/// Runs a write.
+pub fn run<S: Alter>(
+    tx: &mut Transaction<'_, S>,
+    text: &str,
+    params: &[ValueRef<'_>],
+) -> Result<(), Failure>
+    requires { HasCleanDisk (state S.Store tx.old.conn.now) → IsUnderWay (state S.Store tx.old.conn.now) }
+    ensures same_reference { tx.new.conn.ghost_name ≡ tx.old.conn.ghost_name }
+    ensures ran { HasCleanDisk (state S.Store tx.new.conn.now) → OnOk result ((count : ℕ) × ExecutesInside 0 text.now (bound params.now) (state S.Store tx.old.conn.now) (state S.Store tx.new.conn.now) (Ok count)) }
+    ensures cause { HasCleanDisk (state S.Store tx.new.conn.now) → IfErr result (IsWriteFailure text.now (bound params.now) (state S.Store tx.old.conn.now) (state S.Store tx.new.conn.now)) }
+    ensures failed { HasCleanDisk (state S.Store tx.new.conn.now) → OnErr result (KeepsCommit (state S.Store tx.old.conn.now) (state S.Store tx.new.conn.now)) }
+    ensures survives { Survives (state S.Store tx.old.conn.now) (state S.Store tx.new.conn.now) (λ _. ⊥) }
+{
+    tx.execute(text, params)?;
+    Ok(())
+}
+
+/// The failure of a write whose row can't be too large: a shut connection alone may name a size, so that is the disk's.
+pub fn without_size(failure: Failure) -> Failure
+    ensures { result ≡ without_size failure }
+{
+    match failure {
+        Failure::Memory => Failure::Memory,
+        Failure::Size | Failure::Disk => Failure::Disk,
+    }
+}
+
+/// Runs a delete, which fails for no size: it writes no row.
+pub fn remove<S: Alter>(
+    tx: &mut Transaction<'_, S>,
+    text: &str,
+    params: &[ValueRef<'_>],
+) -> Result<(), Failure>
+    requires { HasCleanDisk (state S.Store tx.old.conn.now) → IsUnderWay (state S.Store tx.old.conn.now) }
+    ensures same_reference { tx.new.conn.ghost_name ≡ tx.old.conn.ghost_name }
+    ensures ran { HasCleanDisk (state S.Store tx.new.conn.now) → OnOk result ((count : ℕ) × ExecutesInside 0 text.now (bound params.now) (state S.Store tx.old.conn.now) (state S.Store tx.new.conn.now) (Ok count)) }
+    ensures cause { HasCleanDisk (state S.Store tx.new.conn.now) → IfErr result (λ f. (g : Failure) × (f ≡ without_size g) × IsWriteFailure text.now (bound params.now) (state S.Store tx.old.conn.now) (state S.Store tx.new.conn.now) g) }
+    ensures failed { HasCleanDisk (state S.Store tx.new.conn.now) → OnErr result (KeepsCommit (state S.Store tx.old.conn.now) (state S.Store tx.new.conn.now)) }
+    ensures survives { Survives (state S.Store tx.old.conn.now) (state S.Store tx.new.conn.now) (λ _. ⊥) }
+{
+    match run(tx, text, params) {
+        Ok(()) => Ok(()),
+        Err(failure) => Err(without_size(failure)),
+    }
+}
+
+/// An error of a query, but that a limit on steps stopped it: that it does on an open connection alone.
+fn unless_stopped(error: Error) -> Result<(), Failure>
+    ensures stopped { OnOk result (error ≡ SqliteFailure OperationInterrupted) }
+    ensures failed { IfErr result (λ f. (f ≡ failure_of error) × (error ≢ SqliteFailure OperationInterrupted)) }
+{
+    match error {
+        Error::SqliteFailure(ErrorCode::OperationInterrupted) => Ok(()),
+        _ => Err(Failure::from(error)),
+    }
+}
+
+/// Succeeds only if no fault has shut the connection, also where the transaction is undone. Nothing changes.
+fn ask<S: Alter>(tx: &mut Transaction<'_, S>) -> Result<(), Failure>
+    ensures same_reference { tx.new.conn.ghost_name ≡ tx.old.conn.ghost_name }
+    ensures same { HasCleanDisk (state S.Store tx.new.conn.now) → OnOk result (IsUnchanged (state S.Store tx.old.conn.now) (state S.Store tx.new.conn.now)) }
+    ensures cause { HasCleanDisk (state S.Store tx.new.conn.now) → IfErr result (FailsWith (state S.Store tx.old.conn.now) (state S.Store tx.new.conn.now) ⊥ ⊥) }
+    ensures kept { HasCleanDisk (state S.Store tx.new.conn.now) → KeepsCommit (state S.Store tx.old.conn.now) (state S.Store tx.new.conn.now) }
+    ensures survives { Survives (state S.Store tx.old.conn.now) (state S.Store tx.new.conn.now) (λ _. ⊥) }
+{
+    if let Err(error) = tx.query_all("SELECT 1", &[]) {
+        return unless_stopped(error);
+    }
+    Ok(())
+}
+
+/// Runs an insert. A size is told only if the connection was open: a shut one may name it too.
+pub fn add<S: Alter>(
+    tx: &mut Transaction<'_, S>,
+    text: &str,
+    params: &[ValueRef<'_>],
+) -> Result<(), Failure>
+    requires { HasCleanDisk (state S.Store tx.old.conn.now) → IsUnderWay (state S.Store tx.old.conn.now) }
+    ensures same_reference { tx.new.conn.ghost_name ≡ tx.old.conn.ghost_name }
+    ensures ran { HasCleanDisk (state S.Store tx.new.conn.now) → OnOk result ((count : ℕ) × ExecutesInside 0 text.now (bound params.now) (state S.Store tx.old.conn.now) (state S.Store tx.new.conn.now) (Ok count)) }
+    ensures cause { HasCleanDisk (state S.Store tx.new.conn.now) → IfErr result (IsAdditionFailure text.now (bound params.now) (state S.Store tx.old.conn.now) (state S.Store tx.new.conn.now)) }
+    ensures failed { HasCleanDisk (state S.Store tx.new.conn.now) → OnErr result (KeepsCommit (state S.Store tx.old.conn.now) (state S.Store tx.new.conn.now)) }
+    ensures survives { Survives (state S.Store tx.old.conn.now) (state S.Store tx.new.conn.now) (λ _. ⊥) }
+{
+    if let Err(failure) = run(tx, text, params) {
+        if let Failure::Size = failure {
+            ask(tx)?;
+        }
+        return Err(failure);
+    }
+    Ok(())
+}

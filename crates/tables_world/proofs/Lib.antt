@@ -1,0 +1,8 @@
+pub mod Columns
+pub mod Cuts
+pub mod Migrating
+pub mod NewRows
+pub mod NewWorld
+pub mod Recorded
+pub mod SoundParts
+pub mod Told

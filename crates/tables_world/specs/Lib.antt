@@ -1,0 +1,6 @@
+pub mod Laws
+pub mod Parts
+pub mod Pieces
+pub mod Rows
+pub mod Told
+pub mod View

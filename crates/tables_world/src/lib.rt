@@ -1,0 +1,6 @@
+//! The world that the rows describe, and when rows are sound.
+#![tactic(auto)]
+
+mod schema;
+
+pub use schema::Schema;

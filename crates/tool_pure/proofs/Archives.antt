@@ -1,0 +1,35 @@
+-- What the front of an input answers that may be an archive.
+use Rattle.std.proofs.Common.{◌≡◌, ℕ, ◌≤◌, List, length, take, codes, Result, Ok, Err, ap, refl, sym, arith, take_all, length-take, ◌∙◌}
+use Rattle.std.specs.Prelude.{IfOk}
+use Rattle.nar.specs.declared.error.NarError.{NarError}
+use Rattle.nar.specs.Tree.{Tree}
+use Rattle.nar.specs.Outcome.{outcome_of}
+use Rattle.nar.specs.Listing.{listing}
+use Rattle.nar.proofs.Fronts.{outcome_front}
+use Rattle.tool_pure.specs.declared.stops.Stop.{Stop}
+use Rattle.tool_pure.specs.Archive.{by_outcome, ls_answer}
+use Rattle.tool_pure.specs.Object.{path_line, source_path_answer}
+use Rattle.paths.specs.Path.{source_path}
+
+-- the listing is that of the front
+pub ls_front : (all : List ℕ) → ls_answer (take 16777224 all) ≡ ls_answer all
+ls_front all = ap (λ r. by_outcome r (listing (codes "."))) (outcome_front all)
+
+module _ (dir name : List ℕ) (refs : List (List ℕ)) (all front : List ℕ) (e : front ≡ take 16777224 all) where
+  refused_so : (stop : Stop) (r : Result Tree NarError) → outcome_of front ≡ r → Err stop ≡ source_path_answer dir name refs front
+      → Err stop ≡ source_path_answer dir name refs all
+  refused_so stop (Ok t) h is =
+      let found : Err stop ≡ Ok (path_line dir (source_path dir name refs front)) =
+      is ∙ ap (λ r. by_outcome r (λ tree. path_line dir (source_path dir name refs front))) h in cc
+  refused_so stop (Err f) h is =
+      is ∙ ap (λ r. by_outcome r (λ tree. path_line dir (source_path dir name refs front))) h
+      ∙ sym (ap (λ r. by_outcome r (λ tree. path_line dir (source_path dir name refs all))) (sym (ap outcome_of e ∙ outcome_front all) ∙ h))
+
+  -- a result by a front that is within the limit where it is an archive
+  pub source_front : (r : Result (List ℕ) Stop) → IfOk r (λ line. length front ≤ 16777216) → r ≡ source_path_answer dir name refs front
+      → r ≡ source_path_answer dir name refs all
+  source_front (Ok line) fits is =
+      let cut : length front ≡ length (take 16777224 all) = ap length e in
+      let whole : front ≡ all = e ∙ take_all 16777224 all (omega (arith, length-take 16777224 all)) in
+      is ∙ ap (source_path_answer dir name refs) whole
+  source_front (Err stop) fits is = refused_so stop (outcome_of front) refl is

@@ -1,0 +1,4 @@
+pub mod Archives
+pub mod Objects
+mod Received
+pub mod Results

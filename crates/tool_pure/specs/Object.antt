@@ -1,0 +1,46 @@
+-- The answers that give an object its store path.
+use Rattle.std.specs.Prelude.{ℕ, ◌++◌, Bool, not, if◌then◌else◌, nat_lt, List, length, codes, Option, Some, None, Result, Ok, Err}
+use Rattle.std.specs.List.{list_all}
+use Rattle.paths.specs.Names.{is_store_name}
+use Rattle.paths.specs.StorePath.{is_base_name, base_of, full_path}
+use Rattle.paths.specs.Path.{text_path, source_path}
+use Rattle.nar.specs.Outcome.{outcome_of}
+use Rattle.report.specs.declared.refusal.Refusal.{Refusal}
+use Rattle.report.specs.declared.refusal.Refusal.TheVariants.{TooLarge, BadStoreName, BadStorePath, TooManyReferences}
+use Rattle.tool_pure.specs.declared.stops.Stop.{Stop}
+use Rattle.tool_pure.specs.declared.stops.Stop.TheVariants.{Refused}
+use Rattle.tool_pure.specs.Archive.{by_outcome}
+
+-- whether a text is a path text: a full path in the store directory, or a base name
+abbrev pub is_path_text : List ℕ → List ℕ → Bool
+is_path_text dir text = is_base_name (base_of dir text)
+
+-- how many references an object may be handed in with
+abbrev pub max_references : ℕ
+max_references = 4096
+
+-- the longest contents whose archive isn't too large
+abbrev pub max_contents : ℕ
+max_contents = 16777104
+
+-- why an object of this name with these references is refused, before its contents are looked at
+abbrev pub object_fault : List ℕ → List ℕ → List (List ℕ) → Option Refusal
+object_fault dir name refs =
+    if not (is_store_name name) then Some BadStoreName
+    else if not (list_all (is_path_text dir) refs) then Some BadStorePath
+    else if nat_lt max_references (length refs) then Some TooManyReferences
+    else None
+
+-- the line of a store path
+abbrev pub path_line : List ℕ → List ℕ → List ℕ
+path_line dir base = full_path dir base ++ codes "\n"
+
+-- what `text-path` answers to contents: the path of the text object, unless its archive would be too large
+abbrev pub text_path_answer : List ℕ → List ℕ → List (List ℕ) → List ℕ → Result (List ℕ) Stop
+text_path_answer dir name refs contents =
+    if nat_lt max_contents (length contents) then Err (Refused TooLarge)
+    else Ok (path_line dir (text_path dir name refs contents))
+
+-- what `source-path` answers to an input: the path of the source object, where it is an archive
+abbrev pub source_path_answer : List ℕ → List ℕ → List (List ℕ) → List ℕ → Result (List ℕ) Stop
+source_path_answer dir name refs bytes = by_outcome (outcome_of bytes) (λ tree. path_line dir (source_path dir name refs bytes))

@@ -1,0 +1,73 @@
+-- What `who` answers: the class of the caller, and whether it may connect.
+use Rattle.std.specs.Prelude.{◌≡◌, ◌⊎◌, ℕ, List, ◌++◌, if◌then◌else◌, codes, Option, Some, None, Result, Ok, Err}
+use Rattle.policy.specs.Settings.{Settings}
+use Rattle.policy.specs.Caller.{Caller, caller_of, is_caller}
+use Rattle.policy.specs.Class.{class_of}
+use Rattle.policy.specs.Rules.{first_broken}
+use Rattle.policy.specs.Toml.{config_of}
+use Rattle.policy.specs.Words.{class_word, rule_word}
+use Rattle.policy.specs.declared.error.KeyWord.{KeyWord}
+use Rattle.policy.specs.Operation.{plain}
+use Rattle.policy.specs.declared.kinds.Rule.{Rule}
+use Rattle.report.specs.declared.refusal.Refusal.TheVariants.{BadConfig, BadCaller}
+use Rattle.tool_pure.specs.declared.stops.Failure.TheVariants.{Memory}
+use Rattle.tool_pure.specs.declared.stops.Stop.{Stop}
+use Rattle.tool_pure.specs.declared.stops.Stop.TheVariants.{Refused, Failed}
+use Rattle.tool_pure.specs.declared.verdicts.Verdict.{Verdict}
+use Rattle.tool_pure.specs.Stop.{stop_text, stop_status}
+use Rattle.report.specs.Outputs.{Prints}
+use Rattle.tool_pure.specs.Stream.{Says}
+
+-- the class of a caller, with the first rule that a plain request of his breaks
+abbrev pub verdict_on : Settings → Caller → Verdict
+verdict_on s c = record { class = class_of s c; denial = first_broken (class_of s c) c plain }
+
+-- the verdict on a caller whose names are plain; any other is refused
+abbrev pub judged : Settings → Caller → Result Verdict Stop
+judged s c = if is_caller c then Ok (verdict_on s c) else Err (Refused BadCaller)
+
+-- the verdict by the configuration, then the caller, who must be named
+abbrev pub verdict_by : Result Settings KeyWord → Option (List ℕ) → Option (List ℕ) → Result Verdict Stop
+verdict_by (Err word) user group = Err (Refused (BadConfig word))
+verdict_by (Ok s) None group = Err (Refused BadCaller)
+verdict_by (Ok s) (Some name) group = judged s (caller_of name group)
+
+-- the verdict on the caller of these names under a configuration text
+abbrev pub verdict_of : List ℕ → Option (List ℕ) → Option (List ℕ) → Result Verdict Stop
+verdict_of config user group = verdict_by (config_of config) user group
+
+-- whether the caller may connect: yes, or the rule that denies it
+abbrev pub denial_text : Option Rule → List ℕ
+denial_text None = codes "connect: yes\n"
+denial_text (Some rule) = codes "denied: " ++ rule_word rule ++ codes "\n"
+
+-- the exit status of a verdict
+abbrev pub denial_status : Option Rule → ℕ
+denial_status None = 0
+denial_status (Some rule) = 4
+
+-- the two lines of a verdict
+abbrev pub verdict_text : Verdict → List ℕ
+verdict_text v = codes "class: " ++ class_word v.class ++ codes "\n" ++ denial_text v.denial
+
+-- what `who` prints
+abbrev pub who_text : Result Verdict Stop → List ℕ
+who_text (Ok verdict) = verdict_text verdict
+who_text (Err stop) = stop_text stop
+
+-- its exit status
+abbrev pub who_status : Result Verdict Stop → ℕ
+who_status (Ok verdict) = denial_status verdict.denial
+who_status (Err stop) = stop_status stop
+
+-- the answer went to the writer and gave its status, or the writer failed; or memory gave out before there was an answer
+abbrev pub AnswersWho : Result Verdict Stop → Option (List ℕ) → Option (List ℕ) → ℕ → Type 0
+AnswersWho answer old new status = Prints (who_text answer) (who_status answer) old new status ⊎ Says (Failed Memory) old new status
+
+-- why no verdict was found: want of memory, or what the definition says
+abbrev pub StopsWho : Result Verdict Stop → Stop → Type 0
+StopsWho answer stop = (stop ≡ Failed Memory) ⊎ (answer ≡ Err stop)
+
+-- why a configuration gives no settings: want of memory, or its first key word
+abbrev pub StopsFor : Result Settings KeyWord → Stop → Type 0
+StopsFor outcome stop = (stop ≡ Failed Memory) ⊎ ((word : KeyWord) × (outcome ≡ Err word) × (stop ≡ Refused (BadConfig word)))

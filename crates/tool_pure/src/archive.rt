@@ -1,0 +1,42 @@
+//! The archive on standard input, or the refusal of its first fault.
+ghost use Rattle.std.specs.Prelude.{◌≡◌, ◌≤◌, ◌⊎◌, length, IfOk, IfErr, Ok, Err, List, ℕ};
+ghost use Rattle.nar.specs.Tree.{Tree};
+ghost use Rattle.nar.specs.Outcome.{outcome_of};
+ghost use Rattle.nar.specs.View.{tree_of};
+ghost use Rattle.tool_pure.specs.Archive.{archive_stop, by_outcome};
+
+use crate::stops::{Failure, Stop};
+use nar::{NarError, Node};
+use report::Refusal;
+use std::alloc::Global;
+
+/// How many bytes of an input decide whether it is an archive: 8 more than an archive has at most.
+pub const MOST_OF_ARCHIVE: usize = 16_777_224;
+
+fn stop_by(fault: NarError) -> Stop
+    ensures { result ≡ archive_stop fault }
+{
+    match fault {
+        NarError::Truncated => Stop::Refused(Refusal::Truncated),
+        NarError::BadTag => Stop::Refused(Refusal::BadTag),
+        NarError::BadPadding => Stop::Refused(Refusal::BadPadding),
+        NarError::BadName => Stop::Refused(Refusal::BadName),
+        NarError::NotSorted => Stop::Refused(Refusal::NotSorted),
+        NarError::TooDeep => Stop::Refused(Refusal::TooDeep),
+        NarError::Trailing => Stop::Refused(Refusal::Trailing),
+        NarError::TooLarge => Stop::Refused(Refusal::TooLarge),
+        NarError::Memory => Stop::Failed(Failure::Memory),
+    }
+}
+
+/// The tree of an archive.
+pub(crate) fn read_archive(alloc: Global, bytes: &[u8]) -> Result<Node<'_>, Stop>
+    ensures ok { IfOk result (λ node. outcome_of bytes.now ≡ Ok (tree_of node)) }
+    ensures fits { IfOk result (λ node. length bytes.now ≤ 16777216) }
+    ensures err { IfErr result (λ e. (e ≡ Stop.Failed Failure.Memory) ⊎ ((text : Tree → List ℕ) → by_outcome (outcome_of bytes.now) text ≡ Err e)) }
+{
+    match nar::read(alloc, bytes) {
+        Ok(node) => Ok(node),
+        Err(fault) => Err(stop_by(fault)),
+    }
+}

@@ -1,0 +1,56 @@
+//! `ls`: the listing of an archive.
+ghost use Rattle.std.specs.Prelude.{◌≡◌, ◌⊎◌, true, IfOk, IfErr, Ok, Err, None, string_bytes};
+ghost use Rattle.tool_pure.specs.Archive.{max_front, ls_answer};
+ghost use Rattle.streams.specs.Reads.{TakesAtMost};
+ghost use Rattle.tool_pure.specs.Stream.{AnswersTo, IsFailure, IsResultOf, result_text};
+
+use crate::archive::{MOST_OF_ARCHIVE, read_archive};
+use crate::input::read_input;
+use crate::stops::{Failure, Stop};
+use crate::stream::give;
+use std::alloc::Global;
+use std::io::{Read, Write};
+
+fn listing(alloc: Global, nar: &[u8]) -> Result<String, Stop>
+    ensures ok { IfOk result (λ text. ls_answer nar.now ≡ Ok (string_bytes text)) }
+    ensures err { IfErr result (λ e. (e ≡ Stop.Failed Failure.Memory) ⊎ (ls_answer nar.now ≡ Err e)) }
+{
+    let node = match read_archive(alloc, nar) {
+        Ok(node) => node,
+        Err(stop) => return Err(stop),
+    };
+    let mut text = String::new(alloc);
+    match nar::list(alloc, &node, &mut text) {
+        Ok(()) => Ok(text),
+        Err(_) => Err(Stop::Failed(Failure::Memory)),
+    }
+}
+
+fn ls_result<R: Read>(alloc: Global, input: &mut R) -> Result<String, Stop>
+    ensures answer { IsFailure true (result_text result) ⊎ IsResultOf None ls_answer (R.remaining input.old) (result_text result) }
+    ensures reads { TakesAtMost max_front (R.remaining input.old) (R.remaining input.new) }
+{
+    match read_input(alloc, input, MOST_OF_ARCHIVE) {
+        Ok(nar) => listing(alloc, nar.as_slice()),
+        Err(stop) => Err(stop),
+    }
+}
+
+/// Prints the listing of the archive that is read, and gives the exit status.
+///
+/// The listing goes to `output`, with status 0: a line for each node, parents first, entries in
+/// order. Else one line goes to `errors`: the archive's fault, `refused: 1 truncated` to
+/// `refused: 8 too-large`, with status 3; `failed: memory`, `failed: input` or, where `output` fails,
+/// `failed: output`, with status 1. No more than 16,777,224 bytes are read, which decide what the
+/// input is.
+pub fn ls<R: Read, W: Write, E: Write>(
+    alloc: Global,
+    input: &mut R,
+    output: &mut W,
+    errors: &mut E,
+) -> u8
+    ensures answer { AnswersTo None ls_answer (R.remaining input.old) (W.contents output.old) (W.contents output.new) (E.contents errors.old) (E.contents errors.new) result }
+    ensures reads { TakesAtMost max_front (R.remaining input.old) (R.remaining input.new) }
+{
+    give(ls_result(alloc, input), output, errors)
+}

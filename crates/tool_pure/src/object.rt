@@ -1,0 +1,137 @@
+//! The name of a store object and its references, as they stand on the command line.
+ghost use Rattle.std.specs.Prelude.{◌≡◌, ◌⊎◌, IfOk, IfErr, IfSome, None, map, take, string_bytes, true, false};
+ghost use Rattle.std.specs.List.{list_all};
+ghost use Rattle.paths.specs.Names.{is_store_name};
+ghost use Rattle.paths.specs.StorePath.{base_of};
+ghost use Rattle.tool_pure.specs.Object.{is_path_text, object_fault};
+ghost use Rattle.tool_pure.specs.Object as spec;
+ghost use Rattle.tool_pure.specs.Stream.{IsStopAt, IsStopBy, ReadsFor};
+
+use crate::input::read_input;
+use crate::stops::{Failure, Stop};
+use paths::{Name, NameError, StoreDir, StorePath, StorePathError};
+use report::Refusal;
+use std::alloc::{AllocError, Global};
+use std::convert::AsStr;
+use std::io::Read;
+
+/// The most references that an object may be handed in with.
+const MAX_REFERENCES: usize = 4_096;
+
+/// The name of a store object.
+pub fn parse_name(alloc: Global, text: &str) -> Result<Name, Stop>
+    ensures ok { IfOk result (λ n. (n ≡ text.now) × (is_store_name text.now ≡ true)) }
+    ensures err { IfErr result (λ e. (e ≡ Stop.Failed Failure.Memory) ⊎ ((e ≡ Stop.Refused Refusal.BadStoreName) × (is_store_name text.now ≡ false))) }
+{
+    match Name::parse(alloc, text) {
+        Ok(name) => Ok(name),
+        Err(NameError::BadStoreName) => Err(Stop::Refused(Refusal::BadStoreName)),
+        Err(NameError::Memory) => Err(Stop::Failed(Failure::Memory)),
+    }
+}
+
+/// The store path that a path text names.
+pub fn parse_reference(alloc: Global, dir: &StoreDir, text: &str) -> Result<StorePath, Stop>
+    ensures ok { IfOk result (λ p. (p ≡ base_of dir.now text.now) × (is_path_text dir.now text.now ≡ true)) }
+    ensures err { IfErr result (λ e. (e ≡ Stop.Failed Failure.Memory) ⊎ ((e ≡ Stop.Refused Refusal.BadStorePath) × (is_path_text dir.now text.now ≡ false))) }
+{
+    match StorePath::parse(alloc, dir, text) {
+        Ok(path) => Ok(path),
+        Err(StorePathError::BadStorePath) => Err(Stop::Refused(Refusal::BadStorePath)),
+        Err(StorePathError::Memory) => Err(Stop::Failed(Failure::Memory)),
+    }
+}
+
+/// The store paths that path texts name, in the order given.
+pub fn parse_references<S: AsStr>(
+    alloc: Global,
+    dir: &StoreDir,
+    texts: &[S],
+) -> Result<Vec<StorePath>, Stop>
+    ensures ok { IfOk result (λ v. (v.items ≡ map (λ t. base_of dir.now (S.text t)) texts.now) × (list_all (λ t. is_path_text dir.now (S.text t)) texts.now ≡ true)) }
+    ensures err { IfErr result (λ e. (e ≡ Stop.Failed Failure.Memory) ⊎ ((e ≡ Stop.Refused Refusal.BadStorePath) × (list_all (λ t. is_path_text dir.now (S.text t)) texts.now ≡ false))) }
+{
+    let mut paths = Vec::new(alloc);
+    for text in texts {
+        let path = match parse_reference(alloc, dir, text.as_str()) {
+            Ok(path) => path,
+            Err(stop) => return Err(stop),
+        };
+        if paths.push(path).is_err() {
+            return Err(Stop::Failed(Failure::Memory));
+        }
+    }
+    Ok(paths)
+}
+
+/// The name of a store object, and its references in the order given.
+#[derive(Drop)]
+pub(crate) struct Object {
+    pub(crate) name: Name,
+    pub(crate) references: Vec<StorePath>,
+}
+
+fn parse_object<S: AsStr>(
+    alloc: Global,
+    dir: &StoreDir,
+    name: &str,
+    references: &[S],
+) -> Result<Object, Stop>
+    ensures ok { IfOk result (λ o. (object_fault dir.now name.now (map S.text references.now) ≡ None) × (o.name ≡ name.now)
+        × (o.references.items ≡ map (base_of dir.now) (map S.text references.now))) }
+    ensures err { IfErr result (IsStopBy (object_fault dir.now name.now (map S.text references.now))) }
+{
+    let name = match parse_name(alloc, name) {
+        Ok(name) => name,
+        Err(stop) => return Err(stop),
+    };
+    let references = match parse_references(alloc, dir, references) {
+        Ok(references) => references,
+        Err(stop) => return Err(stop),
+    };
+    if references.len() > MAX_REFERENCES {
+        return Err(Stop::Refused(Refusal::TooManyReferences));
+    }
+    Ok(Object { name, references })
+}
+
+/// The object that the arguments name, and the bytes of the input, of which no more than `most` are
+/// read: none where the name or the references are refused.
+pub(crate) fn read_object<S: AsStr, R: Read>(
+    alloc: Global,
+    dir: &StoreDir,
+    name: &str,
+    references: &[S],
+    input: &mut R,
+    most: usize,
+) -> Result<(Object, Vec<u8>), Stop>
+    ensures object { IfOk result (λ x. (object_fault dir.now name.now (map S.text references.now) ≡ None) × (x.0.name ≡ name.now)
+        × (x.0.references.items ≡ map (base_of dir.now) (map S.text references.now))) }
+    ensures bytes { IfOk result (λ x. IfSome (R.remaining input.old) (λ all. x.1.items ≡ take most all)) }
+    ensures err { IfErr result (IsStopAt (object_fault dir.now name.now (map S.text references.now))) }
+    ensures reads { ReadsFor (object_fault dir.now name.now (map S.text references.now)) most (R.remaining input.old) (R.remaining input.new) }
+{
+    let object = match parse_object(alloc, dir, name, references) {
+        Ok(object) => object,
+        Err(stop) => return Err(stop),
+    };
+    match read_input(alloc, input, most) {
+        Ok(bytes) => Ok((object, bytes)),
+        Err(stop) => Err(stop),
+    }
+}
+
+/// The line of a store path.
+pub(crate) fn path_line(
+    alloc: Global,
+    dir: &StoreDir,
+    path: &StorePath,
+) -> Result<String, AllocError>
+    ensures { IfOk result (λ line. string_bytes line ≡ spec.path_line dir.now path.now) }
+{
+    let mut line = String::from_str(alloc, dir.as_str())?;
+    line.push_str("/")?;
+    line.push_str(path.as_str())?;
+    line.push_str("\n")?;
+    Ok(line)
+}

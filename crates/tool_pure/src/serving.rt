@@ -1,0 +1,33 @@
+//! One request over a store.
+ghost use Rattle.model.specs.Reply as replied;
+ghost use Rattle.store_types.specs.View.{request_view};
+ghost use Rattle.store.specs.Calls.{Calls};
+ghost use Rattle.tool_pure.specs.Telling.{IsTold};
+
+use crate::telling::tell;
+use policy::{Caller, store_dir};
+use sqlite::Alter;
+use std::alloc::Global;
+use std::io::Write;
+use store::Store;
+use store_types::Request;
+
+/// Does what a caller asks of a store, tells the reply on the two writers, and gives the exit status: 0 done, 1 failed, 3
+/// refused, 4 denied.
+///
+/// What was done stands, also where a writer fails afterwards or memory for the text is refused.
+pub fn serve<S: Alter, W: Write, E: Write>(
+    alloc: Global,
+    store: &mut Store<S>,
+    caller: &Caller,
+    request: Request,
+    output: &mut W,
+    errors: &mut E,
+) -> u8
+    // The store takes one step, and the reply of that step is what is told.
+    ensures { (reply : replied.Reply) × Calls S.Store caller.now (request_view request) reply store.old store.new
+        × IsTold store.old.settings.store_dir reply (W.contents output.old) (W.contents output.new) (E.contents errors.old) (E.contents errors.new) result }
+{
+    let reply = store.call(caller, request);
+    tell(alloc, store_dir(store.config()), reply, output, errors)
+}

@@ -1,0 +1,80 @@
+//! `source-path`: from an archive and references to a store path.
+ghost use Rattle.std.specs.Prelude.{◌≡◌, ◌≤◌, ◌⊎◌, length, IfOk, IfErr, Ok, Err, is_none, map, string_bytes};
+ghost use Rattle.paths.specs.StorePath.{base_of};
+ghost use Rattle.tool_pure.specs.Archive.{max_front};
+ghost use Rattle.tool_pure.specs.Object.{object_fault, source_path_answer};
+ghost use Rattle.tool_pure.specs.Stream.{AnswersTo, ReadsFor, IsFailure, IsResultOf, result_text};
+
+use crate::archive::{MOST_OF_ARCHIVE, read_archive};
+use crate::object::{Object, path_line, read_object};
+use crate::stops::{Failure, Stop};
+use crate::stream::give;
+use paths::StoreDir;
+use std::alloc::Global;
+use std::convert::AsStr;
+use std::io::{Read, Write};
+
+fn source_line(alloc: Global, dir: &StoreDir, object: &Object, nar: &[u8]) -> Result<String, Stop>
+    ensures ok { IfOk result (λ line. source_path_answer dir.now object.now.name object.now.references.items nar.now ≡ Ok (string_bytes line)) }
+    ensures fits { IfOk result (λ line. length nar.now ≤ 16777216) }
+    ensures err { IfErr result (λ e. (e ≡ Stop.Failed Failure.Memory) ⊎ (source_path_answer dir.now object.now.name object.now.references.items nar.now ≡ Err e)) }
+{
+    if let Err(stop) = read_archive(alloc, nar) {
+        return Err(stop);
+    }
+    let references = object.references.as_slice();
+    let Ok(path) = paths::source_path(alloc, dir, &object.name, references, nar) else {
+        return Err(Stop::Failed(Failure::Memory));
+    };
+    match path_line(alloc, dir, &path) {
+        Ok(line) => Ok(line),
+        Err(_) => Err(Stop::Failed(Failure::Memory)),
+    }
+}
+
+fn source_path_result<S: AsStr, R: Read>(
+    alloc: Global,
+    dir: &StoreDir,
+    name: &str,
+    references: &[S],
+    input: &mut R,
+) -> Result<String, Stop>
+    ensures answer { IsFailure (is_none (object_fault dir.now name.now (map S.text references.now))) (result_text result) ⊎ IsResultOf (object_fault dir.now name.now (map S.text references.now))
+        (source_path_answer dir.now name.now (map (base_of dir.now) (map S.text references.now))) (R.remaining input.old) (result_text result) }
+    ensures reads { ReadsFor (object_fault dir.now name.now (map S.text references.now)) max_front (R.remaining input.old) (R.remaining input.new) }
+{
+    match read_object(alloc, dir, name, references, input, MOST_OF_ARCHIVE) {
+        Ok((object, nar)) => source_line(alloc, dir, &object, nar.as_slice()),
+        Err(stop) => Err(stop),
+    }
+}
+
+/// Prints the path of a source object, by its name, the path texts of its references and the archive
+/// that is read, and gives the exit status.
+///
+/// The path and a line feed go to `output`, with status 0. Else one line goes to `errors`, by the
+/// first that applies: `refused: 12 bad-store-name`, `refused: 14 bad-store-path`, `refused: 33
+/// too-many-references` above 4,096 references and the archive's fault, `refused: 1 truncated` to
+/// `refused: 8 too-large`, all with status 3; `failed: memory`, `failed: input` or, where `output`
+/// fails, `failed: output`, all with status 1. No more than 16,777,224 bytes are read, which decide
+/// what the input is, and nothing where the name or the references are refused.
+pub fn source_path<S: AsStr, R: Read, W: Write, E: Write>(
+    alloc: Global,
+    dir: &StoreDir,
+    name: &str,
+    references: &[S],
+    input: &mut R,
+    output: &mut W,
+    errors: &mut E,
+) -> u8
+    ensures answer { AnswersTo (object_fault dir.now name.now (map S.text references.now))
+        (source_path_answer dir.now name.now (map (base_of dir.now) (map S.text references.now)))
+        (R.remaining input.old) (W.contents output.old) (W.contents output.new) (E.contents errors.old) (E.contents errors.new) result }
+    ensures reads { ReadsFor (object_fault dir.now name.now (map S.text references.now)) max_front (R.remaining input.old) (R.remaining input.new) }
+{
+    give(
+        source_path_result(alloc, dir, name, references, input),
+        output,
+        errors,
+    )
+}

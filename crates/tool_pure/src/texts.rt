@@ -1,0 +1,89 @@
+//! `text-path`: from contents and references to a store path.
+ghost use Rattle.std.specs.Prelude.{◌≡◌, ◌+◌, ◌⊎◌, IfOk, IfErr, Ok, Err, is_none, map, string_bytes};
+ghost use Rattle.paths.specs.StorePath.{base_of};
+ghost use Rattle.tool_pure.specs.Object.{max_contents, object_fault, text_path_answer};
+ghost use Rattle.tool_pure.specs.Stream.{AnswersTo, ReadsFor, IsFailure, IsResultOf, result_text};
+
+use crate::object::{Object, path_line, read_object};
+use crate::stops::{Failure, Stop};
+use crate::stream::give;
+use paths::StoreDir;
+use report::Refusal;
+use std::alloc::Global;
+use std::convert::AsStr;
+use std::io::{Read, Write};
+
+/// The longest contents whose archive isn't too large.
+const MAX_CONTENTS: usize = 16_777_104;
+
+/// One byte more.
+pub const MOST_OF_CONTENTS: usize = 16_777_105;
+
+fn text_line(
+    alloc: Global,
+    dir: &StoreDir,
+    object: &Object,
+    contents: &[u8],
+) -> Result<String, Stop>
+    ensures ok { IfOk result (λ line. text_path_answer dir.now object.now.name object.now.references.items contents.now ≡ Ok (string_bytes line)) }
+    ensures err { IfErr result (λ e. (e ≡ Stop.Failed Failure.Memory) ⊎ (text_path_answer dir.now object.now.name object.now.references.items contents.now ≡ Err e)) }
+{
+    if contents.len() > MAX_CONTENTS {
+        return Err(Stop::Refused(Refusal::TooLarge));
+    }
+    let references = object.references.as_slice();
+    let Ok(path) = paths::text_path(alloc, dir, &object.name, references, contents) else {
+        return Err(Stop::Failed(Failure::Memory));
+    };
+    match path_line(alloc, dir, &path) {
+        Ok(line) => Ok(line),
+        Err(_) => Err(Stop::Failed(Failure::Memory)),
+    }
+}
+
+fn text_path_result<S: AsStr, R: Read>(
+    alloc: Global,
+    dir: &StoreDir,
+    name: &str,
+    references: &[S],
+    input: &mut R,
+) -> Result<String, Stop>
+    ensures answer { IsFailure (is_none (object_fault dir.now name.now (map S.text references.now))) (result_text result) ⊎ IsResultOf (object_fault dir.now name.now (map S.text references.now))
+        (text_path_answer dir.now name.now (map (base_of dir.now) (map S.text references.now))) (R.remaining input.old) (result_text result) }
+    ensures reads { ReadsFor (object_fault dir.now name.now (map S.text references.now)) (max_contents + 1) (R.remaining input.old) (R.remaining input.new) }
+{
+    match read_object(alloc, dir, name, references, input, MOST_OF_CONTENTS) {
+        Ok((object, contents)) => text_line(alloc, dir, &object, contents.as_slice()),
+        Err(stop) => Err(stop),
+    }
+}
+
+/// Prints the path of a text object, by its name, the path texts of its references and the contents
+/// that are read, and gives the exit status.
+///
+/// The path and a line feed go to `output`, with status 0. Else one line goes to `errors`, by the
+/// first that applies: `refused: 12 bad-store-name`, `refused: 14 bad-store-path`, `refused: 33
+/// too-many-references` above 4,096 references and `refused: 8 too-large` above 16,777,104 bytes
+/// of contents, all with status 3; `failed: memory`, `failed: input` or, where `output` fails,
+/// `failed: output`, all with status 1. No more than one byte above the limit of contents is read, and
+/// nothing where the name or the references are refused.
+pub fn text_path<S: AsStr, R: Read, W: Write, E: Write>(
+    alloc: Global,
+    dir: &StoreDir,
+    name: &str,
+    references: &[S],
+    input: &mut R,
+    output: &mut W,
+    errors: &mut E,
+) -> u8
+    ensures answer { AnswersTo (object_fault dir.now name.now (map S.text references.now))
+        (text_path_answer dir.now name.now (map (base_of dir.now) (map S.text references.now)))
+        (R.remaining input.old) (W.contents output.old) (W.contents output.new) (E.contents errors.old) (E.contents errors.new) result }
+    ensures reads { ReadsFor (object_fault dir.now name.now (map S.text references.now)) (max_contents + 1) (R.remaining input.old) (R.remaining input.new) }
+{
+    give(
+        text_path_result(alloc, dir, name, references, input),
+        output,
+        errors,
+    )
+}

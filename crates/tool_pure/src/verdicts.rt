@@ -1,0 +1,112 @@
+//! `who`: from a configuration and a caller to a verdict.
+ghost use Rattle.std.specs.Prelude.{◌≡◌, ◌++◌, OnOk, IfOk, IfErr, Ok, option_map, string_bytes};
+ghost use Rattle.tool_pure.specs.Who.{AnswersWho, StopsWho, verdict_of, verdict_text, denial_text, denial_status};
+
+use crate::configuration::settings;
+use crate::stops::{Failure, Stop};
+use crate::stream::{print, say};
+use policy::{Caller, CallerError, Class, Op, Rule, class, decide};
+use report::Refusal;
+use std::alloc::{AllocError, Global};
+use std::io::Write;
+
+/// What a caller is told of himself.
+#[derive(Clone, Copy, PartialEq, Eq, Debug)]
+pub struct Verdict {
+    /// His class.
+    pub class: Class,
+    /// The first rule that forbids him a plain request, if one does.
+    pub denial: Option<Rule>,
+}
+
+impl Verdict {
+    /// The exit status: 0 where the caller may connect, else 4.
+    fn status(&self) -> u8
+        ensures { result ≡ denial_status self.now.denial }
+    {
+        match self.denial {
+            None => 0,
+            Some(_) => 4,
+        }
+    }
+
+    /// The two lines that say it.
+    fn text(&self, alloc: Global) -> Result<String, AllocError>
+        ensures { IfOk result (λ text. string_bytes text ≡ verdict_text self.now) }
+    {
+        let mut text = String::from_str(alloc, "class: ")?;
+        text.push_str(self.class.as_str())?;
+        text.push_str("\n")?;
+        push_denial(self.denial, &mut text)?;
+        Ok(text)
+    }
+}
+
+/// Appends the line that says whether a caller may connect.
+fn push_denial(denial: Option<Rule>, text: &mut String) -> Result<(), AllocError>
+    ensures { OnOk result (string_bytes text.new ≡ string_bytes text.old ++ denial_text denial) }
+{
+    match denial {
+        None => text.push_str("connect: yes\n"),
+        Some(rule) => {
+            text.push_str("denied: ")?;
+            text.push_str(rule.as_str())?;
+            text.push_str("\n")
+        }
+    }
+}
+
+/// The class of a caller, and the first rule that forbids him a plain request.
+///
+/// # Errors
+///
+/// `BadConfig` with the first key word that applies, else `BadCaller` where no user is named or a
+/// name isn't plain; `Memory` where memory was refused.
+pub fn judge(
+    alloc: Global,
+    config: &[u8],
+    user: Option<&str>,
+    group: Option<&str>,
+) -> Result<Verdict, Stop>
+    ensures ok { IfOk result (λ v. verdict_of config.now (option_map (λ s. s.now) user.entry) (option_map (λ s. s.now) group.entry) ≡ Ok v) }
+    ensures err { IfErr result (StopsWho (verdict_of config.now (option_map (λ s. s.now) user.entry) (option_map (λ s. s.now) group.entry))) }
+{
+    let config = match settings(alloc, config) {
+        Ok(config) => config,
+        Err(stop) => return Err(stop),
+    };
+    let Some(name) = user else {
+        return Err(Stop::Refused(Refusal::BadCaller));
+    };
+    let caller = match Caller::new(alloc, name, group) {
+        Ok(caller) => caller,
+        Err(CallerError::BadCaller) => return Err(Stop::Refused(Refusal::BadCaller)),
+        Err(CallerError::Memory) => return Err(Stop::Failed(Failure::Memory)),
+    };
+    let class = class(&config, &caller);
+    let denial = decide(class, &caller, &Op::Plain);
+    Ok(Verdict { class, denial })
+}
+
+/// Prints the class of a caller and whether he may connect, and gives the exit status.
+///
+/// Everything goes to the one writer: the two lines with status 0 or 4, or the one line of a bad
+/// configuration or caller with status 3, or of refused memory with status 1. Where the writer
+/// fails, the status is 1 and nothing more is written: it holds a front of these lines.
+pub fn who<W: Write>(
+    alloc: Global,
+    config: &[u8],
+    user: Option<&str>,
+    group: Option<&str>,
+    out: &mut W,
+) -> u8
+    ensures { AnswersWho (verdict_of config.now (option_map (λ s. s.now) user.entry) (option_map (λ s. s.now) group.entry)) (W.contents out.old) (W.contents out.new) result }
+{
+    match judge(alloc, config, user, group) {
+        Ok(verdict) => match verdict.text(alloc) {
+            Ok(text) => print(text.as_str(), verdict.status(), out),
+            Err(_) => say(Stop::Failed(Failure::Memory), out),
+        },
+        Err(stop) => say(stop, out),
+    }
+}

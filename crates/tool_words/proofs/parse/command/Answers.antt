@@ -1,0 +1,63 @@
+use Rattle.std.proofs.Common.{◌≡◌, List, [], map, Result, true, ap, ap₂, refl, ◌∙◌, sym}
+use Rattle.std.proofs.lemmas.Result.{IfOk-weaker, IfErr-weaker}
+use Rattle.std.proofs.lemmas.Bool.{and_parts}
+use Rattle.clap.specs.Kinds.{Kinds}
+use Rattle.clap.specs.Walk.{Text}
+use Rattle.clap.specs.Simple.{App, app_of, is_simple, matches_of, subcommand_of}
+use Rattle.clap.specs.Faults.{is_simple_and_free, fault_of}
+use Rattle.clap.proofs.OnLiterals.{clap_on_literals}
+use Rattle.tool_words.specs.declared.error.CommandError.{CommandError}
+use Rattle.tool_words.specs.declared.error.CommandError.TheVariants.{Usage, Misuse, Memory}
+use Rattle.tool_words.specs.declared.error.UsageFault.{UsageFault}
+use Rattle.tool_words.specs.Grammar.{nixkeep_app}
+use Rattle.tool_words.specs.Line.{Line, line_from, line_of, faults_of, Misses, IsRefusal, IsUsageFault}
+use Rattle.tool_words.proofs.parse.command.Goals as goal
+
+-- the command is one whose matches and faults `clap` states
+app_is_free : is_simple_and_free nixkeep_app ≡ true
+unfolding nixkeep_app clap_on_literals
+app_is_free = refl
+
+-- such a command is simple
+simple_if_free : (a : App) → is_simple_and_free a ≡ true → is_simple a ≡ true
+simple_if_free a free = (and_parts (is_simple a) _ free).0
+
+-- words without a fault whose line misses something
+missing : (words : List Text) (line : Result Line UsageFault) (e : CommandError) → faults_of words ≡ [] → line ≡ line_of words → Misses line e → IsUsageFault words e
+missing words line (Usage fault) none is h = absurd h
+missing words line (Misuse fault) none is h = (none, sym is ∙ h)
+missing words line Memory none is h = tt
+
+-- words with a fault
+refused : (words : List Text) (kinds : Kinds) (e : CommandError) → kinds ≡ faults_of words → IsRefusal kinds e → IsUsageFault words e
+refused words kinds (Usage fault) is h = rw (← is) h
+refused words kinds (Misuse fault) is h = absurd h
+refused words kinds Memory is h = tt
+
+pub returns-in-Ok-try_get_matches_from-clause-ok : goal.returns-in-Ok-try_get_matches_from-clause-ok
+unfolding line_of faults_of
+returns-in-Ok-try_get_matches_from-clause-ok g c =
+    let words = map g.S.AsStr.text c.args.words.now in
+    let free = ap is_simple_and_free c.in-Ok.ensures ∙ app_is_free in
+    let none = sym (ap (λ a. fault_of a words) c.in-Ok.ensures) ∙ c.in-Ok-try_get_matches_from.ensures.kinds free in
+    let stated = c.in-Ok-try_get_matches_from.ensures.matches (simple_if_free (app_of c.in-Ok.nixkeep) free) in
+    let line = ap₂ line_from (stated.0 ∙ ap (λ a. matches_of a words) c.in-Ok.ensures) (stated.1 ∙ ap (λ a. subcommand_of a words) c.in-Ok.ensures) in
+    IfOk-weaker c.read.result _ _ (λ found stands. record { no_fault = none; stands = sym line ∙ stands }) c.read.ensures.ok
+
+pub returns-in-Ok-try_get_matches_from-clause-err : goal.returns-in-Ok-try_get_matches_from-clause-err
+unfolding line_of faults_of
+returns-in-Ok-try_get_matches_from-clause-err g c =
+    let words = map g.S.AsStr.text c.args.words.now in
+    let free = ap is_simple_and_free c.in-Ok.ensures ∙ app_is_free in
+    let none = sym (ap (λ a. fault_of a words) c.in-Ok.ensures) ∙ c.in-Ok-try_get_matches_from.ensures.kinds free in
+    let stated = c.in-Ok-try_get_matches_from.ensures.matches (simple_if_free (app_of c.in-Ok.nixkeep) free) in
+    let line = ap₂ line_from (stated.0 ∙ ap (λ a. matches_of a words) c.in-Ok.ensures) (stated.1 ∙ ap (λ a. subcommand_of a words) c.in-Ok.ensures) in
+    IfErr-weaker c.read.result _ _ (λ e misses. missing words _ e none line misses) c.read.ensures.err
+
+pub returns-in-Err-try_get_matches_from-clause-err : goal.returns-in-Err-try_get_matches_from-clause-err
+unfolding faults_of
+returns-in-Err-try_get_matches_from-clause-err g c =
+    let words = map g.S.AsStr.text c.args.words.now in
+    let free = ap is_simple_and_free c.in-Ok.ensures ∙ app_is_free in
+    let has = c.in-Err-try_get_matches_from.ensures.kinds free in
+    refused words _ _ (ap (λ a. fault_of a words) c.in-Ok.ensures) (c.refusal.ensures _ has)

@@ -1,0 +1,21 @@
+use Rattle.std.proofs.Common.{ap₂, ◌∙◌}
+use Rattle.std.specs.Prelude.{◌||◌}
+use Rattle.std.proofs.lemmas.Result.{IfOk-weaker}
+use Rattle.clap.specs.Simple.{with_rule}
+use Rattle.tool_words.proofs.subcommands.profile.Goals as goal
+
+pub returns-clause-app : goal.returns-clause-app
+returns-clause-app c =
+    let first = c.plain.ensures.app in
+    let second = c.in_ok-arg.ensures.shape c.option.ensures.local ∙ ap₂ with_rule first c.option.ensures.rule in
+    let third = c.in_ok-arg-2.ensures.shape c.required.ensures.local ∙ ap₂ with_rule second c.required.ensures.rule in
+    let fourth = c.in_ok-arg-3.ensures.shape c.required-2.ensures.local ∙ ap₂ with_rule third c.required-2.ensures.rule in
+    IfOk-weaker c.arg-4.result _ _ (λ r added. added.shape c.optional.ensures.local ∙ ap₂ with_rule fourth c.optional.ensures.rule) c.arg-4.ensures
+
+pub returns-clause-local : goal.returns-clause-local
+returns-clause-local c =
+    let first = c.plain.ensures.local in
+    let second = c.in_ok-arg.ensures.globals ∙ ap₂ (λ a b. a || b) first c.option.ensures.local in
+    let third = c.in_ok-arg-2.ensures.globals ∙ ap₂ (λ a b. a || b) second c.required.ensures.local in
+    let fourth = c.in_ok-arg-3.ensures.globals ∙ ap₂ (λ a b. a || b) third c.required-2.ensures.local in
+    IfOk-weaker c.arg-4.result _ _ (λ r added. added.globals ∙ ap₂ (λ a b. a || b) fourth c.optional.ensures.local) c.arg-4.ensures

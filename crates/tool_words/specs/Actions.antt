@@ -1,0 +1,69 @@
+-- What the values of a subcommand stand for, and which of them don't go together.
+use Rattle.std.specs.Prelude.{ℕ, Bool, List, if◌then◌else◌, is_some, codes, Option, Some, None, unwrap_or, Result, Ok, Err}
+use Rattle.std.specs.Option.{option_map_or}
+use Rattle.std.specs.Str.{bytes_eq}
+use Rattle.clap.specs.Walk.{Row, Text}
+use Rattle.paths.specs.Decimal.{decimal_of, number_up_to}
+use Rattle.tool_words.specs.declared.error.UsageFault.{UsageFault}
+use Rattle.tool_words.specs.declared.error.UsageFault.TheVariants.{UnknownAction, MissingValue, ExtraValue, OwnerOfPermanent, BadLimit, ConnectionsWithoutPort}
+use Rattle.tool_words.specs.declared.line.RootKind.{RootKind}
+use Rattle.tool_words.specs.declared.line.RootKind.TheVariants.{Permanent, User}
+use Rattle.tool_words.specs.declared.line.ServeArguments.{ServeArguments}
+use Rattle.tool_words.specs.declared.line.ServeArguments.TheVariants.{Streams, Port}
+use Rattle.tool_words.specs.Asked.{Asked, OnProfile, OnSession, set, rollback, switch, delete_generation, add_temp, end_session, unroot_permanent, unroot_user}
+use Rattle.tool_words.specs.Values.{is_given}
+
+-- an action that wants a value
+abbrev pub wanting : {A : Type 0} → (Text → A) → Option Text → Result A UsageFault
+wanting act (Some text) = Ok (act text)
+wanting act None = Err MissingValue
+
+-- an action that takes none
+abbrev pub without : {A : Type 0} → A → Option Text → Result A UsageFault
+without act (Some text) = Err ExtraValue
+without act None = Ok act
+
+-- the number of a generation: 1 to 9,999, and 0 for any other text
+abbrev pub generation : Text → ℕ
+generation text = number_up_to 9999 text
+
+-- the number of a session: 1 to 4,194,304, and 0 for any other text
+abbrev pub session : Text → ℕ
+session text = number_up_to 4194304 text
+
+-- an ACTION of `profile` with its VALUE
+abbrev pub on_profile : Text → Option Text → Result OnProfile UsageFault
+on_profile action value =
+    if bytes_eq action (codes "set") then wanting set value
+    else if bytes_eq action (codes "rollback") then without rollback value
+    else if bytes_eq action (codes "switch") then wanting (λ n. switch (generation n)) value
+    else if bytes_eq action (codes "delete") then wanting (λ n. delete_generation (generation n)) value
+    else Err UnknownAction
+
+-- an ACTION of `temp` with its PATH
+abbrev pub on_session : Text → Option Text → Result OnSession UsageFault
+on_session action path =
+    if bytes_eq action (codes "add") then wanting add_temp path
+    else if bytes_eq action (codes "end") then without end_session path
+    else Err UnknownAction
+
+-- the kind of a root that is set
+abbrev pub root_kind : List Row → RootKind
+root_kind rs = if is_given (codes "permanent") rs then Permanent else User
+
+-- the root that is dropped
+abbrev pub unrooted : Bool → Option Text → Text → Result Asked UsageFault
+unrooted permanent owner name =
+    if permanent then (if is_some owner then Err OwnerOfPermanent else Ok (unroot_permanent name))
+    else Ok (unroot_user owner name)
+
+-- after how many bytes a collection may stop
+abbrev pub limit : Option Text → Result (Option ℕ) UsageFault
+limit None = Ok None
+limit (Some text) = option_map_or (λ n. Ok (Some n)) (decimal_of text) (Err BadLimit)
+
+-- where requests come from: one connection, where it isn't said how many
+abbrev pub served : Option ℕ → Option ℕ → Result ServeArguments UsageFault
+served None None = Ok Streams
+served None (Some connections) = Err ConnectionsWithoutPort
+served (Some port) connections = Ok (Port port (unwrap_or connections 1))

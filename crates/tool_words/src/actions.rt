@@ -1,0 +1,112 @@
+//! What values stand for, and which of them don't go together.
+ghost use Rattle.std.specs.Prelude.{◌≡◌, IfOk, IfErr, Ok, Err};
+ghost use Rattle.tool_words.specs.Actions as action;
+ghost use Rattle.tool_words.specs.Actions.{on_profile, on_session, limit, served};
+ghost use Rattle.tool_words.specs.Asked.{optional_text, on_profile_view, on_session_view, unroot_view};
+
+use crate::error::UsageFault;
+use crate::line::{ProfileAction, ServeArguments, TempAction, UnrootArguments, Unrooted};
+
+/// The number of a generation, 1 to 9,999; any other text stands for 0, which no profile has.
+fn generation(text: &str) -> u32
+    ensures { result ≡ action.generation text.now }
+{
+    paths::numbers::generation(text) as u32
+}
+
+/// An ACTION of `profile`, with its VALUE.
+pub(crate) fn profile_action<'a>(
+    action: &str,
+    value: Option<&'a str>,
+) -> Result<ProfileAction<'a>, UsageFault>
+    ensures ok { IfOk result (λ a. on_profile action.now (optional_text value.entry) ≡ Ok (on_profile_view a)) }
+    ensures err { IfErr result (λ f. on_profile action.now (optional_text value.entry) ≡ Err f) }
+{
+    match action {
+        "set" => match value {
+            Some(path) => Ok(ProfileAction::Set(path)),
+            None => Err(UsageFault::MissingValue),
+        },
+        "rollback" => match value {
+            Some(_) => Err(UsageFault::ExtraValue),
+            None => Ok(ProfileAction::Rollback),
+        },
+        "switch" => match value {
+            Some(number) => Ok(ProfileAction::Switch(generation(number))),
+            None => Err(UsageFault::MissingValue),
+        },
+        "delete" => match value {
+            Some(number) => Ok(ProfileAction::Delete(generation(number))),
+            None => Err(UsageFault::MissingValue),
+        },
+        _ => Err(UsageFault::UnknownAction),
+    }
+}
+
+/// An ACTION of `temp`, with its PATH.
+pub(crate) fn temp_action<'a>(
+    action: &str,
+    path: Option<&'a str>,
+) -> Result<TempAction<'a>, UsageFault>
+    ensures ok { IfOk result (λ a. on_session action.now (optional_text path.entry) ≡ Ok (on_session_view a)) }
+    ensures err { IfErr result (λ f. on_session action.now (optional_text path.entry) ≡ Err f) }
+{
+    match action {
+        "add" => match path {
+            Some(path) => Ok(TempAction::Add(path)),
+            None => Err(UsageFault::MissingValue),
+        },
+        "end" => match path {
+            Some(_) => Err(UsageFault::ExtraValue),
+            None => Ok(TempAction::End),
+        },
+        _ => Err(UsageFault::UnknownAction),
+    }
+}
+
+/// Whose root of this name is dropped.
+pub(crate) fn unrooted<'a>(
+    permanent: bool,
+    owner: Option<&'a str>,
+    name: &'a str,
+) -> Result<UnrootArguments<'a>, UsageFault>
+    ensures ok { IfOk result (λ r. action.unrooted permanent (optional_text owner.entry) name.entry.now ≡ Ok (unroot_view r.root r.name.now)) }
+    ensures err { IfErr result (λ f. action.unrooted permanent (optional_text owner.entry) name.entry.now ≡ Err f) }
+{
+    let root = match (permanent, owner) {
+        (true, Some(_)) => return Err(UsageFault::OwnerOfPermanent),
+        (true, None) => Unrooted::Permanent,
+        (false, owner) => Unrooted::User(owner),
+    };
+    Ok(UnrootArguments { root, name })
+}
+
+/// After how many bytes a collection may stop.
+pub(crate) fn limit(text: Option<&str>) -> Result<Option<u64>, UsageFault>
+    ensures ok { IfOk result (λ n. limit (optional_text text.entry) ≡ Ok n) }
+    ensures err { IfErr result (λ f. limit (optional_text text.entry) ≡ Err f) }
+{
+    let Some(text) = text else {
+        return Ok(None);
+    };
+    match paths::numbers::decimal(text) {
+        Some(bytes) => Ok(Some(bytes)),
+        None => Err(UsageFault::BadLimit),
+    }
+}
+
+/// Where requests come from.
+pub(crate) fn served(
+    port: Option<u16>,
+    connections: Option<u32>,
+) -> Result<ServeArguments, UsageFault>
+    ensures ok { IfOk result (λ s. served port connections ≡ Ok s) }
+    ensures err { IfErr result (λ f. served port connections ≡ Err f) }
+{
+    match (port, connections) {
+        (None, None) => Ok(ServeArguments::Streams),
+        (None, Some(_)) => Err(UsageFault::ConnectionsWithoutPort),
+        (Some(port), None) => Ok(ServeArguments::Port(port, 1)),
+        (Some(port), Some(connections)) => Ok(ServeArguments::Port(port, connections)),
+    }
+}

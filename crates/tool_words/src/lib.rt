@@ -1,0 +1,21 @@
+//! The grammar of the command line.
+#![tactic(auto)]
+
+mod actions;
+mod arguments;
+mod error;
+mod grammar;
+mod line;
+mod parse;
+mod subcommands;
+mod tasks;
+mod values;
+mod verb;
+
+pub use error::{CommandError, UsageFault};
+pub use line::{
+    CommandLine, DeleteArguments, GcArguments, ObjectArguments, ProfileAction, ProfileArguments,
+    RootArguments, RootKind, ServeArguments, Task, TempAction, TempArguments, UnrootArguments,
+    Unrooted,
+};
+pub use parse::command;

@@ -1,0 +1,89 @@
+//! The words of a command line, read by `clap`.
+ghost use Rattle.std.specs.Prelude.{◌≡◌, IfOk, IfErr, Ok, Err, map};
+ghost use Rattle.std.specs.Option.{option_map_or};
+ghost use Rattle.clap.specs.Kinds.{Kinds, HasKind};
+ghost use Rattle.clap.specs.Simple.{subcommand_rows_of};
+ghost use Rattle.tool_words.specs.Asked.{asked_view};
+ghost use Rattle.tool_words.specs.Line.{line_view, line_from, asked_by, Misses, IsRefusal, IsLine, IsUsageFault};
+ghost use Rattle.tool_words.specs.Values.{rows};
+
+use crate::error::{CommandError, UsageFault};
+use crate::grammar::nixkeep;
+use crate::line::{CommandLine, Task};
+use crate::tasks::task;
+use crate::values::optional;
+use crate::verb::verb_of;
+use clap::ArgMatches;
+use clap::error::ErrorKind;
+use std::alloc::Global;
+use std::convert::AsStr;
+
+/// The subcommand of this name, with the values of its arguments.
+fn named<'a>(alloc: Global, name: &str, matches: &ArgMatches<'a>) -> Result<Task<'a>, CommandError>
+    ensures ok { IfOk result (λ t. asked_by name.now (rows matches.now) ≡ Ok (asked_view t)) }
+    ensures err { IfErr result (Misses (asked_by name.now (rows matches.now))) }
+{
+    match verb_of(name) {
+        Some(verb) => task(alloc, verb, matches),
+        None => Err(CommandError::Misuse(UsageFault::NoSubcommand)),
+    }
+}
+
+/// The subcommand that `clap` found.
+fn subcommand<'a>(alloc: Global, matches: &ArgMatches<'a>) -> Result<Task<'a>, CommandError>
+    ensures ok { IfOk result (λ t. option_map_or (λ p. asked_by p.0 p.1) (subcommand_rows_of matches.now) (Err UsageFault.NoSubcommand) ≡ Ok (asked_view t)) }
+    ensures err { IfErr result (Misses (option_map_or (λ p. asked_by p.0 p.1) (subcommand_rows_of matches.now) (Err UsageFault.NoSubcommand))) }
+{
+    match matches.subcommand() {
+        Some((name, matches)) => named(alloc, name, matches),
+        None => Err(CommandError::Misuse(UsageFault::NoSubcommand)),
+    }
+}
+
+/// The command line of what `clap` found.
+fn read<'a>(alloc: Global, matches: &ArgMatches<'a>) -> Result<CommandLine<'a>, CommandError>
+    ensures ok { IfOk result (λ c. line_from (rows matches.now) (subcommand_rows_of matches.now) ≡ Ok (line_view c)) }
+    ensures err { IfErr result (Misses (line_from (rows matches.now) (subcommand_rows_of matches.now))) }
+{
+    let task = match subcommand(alloc, matches) {
+        Ok(task) => task,
+        Err(fault) => return Err(fault),
+    };
+    Ok(CommandLine {
+        db: optional(matches, "db"),
+        config: optional(matches, "config"),
+        user: optional(matches, "user"),
+        group: optional(matches, "group"),
+        task,
+    })
+}
+
+/// Why `clap` gave no matches.
+fn refusal(fault: clap::Error) -> CommandError
+    ensures { (kinds : Kinds) → HasKind kinds fault → IsRefusal kinds result }
+{
+    match fault.kind() {
+        ErrorKind::OutOfMemory => CommandError::Memory,
+        _ => CommandError::Usage(fault),
+    }
+}
+
+/// Reads the words of a command line, of which the first is the program's name.
+///
+/// # Errors
+///
+/// `Usage` where `clap` refuses the words or they ask for help, `Misuse` where it doesn't but the words
+/// don't go together, and `Memory` where memory was refused.
+pub fn command<'a, S: AsStr>(alloc: Global, words: &'a [S]) -> Result<CommandLine<'a>, CommandError>
+    ensures ok { IfOk result (λ c. IsLine (map S.text words.entry.now) (line_view c)) }
+    ensures err { IfErr result (IsUsageFault (map S.text words.entry.now)) }
+{
+    let nixkeep = match nixkeep(alloc) {
+        Ok(nixkeep) => nixkeep,
+        Err(_) => return Err(CommandError::Memory),
+    };
+    match nixkeep.try_get_matches_from(words) {
+        Ok(matches) => read(alloc, &matches),
+        Err(fault) => Err(refusal(fault)),
+    }
+}

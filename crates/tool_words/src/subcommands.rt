@@ -1,0 +1,156 @@
+//! The subcommands as `clap` is told of them.
+ghost use Rattle.std.specs.Prelude.{◌≡◌, IfOk, false};
+ghost use Rattle.clap.specs.Simple.{app_of};
+ghost use Rattle.clap.specs.declared.builder.command.Command.TheViews.{out-Command};
+ghost use Rattle.tool_words.specs.Grammar.{plain_app, object_app, path_app, root_app, unroot_app, profile_app, temp_app, gc_app, delete_app, serve_app};
+
+use crate::arguments::{
+    connections_option, flag, option, optional, paths, port_option, references, required,
+};
+use crate::verb::Verb;
+use clap::Command;
+use std::alloc::{AllocError, Global};
+
+/// A subcommand without arguments.
+pub(crate) fn plain<'a>(alloc: Global, verb: Verb) -> Command<'a>
+    ensures app { app_of result ≡ plain_app verb }
+    ensures local { (out-Command result).has_globals ≡ false }
+{
+    Command::new(alloc, verb.name()).about(verb.purpose())
+}
+
+/// `NAME [REF]..`.
+pub(crate) fn object<'a>(alloc: Global, verb: Verb) -> Result<Command<'a>, AllocError>
+    ensures app { IfOk result (λ c. app_of c ≡ object_app verb) }
+    ensures local { IfOk result (λ c. (out-Command c).has_globals ≡ false) }
+{
+    plain(alloc, verb)
+        .arg(required(alloc, "name", "NAME", "The name of the store object"))?
+        .arg(references(alloc))
+}
+
+/// `PATH`.
+pub(crate) fn path<'a>(alloc: Global, verb: Verb) -> Result<Command<'a>, AllocError>
+    ensures app { IfOk result (λ c. app_of c ≡ path_app verb) }
+    ensures local { IfOk result (λ c. (out-Command c).has_globals ≡ false) }
+{
+    plain(alloc, verb).arg(required(alloc, "path", "PATH", "The store path, full or base name"))
+}
+
+/// `root [--permanent] NAME PATH`.
+pub(crate) fn root<'a>(alloc: Global) -> Result<Command<'a>, AllocError>
+    ensures app { IfOk result (λ c. app_of c ≡ root_app) }
+    ensures local { IfOk result (λ c. (out-Command c).has_globals ≡ false) }
+{
+    plain(alloc, Verb::Root)
+        .arg(flag(
+            alloc,
+            "permanent",
+            "A permanent root [default: one of the caller]",
+        ))?
+        .arg(required(alloc, "name", "NAME", "The name of the root"))?
+        .arg(required(alloc, "path", "PATH", "What it keeps alive"))
+}
+
+/// `unroot [--permanent] [--owner USER] NAME`.
+pub(crate) fn unroot<'a>(alloc: Global) -> Result<Command<'a>, AllocError>
+    ensures app { IfOk result (λ c. app_of c ≡ unroot_app) }
+    ensures local { IfOk result (λ c. (out-Command c).has_globals ≡ false) }
+{
+    plain(alloc, Verb::Unroot)
+        .arg(flag(alloc, "permanent", "A permanent root"))?
+        .arg(option(
+            alloc,
+            "owner",
+            "USER",
+            "Whose root it is [default: the caller's]",
+        ))?
+        .arg(required(alloc, "name", "NAME", "The name of the root"))
+}
+
+/// `profile [--owner USER] ACTION NAME [VALUE]`.
+pub(crate) fn profile<'a>(alloc: Global) -> Result<Command<'a>, AllocError>
+    ensures app { IfOk result (λ c. app_of c ≡ profile_app) }
+    ensures local { IfOk result (λ c. (out-Command c).has_globals ≡ false) }
+{
+    plain(alloc, Verb::Profile)
+        .arg(option(
+            alloc,
+            "owner",
+            "USER",
+            "Whose profile it is [default: the caller's]",
+        ))?
+        .arg(required(alloc, "action", "ACTION", "set, rollback, switch or delete"))?
+        .arg(required(alloc, "name", "NAME", "The name of the profile"))?
+        .arg(optional(
+            alloc,
+            "value",
+            "VALUE",
+            "A path to set, the number of a generation to switch to or to delete",
+        ))
+}
+
+/// `temp [--owner USER] ACTION SESSION [PATH]`.
+pub(crate) fn temp<'a>(alloc: Global) -> Result<Command<'a>, AllocError>
+    ensures app { IfOk result (λ c. app_of c ≡ temp_app) }
+    ensures local { IfOk result (λ c. (out-Command c).has_globals ≡ false) }
+{
+    plain(alloc, Verb::Temp)
+        .arg(option(
+            alloc,
+            "owner",
+            "USER",
+            "Whose session it is [default: the caller's]",
+        ))?
+        .arg(required(alloc, "action", "ACTION", "add or end"))?
+        .arg(required(
+            alloc,
+            "session",
+            "SESSION",
+            "The number of the session, 1 to 4,194,304",
+        ))?
+        .arg(optional(alloc, "path", "PATH", "A path to add"))
+}
+
+/// `gc [--ignore-liveness] [--max-freed N]`.
+pub(crate) fn gc<'a>(alloc: Global) -> Result<Command<'a>, AllocError>
+    ensures app { IfOk result (λ c. app_of c ≡ gc_app) }
+    ensures local { IfOk result (λ c. (out-Command c).has_globals ≡ false) }
+{
+    plain(alloc, Verb::Gc)
+        .arg(flag(
+            alloc,
+            "ignore-liveness",
+            "Denied to everyone: dead objects alone are collected",
+        ))?
+        .arg(option(
+            alloc,
+            "max-freed",
+            "N",
+            "Stop once N bytes are freed [default: free all that is dead]",
+        ))
+}
+
+/// `delete [--ignore-liveness] PATH..`.
+pub(crate) fn delete<'a>(alloc: Global) -> Result<Command<'a>, AllocError>
+    ensures app { IfOk result (λ c. app_of c ≡ delete_app) }
+    ensures local { IfOk result (λ c. (out-Command c).has_globals ≡ false) }
+{
+    plain(alloc, Verb::Delete)
+        .arg(flag(
+            alloc,
+            "ignore-liveness",
+            "Denied to everyone: dead objects alone are deleted",
+        ))?
+        .arg(paths(alloc))
+}
+
+/// `serve [--port N] [--connections K]`.
+pub(crate) fn serve<'a>(alloc: Global) -> Result<Command<'a>, AllocError>
+    ensures app { IfOk result (λ c. app_of c ≡ serve_app) }
+    ensures local { IfOk result (λ c. (out-Command c).has_globals ≡ false) }
+{
+    plain(alloc, Verb::Serve)
+        .arg(port_option(alloc))?
+        .arg(connections_option(alloc))
+}

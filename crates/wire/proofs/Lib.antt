@@ -1,0 +1,4 @@
+pub mod Along
+pub mod Asked
+pub mod Held
+pub mod Seen

@@ -1,0 +1,87 @@
+-- What is seen of a store that is served: the worlds that its tables tell, and no more than the replies.
+use Rattle.std.proofs.Common.{◌≡◌, ℕ, List, Option, None, refl, sym, ap, subst, inl, inr}
+use Rattle.sqlite_trees.specs.declared.store.Store.{Ghosts}
+use Rattle.httparse.specs.Grammar.{RequestHead}
+use Rattle.sqlite.specs.State.{HasCleanDisk}
+use Rattle.sqlite.specs.Held.{Held, state}
+use Rattle.policy.specs.Settings.{Settings}
+use Rattle.model.specs.World.{World}
+use Rattle.tables.specs.Kept.{Tells}
+use Rattle.store.specs.Standing.{Standing}
+use Rattle.store.proofs.Clean.{step_clean}
+use Rattle.wire_server.specs.Responses.{Replied}
+use Rattle.wire.specs.Courses.{Course, replies, calls, Takes}
+use Rattle.wire.specs.Answers.{Answers, Ends}
+use Rattle.wire_server.specs.Sessions.{result_of}
+use Rattle.wire_server.proofs.Seen.{served_seen, serves_on_seen}
+use Rattle.wire.specs.Worlds.{AnswersFrom, AnswersSome}
+use Rattle.wire.specs.Ends.{ServesStreams, ServesPort}
+
+module _ {S : Type 0} (g : Ghosts S) where
+  -- tables that tell a world, under these settings
+  abbrev pub IsAt : Settings → Standing S → World → Type 0
+  IsAt s st w = Tells g st.tables w × (st.settings ≡ s)
+
+  step_from : ((held : Held S) → HasCleanDisk (state g held)) → (old new : Standing S) (w : World) (h : RequestHead) (body : List ℕ) (r : Replied) (course : Course) → Tells g old.tables w
+      → Takes old.settings h body course → Ends g course old r new → (next : World) × IsAt old.settings new next × AnswersFrom old.settings w h body r next
+  step_from clean old new w h body r (replies it) told takes (is, stays) =
+      (w, (subst (λ st. Tells g st.tables w) (sym stays) told, ap (λ st. st.settings) stays), (replies it, takes, (is, refl)))
+  step_from clean old new w h body r (calls c q) told takes (reply, is, said) =
+      let one = is.step w told in
+      let step = step_clean (HasCleanDisk (state g new.tables.connection)) old.settings w c q reply one.0 (λ _. clean new.tables.connection) one.1 in
+      (one.0, (one.2, is.settings), (calls c q, takes, (reply, step, said)))
+
+  answer_from : ((held : Held S) → HasCleanDisk (state g held)) → (s : Settings) (old : Standing S) (w : World) (h : RequestHead) (body : List ℕ) (r : Replied) (new : Standing S) → IsAt s old w → Answers g old h body r new
+      → (next : World) × IsAt s new next × AnswersFrom s w h body r next
+  answer_from clean s old w h body r new (told, same) (course, takes, ends) =
+      subst (λ t. (next : World) × IsAt t new next × AnswersFrom t w h body r next) same (step_from clean old new w h body r course told takes ends)
+
+  -- no more than the settings
+  abbrev pub IsUnder : Settings → Standing S → Unit {0} → Type 0
+  IsUnder s st none = st.settings ≡ s
+
+  step_some : (old new : Standing S) (h : RequestHead) (body : List ℕ) (r : Replied) (course : Course)
+      → Takes old.settings h body course → Ends g course old r new → (next : Unit {0}) × IsUnder old.settings new next × AnswersSome old.settings tt h body r next
+  step_some old new h body r (replies it) takes (is, stays) = (tt, ap (λ st. st.settings) stays, (replies it, takes, is))
+  step_some old new h body r (calls c q) takes (reply, is, said) = (tt, is.settings, (calls c q, takes, (reply, said)))
+
+  answer_some : (s : Settings) (old : Standing S) (none : Unit {0}) (h : RequestHead) (body : List ℕ) (r : Replied) (new : Standing S) → IsUnder s old none
+      → Answers g old h body r new → (next : Unit {0}) × IsUnder s new next × AnswersSome s none h body r next
+  answer_some s old none h body r new same (course, takes, ends) =
+      subst (λ t. (next : Unit {0}) × IsUnder t new next × AnswersSome t tt h body r next) same (step_some old new h body r course takes ends)
+
+  module _ (old : Standing S) (known out out' err err' : Option (List ℕ)) (status : ℕ) (served : ServesStreams (Answers g) known out out' err err' old status) where
+    pub streams_from : ((held : Held S) → HasCleanDisk (state g held)) → (w : World) → Tells g old.tables w → ServesStreams (AnswersFrom old.settings) known out out' err err' w status
+    streams_from clean w told = elim served [
+      | inl lacks ↦ inl lacks
+      | inr (end, new, is, says, ends) ↦
+          let more = served_seen (Answers g) (AnswersFrom old.settings) (IsAt old.settings) (answer_from clean old.settings) known out out' old w new (result_of end) (told, refl) is in
+          inr (end, more.0, more.2, says, ends)
+    ]
+
+    pub streams_some : ServesStreams (AnswersSome old.settings) known out out' err err' tt status
+    streams_some = elim served [
+      | inl lacks ↦ inl lacks
+      | inr (end, new, is, says, ends) ↦
+          let more = served_seen (Answers g) (AnswersSome old.settings) (IsUnder old.settings) (answer_some old.settings) known out out' old tt new (result_of end) refl is in
+          inr (end, more.0, more.2, says, ends)
+    ]
+
+  module _ (old : Standing S) (n : ℕ) (err err' : Option (List ℕ)) (status : ℕ) (served : ServesPort (Answers g) n err err' old status) where
+    pub port_from : ((held : Held S) → HasCleanDisk (state g held)) → (w : World) → Tells g old.tables w → ServesPort (AnswersFrom old.settings) n err err' w status
+    port_from clean w told = elim served [
+      | inl lacks ↦ inl lacks
+      | inr (inl taken) ↦ inr (inl taken)
+      | inr (inr (new, (result, said, is, ends))) ↦
+          let more = serves_on_seen (Answers g) (AnswersFrom old.settings) (IsAt old.settings) (answer_from clean old.settings) None None None None err said old w new (told, refl) n result is in
+          inr (inr (more.0, (result, said, more.2, ends)))
+    ]
+
+    pub port_some : ServesPort (AnswersSome old.settings) n err err' tt status
+    port_some = elim served [
+      | inl lacks ↦ inl lacks
+      | inr (inl taken) ↦ inr (inl taken)
+      | inr (inr (new, (result, said, is, ends))) ↦
+          let more = serves_on_seen (Answers g) (AnswersSome old.settings) (IsUnder old.settings) (answer_some old.settings) None None None None err said old tt new refl n result is in
+          inr (inr (more.0, (result, said, more.2, ends)))
+    ]

@@ -1,0 +1,32 @@
+-- How a command ends that serves a store.
+use Rattle.std.specs.Prelude.{◌≡◌, ◌⊎◌, ℕ, min, List, codes, Option, None, Result, Ok, Err}
+use Rattle.std.specs.Io.KnownBytes.{Keeps}
+use Rattle.std.specs.declared.io.Error.{Error}
+use Rattle.httparse.specs.Grammar.{RequestHead}
+use Rattle.wire_server.specs.Responses.{Replied}
+use Rattle.report.specs.Outputs.{LacksMemory, Prints}
+use Rattle.wire_server.specs.Serves.{Served}
+use Rattle.wire_server.specs.Sessions.{Says, failure, result_of}
+use Rattle.wire_server.specs.ServesAll.{ServesOn}
+use Rattle.wire_server.specs.declared.sessions.End.{End}
+
+-- The status is 1 where a connection failed; and where an accept failed, which is said.
+abbrev pub EndsOn : Result ℕ Error → Option (List ℕ) → Option (List ℕ) → ℕ → Type 0
+EndsOn (Ok failed) err err' status = Keeps err err' × (status ≡ min failed 1)
+EndsOn (Err fault) err err' status = Prints (codes "failed: input\n") 1 err err' status
+
+module _ {S : Type 0} (answers : S → RequestHead → List ℕ → Replied → S → Type 0) where
+  -- one connection is served, and the status is 1 where it failed, which is said; or there was no memory to begin with
+  abbrev pub ServesStreams : Option (List ℕ) → Option (List ℕ) → Option (List ℕ) → Option (List ℕ) → Option (List ℕ) → S → ℕ → Type 0
+  ServesStreams known out out' err err' old status = LacksMemory out out' err err' status
+      ⊎ ((end : End) × (new : S) × Served answers known out out' old new (result_of end) × Says end err err' × (status ≡ failure end))
+
+  -- so many connections of a listener are served
+  abbrev pub ServesListener : ℕ → Option (List (List ℕ)) → Option (List (List ℕ)) → Option (List (List ℕ)) → Option (List (List ℕ)) → Option (List ℕ) → Option (List ℕ) → S → S → ℕ → Type 0
+  ServesListener n waiting waiting' closed closed' err err' old new status =
+      (result : Result ℕ Error) × (said : Option (List ℕ)) × ServesOn answers n waiting waiting' closed closed' err said old new result × EndsOn result said err' status
+
+  -- so many connections of a port, of which nothing is known; or there was no memory to begin with, or the port couldn't be bound
+  abbrev pub ServesPort : ℕ → Option (List ℕ) → Option (List ℕ) → S → ℕ → Type 0
+  ServesPort n err err' old status = Prints (codes "failed: memory\n") 1 err err' status
+      ⊎ (Prints (codes "failed: input\n") 1 err err' status ⊎ ((new : S) × ServesListener n None None None None err err' old new status))

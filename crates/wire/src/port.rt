@@ -1,0 +1,100 @@
+//! A store, served on a port of this machine.
+ghost use Rattle.std.specs.Prelude.{◌≡◌, ◌⊎◌, None, codes};
+ghost use Rattle.sqlite.specs.State.{HasCleanDisk};
+ghost use Rattle.sqlite.specs.Held.{Held, state};
+ghost use Rattle.model.specs.World.{World};
+ghost use Rattle.tables.specs.Kept.{Tells};
+ghost use Rattle.wire.specs.Answers.{Answers};
+ghost use Rattle.report.specs.Outputs.{Prints};
+ghost use Rattle.wire.specs.Worlds.{AnswersFrom, AnswersSome};
+ghost use Rattle.wire.specs.Ends.{ServesListener, ServesPort};
+
+use crate::said::{FAILED, NO_INPUT, NO_MEMORY, say};
+use crate::standing::{make_server, release};
+use policy::Config;
+use sqlite::Alter;
+use std::alloc::Global;
+use std::io::Write;
+use std::net::{Net, TcpListener, TcpStream};
+use tables::Tables;
+use wire_server::{Listener, Port, Responder, serve_on};
+
+/// Serves so many connections of a listener, and gives the exit status.
+fn serve_listener<L: Listener, E: Write, A: Responder>(
+    alloc: Global,
+    listener: &mut L,
+    connections: u32,
+    errors: &mut E,
+    responder: &mut A,
+) -> u8
+    ensures { ServesListener A.answers connections (L.waiting listener.old) (L.waiting listener.new) (L.closed listener.old) (L.closed listener.new) (E.contents errors.old) (E.contents errors.new) responder.old responder.new result }
+{
+    match serve_on(alloc, listener, connections, errors, responder) {
+        Ok(0) => 0,
+        Ok(_) => FAILED,
+        Err(_) => say(NO_INPUT, errors),
+    }
+}
+
+/// Serves so many connections of a port, where it can be bound, and gives the exit status.
+fn listen<N: Net<Listener = TcpListener, Stream = TcpStream>, E: Write, A: Responder>(
+    net: &N,
+    alloc: Global,
+    port: u16,
+    connections: u32,
+    errors: &mut E,
+    responder: &mut A,
+) -> u8
+    ensures { Prints (codes "failed: input\n") 1 (E.contents errors.old) (E.contents errors.new) result
+        ⊎ ServesListener A.answers connections None None None None (E.contents errors.old) (E.contents errors.new) responder.old responder.new result }
+{
+    match Port::bind(net, port) {
+        Ok(mut listener) => serve_listener(alloc, &mut listener, connections, errors, responder),
+        Err(_) => say(NO_INPUT, errors),
+    }
+}
+
+/// Serves the store of these tables on so many connections of a port of 127.0.0.1.
+fn serve<N: Net<Listener = TcpListener, Stream = TcpStream>, S: Alter + Drop, E: Write>(
+    net: &N,
+    alloc: Global,
+    port: u16,
+    connections: u32,
+    config: Config,
+    tables: Tables<S>,
+    errors: &mut E,
+) -> u8
+    requires { tables.dir ≡ config.store_dir }
+    ensures { ServesPort (Answers S.Store) connections (E.contents errors.old) (E.contents errors.new) (record { tables = tables; settings = config }) result }
+{
+    match make_server(alloc, config, tables) {
+        Some(mut server) => {
+            let status = listen(net, alloc, port, connections, errors, &mut server);
+            release(server);
+            status
+        }
+        None => say(NO_MEMORY, errors),
+    }
+}
+
+/// Serves the store of these tables on so many connections of a port of 127.0.0.1, one after another, and gives the exit status: 0
+/// where each was served to its end, else 1.
+///
+/// A line on `errors` says why a connection failed: `failed: input`, `failed: output` or `failed: memory`. Where the port can't be
+/// bound, or an accept fails, `failed: input` is said, and nothing more is served.
+pub fn serve_port<N: Net<Listener = TcpListener, Stream = TcpStream>, S: Alter + Drop, E: Write>(
+    net: &N,
+    alloc: Global,
+    port: u16,
+    connections: u32,
+    config: Config,
+    tables: Tables<S>,
+    errors: &mut E,
+) -> u8
+    requires { tables.dir ≡ config.store_dir }
+    ensures served { ServesPort (Answers S.Store) connections (E.contents errors.old) (E.contents errors.new) (record { tables = tables; settings = config }) result }
+    ensures worlds { ((h : Held S) → HasCleanDisk (state S.Store h)) → (w : World) → Tells S.Store tables w → ServesPort (AnswersFrom config) connections (E.contents errors.old) (E.contents errors.new) w result }
+    ensures replies { ServesPort (AnswersSome config) connections (E.contents errors.old) (E.contents errors.new) tt result }
+{
+    serve(net, alloc, port, connections, config, tables, errors)
+}

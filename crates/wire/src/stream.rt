@@ -1,0 +1,71 @@
+//! A store, served on two streams.
+ghost use Rattle.std.specs.Prelude.{◌≡◌};
+ghost use Rattle.policy.specs.Settings.{Settings};
+ghost use Rattle.sqlite.specs.State.{HasCleanDisk};
+ghost use Rattle.sqlite.specs.Held.{Held, state};
+ghost use Rattle.model.specs.World.{World};
+ghost use Rattle.tables.specs.Kept.{Tells};
+ghost use Rattle.wire.specs.Answers.{Answers};
+ghost use Rattle.wire_server.specs.Sessions.{failure};
+ghost use Rattle.wire.specs.Worlds.{AnswersFrom, AnswersSome};
+ghost use Rattle.wire.specs.Ends.{ServesStreams};
+
+use crate::said::{FAILED, NO_MEMORY, say};
+use crate::standing::{make_server, release};
+use policy::Config;
+use sqlite::Alter;
+use std::alloc::Global;
+use std::io::{Read, Write};
+use tables::Tables;
+use wire_server::{End, serve_connection};
+
+/// The exit status of one connection.
+fn status_of(end: End) -> u8
+    ensures { result ≡ failure end }
+{
+    match end {
+        End::Served(_) => 0,
+        End::Told(_) | End::Untold(_) => FAILED,
+    }
+}
+
+/// Serves the store of these tables on one connection.
+fn serve<S: Alter + Drop, R: Read, W: Write, E: Write>(
+    alloc: Global,
+    config: Config,
+    tables: Tables<S>,
+    input: &mut R,
+    output: &mut W,
+    errors: &mut E,
+) -> u8
+    requires { tables.dir ≡ config.store_dir }
+    ensures { ServesStreams (Answers S.Store) (R.remaining input.old) (W.contents output.old) (W.contents output.new) (E.contents errors.old) (E.contents errors.new) (record { tables = tables; settings = config }) result }
+{
+    match make_server(alloc, config, tables) {
+        Some(mut server) => {
+            let end = serve_connection(alloc, input, output, errors, &mut server);
+            release(server);
+            status_of(end)
+        }
+        None => say(NO_MEMORY, errors),
+    }
+}
+
+/// Serves the store of these tables on one connection, and gives the exit status: 0 where it was served to its end, else 1, and a
+/// line on `errors` says why: `failed: input`, `failed: output` or `failed: memory`.
+pub fn serve_streams<S: Alter + Drop, R: Read, W: Write, E: Write>(
+    alloc: Global,
+    config: Config,
+    tables: Tables<S>,
+    input: &mut R,
+    output: &mut W,
+    errors: &mut E,
+) -> u8
+    requires { tables.dir ≡ config.store_dir }
+    ensures served { ServesStreams (Answers S.Store) (R.remaining input.old) (W.contents output.old) (W.contents output.new) (E.contents errors.old) (E.contents errors.new) (record { tables = tables; settings = config }) result }
+    ensures worlds { ((h : Held S) → HasCleanDisk (state S.Store h)) → (w : World) → Tells S.Store tables w
+        → ServesStreams (AnswersFrom config) (R.remaining input.old) (W.contents output.old) (W.contents output.new) (E.contents errors.old) (E.contents errors.new) w result }
+    ensures replies { ServesStreams (AnswersSome config) (R.remaining input.old) (W.contents output.old) (W.contents output.new) (E.contents errors.old) (E.contents errors.new) tt result }
+{
+    serve(alloc, config, tables, input, output, errors)
+}

@@ -1,0 +1,4 @@
+pub mod Alone
+pub mod Fronts
+pub mod Reading
+pub mod ValueLemmas

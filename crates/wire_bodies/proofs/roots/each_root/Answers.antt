@@ -1,0 +1,29 @@
+use Rattle.std.proofs.Common.{sym, ◌∙◌, ap, Some}
+use Rattle.wire_bodies.specs.Values.{each}
+use Rattle.wire_bodies.specs.Kinds.{root_text}
+use Rattle.wire_bodies.specs.Bodies.{labelled}
+use Rattle.wire_bodies.proofs.ValueLemmas.{one_value, no_value, each_more, each_bad}
+use Rattle.wire_bodies.proofs.Alone.{labelled-more}
+use Rattle.wire_bodies.proofs.roots.each_root.Goals as goal
+use Rattle.wire_bodies.proofs.roots.each_root.Goals.{then-eq+in-Ok+in-Ok-push, else-eq}
+
+pub loop-entry-preserved : goal.loop-entry-preserved
+loop-entry-preserved c =
+    let items = c.args.entries.now in
+    let i = c.loop-entry.entry-index in
+    let key = c.args.key.now in
+    let read = root_text c.args.dir.now in
+    elim c.if-eq.branch [
+      | then-eq+in-Ok+in-Ok-push w ↦
+          rw w.roots-is
+          (ap (each read) (one_value items i _ c.loop-entry-test.true key (sym c.eq.ensures ∙ w.if-eq.true))
+          ∙ each_more read _ _ _ _ c.loop-entry.invariant w.in-Ok.ensures
+          ∙ ap (λ t. Some t) (sym (ap labelled w.in-Ok-push.ensures.items ∙ labelled-more _ _)))
+      | else-eq w ↦
+          rw w.roots-is (ap (each read) (no_value items i _ c.loop-entry-test.true key (sym c.eq.ensures ∙ w.if-eq.false)) ∙ c.loop-entry.invariant)
+    ]
+
+pub returns-in-Err-BadBodyHead : goal.returns-in-Err-BadBodyHead
+returns-in-Err-BadBodyHead c =
+    each_bad (root_text c.args.dir.now) c.args.entries.now c.loop-entry.entry-index _ c.loop-entry-test.true c.args.key.now (sym c.eq.ensures ∙ c.if-eq.true)
+    (rw c.in-Err-BadBodyHead.field-0-is at c.in-Err-BadBodyHead.ensures)

@@ -1,0 +1,5 @@
+pub mod Bodies
+pub mod Front
+pub mod Kinds
+pub mod Lines
+pub mod Values

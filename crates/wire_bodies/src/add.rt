@@ -1,0 +1,35 @@
+//! The body of an add.
+ghost use Rattle.std.specs.Prelude.{◌≡◌, IfOk, Err, List, ℕ};
+ghost use Rattle.wire_bodies.specs.Bodies.{IsNamedBody};
+ghost use Rattle.wire_bodies.specs.declared.heads.NamedHead.{NamedHead as NamedOf};
+
+use crate::error::BodyError;
+use crate::heads::{NamedHead, named_head};
+use crate::lines::body_of;
+use paths::StoreDir;
+use std::alloc::Global;
+
+/// The add that a body is, and the contents or the archive behind its empty line, lent and not looked at.
+///
+/// # Errors
+///
+/// `BadBodyHead` exactly where the body is none, and `Memory`.
+pub fn named_body<'b>(
+    alloc: Global,
+    dir: &StoreDir,
+    body: &'b [u8],
+) -> Result<(NamedHead, &'b [u8]), BodyError>
+    ensures ok { IfOk result (λ add. IsNamedBody dir.now body.now add.0 add.1.now) }
+    ensures bad { result ≡ Err BodyError.BadBodyHead → (head : NamedOf) (contents : List ℕ) → IsNamedBody dir.now body.now head contents → ⊥ }
+{
+    let parts = match body_of(alloc, body) {
+        Ok(Some(parts)) => parts,
+        Ok(None) => return Err(BodyError::BadBodyHead),
+        Err(_) => return Err(BodyError::Memory),
+    };
+    match named_head(alloc, dir, &parts.entries) {
+        Ok(head) => Ok((head, parts.payload)),
+        Err(BodyError::BadBodyHead) => Err(BodyError::BadBodyHead),
+        Err(BodyError::Memory) => Err(BodyError::Memory),
+    }
+}

@@ -1,0 +1,59 @@
+//! The body of a collection.
+ghost use Rattle.std.specs.Prelude.{◌≡◌, IfOk, Err};
+ghost use Rattle.paths.specs.Decimal.{decimal_of};
+ghost use Rattle.wire_bodies.specs.Lines.{shown};
+ghost use Rattle.wire_bodies.specs.Values.{Answers, values, optional};
+ghost use Rattle.wire_bodies.specs.Bodies.{IsCollect};
+ghost use Rattle.wire_bodies.specs.declared.collect.CollectHead.{CollectHead as CollectOf};
+
+use crate::entries::{Found, are_known, find_value};
+use crate::error::BodyError;
+use crate::values::flag_if_any;
+use paths::numbers::decimal;
+
+/// What a collection says.
+#[derive(Clone, Copy, Debug, PartialEq, Eq)]
+pub struct CollectHead {
+    /// How many bytes of archives are to go at most, but for the last paths that go.
+    pub max_freed: Option<u64>,
+    pub ignore_liveness: Option<bool>,
+}
+
+/// The number of the entry of a key, if there is one.
+fn number_if_any(entries: &[(&str, &str)], key: &str) -> Result<Option<u64>, BodyError>
+    ensures { Answers (λ n. n) (optional decimal_of (values key.now (shown entries.now))) result }
+{
+    match find_value(entries, key) {
+        Found::One(text) => match decimal(text) {
+            Some(number) => Ok(Some(number)),
+            None => Err(BodyError::BadBodyHead),
+        },
+        Found::None => Ok(None),
+        Found::More => Err(BodyError::BadBodyHead),
+    }
+}
+
+/// The collection that some entries are: `max-freed` and `ignore-liveness`, each at most once.
+///
+/// # Errors
+///
+/// `BadBodyHead` exactly where they are none.
+pub fn collect_head(entries: &[(&str, &str)]) -> Result<CollectHead, BodyError>
+    ensures ok { IfOk result (λ head. IsCollect (shown entries.now) head) }
+    ensures bad { result ≡ Err BodyError.BadBodyHead → (head : CollectOf) → IsCollect (shown entries.now) head → ⊥ }
+{
+    if !are_known(entries, &["max-freed", "ignore-liveness"]) {
+        return Err(BodyError::BadBodyHead);
+    }
+    let max_freed = match number_if_any(entries, "max-freed") {
+        Ok(max_freed) => max_freed,
+        Err(fault) => return Err(fault),
+    };
+    match flag_if_any(entries, "ignore-liveness") {
+        Ok(ignore_liveness) => Ok(CollectHead {
+            max_freed,
+            ignore_liveness,
+        }),
+        Err(fault) => Err(fault),
+    }
+}

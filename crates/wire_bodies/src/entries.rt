@@ -1,0 +1,61 @@
+//! The values of entries, by key.
+ghost use Rattle.std.specs.Prelude.{◌≡◌, ℕ, List, [], ◌∷◌, ◌++◌};
+ghost use Rattle.std.specs.List.{list_any};
+ghost use Rattle.std.specs.Str.{bytes_eq};
+ghost use Rattle.wire_bodies.specs.Lines.{shown};
+ghost use Rattle.wire_bodies.specs.Values.{Are, values, are_known, texts};
+
+/// The values of a key.
+#[derive(Clone, Copy)]
+pub enum Found<'b> {
+    None,
+    One(&'b str),
+    More,
+}
+
+/// Some values and another one behind them.
+fn with_another<'b>(found: Found<'b>, value: &'b str) -> Found<'b>
+    ensures { (vs : List (List ℕ)) → Are vs found.entry → Are (vs ++ value.now ∷ []) result }
+{
+    match found {
+        Found::None => Found::One(value),
+        _ => Found::More,
+    }
+}
+
+/// The values of a key.
+pub fn find_value<'b>(entries: &[(&'b str, &'b str)], key: &str) -> Found<'b>
+    ensures { Are (values key.now (shown entries.now)) result }
+{
+    let mut found = Found::None;
+    for entry in entries {
+        if entry.0 == key {
+            found = with_another(found, entry.1);
+        }
+    }
+    found
+}
+
+/// Whether a key is one of some.
+fn is_among(key: &str, keys: &[&str]) -> bool
+    ensures { result ≡ list_any (bytes_eq key.now) (texts keys.now) }
+{
+    for other in keys {
+        if key == *other {
+            return true;
+        }
+    }
+    false
+}
+
+/// Whether each key of the entries is one of some.
+pub fn are_known(entries: &[(&str, &str)], keys: &[&str]) -> bool
+    ensures { result ≡ are_known (texts keys.now) (shown entries.now) }
+{
+    for entry in entries {
+        if !is_among(entry.0, keys) {
+            return false;
+        }
+    }
+    true
+}

@@ -1,0 +1,113 @@
+//! The front of a body that comes in pieces.
+ghost use Rattle.std.specs.Prelude.{◌≡◌, ◌++◌, ◌≤◌, [], IfOk, OnErr, length, take, drop};
+ghost use Rattle.wire_bodies.specs.Front.{next, place_behind, front_from, rest_from, front_of, rest_of};
+
+use std::alloc::{AllocError, Global};
+use std::marker::Model;
+
+/// Where the next byte of a body stands.
+#[derive(Clone, Copy)]
+enum Place {
+    /// At the beginning of a line.
+    BeginsLine,
+    /// In a line that has begun.
+    WithinLine,
+    /// Behind the empty line: it is payload.
+    BehindFront,
+}
+
+/// The front of a body that comes in pieces, however they are cut: its lines up to and with the first empty one. What
+/// follows is its payload. Contracts see the bytes of the front that have come.
+#[derive(Drop)]
+pub struct Front {
+    bytes: Vec<u8>,
+    place: Place,
+}
+
+impl Model for Front {
+    ghost use Rattle.std.specs.Prelude.{List, ℕ};
+    ghost use Rattle.wire_bodies.specs.Front.{IsFront};
+
+    ghost Value = { List ℕ };
+
+    ghost view = { λ front. front.bytes.items };
+
+    ghost invariant = { λ front. IsFront front.bytes.items front.place };
+}
+
+/// The place behind one more byte.
+fn place_after(place: Place, byte: u8) -> Place
+    ensures { result ≡ next place byte }
+{
+    match place {
+        Place::BeginsLine => {
+            if byte == b'\n' {
+                Place::BehindFront
+            } else {
+                Place::WithinLine
+            }
+        }
+        Place::WithinLine => {
+            if byte == b'\n' {
+                Place::BeginsLine
+            } else {
+                Place::WithinLine
+            }
+        }
+        Place::BehindFront => Place::BehindFront,
+    }
+}
+
+/// How many bytes of a piece, which stands at a place, belong to the front, and the place behind them.
+fn front_in(place: Place, piece: &[u8]) -> (usize, Place)
+    ensures within { result.0 ≤ length piece.now }
+    ensures front { take result.0 piece.now ≡ front_from place piece.now }
+    ensures rest { drop result.0 piece.now ≡ rest_from place piece.now }
+    ensures behind { result.1 ≡ place_behind place piece.now }
+{
+    let mut behind = place;
+    for (i, byte) in piece.iter().enumerate() {
+        if let Place::BehindFront = behind {
+            return (i, behind);
+        }
+        behind = place_after(behind, *byte);
+    }
+    (piece.len(), behind)
+}
+
+impl Front {
+    /// No bytes yet. It takes no memory.
+    pub fn new(alloc: Global) -> Front
+        ensures { result ≡ [] }
+    {
+        Front {
+            bytes: Vec::new(alloc),
+            place: Place::BeginsLine,
+        }
+    }
+
+    /// Takes what of the next piece belongs to the front, and gives back the rest of it, which is payload. It looks at
+    /// no byte behind the front.
+    ///
+    /// # Errors
+    ///
+    /// Memory was refused. The front is then as before.
+    pub fn take<'a>(&mut self, piece: &'a [u8]) -> Result<&'a [u8], AllocError>
+        ensures front { IfOk result (λ rest. self.new ≡ front_of (self.old ++ piece.now)) }
+        ensures rest { IfOk result (λ rest. rest.now ≡ rest_of (self.old ++ piece.now)) }
+        ensures refused { OnErr result (self.new ≡ self.old) }
+    {
+        let (count, place) = front_in(self.place, piece);
+        self.bytes.extend_from_slice(&piece[..count])?;
+        self.place = place;
+        Ok(&piece[count..])
+    }
+
+    /// The bytes of the front that have come.
+    pub fn bytes(&self) -> &[u8]
+        ensures now { result.now ≡ self.now }
+        ensures front { front_of self.now ≡ self.now }
+    {
+        &self.bytes
+    }
+}

@@ -1,0 +1,100 @@
+//! The heads of the other bodies.
+ghost use Rattle.std.specs.Prelude.{◌≡◌, IfOk, Err, List, ℕ};
+ghost use Rattle.wire_bodies.specs.Lines.{shown};
+ghost use Rattle.wire_bodies.specs.Bodies.{IsNamed, IsPath, IsDelete};
+ghost use Rattle.wire_bodies.specs.declared.heads.NamedHead.{NamedHead as NamedOf};
+ghost use Rattle.wire_bodies.specs.declared.heads.DeleteHead.{DeleteHead as DeleteOf};
+
+use crate::entries::are_known;
+use crate::error::BodyError;
+use crate::values::{each_path, flag_if_any, one_name, one_path};
+use paths::{Name, StoreDir, StorePath};
+use std::alloc::Global;
+
+/// What an add says in front of its contents.
+#[derive(Drop)]
+pub struct NamedHead {
+    pub name: Name,
+    pub references: Vec<StorePath>,
+}
+
+/// What a deletion says.
+#[derive(Drop)]
+pub struct DeleteHead {
+    pub paths: Vec<StorePath>,
+    pub ignore_liveness: Option<bool>,
+}
+
+/// The add that some entries are: `name`, and any number of `reference`.
+///
+/// # Errors
+///
+/// `BadBodyHead` exactly where they are none, and `Memory`.
+pub fn named_head(
+    alloc: Global,
+    dir: &StoreDir,
+    entries: &[(&str, &str)],
+) -> Result<NamedHead, BodyError>
+    ensures ok { IfOk result (λ head. IsNamed dir.now (shown entries.now) head) }
+    ensures bad { result ≡ Err BodyError.BadBodyHead → (head : NamedOf) → IsNamed dir.now (shown entries.now) head → ⊥ }
+{
+    if !are_known(entries, &["name", "reference"]) {
+        return Err(BodyError::BadBodyHead);
+    }
+    let name = match one_name(alloc, entries, "name") {
+        Ok(name) => name,
+        Err(fault) => return Err(fault),
+    };
+    match each_path(alloc, dir, entries, "reference") {
+        Ok(references) => Ok(NamedHead { name, references }),
+        Err(fault) => Err(fault),
+    }
+}
+
+/// The path that some entries name: `path`, once.
+///
+/// # Errors
+///
+/// `BadBodyHead` exactly where they name none, and `Memory`.
+pub fn path_head(
+    alloc: Global,
+    dir: &StoreDir,
+    entries: &[(&str, &str)],
+) -> Result<StorePath, BodyError>
+    ensures ok { IfOk result (λ path. IsPath dir.now (shown entries.now) path) }
+    ensures bad { result ≡ Err BodyError.BadBodyHead → (path : List ℕ) → IsPath dir.now (shown entries.now) path → ⊥ }
+{
+    if !are_known(entries, &["path"]) {
+        return Err(BodyError::BadBodyHead);
+    }
+    one_path(alloc, dir, entries, "path")
+}
+
+/// The deletion that some entries are: any number of `path`, and `ignore-liveness` at most once.
+///
+/// # Errors
+///
+/// `BadBodyHead` exactly where they are none, and `Memory`.
+pub fn delete_head(
+    alloc: Global,
+    dir: &StoreDir,
+    entries: &[(&str, &str)],
+) -> Result<DeleteHead, BodyError>
+    ensures ok { IfOk result (λ head. IsDelete dir.now (shown entries.now) head) }
+    ensures bad { result ≡ Err BodyError.BadBodyHead → (head : DeleteOf) → IsDelete dir.now (shown entries.now) head → ⊥ }
+{
+    if !are_known(entries, &["path", "ignore-liveness"]) {
+        return Err(BodyError::BadBodyHead);
+    }
+    let paths = match each_path(alloc, dir, entries, "path") {
+        Ok(paths) => paths,
+        Err(fault) => return Err(fault),
+    };
+    match flag_if_any(entries, "ignore-liveness") {
+        Ok(ignore_liveness) => Ok(DeleteHead {
+            paths,
+            ignore_liveness,
+        }),
+        Err(fault) => Err(fault),
+    }
+}

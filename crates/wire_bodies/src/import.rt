@@ -1,0 +1,92 @@
+//! The body of an import.
+ghost use Rattle.std.specs.Prelude.{◌≡◌, IfOk, Err, List, ℕ};
+ghost use Rattle.wire_bodies.specs.Lines.{shown};
+ghost use Rattle.wire_bodies.specs.Bodies.{IsImport, IsImportBody};
+ghost use Rattle.wire_bodies.specs.declared.import.ImportHead.{ImportHead as HeadOf};
+
+use crate::entries::are_known;
+use crate::error::BodyError;
+use crate::lines::body_of;
+use crate::values::{ca_if_any, each_path, one_hash, one_path, path_if_any};
+use paths::{Ca, StoreDir, StorePath};
+use std::alloc::Global;
+
+/// What the body of an import says in front of the archive.
+#[derive(Drop)]
+pub struct ImportHead {
+    pub path: StorePath,
+    /// The SHA-256 that the archive is said to have.
+    pub nar_hash: [u8; 32],
+    pub references: Vec<StorePath>,
+    pub deriver: Option<StorePath>,
+    pub ca: Option<Ca>,
+}
+
+/// The import that some entries are: `path`, `nar-hash`, any number of `reference`, `deriver` and `ca` at most once.
+///
+/// # Errors
+///
+/// `BadBodyHead` exactly where they are none, and `Memory`.
+pub fn import_head(
+    alloc: Global,
+    dir: &StoreDir,
+    entries: &[(&str, &str)],
+) -> Result<ImportHead, BodyError>
+    ensures ok { IfOk result (λ head. IsImport dir.now (shown entries.now) head) }
+    ensures bad { result ≡ Err BodyError.BadBodyHead → (head : HeadOf) → IsImport dir.now (shown entries.now) head → ⊥ }
+{
+    if !are_known(entries, &["path", "nar-hash", "reference", "deriver", "ca"]) {
+        return Err(BodyError::BadBodyHead);
+    }
+    let path = match one_path(alloc, dir, entries, "path") {
+        Ok(path) => path,
+        Err(fault) => return Err(fault),
+    };
+    let nar_hash = match one_hash(alloc, entries, "nar-hash") {
+        Ok(hash) => hash,
+        Err(fault) => return Err(fault),
+    };
+    let references = match each_path(alloc, dir, entries, "reference") {
+        Ok(references) => references,
+        Err(fault) => return Err(fault),
+    };
+    let deriver = match path_if_any(alloc, dir, entries, "deriver") {
+        Ok(deriver) => deriver,
+        Err(fault) => return Err(fault),
+    };
+    match ca_if_any(alloc, entries, "ca") {
+        Ok(ca) => Ok(ImportHead {
+            path,
+            nar_hash,
+            references,
+            deriver,
+            ca,
+        }),
+        Err(fault) => Err(fault),
+    }
+}
+
+/// The import that a body is, and the archive behind its empty line, lent and not looked at.
+///
+/// # Errors
+///
+/// `BadBodyHead` exactly where the body is none, and `Memory`.
+pub fn import_body<'b>(
+    alloc: Global,
+    dir: &StoreDir,
+    body: &'b [u8],
+) -> Result<(ImportHead, &'b [u8]), BodyError>
+    ensures ok { IfOk result (λ import. IsImportBody dir.now body.now import.0 import.1.now) }
+    ensures bad { result ≡ Err BodyError.BadBodyHead → (head : HeadOf) (nar : List ℕ) → IsImportBody dir.now body.now head nar → ⊥ }
+{
+    let parts = match body_of(alloc, body) {
+        Ok(Some(parts)) => parts,
+        Ok(None) => return Err(BodyError::BadBodyHead),
+        Err(_) => return Err(BodyError::Memory),
+    };
+    match import_head(alloc, dir, &parts.entries) {
+        Ok(head) => Ok((head, parts.payload)),
+        Err(BodyError::BadBodyHead) => Err(BodyError::BadBodyHead),
+        Err(BodyError::Memory) => Err(BodyError::Memory),
+    }
+}

@@ -1,0 +1,24 @@
+//! The bodies of requests over HTTP.
+#![tactic(auto)]
+
+mod add;
+mod collect;
+mod entries;
+mod error;
+mod front;
+mod heads;
+mod import;
+mod lines;
+mod roots;
+mod values;
+mod whole;
+
+pub use add::named_body;
+pub use collect::{CollectHead, collect_head};
+pub use error::BodyError;
+pub use front::Front;
+pub use heads::{DeleteHead, NamedHead, delete_head, named_head, path_head};
+pub use import::{ImportHead, import_body, import_head};
+pub use lines::{Body, body_of};
+pub use roots::runtime_head;
+pub use whole::{collect_body, delete_body, is_blank, path_body, runtime_body};

@@ -1,0 +1,83 @@
+//! The runtime roots of a body.
+ghost use Rattle.std.specs.Prelude.{◌≡◌, IfOk, Err, List, ℕ, string_bytes};
+ghost use Rattle.wire_bodies.specs.Lines.{shown};
+ghost use Rattle.wire_bodies.specs.Values.{Answers, values, each};
+ghost use Rattle.wire_bodies.specs.Kinds.{root_text, is_space};
+ghost use Rattle.std.specs.List.{before_first, after_first};
+ghost use Rattle.wire_bodies.specs.Bodies.{IsRuntime, labelled};
+
+use crate::entries::are_known;
+use crate::error::BodyError;
+use crate::values::path_of;
+use paths::{StoreDir, StorePath};
+use std::alloc::Global;
+
+/// What stands in front of the first space, and behind it.
+fn parts_at_space(text: &str) -> (&str, &str)
+    ensures label { result.0.now ≡ before_first is_space text.now }
+    ensures path { result.1.now ≡ after_first is_space text.now }
+{
+    match text.split_once(' ') {
+        Some(parts) => parts,
+        None => (text, ""),
+    }
+}
+
+/// The label and the path that a text names, with the first space between. The label isn't looked at.
+fn root_of(alloc: Global, dir: &StoreDir, text: &str) -> Result<(String, StorePath), BodyError>
+    ensures { Answers (λ root. (string_bytes root.0, root.1)) (root_text dir.now text.now) result }
+{
+    let (label, path) = parts_at_space(text);
+    let path = match path_of(alloc, dir, path) {
+        Ok(path) => path,
+        Err(fault) => return Err(fault),
+    };
+    match String::from_str(alloc, label) {
+        Ok(label) => Ok((label, path)),
+        Err(_) => Err(BodyError::Memory),
+    }
+}
+
+/// The roots of the entries of a key, in their order.
+fn each_root(
+    alloc: Global,
+    dir: &StoreDir,
+    entries: &[(&str, &str)],
+    key: &str,
+) -> Result<Vec<(String, StorePath)>, BodyError>
+    ensures { Answers (λ roots. labelled roots.items) (each (root_text dir.now) (values key.now (shown entries.now))) result }
+{
+    let mut roots = Vec::new(alloc);
+    for entry in entries {
+        if entry.0 == key {
+            match root_of(alloc, dir, entry.1) {
+                Ok(root) => match roots.push(root) {
+                    Ok(()) => {}
+                    Err(_) => return Err(BodyError::Memory),
+                },
+                Err(BodyError::BadBodyHead) => return Err(BodyError::BadBodyHead),
+                Err(BodyError::Memory) => return Err(BodyError::Memory),
+            }
+        }
+    }
+    Ok(roots)
+}
+
+/// The labels and paths that some entries name: any number of `root`.
+///
+/// # Errors
+///
+/// `BadBodyHead` exactly where they aren't such entries, and `Memory`.
+pub fn runtime_head(
+    alloc: Global,
+    dir: &StoreDir,
+    entries: &[(&str, &str)],
+) -> Result<Vec<(String, StorePath)>, BodyError>
+    ensures ok { IfOk result (λ roots. IsRuntime dir.now (shown entries.now) (labelled roots.items)) }
+    ensures bad { result ≡ Err BodyError.BadBodyHead → (roots : List (List ℕ × List ℕ)) → IsRuntime dir.now (shown entries.now) roots → ⊥ }
+{
+    if !are_known(entries, &["root"]) {
+        return Err(BodyError::BadBodyHead);
+    }
+    each_root(alloc, dir, entries, "root")
+}

@@ -1,0 +1,8 @@
+pub mod Beginnings
+pub mod Heads
+pub mod Longer
+pub mod Named
+pub mod Once
+mod PlainText
+pub mod Reading
+pub mod Whole

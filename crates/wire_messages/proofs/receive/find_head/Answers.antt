@@ -1,0 +1,21 @@
+use Rattle.std.proofs.Common.{rules, refl, sym, append-nil, arith}
+use Rattle.std.proofs.KnownBytes.{Consumes-nil, Consumes-trans}
+use Rattle.wire_messages.proofs.Heads.{none_in_nothing}
+use Rattle.wire_messages.proofs.receive.find_head.Goals as goal
+
+-- src/receive.rt:70:5
+pub head-init : goal.head-init
+head-init g c = record {
+  took = record { bytes = _; taken = Consumes-nil _; kept = sym (append-nil _) };
+  none = none_in_nothing;
+  begun = refl;
+  within = omega arith;
+  some = search rules;
+  window = search rules;
+}
+
+-- src/receive.rt:80:27
+pub returns-in-Err : goal.returns-in-Err
+returns-in-Err g c =
+    let took = c.head.invariant.took in
+    ((_, Consumes-trans _ _ _ _ _ took.taken c.read_more.ensures.taken.1, tt), tt)

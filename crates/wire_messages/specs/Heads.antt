@@ -1,0 +1,41 @@
+-- The head of a message at the front of an input.
+use Rattle.std.specs.Prelude.{ℕ, Bool, not, ◌||◌, ◌≤◌, ◌<◌, ◌==◌, ◌++◌, List, length, drop}
+use Rattle.std.specs.List.{list_any}
+use Rattle.httparse.specs.Grammar.{RequestHead, print_request, ReadsRequest, HasNoRequest}
+use Rattle.httparse.specs.Spans.{IsRequestAt, IsRequestWithin}
+use Rattle.wire_messages.specs.declared.head.Head.{Head}
+use Rattle.wire_messages.specs.declared.head.Look.{Look}
+use Rattle.wire_messages.specs.declared.head.Look.TheVariants.{Whole, Unfinished, Faulty}
+
+-- a head has at most so many bytes, and at most so many fields
+abbrev pub max_head : ℕ
+max_head = 16384
+
+abbrev pub max_fields : ℕ
+max_fields = 64
+
+-- h is the head of the input, and rest follows it
+pub record IsHead (input : List ℕ) (h : RequestHead) (rest : List ℕ) : Type 0 where
+  pub reads : ReadsRequest input h rest
+  pub short : length (print_request h) ≤ max_head
+  pub few : length h.fields ≤ max_fields
+
+-- no beginning of the input is a head
+abbrev pub HasNoHead : List ℕ → Type 0
+HasNoHead input = (h : RequestHead) (rest : List ℕ) → ¬ (IsHead input h rest)
+
+-- a byte other than those of line ends (13 and 10) is among the bytes
+abbrev pub has_begun_in : List ℕ → Bool
+has_begun_in bytes = list_any (λ b. not (b == 13 || b == 10)) bytes
+
+-- the parts of the head h stand in a buffer at these places, and a rest follows
+pub record Holds (buf : List ℕ) (head : Head) (h : RequestHead) : Type 0 where
+  pub is_head : IsHead buf h (drop head.spans.len buf)
+  pub places : IsRequestAt buf head.fields head.spans h
+  pub within : IsRequestWithin buf head.fields head.spans
+
+-- what a look at the bytes so far tells, whatever follows them
+abbrev pub Tells : List ℕ → Look → Type 0
+Tells buf (Whole head) = (h : RequestHead) × Holds buf head h
+Tells buf Unfinished = HasNoRequest buf × (length buf < max_head)
+Tells buf Faulty = (more : List ℕ) → HasNoHead (buf ++ more)

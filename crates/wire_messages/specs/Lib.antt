@@ -1,0 +1,5 @@
+pub mod Callers
+pub mod Division
+pub mod Fields
+pub mod Heads
+pub mod Messages

@@ -1,0 +1,107 @@
+-- A target fits one pattern of the table at most.
+use Rattle.std.proofs.Common.{◌≡◌, ℕ, List, [], ◌∷◌, Some, None, Bool, true, false, cond, ◌==◌, ◌&&◌, ◌||◌, not, inl, inr, refl, sym, ap, ◌∙◌, arith}
+use Rattle.std.specs.List.{list_all}
+use Rattle.std.proofs.lemmas.Bool.Decides.{nat_tests}
+use Rattle.matchit.specs.Rows.{RowsOf}
+use Rattle.matchit.specs.Router.{RouteOf}
+use Rattle.matchit.specs.Seek.{first}
+use Rattle.wire_requests.specs.declared.requests.Requests.{Requests}
+use Rattle.wire_requests.specs.Patterns.{fits, behind, is_plain}
+use Rattle.wire_requests.specs.Table.{table, first_fit, requests_of}
+use Rattle.wire_requests.specs.Rows.{Has, AreRows}
+use Rattle.wire_requests.proofs.Texts.{AllBytes, and_first, and_last, not_true}
+use Rattle.wire_requests.proofs.Seeking.{AllPlain, found_fits, missing_fits_none}
+
+-- at the first token that differs, two bytes stand, or a parameter and a slash, or the end of one
+abbrev are_apart : List ℕ → List ℕ → Bool
+are_apart [] [] = false
+are_apart [] (y ∷ b) = true
+are_apart (x ∷ a) [] = true
+are_apart (x ∷ a) (y ∷ b) =
+    cond (x == 256) (cond (y == 256) (are_apart a b) (y == 47)) (cond (y == 256) (x == 47) (not (x == y) || are_apart a b))
+
+-- no text fits both
+apart_fits : (a b text : List ℕ) → are_apart a b ≡ true → fits a text ≡ true → fits b text ≡ true → ⊥
+apart_fits [] [] text e f g = let h : false ≡ true = e in cc
+apart_fits [] (y ∷ b) [] e f g = let h : false ≡ true = g in cc
+apart_fits [] (y ∷ b) (c ∷ text) e f g = let h : false ≡ true = f in cc
+apart_fits (x ∷ a) [] [] e f g = let h : false ≡ true = f in cc
+apart_fits (x ∷ a) [] (c ∷ text) e f g = let h : false ≡ true = g in cc
+apart_fits (x ∷ a) (y ∷ b) [] e f g = let h : false ≡ true = f in cc
+apart_fits (x ∷ a) (y ∷ b) (c ∷ text) e f g = by (x == 256) refl (y == 256) refl e f g (apart_fits a b)
+  where
+    by : (v : Bool) → (x == 256) ≡ v → (w : Bool) → (y == 256) ≡ w
+        → cond v (cond w (are_apart a b) (y == 47)) (cond w (x == 47) (not (x == y) || are_apart a b)) ≡ true
+        → cond v (not (c == 47) && fits a (behind text)) (x == c && fits a text) ≡ true
+        → cond w (not (c == 47) && fits b (behind text)) (y == c && fits b text) ≡ true
+        → ((t : List ℕ) → are_apart a b ≡ true → fits a t ≡ true → fits b t ≡ true → ⊥) → ⊥
+    by true xv true yw e f g ih = ih (behind text) e (and_last (not (c == 47)) (fits a (behind text)) f) (and_last (not (c == 47)) (fits b (behind text)) g)
+    by true xv false yw e f g ih =
+        let no_slash = not_true (c == 47) (and_first (not (c == 47)) (fits a (behind text)) f) in
+        let same = and_first (y == c) (fits b text) g in
+        grind (arith, nat_tests)
+    by false xv true yw e f g ih =
+        let no_slash = not_true (c == 47) (and_first (not (c == 47)) (fits b (behind text)) g) in
+        let same = and_first (x == c) (fits a text) f in
+        grind (arith, nat_tests)
+    by false xv false yw e f g ih = differ (x == y) refl e
+      where
+        differ : (d : Bool) → (x == y) ≡ d → (not d || are_apart a b) ≡ true → ⊥
+        differ true is e = ih text e (and_last (x == c) (fits a text) f) (and_last (y == c) (fits b text) g)
+        differ false is e =
+            let one = and_first (x == c) (fits a text) f in
+            let other = and_first (y == c) (fits b text) g in
+            grind (arith, nat_tests)
+
+all_has : {A : Type 0} (p : A → Bool) (x : A) (xs : List A) → list_all p xs ≡ true → Has x xs → p x ≡ true
+all_has p x [] e has = absurd has
+all_has p x (y ∷ ys) e (inl is) = ap p (sym is) ∙ and_first (p y) (list_all p ys) e
+all_has p x (y ∷ ys) e (inr has) = all_has p x ys (and_last (p y) (list_all p ys) e) has
+
+-- each pattern is apart from those after it
+abbrev all_apart : List (List ℕ × Requests) → Bool
+all_apart [] = true
+all_apart (row ∷ rows) = list_all (λ other. are_apart row.0 other.0) rows && all_apart rows
+
+-- the row that fits is the first that does
+first_is : (text : List ℕ) (rows : List (List ℕ × Requests)) (t : List ℕ) (requests : Requests) → all_apart rows ≡ true → Has (t, requests) rows → fits t text ≡ true
+    → first_fit text rows ≡ Some requests
+first_is text [] t requests e has f = absurd has
+first_is text (row ∷ rows) t requests e (inl is) f =
+    ap (λ v. cond v (Some row.1) (first_fit text rows)) (ap (λ r. fits r.0 text) is ∙ f) ∙ ap (λ r. Some r.1) is
+first_is text (row ∷ rows) t requests e (inr has) f = by (fits row.0 text) refl (first_is text rows t requests (and_last _ (all_apart rows) e) has f)
+  where
+    by : (v : Bool) → fits row.0 text ≡ v → first_fit text rows ≡ Some requests → cond v (Some row.1) (first_fit text rows) ≡ Some requests
+    by true is ih =
+        let other = all_has (λ o. are_apart row.0 o.0) (t, requests) rows (and_first (list_all (λ o. are_apart row.0 o.0) rows) (all_apart rows) e) has in
+        absurd (apart_fits row.0 t text other is f)
+    by false is ih = ih
+
+none_first : (text : List ℕ) (rows : List (List ℕ × Requests)) → ((t : List ℕ) (requests : Requests) → Has (t, requests) rows → fits t text ≡ true → ⊥) → first_fit text rows ≡ None
+none_first text [] none = refl
+none_first text (row ∷ rows) none = by (fits row.0 text) refl (none_first text rows (λ t requests has f. none t requests (inr has) f))
+  where
+    by : (v : Bool) → fits row.0 text ≡ v → first_fit text rows ≡ None → cond v (Some row.1) (first_fit text rows) ≡ None
+    by true is ih = absurd (none row.0 row.1 (inl refl) is)
+    by false is ih = ih
+
+table_apart : all_apart table ≡ true
+unfolding table
+table_apart = refl
+
+table_plain : list_all (λ row. is_plain row.0) table ≡ true
+unfolding table
+table_plain = refl
+
+module _ (rs : RowsOf (RouteOf Requests)) (rows : AreRows rs table) (text : List ℕ) where
+  plain : AllPlain rs
+  plain t r has = all_has (λ row. is_plain row.0) (t, r.value) table table_plain (rows.each t r has)
+
+  -- what the router finds is the requests of the target
+  pub found_requests : AllBytes text → (r : RouteOf Requests) → first rs text ≡ Some r → requests_of text ≡ Some r.value
+  found_requests bytes r e =
+      let found = found_fits rs text plain bytes r e in
+      first_is text table found.0 r.value table_apart (rows.each found.0 r found.1) found.2
+
+  pub missing_requests : first rs text ≡ None → requests_of text ≡ None
+  missing_requests e = none_first text table (λ t requests has f. let row = rows.all t requests has in missing_fits_none rs text plain e t row.0 row.1 f)

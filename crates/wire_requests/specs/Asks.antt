@@ -1,0 +1,87 @@
+-- What a message asks: by the kind that its route and its method stand for, its target and its body.
+use Rattle.std.specs.Prelude.{◌≡◌, ℕ, Bool, true, false, not, List, [], ◌∷◌, Option, Some, None}
+use Rattle.std.specs.Str.{bytes_eq}
+use Rattle.paths.specs.Decimal.{number_up_to}
+use Rattle.paths.specs.StorePath.{is_base_name}
+use Rattle.model.specs.World.{Path, Pair}
+use Rattle.model.specs.Request.{Request, add_text, add_source, import_object, info, nar, ls, list, list_live, list_dead, list_roots, list_roots_of, set_permanent, drop_permanent, set_user_root, drop_user_root, set_profile, rollback, switch, delete_generation, replace_runtime, add_temp, end_session, collect, delete, report}
+use Rattle.wire_requests.specs.Parts.{part}
+use Rattle.wire_requests.specs.declared.kind.Kind.{Kind}
+use Rattle.wire_requests.specs.declared.kind.Kind.TheVariants as kinds
+use Rattle.wire_bodies.specs.Lines.{spelled}
+use Rattle.wire_bodies.specs.Bodies.{IsNamedBody, IsImportBody, Says, IsPath, IsRuntime, IsCollect, IsDelete}
+use Rattle.wire_bodies.specs.declared.heads.NamedHead.{NamedHead}
+use Rattle.wire_bodies.specs.declared.heads.DeleteHead.{DeleteHead}
+use Rattle.wire_bodies.specs.declared.import.ImportHead.{ImportHead}
+use Rattle.wire_bodies.specs.declared.collect.CollectHead.{CollectHead}
+use Rattle.wire_requests.specs.View.{imported, flag}
+
+-- a body that says nothing: it is empty, or the empty line alone
+abbrev pub is_blank : List ℕ → Bool
+is_blank body = bytes_eq (spelled body) (10 ∷ [])
+
+-- the numbers that parts of a target write; any other text stands for 0, which is no generation's and no session's
+abbrev pub generation_in : List ℕ → ℕ
+generation_in text = number_up_to 9999 text
+
+abbrev pub session_in : List ℕ → ℕ
+session_in text = number_up_to 4194304 text
+
+-- the request that names in a target say whole
+abbrev pub by_names : Kind → List ℕ → Option Request
+by_names kinds.DropPermanent target = Some (drop_permanent (part 3 target))
+by_names kinds.DropUserRoot target = Some (drop_user_root (part 3 target) (part 4 target))
+by_names kinds.Rollback target = Some (rollback (part 2 target) (part 3 target))
+by_names kinds.Switch target = Some (switch (part 2 target) (part 3 target) (generation_in (part 4 target)))
+by_names kinds.DeleteGeneration target = Some (delete_generation (part 2 target) (part 3 target) (generation_in (part 4 target)))
+by_names kinds.EndSession target = Some (end_session (part 2 target) (session_in (part 3 target)))
+by_names _ target = None
+
+-- the request of a kind that wants nothing else
+abbrev pub by_target : Kind → List ℕ → Option Request
+by_target kinds.List target = Some list
+by_target kinds.ListRoots target = Some list_roots
+by_target kinds.Live target = Some list_live
+by_target kinds.Dead target = Some list_dead
+by_target kinds.Report target = Some report
+by_target kind target = by_names kind target
+
+-- a base name behind the second slash of the target, and nothing in the body
+abbrev pub OnPath : List ℕ → List ℕ → (Path → Request) → Request → Type 0
+OnPath target body on q = (is_base_name (part 2 target) ≡ true) × (is_blank body ≡ true) × (q ≡ on (part 2 target))
+
+-- a path in the body
+abbrev pub Naming : List ℕ → List ℕ → (Path → Request) → Request → Type 0
+Naming dir body with_path q = (p : Path) × Says (IsPath dir) body p × (q ≡ with_path p)
+
+-- A message over a store directory, whose route and method stand for this kind, with this target and this body, asks this.
+abbrev pub Asks : List ℕ → Kind → List ℕ → List ℕ → Request → Type 0
+Asks dir kinds.AddText target body q = (head : NamedHead) × (contents : List ℕ) × IsNamedBody dir body head contents × (q ≡ add_text head.name head.references.items contents)
+Asks dir kinds.AddSource target body q = (head : NamedHead) × (b : List ℕ) × IsNamedBody dir body head b × (q ≡ add_source head.name head.references.items b)
+Asks dir kinds.Import target body q = (head : ImportHead) × (b : List ℕ) × IsImportBody dir body head b × (q ≡ import_object (imported head b))
+Asks dir kinds.Info target body q = OnPath target body (λ p. info p) q
+Asks dir kinds.Nar target body q = OnPath target body (λ p. nar p) q
+Asks dir kinds.Ls target body q = OnPath target body (λ p. ls p) q
+Asks dir kinds.RootsOf target body q = OnPath target body (λ p. list_roots_of p) q
+Asks dir kinds.SetPermanent target body q = Naming dir body (λ p. set_permanent (part 3 target) p) q
+Asks dir kinds.SetUserRoot target body q = Naming dir body (λ p. set_user_root (part 3 target) (part 4 target) p) q
+Asks dir kinds.SetProfile target body q = Naming dir body (λ p. set_profile (part 2 target) (part 3 target) p) q
+Asks dir kinds.AddTemp target body q = Naming dir body (λ p. add_temp (part 2 target) (session_in (part 3 target)) p) q
+Asks dir kinds.ReplaceRuntime target body q = (named : List Pair) × Says (IsRuntime dir) body named × (q ≡ replace_runtime named)
+Asks dir kinds.Collect target body q = (head : CollectHead) × Says IsCollect body head × (q ≡ collect (flag head.ignore_liveness) head.max_freed)
+Asks dir kinds.Delete target body q = (head : DeleteHead) × Says (IsDelete dir) body head × (q ≡ delete head.paths.items (flag head.ignore_liveness))
+Asks dir kind target body q = (is_blank body ≡ true) × (by_target kind target ≡ Some q)
+
+-- The target should name a path, and doesn't.
+abbrev pub has_bad_path : Kind → List ℕ → Bool
+has_bad_path kinds.Info target = not (is_base_name (part 2 target))
+has_bad_path kinds.Nar target = not (is_base_name (part 2 target))
+has_bad_path kinds.Ls target = not (is_base_name (part 2 target))
+has_bad_path kinds.RootsOf target = not (is_base_name (part 2 target))
+has_bad_path _ target = false
+
+-- The payload of such a request is an archive.
+abbrev pub is_archive : Kind → Bool
+is_archive kinds.AddSource = true
+is_archive kinds.Import = true
+is_archive _ = false

@@ -1,0 +1,9 @@
+pub mod Asks
+pub mod Kept
+pub mod Methods
+pub mod Parts
+pub mod Patterns
+pub mod Reads
+pub mod Rows
+pub mod Table
+pub mod View

@@ -1,0 +1,38 @@
+-- What is read of a message, or why nothing is.
+use Rattle.std.specs.Prelude.{◌≡◌, ℕ, true, false, List, Some, Result, Ok, Err, ⊤}
+use Rattle.paths.specs.StorePath.{is_base_name}
+use Rattle.wire_requests.specs.Parts.{part}
+use Rattle.wire_requests.specs.declared.kind.Kind.{Kind}
+use Rattle.model.specs.Request as asked
+use Rattle.wire_requests.specs.declared.error.AskError.{AskError}
+use Rattle.wire_requests.specs.declared.error.AskError.TheVariants.{BadPath, BadBodyHead, Memory}
+use Rattle.store_types.specs.declared.requests.Request.{Request}
+use Rattle.store_types.specs.View.{request_view}
+use Rattle.wire_requests.specs.Asks.{is_blank, by_target, Asks, has_bad_path}
+
+-- why a message asks nothing: a path in the target is tested before the body
+abbrev pub AsksNothing : List ℕ → Kind → List ℕ → List ℕ → AskError → Type 0
+AsksNothing dir kind target body BadPath = has_bad_path kind target ≡ true
+AsksNothing dir kind target body BadBodyHead = (has_bad_path kind target ≡ false) × ((q : asked.Request) → Asks dir kind target body q → ⊥)
+AsksNothing dir kind target body Memory = ⊤
+
+-- what is asked, or why nothing is
+abbrev pub Reads : List ℕ → Kind → List ℕ → List ℕ → Result Request AskError → Type 0
+Reads dir kind target body (Ok q) = Asks dir kind target body (request_view q)
+Reads dir kind target body (Err e) = AsksNothing dir kind target body e
+
+-- ---- inside the crate
+
+-- the request of a target, where the body is blank
+abbrev pub ReadsTarget : Kind → List ℕ → List ℕ → Result Request AskError → Type 0
+ReadsTarget kind target body (Ok q) = (is_blank body ≡ true) × (by_target kind target ≡ Some (request_view q))
+ReadsTarget kind target body (Err BadPath) = ⊥
+ReadsTarget kind target body (Err BadBodyHead) = (q : asked.Request) → is_blank body ≡ true → by_target kind target ≡ Some q → ⊥
+ReadsTarget kind target body (Err Memory) = ⊤
+
+-- the path of a target, where the body is blank
+abbrev pub ReadsPath : List ℕ → List ℕ → Result (List ℕ) AskError → Type 0
+ReadsPath target body (Ok p) = (is_base_name (part 2 target) ≡ true) × (is_blank body ≡ true) × (p ≡ part 2 target)
+ReadsPath target body (Err BadPath) = is_base_name (part 2 target) ≡ false
+ReadsPath target body (Err BadBodyHead) = (is_base_name (part 2 target) ≡ true) × (is_blank body ≡ false)
+ReadsPath target body (Err Memory) = ⊤

@@ -1,0 +1,27 @@
+//! The routes, and the request that a message makes.
+#![tactic(auto)]
+
+mod adds;
+mod body;
+mod error;
+mod kind;
+mod method;
+mod named;
+mod parted;
+mod parts;
+mod questions;
+mod read;
+mod requests;
+mod router;
+mod sweeps;
+mod targets;
+
+pub use adds::read_import;
+pub use body::{Body, is_archive};
+pub use error::AskError;
+pub use kind::Kind;
+pub use method::Method;
+pub use parts::part;
+pub use read::read_request;
+pub use requests::Requests;
+pub use router::Routes;

@@ -1,0 +1,100 @@
+//! A body whose payload is an archive, as it comes.
+ghost use Rattle.std.specs.Prelude.{◌≡◌, ◌++◌, [], IfOk, OnOk};
+ghost use Rattle.wire_bodies.specs.Front.{front_of, rest_of};
+ghost use Rattle.intake.specs.Arriving.{bytes_in};
+
+use intake::Intake;
+use std::alloc::{AllocError, Global};
+use std::marker::Model;
+use std::str;
+use wire_bodies::Front;
+
+/// The front of a body, and the archive behind it, which is checked and hashed as it comes. Contracts see all bytes.
+#[derive(Drop)]
+pub(crate) struct Parted {
+    front: Front,
+    archive: Intake,
+    has_begun: bool,
+}
+
+impl Model for Parted {
+    ghost use Rattle.std.specs.Prelude.{◌≡◌, ◌++◌, List, ℕ};
+    ghost use Rattle.wire_bodies.specs.Front.{front_of};
+    ghost use Rattle.intake.specs.Arriving.{bytes_in};
+
+    ghost Value = { List ℕ };
+
+    ghost view = { λ parted. parted.front ++ bytes_in parted.archive };
+
+    ghost invariant = { λ parted. front_of (parted.front ++ bytes_in parted.archive) ≡ parted.front };
+}
+
+/// Whether a front names the address of a text, which asks for the contents of the archive. No answer hangs on it: where
+/// it isn't seen here, they are hashed once that address is tested.
+fn names_text_address(front: &[u8]) -> bool {
+    match str::from_utf8(front) {
+        Ok(text) => text.starts_with("ca: text:") || text.contains("\nca: text:"),
+        Err(_) => false,
+    }
+}
+
+/// Before the first bytes of the archive come: contents that will be asked for are hashed as they come. Gives whether
+/// the archive has begun.
+fn begin(has_begun: bool, front: &[u8], rest: &[u8], archive: &mut Intake) -> bool
+    ensures { archive.new ≡ archive.old }
+{
+    if has_begun || rest.is_empty() {
+        return has_begun;
+    }
+    if names_text_address(front) {
+        archive.hash_contents();
+    }
+    true
+}
+
+impl Parted {
+    /// No bytes yet. It takes no memory.
+    pub(crate) fn new(alloc: Global) -> Parted
+        ensures { result ≡ [] }
+    {
+        Parted {
+            front: Front::new(alloc),
+            archive: Intake::new(alloc),
+            has_begun: false,
+        }
+    }
+
+    /// Takes the next piece.
+    pub(crate) fn push(&mut self, piece: &[u8]) -> Result<(), AllocError>
+        ensures { OnOk result (self.new ≡ self.old ++ piece.now) }
+    {
+        let rest = self.front.take(piece)?;
+        self.has_begun = begin(self.has_begun, self.front.bytes(), rest, &mut self.archive);
+        self.archive.push(rest)?;
+        Ok(())
+    }
+
+    /// Its lines up to and with the first empty one.
+    pub(crate) fn front(&self) -> &[u8]
+        ensures { result.now ≡ front_of self.now }
+    {
+        self.front.bytes()
+    }
+
+    /// The archive, without a copy.
+    pub(crate) fn into_archive(self) -> Intake
+        ensures { bytes_in result ≡ rest_of self }
+    {
+        self.archive
+    }
+
+    /// All bytes in one buffer.
+    pub(crate) fn joined(self, alloc: Global) -> Result<Vec<u8>, AllocError>
+        ensures { IfOk result (λ bytes. bytes.items ≡ self) }
+    {
+        let mut bytes = self.front.bytes().to_vec(alloc)?;
+        let archive = self.archive.finish()?.pieces.joined()?;
+        bytes.extend_from_slice(&archive)?;
+        Ok(bytes)
+    }
+}

@@ -1,0 +1,123 @@
+//! The table of routes, and the router that is made of it.
+ghost use Rattle.std.specs.Prelude.{◌≡◌, IfOk, OnOk, map};
+ghost use Rattle.wire_requests.specs.Rows.{AreRows, AddsRow, row_of};
+ghost use Rattle.wire_requests.specs.Table.{table, requests_of};
+
+use crate::kind::Kind;
+use crate::requests::Requests;
+use matchit::Router;
+use std::alloc::{AllocError, Global};
+use std::marker::Model;
+
+/// The one table of routes. A parameter is one or more bytes other than `/`.
+const TABLE: [(&str, Requests); 22] = [
+    ("/text", Requests::Post(Kind::AddText)),
+    ("/source", Requests::Post(Kind::AddSource)),
+    ("/import", Requests::Post(Kind::Import)),
+    ("/info/{path}", Requests::Get(Kind::Info)),
+    ("/nar/{path}", Requests::Get(Kind::Nar)),
+    ("/ls/{path}", Requests::Get(Kind::Ls)),
+    ("/roots-of/{path}", Requests::Get(Kind::RootsOf)),
+    ("/paths", Requests::Get(Kind::List)),
+    ("/roots", Requests::Get(Kind::ListRoots)),
+    ("/live", Requests::Get(Kind::Live)),
+    ("/dead", Requests::Get(Kind::Dead)),
+    ("/report", Requests::Get(Kind::Report)),
+    (
+        "/root/permanent/{name}",
+        Requests::PostOrDelete(Kind::SetPermanent, Kind::DropPermanent),
+    ),
+    (
+        "/root/user/{user}/{name}",
+        Requests::PostOrDelete(Kind::SetUserRoot, Kind::DropUserRoot),
+    ),
+    ("/profile/{user}/{name}", Requests::Post(Kind::SetProfile)),
+    ("/rollback/{user}/{name}", Requests::Post(Kind::Rollback)),
+    ("/switch/{user}/{name}/{n}", Requests::Post(Kind::Switch)),
+    (
+        "/generation/{user}/{name}/{n}",
+        Requests::Delete(Kind::DeleteGeneration),
+    ),
+    (
+        "/temp/{user}/{s}",
+        Requests::PostOrDelete(Kind::AddTemp, Kind::EndSession),
+    ),
+    ("/runtime", Requests::Post(Kind::ReplaceRuntime)),
+    ("/collect", Requests::Post(Kind::Collect)),
+    ("/delete", Requests::Post(Kind::Delete)),
+];
+
+/// Adds a route.
+fn add(router: &mut Router<Requests>, route: &str, requests: Requests) -> Result<(), AllocError>
+    ensures { OnOk result (AddsRow route.now requests router.old router.new) }
+{
+    match router.insert(route, requests) {
+        Ok(()) => Ok(()),
+        Err(_) => Err(AllocError),
+    }
+}
+
+/// A router with these routes.
+fn router_of(alloc: Global, rows: &[(&str, Requests)]) -> Result<Router<Requests>, AllocError>
+    ensures { IfOk result (λ router. AreRows router (map row_of rows.now)) }
+{
+    let mut router = Router::new(alloc);
+    for row in rows {
+        add(&mut router, row.0, row.1)?;
+    }
+    Ok(router)
+}
+
+/// A router with each route of the table.
+fn make_router(alloc: Global) -> Result<Router<Requests>, AllocError>
+    ensures { IfOk result (λ router. AreRows router table) }
+{
+    router_of(alloc, &TABLE)
+}
+
+/// The requests of the route that a whole target names.
+fn find_requests(router: &Router<Requests>, target: &str) -> Option<Requests>
+    requires { AreRows router.now table }
+    ensures { result ≡ requests_of target.now }
+{
+    match router.at(target) {
+        Ok(found) => Some(*found.value),
+        Err(_) => None,
+    }
+}
+
+/// The routes of the server.
+#[derive(Drop)]
+pub struct Routes {
+    router: Router<Requests>,
+}
+
+impl Model for Routes {
+    ghost use Rattle.matchit.specs.Rows.{RowsOf};
+    ghost use Rattle.matchit.specs.Router.{RouteOf};
+    ghost use Rattle.wire_requests.specs.Rows.{AreRows};
+    ghost use Rattle.wire_requests.specs.Table.{table};
+    ghost use Rattle.wire_requests.specs.declared.requests.Requests.{Requests as RequestsOf};
+
+    ghost Value = { RowsOf (RouteOf RequestsOf) };
+
+    ghost view = { λ r. r.router };
+
+    ghost invariant = { λ r. AreRows r.router table };
+}
+
+impl Routes {
+    /// The routes of the table, and nothing but want of memory.
+    pub fn new(alloc: Global) -> Result<Routes, AllocError> {
+        Ok(Routes {
+            router: make_router(alloc)?,
+        })
+    }
+
+    /// The requests of the route that a whole target names: none where no pattern fits it.
+    pub fn find(&self, target: &str) -> Option<Requests>
+        ensures { result ≡ requests_of target.now }
+    {
+        find_requests(&self.router, target)
+    }
+}

@@ -1,0 +1,59 @@
+//! Requests that a body says whole.
+ghost use Rattle.std.specs.Prelude.{List, ℕ};
+ghost use Rattle.wire_requests.specs.declared.kind.Kind.TheVariants as kinds;
+ghost use Rattle.wire_requests.specs.Reads.{Reads};
+
+use crate::error::AskError;
+use paths::StoreDir;
+use std::alloc::Global;
+use store_types::Request;
+use wire_bodies::{BodyError, DeleteHead, collect_body, delete_body, runtime_body};
+
+/// Runtime roots in place of all others.
+pub(crate) fn replace_runtime(
+    alloc: Global,
+    dir: &StoreDir,
+    body: &[u8],
+) -> Result<Request, AskError>
+    ensures { (target : List ℕ) → Reads dir.now kinds.ReplaceRuntime target body.now result }
+{
+    match runtime_body(alloc, dir, body) {
+        Ok(roots) => Ok(Request::ReplaceRuntime(roots)),
+        Err(BodyError::BadBodyHead) => Err(AskError::BadBodyHead),
+        Err(BodyError::Memory) => Err(AskError::Memory),
+    }
+}
+
+/// A collection.
+pub(crate) fn collect(alloc: Global, body: &[u8]) -> Result<Request, AskError>
+    ensures { (dir target : List ℕ) → Reads dir kinds.Collect target body.now result }
+{
+    match collect_body(alloc, body) {
+        Ok(head) => Ok(Request::Collect {
+            ignore_liveness: head.ignore_liveness.unwrap_or(false),
+            max_freed: head.max_freed,
+        }),
+        Err(BodyError::BadBodyHead) => Err(AskError::BadBodyHead),
+        Err(BodyError::Memory) => Err(AskError::Memory),
+    }
+}
+
+/// A deletion.
+pub(crate) fn delete(alloc: Global, dir: &StoreDir, body: &[u8]) -> Result<Request, AskError>
+    ensures { (target : List ℕ) → Reads dir.now kinds.Delete target body.now result }
+{
+    match delete_body(alloc, dir, body) {
+        Ok(head) => {
+            let DeleteHead {
+                paths,
+                ignore_liveness,
+            } = head;
+            Ok(Request::Delete {
+                paths,
+                ignore_liveness: ignore_liveness.unwrap_or(false),
+            })
+        }
+        Err(BodyError::BadBodyHead) => Err(AskError::BadBodyHead),
+        Err(BodyError::Memory) => Err(AskError::Memory),
+    }
+}

@@ -1,0 +1,145 @@
+-- What one turn of the loop comes to.
+use Rattle.std.proofs.Common.{◌≡◌, ℕ, ◌+◌, ◌<◌, ◌-◌, ◌^◌, List, [], ◌∷◌, ◌++◌, length, take, drop, Option, true, false, refl, sym, ◌∙◌, arith, subst, inl, inr}
+use Rattle.std.specs.Prelude.{IfSome, Err}
+use Rattle.std.specs.Io.KnownBytes.{Consumes, IsAtEnd, Appends}
+use Rattle.std.specs.declared.alloc.AllocError.{AllocError}
+use Rattle.std.proofs.KnownBytes.{Appends-trans, Appends-nil}
+use Rattle.httparse.specs.Grammar.{RequestHead}
+use Rattle.wire_messages.specs.declared.head.Head.{Head}
+use Rattle.wire_messages.specs.declared.error.Fault.{Fault}
+use Rattle.wire_messages.specs.Messages.{IsFault, HoldsMessage}
+use Rattle.wire_messages.specs.Division.{message, faulty, closes}
+use Rattle.wire_server.specs.Responses.{Replied, reply_bytes}
+use Rattle.wire_server.specs.Answers.{body_in, Answered}
+use Rattle.wire_server.specs.Serves.{fault_reply, joined, Serves, Stops}
+use Rattle.wire_server.proofs.Told.{Told, divides_all, begins_all, follows_start, follows_read, follows_end, follows_any, follows_fault, follows_last, follows_more, follows_item, joined_more, counted_more, replies_item, replies_fault}
+
+full : (n : ℕ) → n ≡ 18446744073709551615 → n < 2 ^ 64 - 1 → ⊥
+full n is small = omega arith
+
+-- one more reply
+sent_more : (a b c : Option (List ℕ)) (replies : List (List ℕ)) (last : List ℕ) → Appends a b (joined replies) → Appends b c last → Appends a c (joined (replies ++ last ∷ []))
+sent_more a b c replies last first second = subst (Appends a c) (sym (joined_more replies last)) (Appends-trans a b c (joined replies) last first second)
+
+module _ {S : Type 0} (answers : S → RequestHead → List ℕ → Replied → S → Type 0) (input output : Option (List ℕ)) (s : S) where
+  pub told_start : Told answers input input output output [] s s 0
+  told_start = record { done = []; replies = []; counted = refl; follows = follows_start input; answered = refl; written = Appends-nil output }
+
+  pub told_read : (mid rest out : Option (List ℕ)) (held held' bs : List ℕ) (t : S) (n : ℕ) → Told answers input mid output out held s t n
+      → Consumes mid rest bs → held' ≡ held ++ bs → Told answers input rest output out held' s t n
+  told_read mid rest out held held' bs t n told read kept = record {
+    done = told.done;
+    replies = told.replies;
+    counted = told.counted;
+    follows = follows_read input mid rest held held' bs told.done told.follows read kept;
+    answered = told.answered;
+    written = told.written;
+  }
+
+  -- broken off before another reply
+  pub stopped : (rest out : Option (List ℕ)) (held : List ℕ) (t : S) (n : ℕ) → Told answers input rest output out held s t n → Stops answers input output out s t
+  stopped rest out held t n told = record {
+    items = told.done;
+    replies = told.replies;
+    bytes = joined told.replies;
+    front = begins_all input told.done (follows_any input rest held told.done told.follows);
+    answered = told.answered;
+    written = inl refl;
+    appended = told.written;
+  }
+
+  -- as many as are counted
+  pub counted_out : (rest out : Option (List ℕ)) (held : List ℕ) (t : S) (n : ℕ) → Told answers input rest output out held s t n → n ≡ 18446744073709551615
+      → Serves answers input output out s t 18446744073709551615
+  counted_out rest out held t n told is = record {
+    items = told.done;
+    replies = told.replies;
+    counted = sym is ∙ told.counted;
+    front = begins_all input told.done (follows_any input rest held told.done told.follows);
+    whole = λ small. absurd (full 18446744073709551615 refl small);
+    answered = told.answered;
+    written = told.written;
+  }
+
+  -- nothing is left
+  pub ended : (rest out : Option (List ℕ)) (held : List ℕ) (t : S) (n : ℕ) → Told answers input rest output out held s t n → held ≡ [] → IsAtEnd rest
+      → Serves answers input output out s t n
+  ended rest out held t n told none end = record {
+    items = told.done;
+    replies = told.replies;
+    counted = told.counted;
+    front = begins_all input told.done (follows_any input rest held told.done told.follows);
+    whole = λ small. divides_all input told.done (follows_end input rest held told.done told.follows none end);
+    answered = told.answered;
+    written = told.written;
+  }
+
+  -- ---- an input that begins with no message
+
+  module _ (rest out out' : Option (List ℕ)) (held : List ℕ) (t : S) (n : ℕ) (fault : Fault) (told : Told answers input rest output out held s t n)
+      (some : 0 < length held) (is : IfSome rest (λ more. IsFault (held ++ more) fault)) where
+    pub refused : Appends out out' (fault_reply fault) → Serves answers input output out' s t (n + 1)
+    refused sent = record {
+      items = told.done ++ faulty fault ∷ [];
+      replies = told.replies ++ fault_reply fault ∷ [];
+      counted = counted_more told.done (faulty fault) n told.counted;
+      front = begins_all input _ (follows_fault false input rest held told.done fault told.follows some is);
+      whole = λ small. divides_all input _ (follows_fault true input rest held told.done fault told.follows some is);
+      answered = replies_fault answers s t told.done told.replies fault told.answered;
+      written = sent_more output out out' told.replies (fault_reply fault) told.written sent;
+    }
+
+    pub refused_in_part : (k : ℕ) × Appends out out' (take k (fault_reply fault)) → Stops answers input output out' s t
+    refused_in_part (k, sent) = record {
+      items = told.done ++ faulty fault ∷ [];
+      replies = told.replies ++ fault_reply fault ∷ [];
+      bytes = joined told.replies ++ take k (fault_reply fault);
+      front = begins_all input _ (follows_fault false input rest held told.done fault told.follows some is);
+      answered = replies_fault answers s t told.done told.replies fault told.answered;
+      written = inr (told.replies, fault_reply fault, k, refl, refl);
+      appended = Appends-trans output out out' (joined told.replies) (take k (fault_reply fault)) told.written sent;
+    }
+
+  -- ---- a message
+
+  module _ (rest out : Option (List ℕ)) (held : List ℕ) (t : S) (n : ℕ) (head : Head) (size : ℕ) (h : RequestHead)
+      (told : Told answers input rest output out held s t n) (is : HoldsMessage held head size h) where
+    pub answered_in_part : (out' : Option (List ℕ)) (new : S) (r : Replied) → answers t h (body_in held head size) r new
+        → (k : ℕ) × Appends out out' (take k (reply_bytes (closes h) r)) → Stops answers input output out' s new
+    answered_in_part out' new r answered (k, sent) = record {
+      items = told.done ++ message h (body_in held head size) ∷ [];
+      replies = told.replies ++ reply_bytes (closes h) r ∷ [];
+      bytes = joined told.replies ++ take k (reply_bytes (closes h) r);
+      front = begins_all input _ (follows_item held told.done head size h is input rest told.follows);
+      answered = replies_item answers s t new told.done told.replies h (body_in held head size) r told.answered answered;
+      written = inr (told.replies, reply_bytes (closes h) r, k, refl, refl);
+      appended = Appends-trans output out out' (joined told.replies) (take k (reply_bytes (closes h) r)) told.written sent;
+    }
+
+    -- no response came
+    pub lost : (new : S) (e : AllocError) → Answered answers t h (body_in held head size) (Err e) new → Stops answers input output out s new
+    lost new e (inl same) = subst (Stops answers input output out s) (sym same) (stopped rest out held t n told)
+    lost new e (inr (r, answered)) = answered_in_part out new r answered (0, Appends-nil out)
+
+    pub closed : (out' : Option (List ℕ)) (new : S) (r : Replied) → answers t h (body_in held head size) r new → closes h ≡ true
+        → Appends out out' (reply_bytes (closes h) r) → Serves answers input output out' s new (n + 1)
+    closed out' new r answered last sent = record {
+      items = told.done ++ message h (body_in held head size) ∷ [];
+      replies = told.replies ++ reply_bytes (closes h) r ∷ [];
+      counted = counted_more told.done _ n told.counted;
+      front = begins_all input _ (follows_last held told.done head size h is false input rest told.follows last);
+      whole = λ small. divides_all input _ (follows_last held told.done head size h is true input rest told.follows last);
+      answered = replies_item answers s t new told.done told.replies h (body_in held head size) r told.answered answered;
+      written = sent_more output out out' told.replies (reply_bytes (closes h) r) told.written sent;
+    }
+
+    pub goes_on : (out' : Option (List ℕ)) (new : S) (r : Replied) → answers t h (body_in held head size) r new → closes h ≡ false
+        → Appends out out' (reply_bytes (closes h) r) → Told answers input rest output out' (drop (head.spans.len + size) held) s new (n + 1)
+    goes_on out' new r answered on sent = record {
+      done = told.done ++ message h (body_in held head size) ∷ [];
+      replies = told.replies ++ reply_bytes (closes h) r ∷ [];
+      counted = counted_more told.done _ n told.counted;
+      follows = follows_more held told.done head size h is input rest told.follows on;
+      answered = replies_item answers s t new told.done told.replies h (body_in held head size) r told.answered answered;
+      written = sent_more output out out' told.replies (reply_bytes (closes h) r) told.written sent;
+    }

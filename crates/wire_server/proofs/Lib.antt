@@ -1,0 +1,7 @@
+mod Ends
+mod Peers
+mod Received
+pub mod Seen
+mod Sofar
+mod Told
+mod Turns

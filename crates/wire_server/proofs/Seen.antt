@@ -1,0 +1,83 @@
+-- What is seen of a server, by those who see something else than its state.
+use Rattle.std.proofs.Common.{ℕ, List, [], ◌∷◌, Option, Result, Ok, Err, refl, sym, subst}
+use Rattle.std.specs.declared.io.Error.{Error}
+use Rattle.httparse.specs.Grammar.{RequestHead}
+use Rattle.wire_messages.specs.Division.{Item, message, faulty}
+use Rattle.wire_server.specs.Responses.{Replied}
+use Rattle.wire_server.specs.declared.error.WireError.{WireError}
+use Rattle.wire_server.specs.Serves.{Replies, Served}
+use Rattle.wire_server.specs.Sessions.{result_of}
+use Rattle.wire_server.specs.ServesAll as server
+use Rattle.wire_server.specs.ServesAll.{Session, Follow, ServesOn}
+
+-- each answer leads from what shows the old state to something that shows the new one
+module _ {S W : Type 0} (answers : S → RequestHead → List ℕ → Replied → S → Type 0) (seen : W → RequestHead → List ℕ → Replied → W → Type 0) (Shows : S → W → Type 0)
+    (step : (s : S) (w : W) (h : RequestHead) (body : List ℕ) (r : Replied) (new : S) → Shows s w → answers s h body r new → (w' : W) × Shows new w' × seen w h body r w') where
+  replies_seen : (old : S) (w : W) (items : List Item) (replies : List (List ℕ)) (new : S) → Shows old w → Replies answers old items replies new
+      → (w' : W) × Shows new w' × Replies seen w items replies w'
+  replies_seen old w [] [] new shows same = (w, subst (λ s. Shows s w) (sym same) shows, refl)
+  replies_seen old w [] (reply ∷ replies) new shows none = absurd none
+  replies_seen old w (message h body ∷ items) [] new shows none = absurd none
+  replies_seen old w (faulty fault ∷ items) [] new shows none = absurd none
+  replies_seen old w (message h body ∷ items) (reply ∷ replies) new shows (mid, r, answered, is, rest) =
+      let one = step old w h body r mid shows answered in
+      let more = replies_seen mid one.0 items replies new one.1 rest in
+      (more.0, more.1, (one.0, r, one.2, is, more.2))
+  replies_seen old w (faulty fault ∷ items) (reply ∷ replies) new shows (is, rest) =
+      let more = replies_seen old w items replies new shows rest in
+      (more.0, more.1, (is, more.2))
+
+  -- one connection
+  pub served_seen : (input output output' : Option (List ℕ)) (old : S) (w : W) (new : S) (result : Result ℕ WireError) → Shows old w
+      → Served answers input output output' old new result → (w' : W) × Shows new w' × Served seen input output output' w w' result
+  served_seen input output output' old w new (Ok n) shows served =
+      let more = replies_seen old w served.items served.replies new shows served.answered in (
+        more.0,
+        more.1,
+        record {
+          items = served.items;
+          replies = served.replies;
+          counted = served.counted;
+          front = served.front;
+          whole = served.whole;
+          answered = more.2;
+          written = served.written;
+        },
+      )
+  served_seen input output output' old w new (Err fault) shows stopped =
+      let more = replies_seen old w stopped.items stopped.replies new shows stopped.answered in (
+        more.0,
+        more.1,
+        record {
+          items = stopped.items;
+          replies = stopped.replies;
+          bytes = stopped.bytes;
+          front = stopped.front;
+          answered = more.2;
+          written = stopped.written;
+          appended = stopped.appended;
+        },
+      )
+
+  -- connections one after another
+  follow_seen : (old : S) (w : W) (err err' : Option (List ℕ)) (sessions : List Session) (new : S) → Shows old w → Follow answers old err sessions new err'
+      → (w' : W) × Shows new w' × Follow seen w err sessions w' err'
+  follow_seen old w err err' [] new shows (same, kept) = (w, subst (λ s. Shows s w) (sym same) shows, (refl, kept))
+  follow_seen old w err err' (session ∷ sessions) new shows (fresh, mid, said, is, served, says, rest) =
+      let one = served_seen session.input fresh session.output old w mid (result_of session.end) shows served in
+      let more = follow_seen mid one.0 said err' sessions new one.1 rest in
+      (more.0, more.1, (fresh, one.0, said, is, one.2, says, more.2))
+
+  module _ (waiting waiting' closed closed' : Option (List (List ℕ))) (err err' : Option (List ℕ)) (old : S) (w : W) (new : S) (shows : Shows old w) where
+    sessions_seen : (sessions : List Session) → server.Serves answers waiting waiting' closed closed' err err' old new sessions
+        → (w' : W) × Shows new w' × server.Serves seen waiting waiting' closed closed' err err' w w' sessions
+    sessions_seen sessions served =
+        let more = follow_seen old w err err' sessions new shows served.followed in
+        (more.0, more.1, record { taken = served.taken; left = served.left; followed = more.2 })
+
+    pub serves_on_seen : (n : ℕ) (result : Result ℕ Error) → ServesOn answers n waiting waiting' closed closed' err err' old new result
+        → (w' : W) × Shows new w' × ServesOn seen n waiting waiting' closed closed' err err' w w' result
+    serves_on_seen n (Ok failed) (sessions, served, all, counted) =
+        let more = sessions_seen sessions served in (more.0, more.1, (sessions, more.2, all, counted))
+    serves_on_seen n (Err fault) (sessions, served, fewer) =
+        let more = sessions_seen sessions served in (more.0, more.1, (sessions, more.2, fewer))

@@ -1,0 +1,14 @@
+use Rattle.std.proofs.Common.{◌≡◌, ◌++◌, ◌∙◌, ap, sym, subst, append_assoc}
+use Rattle.std.proofs.KnownBytes.{Consumes-trans}
+use Rattle.wire_server.specs.Exchanges.{Comes}
+use Rattle.wire_server.proofs.exchange.next_exchange.Goals as goal
+
+pub returns-in-Ok-Message : goal.returns-in-Ok-Message
+returns-in-Ok-Message g c =
+    let head = rw c.in-Ok-Message.field-0-is at c.in-Ok-Message.ensures in
+    let next = c.answer_message.ensures in
+    let all = ap (λ t. t ++ next.0) head.0.2 ∙ append_assoc c.args.buffer.now.items head.0.0 next.0 in (
+      head.0.0 ++ next.0,
+      Consumes-trans _ _ _ head.0.0 next.0 head.0.1 next.1,
+      subst (λ t. Comes g.A.Responder.answers t c.answer_message.new.buffer.items (g.R.Read.remaining c.answer_message.new.input) c.args.responder.now c.answer_message.new.responder c.answer_message.result) all next.2,
+    )

@@ -1,0 +1,50 @@
+-- What becomes of the next message of a connection.
+use Rattle.std.specs.Prelude.{◌≡◌, ◌⊎◌, ℕ, ◌+◌, ◌<◌, Bool, true, List, [], ◌++◌, length, drop, Option, Some, None, Result, Ok, Err, IfSome, ⊤}
+use Rattle.std.specs.Io.KnownBytes.{Consumes, IsAtEnd}
+use Rattle.httparse.specs.Grammar.{RequestHead}
+use Rattle.wire_messages.specs.declared.head.Head.{Head}
+use Rattle.wire_messages.specs.declared.error.Fault.{Fault}
+use Rattle.wire_messages.specs.Messages.{HoldsMessage, IsFault}
+use Rattle.wire_messages.specs.Division.{closes}
+use Rattle.wire_server.specs.Responses.{Replied, replied, refused}
+use Rattle.wire_server.specs.declared.error.WireError.{WireError}
+use Rattle.wire_server.specs.declared.exchange.Exchange.{Exchange}
+use Rattle.wire_server.specs.Answers.{body_in}
+use Rattle.wire_server.specs.Serves.{refusal_of}
+
+-- the response is the refusal of that fault, and closes the connection
+abbrev pub IsRefusal : Fault → Exchange → Type 0
+IsRefusal fault x = (replied x.response ≡ refused (refusal_of fault) None) × (x.close ≡ true)
+
+abbrev pub Refuses : Fault → Result (Option Exchange) WireError → Type 0
+Refuses fault (Ok (Some x)) = IsRefusal fault x
+Refuses fault (Ok None) = ⊥
+Refuses fault (Err e) = ⊤
+
+-- All the bytes, and what may follow them, begin with no message, and the fault is told.
+abbrev pub HasFault : List ℕ → Option (List ℕ) → Exchange → Type 0
+HasFault all rest x = (fault : Fault) × (0 < length all) × IfSome rest (λ more. IsFault (all ++ more) fault) × IsRefusal fault x
+
+module _ {S : Type 0} (answers : S → RequestHead → List ℕ → Replied → S → Type 0) where
+  -- The bytes begin with a message, to which that may be the response.
+  pub record Answers (all : List ℕ) (s : S) (r : Replied) (s' : S) : Type 0 where
+    pub head : Head
+    pub size : ℕ
+    pub h : RequestHead
+    pub holds : HoldsMessage all head size h
+    pub answered : answers s h (body_in all head size) r s'
+
+  -- That is the response, behind which the rest is held.
+  abbrev pub IsAnswered : List ℕ → List ℕ → S → Exchange → S → Type 0
+  IsAnswered all held' s x s' =
+      (a : Answers all s (replied x.response) s') × (x.close ≡ closes a.h) × (held' ≡ drop (a.head.spans.len + a.size) all)
+
+  -- what comes of all the bytes that were held and read: nothing at the end of an input; the response to a message, or to none; or
+  -- nothing was answered, or the response is lost
+  abbrev pub Comes : List ℕ → List ℕ → Option (List ℕ) → S → S → Result (Option Exchange) WireError → Type 0
+  Comes all held' rest s s' (Ok None) = (all ≡ []) × IsAtEnd rest × (s' ≡ s)
+  Comes all held' rest s s' (Ok (Some x)) = IsAnswered all held' s x s' ⊎ (HasFault all rest x × (s' ≡ s))
+  Comes all held' rest s s' (Err e) = (s' ≡ s) ⊎ ((r : Replied) × Answers all s r s')
+
+  abbrev pub Exchanged : Option (List ℕ) → Option (List ℕ) → List ℕ → List ℕ → S → S → Result (Option Exchange) WireError → Type 0
+  Exchanged old new held held' s s' result = (read : List ℕ) × Consumes old new read × Comes (held ++ read) held' new s s' result

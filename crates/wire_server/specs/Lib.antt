@@ -1,0 +1,9 @@
+pub mod Answers
+pub mod Exchanges
+pub mod Peers
+pub mod ReplyHead
+pub mod Responses
+pub mod Sends
+pub mod Serves
+pub mod ServesAll
+pub mod Sessions

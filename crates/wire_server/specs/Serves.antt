@@ -1,0 +1,83 @@
+-- What a connection writes for what it reads.
+use Rattle.std.specs.Prelude.{◌≡◌, ◌⊎◌, ℕ, ◌<◌, ◌-◌, ◌^◌, true, cond, List, [], ◌∷◌, ◌++◌, length, take, Option, Some, None, Result, Ok, Err, ⊤}
+use Rattle.std.specs.List.{flat_map}
+use Rattle.std.specs.Io.KnownBytes.{Appends}
+use Rattle.httparse.specs.Grammar.{RequestHead}
+use Rattle.wire_messages.specs.Messages.{IsMessage, IsFault}
+use Rattle.wire_messages.specs.Division.{Item, message, faulty, closes, Divides}
+use Rattle.wire_messages.specs.declared.error.Fault.{Fault}
+use Rattle.wire_messages.specs.declared.error.Fault.TheVariants.{BadHead, BadLength, TooLarge}
+use Rattle.report.specs.declared.refusal.Refusal.{Refusal}
+use Rattle.report.specs.declared.refusal.Refusal.TheVariants as refusals
+use Rattle.wire_server.specs.Responses.{Replied, refused, reply_bytes}
+use Rattle.wire_server.specs.declared.error.WireError.{WireError}
+
+-- the refusal of an input that begins with no message
+abbrev pub refusal_of : Fault → Refusal
+refusal_of BadHead = refusals.BadHead
+refusal_of BadLength = refusals.BadBodyLength
+refusal_of TooLarge = refusals.BodyTooLarge
+
+-- its reply, behind which the connection is closed
+abbrev pub fault_reply : Fault → List ℕ
+fault_reply fault = reply_bytes true (refused (refusal_of fault) None)
+
+-- The input begins with these items; behind the last of them anything may follow that nobody looked at.
+abbrev pub Begins : List ℕ → List Item → Type 0
+Begins input [] = ⊤
+Begins input (message h body ∷ items) = (rest : List ℕ) × IsMessage input h body rest × cond (closes h) (items ≡ []) (Begins rest items)
+Begins input (faulty fault ∷ items) = (0 < length input) × IsFault input fault × (items ≡ [])
+
+-- the same of an input that may tell its bytes, whole or not
+abbrev pub DividesAll : Option (List ℕ) → List Item → Type 0
+DividesAll None items = ⊤
+DividesAll (Some all) items = Divides all items
+
+abbrev pub BeginsWith : Option (List ℕ) → List Item → Type 0
+BeginsWith None items = ⊤
+BeginsWith (Some all) items = Begins all items
+
+-- all of some replies
+abbrev pub joined : List (List ℕ) → List ℕ
+joined replies = flat_map (λ reply. reply) replies
+
+-- What was written is all of the replies; or all but the last, and a front of that one.
+abbrev pub IsWritten : List (List ℕ) → List ℕ → Type 0
+IsWritten replies bytes =
+    (bytes ≡ joined replies)
+    ⊎ ((before : List (List ℕ)) × (last : List ℕ) × (n : ℕ) × (replies ≡ before ++ last ∷ []) × (bytes ≡ joined before ++ take n last))
+
+module _ {S : Type 0} (answers : S → RequestHead → List ℕ → Replied → S → Type 0) where
+  -- each item has its reply, one after another
+  abbrev pub Replies : S → List Item → List (List ℕ) → S → Type 0
+  Replies s [] [] new = new ≡ s
+  Replies s (message h body ∷ items) (reply ∷ replies) new =
+      (mid : S) × (r : Replied) × answers s h body r mid × (reply ≡ reply_bytes (closes h) r) × Replies mid items replies new
+  Replies s (faulty fault ∷ items) (reply ∷ replies) new = (reply ≡ fault_reply fault) × Replies s items replies new
+  Replies s [] (reply ∷ replies) new = ⊥
+  Replies s (item ∷ items) [] new = ⊥
+
+  -- The input divides into so many items, and what was written is all of their replies. (After 2^64 - 1 of them the connection is
+  -- left, whatever follows.)
+  pub record Serves (input output output' : Option (List ℕ)) (old new : S) (count : ℕ) : Type 0 where
+    pub items : List Item
+    pub replies : List (List ℕ)
+    pub counted : count ≡ length items
+    pub front : BeginsWith input items
+    pub whole : count < 2 ^ 64 - 1 → DividesAll input items
+    pub answered : Replies old items replies new
+    pub written : Appends output output' (joined replies)
+
+  -- The connection was broken off behind items that the input begins with: all but the last reply were written whole.
+  pub record Stops (input output output' : Option (List ℕ)) (old new : S) : Type 0 where
+    pub items : List Item
+    pub replies : List (List ℕ)
+    pub bytes : List ℕ
+    pub front : BeginsWith input items
+    pub answered : Replies old items replies new
+    pub written : IsWritten replies bytes
+    pub appended : Appends output output' bytes
+
+  abbrev pub Served : Option (List ℕ) → Option (List ℕ) → Option (List ℕ) → S → S → Result ℕ WireError → Type 0
+  Served input output output' old new (Ok n) = Serves input output output' old new n
+  Served input output output' old new (Err e) = Stops input output output' old new

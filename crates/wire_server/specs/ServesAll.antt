@@ -1,0 +1,43 @@
+-- What a server does on connections that come one after another.
+use Rattle.std.specs.Prelude.{◌≡◌, ℕ, ◌<◌, ◌+◌, List, [], ◌∷◌, length, map, Option, Result, Ok, Err}
+use Rattle.std.specs.Io.KnownBytes.{Keeps}
+use Rattle.std.specs.declared.io.Error.{Error}
+use Rattle.httparse.specs.Grammar.{RequestHead}
+use Rattle.wire_server.specs.Responses.{Replied}
+use Rattle.wire_server.specs.Serves.{Served}
+use Rattle.wire_server.specs.Peers.{IsFresh, Leaves, Takes}
+use Rattle.wire_server.specs.Sessions.{Says, failure, result_of}
+use Rattle.wire_server.specs.declared.sessions.End.{End}
+
+-- a connection: what its peer sent, what was written to him, and how it ended
+pub record Session : Type 0 where
+  pub input : Option (List ℕ)
+  pub output : Option (List ℕ)
+  pub end : End
+
+-- how many failed
+abbrev pub failures : List Session → ℕ
+failures [] = 0
+failures (session ∷ sessions) = failure session.end + failures sessions
+
+module _ {S : Type 0} (answers : S → RequestHead → List ℕ → Replied → S → Type 0) where
+  -- each is served from the state that the one before it left, and what is said of it follows what was said of that
+  abbrev pub Follow : S → Option (List ℕ) → List Session → S → Option (List ℕ) → Type 0
+  Follow old err [] new err' = (new ≡ old) × Keeps err err'
+  Follow old err (session ∷ sessions) new err' =
+      (fresh : Option (List ℕ)) × (mid : S) × (said : Option (List ℕ)) × IsFresh fresh
+      × Served answers session.input fresh session.output old mid (result_of session.end) × Says session.end err said × Follow mid said sessions new err'
+
+  -- these connections were taken from a listener, served, and closed
+  pub record Serves (waiting waiting' closed closed' : Option (List (List ℕ))) (err err' : Option (List ℕ)) (old new : S) (sessions : List Session) : Type 0 where
+    pub taken : Takes waiting waiting' (map (λ session. session.input) sessions)
+    pub left : Leaves closed closed' (map (λ session. session.output) sessions)
+    pub followed : Follow old err sessions new err'
+
+  -- So many connections were served, and those that failed are counted; or fewer were, and then an accept failed.
+  abbrev pub ServesOn : ℕ → Option (List (List ℕ)) → Option (List (List ℕ)) → Option (List (List ℕ)) → Option (List (List ℕ)) → Option (List ℕ) → Option (List ℕ) → S → S
+      → Result ℕ Error → Type 0
+  ServesOn n waiting waiting' closed closed' err err' old new (Ok failed) =
+      (sessions : List Session) × Serves waiting waiting' closed closed' err err' old new sessions × (length sessions ≡ n) × (failed ≡ failures sessions)
+  ServesOn n waiting waiting' closed closed' err err' old new (Err fault) =
+      (sessions : List Session) × Serves waiting waiting' closed closed' err err' old new sessions × (length sessions < n)

@@ -1,0 +1,32 @@
+-- How a connection ended, and what was said of it.
+use Rattle.std.specs.Prelude.{ℕ, List, codes, Option, Result, Ok, Err}
+use Rattle.std.specs.Io.KnownBytes.{Appends, Keeps}
+use Rattle.streams.specs.Sends.{AppendsFront}
+use Rattle.wire_server.specs.declared.error.WireError.{WireError}
+use Rattle.wire_server.specs.declared.error.WireError.TheVariants.{Read, Write, Memory}
+use Rattle.wire_server.specs.declared.sessions.End.{End}
+use Rattle.wire_server.specs.declared.sessions.End.TheVariants.{Served, Told, Untold}
+
+-- the line that says why one failed
+abbrev pub failure_line : WireError → List ℕ
+failure_line Read = codes "failed: input\n"
+failure_line Write = codes "failed: output\n"
+failure_line Memory = codes "failed: memory\n"
+
+-- what became of it
+abbrev pub result_of : End → Result ℕ WireError
+result_of (Served count) = Ok count
+result_of (Told fault) = Err fault
+result_of (Untold fault) = Err fault
+
+-- nothing is said of one that was served to its end; of one that failed its line, or a front of it where that couldn't be written
+abbrev pub Says : End → Option (List ℕ) → Option (List ℕ) → Type 0
+Says (Served count) err err' = Keeps err err'
+Says (Told fault) err err' = Appends err err' (failure_line fault)
+Says (Untold fault) err err' = AppendsFront err err' (failure_line fault)
+
+-- how many failures it counts for
+abbrev pub failure : End → ℕ
+failure (Served count) = 0
+failure (Told fault) = 1
+failure (Untold fault) = 1

@@ -1,0 +1,38 @@
+//! Connections, one after another.
+ghost use Rattle.wire_server.specs.ServesAll.{ServesOn};
+
+use crate::listener::Listener;
+use crate::responder::Responder;
+use crate::sessions::serve_connection;
+use std::alloc::Global;
+use std::io;
+use std::io::Write;
+
+/// Serves so many connections, one after another, and tells how many failed. Of each of these a line on `errors` says why; the next
+/// is served all the same.
+///
+/// # Errors
+///
+/// The fault of an accept, which ends it.
+pub fn serve_on<L: Listener, E: Write, A: Responder>(
+    alloc: Global,
+    listener: &mut L,
+    connections: u32,
+    errors: &mut E,
+    responder: &mut A,
+) -> io::Result<u32>
+    ensures { ServesOn A.answers connections (L.waiting listener.old) (L.waiting listener.new) (L.closed listener.old) (L.closed listener.new) (E.contents errors.old) (E.contents errors.new) responder.old responder.new result }
+{
+    let mut failed = 0;
+    'connections: for _ in 0..connections {
+        match listener.accept() {
+            Ok((mut input, mut output)) => {
+                let end = serve_connection(alloc, &mut input, &mut output, errors, responder);
+                listener.close(input, output);
+                failed += end.failures();
+            }
+            Err(fault) => return Err(fault),
+        }
+    }
+    Ok(failed)
+}

@@ -1,0 +1,21 @@
+//! Inputs that begin with no message.
+ghost use Rattle.std.specs.Prelude.{◌≡◌, IfOk, None};
+ghost use Rattle.wire_server.specs.Responses.{replied, refused};
+ghost use Rattle.wire_server.specs.Serves.{refusal_of};
+
+use crate::response::Response;
+use report::Refusal;
+use std::alloc::{AllocError, Global};
+use wire_messages::Fault;
+
+/// The response to an input that begins with no message.
+pub(crate) fn refuse(alloc: Global, fault: Fault) -> Result<Response, AllocError>
+    ensures { IfOk result (λ r. replied r ≡ refused (refusal_of fault) None) }
+{
+    let refusal = match fault {
+        Fault::BadHead => Refusal::BadHead,
+        Fault::BadLength => Refusal::BadBodyLength,
+        Fault::TooLarge => Refusal::BodyTooLarge,
+    };
+    Response::refused(alloc, refusal, None)
+}

@@ -1,0 +1,28 @@
+//! Replies over HTTP, connections and listeners.
+#![tactic(auto)]
+
+mod buffer;
+mod connections;
+mod error;
+mod exchange;
+mod faults;
+mod listener;
+mod port;
+mod reply_head;
+mod responder;
+mod response;
+mod sending;
+mod serving;
+mod sessions;
+mod statuses;
+
+pub use connections::serve_on;
+pub use error::WireError;
+pub use listener::Listener;
+pub use port::Port;
+pub use reply_head::{ReplyHead, write_reply_head};
+pub use responder::Responder;
+pub use response::Response;
+pub use serving::serve;
+pub use sessions::{End, serve_connection};
+pub use statuses::refusal_status;

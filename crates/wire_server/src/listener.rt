@@ -1,0 +1,33 @@
+//! Where connections come from.
+ghost use Rattle.std.specs.Prelude.{ℕ, List, [], ◌∷◌, Option, IfOk, OnErr};
+ghost use Rattle.wire_server.specs.Peers.{IsFresh, Leaves, Takes};
+
+use std::io;
+use std::io::{Read, Write};
+
+/// Accepts connections, one after another.
+pub trait Listener {
+    /// What a peer sends.
+    type Input: Read + Drop;
+
+    /// What a peer is sent.
+    type Output: Write + Drop;
+
+    /// What each of the peers that wait is going to send, where the listener tells.
+    ghost waiting: { Self → Option (List (List ℕ)) };
+
+    /// What was written to each peer whose connection was closed, where it tells.
+    ghost closed: { Self → Option (List (List ℕ)) };
+
+    /// The connection of the next peer, on which nothing was read or written yet.
+    fn accept(&mut self) -> io::Result<(Self::Input, Self::Output)>
+        ensures taken { IfOk result (λ c. Takes (waiting self.old) (waiting self.new) (Self.Input.remaining c.0 ∷ [])) }
+        ensures none { OnErr result (Takes (waiting self.old) (waiting self.new) []) }
+        ensures fresh { IfOk result (λ c. IsFresh (Self.Output.contents c.1)) }
+        ensures left { Leaves (closed self.old) (closed self.new) [] };
+
+    /// Closes a connection.
+    fn close(&mut self, input: Self::Input, output: Self::Output)
+        ensures taken { Takes (waiting self.old) (waiting self.new) [] }
+        ensures left { Leaves (closed self.old) (closed self.new) (Self.Output.contents output ∷ []) };
+}

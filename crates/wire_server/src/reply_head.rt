@@ -1,0 +1,71 @@
+//! The head of a reply.
+ghost use Rattle.std.specs.Prelude.{◌≡◌, ◌++◌, OnOk, Some, None, option_map, string_bytes};
+ghost use Rattle.wire_server.specs.ReplyHead.{reply_head, front_lines, allow_field, close_field, last_lines};
+
+use http::StatusCode;
+use std::alloc::AllocError;
+
+/// What a reply says in front of its text.
+#[derive(Clone, Copy)]
+pub struct ReplyHead<'a> {
+    pub status: StatusCode,
+    /// The media type of the text.
+    pub kind: &'a str,
+    /// The methods of the route, where the request has another.
+    pub allow: Option<&'a str>,
+    /// Whether the connection is closed.
+    pub close: bool,
+    /// How many bytes the text has.
+    pub size: usize,
+}
+
+/// The status, and the kind of the text.
+#[tactic(auto, unfolding(crate::specs::ReplyHead::front_lines))]
+fn write_front(out: &mut String, status: StatusCode, kind: &str) -> Result<(), AllocError>
+    ensures { OnOk result (string_bytes out.new ≡ string_bytes out.old ++ front_lines status kind.now) }
+{
+    write!(out, "HTTP/1.1 {status}\r\ncontent-type: {kind}\r\n")
+}
+
+/// The methods of the route, where another was asked for.
+#[tactic(auto, unfolding(crate::specs::ReplyHead::allow_field))]
+fn write_allow(out: &mut String, allow: Option<&str>) -> Result<(), AllocError>
+    ensures { OnOk result (string_bytes out.new ≡ string_bytes out.old ++ allow_field (option_map (λ methods. methods.now) allow.entry)) }
+{
+    match allow {
+        None => Ok(()),
+        Some(methods) => write!(out, "allow: {methods}\r\n"),
+    }
+}
+
+/// That the connection is closed, where it is.
+#[tactic(auto, unfolding(crate::specs::ReplyHead::close_field))]
+fn write_close(out: &mut String, close: bool) -> Result<(), AllocError>
+    ensures { OnOk result (string_bytes out.new ≡ string_bytes out.old ++ close_field close) }
+{
+    if close {
+        write!(out, "connection: close\r\n")
+    } else {
+        Ok(())
+    }
+}
+
+/// How many bytes the text has, and the empty line.
+#[tactic(auto, unfolding(crate::specs::ReplyHead::last_lines))]
+fn write_last(out: &mut String, size: usize) -> Result<(), AllocError>
+    ensures { OnOk result (string_bytes out.new ≡ string_bytes out.old ++ last_lines size) }
+{
+    write!(out, "content-length: {size}\r\n\r\n")
+}
+
+/// Appends the head of a reply: a status line of HTTP/1.1, the fields, and an empty line, each with CR LF. Where memory is refused
+/// a front of it may have been appended.
+pub fn write_reply_head(out: &mut String, head: &ReplyHead) -> Result<(), AllocError>
+    ensures { OnOk result (string_bytes out.new ≡ string_bytes out.old
+        ++ reply_head head.now.status head.now.kind.now (option_map (λ methods. methods.now) head.now.allow) head.now.close head.now.size) }
+{
+    write_front(out, head.status, head.kind)?;
+    write_allow(out, head.allow)?;
+    write_close(out, head.close)?;
+    write_last(out, head.size)
+}

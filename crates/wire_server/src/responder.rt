@@ -1,0 +1,32 @@
+//! What answers the messages of a connection.
+ghost use Rattle.std.specs.Prelude.{◌≡◌, ℕ, List, []};
+ghost use Rattle.httparse.specs.Grammar.{RequestHead};
+ghost use Rattle.wire_messages.specs.Heads.{Holds};
+ghost use Rattle.wire_server.specs.Responses.{Replied};
+ghost use Rattle.wire_server.specs.Answers.{Answered};
+
+use crate::response::Response;
+use std::alloc::AllocError;
+use streams::Sink;
+use wire_messages::Head;
+
+/// Answers messages, one after another.
+pub trait Responder {
+    /// What takes a body as it arrives.
+    type Body: Sink + Drop;
+
+    /// What a head and a body may be answered with, and the responder afterwards.
+    ghost answers: { Self → RequestHead → List ℕ → Replied → Self → Type 0 };
+
+    /// What takes the body, of so many bytes, of a message whose head is held in front of some bytes. Nothing of it has come yet.
+    fn begin(&self, held: &[u8], head: &Head, size: usize) -> Self::Body
+        requires { (h : RequestHead) × Holds held.now head.now h }
+        ensures { Self.Body.taken result ≡ [] };
+
+    /// The response to a message, of which the head is held and the whole body has come. Where memory is refused the message was not
+    /// answered, or it was and its response is lost.
+    fn answer(&mut self, held: &[u8], head: &Head, body: Self::Body) -> Result<Response, AllocError>
+        requires { (h : RequestHead) × Holds held.now head.now h }
+        ensures { (h : RequestHead) → Holds held.now head.now h
+            → Answered answers self.old h (Self.Body.taken body) result self.new };
+}

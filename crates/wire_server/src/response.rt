@@ -1,0 +1,68 @@
+//! Responses: what is replied to a message.
+ghost use Rattle.std.specs.Prelude.{◌≡◌, IfOk, length, option_map, string_bytes};
+ghost use Rattle.wire_server.specs.ReplyHead.{reply_head};
+ghost use Rattle.wire_server.specs.Responses.{replied, plain, refused};
+
+use crate::reply_head::{ReplyHead, write_reply_head};
+use crate::statuses::refusal_status;
+use http::StatusCode;
+use report::Refusal;
+use std::alloc::{AllocError, Global};
+use streams::{Pieces, in_pieces};
+
+/// What is replied to a message.
+#[derive(Drop)]
+pub struct Response {
+    pub status: StatusCode,
+    /// The media type of the text.
+    pub kind: &'static str,
+    /// The methods of the route, where the request has another.
+    pub allow: Option<&'static str>,
+    pub text: Pieces,
+}
+
+impl Response {
+    /// The head of the reply: it tells whether the connection is closed, and how many bytes the text has.
+    pub fn head(&self, alloc: Global, close: bool) -> Result<String, AllocError>
+        ensures { IfOk result (λ head. string_bytes head ≡ reply_head self.now.status self.now.kind.now (option_map (λ methods. methods.now) self.now.allow) close (length self.now.text)) }
+    {
+        let mut head = String::new(alloc);
+        let front = ReplyHead {
+            status: self.status,
+            kind: self.kind,
+            allow: self.allow,
+            close,
+            size: self.text.len(),
+        };
+        write_reply_head(&mut head, &front)?;
+        Ok(head)
+    }
+
+    /// A text of a status.
+    pub fn plain(alloc: Global, status: StatusCode, text: &str) -> Result<Response, AllocError>
+        ensures { IfOk result (λ r. replied r ≡ plain status text.now) }
+    {
+        Ok(Response {
+            status,
+            kind: "text/plain",
+            allow: None,
+            text: in_pieces(alloc, text.as_bytes())?,
+        })
+    }
+
+    /// A refusal, with the methods of the route where it refuses another.
+    pub fn refused(
+        alloc: Global,
+        refusal: Refusal,
+        allow: Option<&'static str>,
+    ) -> Result<Response, AllocError>
+        ensures { IfOk result (λ r. replied r ≡ refused refusal (option_map (λ methods. methods.now) allow.entry)) }
+    {
+        Ok(Response {
+            status: refusal_status(refusal),
+            kind: "text/plain",
+            allow,
+            text: in_pieces(alloc, refusal.line().as_bytes())?,
+        })
+    }
+}

@@ -1,5 +1,0 @@
-use Rattle.world.proofs.Cuts.{cuts_one_way}
-use Rattle.world.proofs.laws.archives_are_cut_one_way.Goals as goal
-
-pub returns : goal.returns
-returns c = cuts_one_way

@@ -1,5 +1,0 @@
-use Rattle.world.proofs.SoundParts.{sound_by_parts}
-use Rattle.world.proofs.laws.sound_rows_are_sound_parts.Goals as goal
-
-pub returns : goal.returns
-returns c = sound_by_parts

@@ -1,8 +1,0 @@
-use Rattle.world.proofs.FaultyOutputs.{outputs_exclude, faulty_derivations}
-use Rattle.world.proofs.unsound.faulty_outputs_are_unsound.Goals as goal
-
-pub returns-clause-rows : goal.returns-clause-rows
-returns-clause-rows c = outputs_exclude
-
-pub returns-clause-derivations : goal.returns-clause-derivations
-returns-clause-derivations c = faulty_derivations

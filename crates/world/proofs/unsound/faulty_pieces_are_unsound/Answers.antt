@@ -1,8 +1,0 @@
-use Rattle.world.proofs.FaultyPieces.{pieces_exclude, faulty_cuts}
-use Rattle.world.proofs.unsound.faulty_pieces_are_unsound.Goals as goal
-
-pub returns-clause-pieces : goal.returns-clause-pieces
-returns-clause-pieces c = pieces_exclude
-
-pub returns-clause-rows : goal.returns-clause-rows
-returns-clause-rows c = faulty_cuts
