@@ -1,7 +1,7 @@
 """What makes a sound store unsound, row by row; and schemas, which are a store's or not."""
 import random
 
-from stores import AFTER, ALL, BEFORE, BETWEEN, FORMS, PART, Model, archive, base32, derivation, hidden, making, sha256
+from tests.lib.tables import AFTER, ALL, BEFORE, BETWEEN, FORMS, PART, Model, archive, base32, derivation, hidden, making, sha256
 
 
 def blob(data):

@@ -1,6 +1,6 @@
 """Requests that meet one another, of every kind, and a store with a row of each kind: what is tried where something goes wrong meanwhile."""
-from served import lines
-from stores import PART, Model, archive, base32, derivation, hidden, path_of, sha256
+from tests.lib.http import lines
+from tests.lib.tables import PART, Model, archive, base32, derivation, hidden, path_of, sha256
 
 # What a store tells of itself.
 TOLD = [("root", "GET", f"/{it}") for it in ("paths", "roots", "live", "report")]

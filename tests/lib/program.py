@@ -13,7 +13,7 @@ import threading
 import time
 from concurrent.futures import FIRST_COMPLETED, ThreadPoolExecutor, wait
 
-HERE = os.path.dirname(os.path.dirname(os.path.realpath(__file__)))
+HERE = os.path.dirname(os.path.dirname(os.path.dirname(os.path.realpath(__file__))))
 NAME = "nixkeep"
 FILE = f"{HERE}/crates/{NAME}/out/{NAME}"
 # The memory that a check takes for each of its jobs, in bytes, about as much as was seen.
