@@ -1,6 +1,11 @@
 """Messages to the server of a store, and its replies."""
 import re
-import sys
+import socket
+
+from tests.lib import report
+
+# What a store says of itself.
+TOLD = [("root", "GET", f"/{it}") for it in ("paths", "roots", "live", "report")]
 
 
 def message(user, method, target, body=None):
@@ -18,20 +23,31 @@ def lines(*pairs, payload=b""):
 
 
 def replies(written):
-    """The whole replies one by one, each its head and its text; and what is left behind them."""
+    """The whole replies one by one, each its head and its text; and what is left after them."""
     found = []
     while True:
         head, end, rest = written.partition(b"\r\n\r\n")
         length = re.search(rb"content-length: (\d+)", head)
         if not end or not length or len(rest) < int(length[1]):
             return found, written
-        found.append((head, rest[:int(length[1])]))
-        written = rest[int(length[1]):]
+        found.append((head, rest[: int(length[1])]))
+        written = rest[int(length[1]) :]
 
 
 def all_replies(written, count):
     """As many replies as there were messages, and nothing else."""
     found, left = replies(written)
     if left or len(found) != count:
-        sys.exit(f"{len(found)} replies to {count} messages, and {left[:300]!r}")
+        report.fail(f"{len(found)} replies to {count} messages, and {left[:300]!r}")
     return found
+
+
+def told(written):
+    """The replies to the messages of TOLD."""
+    return all_replies(written, len(TOLD))
+
+
+def free_port():
+    """A port of this machine where nobody listens."""
+    with socket.create_server(("127.0.0.1", 0)) as listener:
+        return listener.getsockname()[1]

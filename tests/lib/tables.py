@@ -1,15 +1,12 @@
 """The tables of a store, by SQLite, and a plain model of a store: dictionaries, and the rules spelled out once more."""
 import contextlib
-import hashlib
-import os
 import shutil
 import sqlite3
 import subprocess
-import sys
-import tempfile
 
-STORE = "/nix/store"
-DIGITS = "0123456789abcdfghijklmnpqrsvwxyz"
+from tests.lib import report
+from tests.lib.nar import STORE, archive, derivation, hidden, nar_hash, sha256, source_path, text_path
+
 SHELL = shutil.which("sqlite3")
 # Each table in the order in which they are made: its columns, `?` where NULL may stand, and how many make its key.
 FORMS = {
@@ -29,17 +26,15 @@ FORMS = {
 LACKS = {1: ["piece", "temp_root"], 2: ["temp_root"], 3: []}
 # The bytes of an archive in its object's row, and in each piece but the last.
 PART = 65_536
-BEFORE = "CREATE TABLE note (id INTEGER PRIMARY KEY AUTOINCREMENT, t TEXT UNIQUE); INSERT INTO note (t) VALUES ('x'), ('y');"
+BEFORE = (
+    "CREATE TABLE note (id INTEGER PRIMARY KEY AUTOINCREMENT, t TEXT UNIQUE); INSERT INTO note (t) VALUES ('x'), ('y');"
+)
 BETWEEN = "CREATE TABLE middle (a TEXT, b BLOB, PRIMARY KEY (a)) WITHOUT ROWID; INSERT INTO middle VALUES ('m', x'00');"
-AFTER = "CREATE TABLE later (id INTEGER PRIMARY KEY, t TEXT); INSERT INTO later VALUES (7, 'z'); CREATE INDEX targets ON refs (target);"
+AFTER = (
+    "CREATE TABLE later (id INTEGER PRIMARY KEY, t TEXT); INSERT INTO later VALUES (7, 'z'); "
+    "CREATE INDEX targets ON refs (target);"
+)
 THEIRS = "SELECT 'note', id, t FROM note; SELECT 'middle', a, hex(b) FROM middle; SELECT 'later', id, t FROM later;"
-
-
-def differs(path, what):
-    kept = os.path.join(tempfile.gettempdir(), "store-that-differs.db")
-    if os.path.isfile(path):
-        shutil.copy(path, kept)
-    sys.exit(f"{what}\nsee {kept}")
 
 
 # ---- SQLite
@@ -72,18 +67,20 @@ def statements(text):
 
 
 def sqlite(path, text):
-    """Runs the statements, and returns the rows that they answer, a line for each with `|` between columns: by SQLite's shell, and where it isn't
-    installed by SQLite in python."""
+    """Runs the statements, and returns the rows that they answer, a line for each with `|` between columns: by
+    SQLite's shell, and where it isn't installed by SQLite in python."""
     if SHELL:
-        ran = subprocess.run([SHELL, "-batch", "-bail", "-init", "/dev/null", path], input=text, capture_output=True, text=True)
+        ran = subprocess.run(
+            [SHELL, "-batch", "-bail", "-init", "/dev/null", path], input=text, capture_output=True, text=True
+        )
         if ran.returncode or ran.stderr:
-            differs(path, f"SQLite: {ran.stderr}: {text[:200]}")
+            report.fail(f"SQLite: {ran.stderr}: {text[:200]}", path)
         return ran.stdout
     try:
         with contextlib.closing(sqlite3.connect(path, isolation_level=None)) as conn:
             rows = [row for statement in statements(text) for row in conn.execute(statement)]
     except sqlite3.Error as error:
-        differs(path, f"SQLite: {error}: {text[:200]}")
+        report.fail(f"SQLite: {error}: {text[:200]}", path)
     return "".join("|".join(map(str, row)) + "\n" for row in rows)
 
 
@@ -100,7 +97,7 @@ def put(path, rows, first="", last=""):
             for statement in statements(last):
                 conn.execute(statement)
     except sqlite3.Error as error:
-        differs(path, f"SQLite: {error}")
+        report.fail(f"SQLite: {error}", path)
 
 
 def rows_of(path):
@@ -113,38 +110,9 @@ def rows_of(path):
 # ---- a plain model of a store
 
 
-def base32(data):
-    number = int.from_bytes(data, "little")
-    return "".join(DIGITS[number >> 5 * at & 31] for at in reversed(range((8 * len(data) + 4) // 5)))
-
-
-def string(text):
-    return len(text).to_bytes(8, "little") + text + b"\0" * (-len(text) % 8)
-
-
-def archive(contents, is_executable=False):
-    """The archive of a regular file."""
-    words = [b"nix-archive-1", b"(", b"type", b"regular", *([b"executable", b""] if is_executable else []), b"contents", contents, b")"]
-    return b"".join(map(string, words))
-
-
-def path_of(kind, inner, name, refs, store=STORE):
-    """The base name by its fingerprint."""
-    start = ":".join([kind, *(f"{store}/{it}" for it in sorted(refs))])
-    digest = hashlib.sha256(f"{start}:sha256:{inner.hex()}:{store}:{name}".encode()).digest()
-    folded = bytearray(20)
-    for at, byte in enumerate(digest):
-        folded[at % 20] ^= byte
-    return f"{base32(folded)}-{name}"
-
-
-def sha256(data):
-    return hashlib.sha256(data).digest()
-
-
 def pieces(nar):
     """What the row of an archive leaves of it, in pieces that are numbered from 1."""
-    return [(1 + at // PART, nar[PART + at:2 * PART + at]) for at in range(0, len(nar) - PART, PART)]
+    return [(1 + at // PART, nar[PART + at : 2 * PART + at]) for at in range(0, len(nar) - PART, PART)]
 
 
 class Model:
@@ -159,24 +127,34 @@ class Model:
         part = len if schema == 1 else lambda nar: PART
         found = {
             "meta": [("schema", str(schema)), ("store-dir", STORE)],
-            "object": [(p, o["nar"][:part(o["nar"])], sha256(o["nar"]), o["deriver"], o["ca"]) for p, o in objects],
+            "object": [(p, o["nar"][: part(o["nar"])], sha256(o["nar"]), o["deriver"], o["ca"]) for p, o in objects],
             "refs": [(p, it) for p, o in objects for it in sorted(o["refs"])],
             "outs": [(p, name, it) for p, o in objects for name, it in sorted(o["outs"].items())],
             "permanent": sorted(self.permanent.items()),
             "user_root": sorted((*key, it) for key, it in self.user.items()),
             "profile": sorted((*key, cur) for key, (_, cur) in self.profiles.items()),
-            "generation": sorted((*key, num, it) for key, (found, _) in self.profiles.items() for num, it in found.items()),
+            "generation": sorted(
+                (*key, num, it) for key, (found, _) in self.profiles.items() for num, it in found.items()
+            ),
             "runtime": sorted(self.runtime),
             "piece": [(p, *it) for p, o in objects for it in pieces(o["nar"])],
             "temp_root": sorted(self.temporary),
         }
         return {table: rows for table, rows in found.items() if table not in LACKS[schema]}
 
+    def sorted_rows(self, schema=3):
+        """The rows as `rows_of` has them of a file."""
+        return {table: sorted(rows, key=repr) for table, rows in self.rows(schema).items()}
+
     def roots(self):
         """Kind, target and label of each root, in their order; sessions of the same number are one."""
         found = [(0, it, f"gcroots/{name}") for name, it in self.permanent.items()]
         found += [(1, it, f"gcroots/per-user/{owner}/{name}") for (owner, name), it in self.user.items()]
-        found += [(2, it, f"profiles/per-user/{owner}/{name}-{num}-link") for (owner, name), (nums, _) in self.profiles.items() for num, it in nums.items()]
+        found += [
+            (2, it, f"profiles/per-user/{owner}/{name}-{num}-link")
+            for (owner, name), (nums, _) in self.profiles.items()
+            for num, it in nums.items()
+        ]
         found += [(3, it, label) for label, it in self.runtime]
         found += [(4, it, f"{{temp:{session}}}") for _, session, it in self.temporary]
         return sorted(set(found))
@@ -189,7 +167,11 @@ class Model:
                 continue
             seen.add(at)
             it = self.objects[at]
-            left += [*it["refs"], *(it["outs"].values() if outputs else []), *([it["deriver"]] if derivers and it["deriver"] else [])]
+            left += [
+                *it["refs"],
+                *(it["outs"].values() if outputs else []),
+                *([it["deriver"]] if derivers and it["deriver"] else []),
+            ]
         return seen
 
     def add(self, path, nar, refs=(), deriver=None, ca=None, outs=None):
@@ -197,23 +179,12 @@ class Model:
         return path
 
     def add_text(self, name, contents, refs=(), outs=None, deriver=None):
-        path = path_of("text", sha256(contents), name, refs)
-        return self.add(path, archive(contents), refs, deriver, f"text:sha256:{base32(sha256(contents))}", outs)
+        path = text_path(name, contents, refs)
+        return self.add(path, archive(contents), refs, deriver, f"text:{nar_hash(contents)}", outs)
 
     def add_source(self, name, nar, refs=(), deriver=None):
-        path = path_of("source", sha256(nar), name, refs)
-        return self.add(path, nar, refs, deriver, f"fixed:r:sha256:{base32(sha256(nar))}")
-
-
-def hidden(text):
-    """A path that no store has made."""
-    return f"{base32(sha256(text.encode())[:20])}-{text}"
-
-
-def derivation(outs):
-    """A derivation text with these outputs."""
-    written = ",".join(f'("{name}","{STORE}/{it}","","")' for name, it in sorted(outs.items()))
-    return f'Derive([{written}],[],[],"x86_64-linux","/bin/sh",[],[])'.encode()
+        path = source_path(name, nar, refs)
+        return self.add(path, nar, refs, deriver, f"fixed:r:{nar_hash(nar)}")
 
 
 # Of contents: archives of a row and one byte less or more than pieces among them.
@@ -235,7 +206,10 @@ def some_model(rng, count):
             path = hidden(f"handed{at}")
             made.add(path, archive(contents), [*refs, *([path] if rng.random() < 0.3 else [])], deriver)
         else:
-            outs = {name: rng.choice([hidden(f"out{at}"), *paths]) for name in rng.sample(["out", "dev", "lib"], rng.choice([1, 2]))}
+            outs = {
+                name: rng.choice([hidden(f"out{at}"), *paths])
+                for name in rng.sample(["out", "dev", "lib"], rng.choice([1, 2]))
+            }
             path = made.add_text(f"made{at}.drv", derivation(outs), refs, outs, deriver)
         paths.append(path)
     pick = lambda: rng.choice(paths)
@@ -245,5 +219,7 @@ def some_model(rng, count):
         made.runtime.add((f"/proc/{at}/exe", pick()))
         nums = rng.sample([1, 2, 3, 9, 9999], rng.choice([1, 2, 3]))
         made.profiles[rng.choice(["ann", "bob"]), f"profile{at}"] = ({num: pick() for num in nums}, rng.choice(nums))
-        made.temporary |= {(rng.choice(["ann", "bob", "c" * 64]), rng.choice([1, 2, 10, 4_194_304]), pick()) for _ in range(3)}
+        made.temporary |= {
+            (rng.choice(["ann", "bob", "c" * 64]), rng.choice([1, 2, 10, 4_194_304]), pick()) for _ in range(3)
+        }
     return made

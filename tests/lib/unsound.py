@@ -1,7 +1,8 @@
 """What makes a sound store unsound, row by row; and schemas, which are a store's or not."""
 import random
 
-from tests.lib.tables import AFTER, ALL, BEFORE, BETWEEN, FORMS, PART, Model, archive, base32, derivation, hidden, making, sha256
+from tests.lib.nar import archive, derivation, hidden, nar_hash, sha256
+from tests.lib.tables import AFTER, ALL, BEFORE, BETWEEN, FORMS, PART, Model, making
 
 
 def blob(data):
@@ -10,6 +11,13 @@ def blob(data):
 
 def update(table, what, where):
     return f"UPDATE {table} SET {what} WHERE {where};"
+
+
+def cut_at(path, parts, numbers):
+    """The archive's row has the first of these bytes, and pieces the others, with these numbers."""
+    pieces = "".join(f"INSERT INTO piece VALUES ('{path}', {at}, {blob(it)});" for at, it in zip(numbers, parts[1:]))
+    row = update("object", f"nar = {blob(parts[0])}", f"base = '{path}'")
+    return f"BEGIN; {row} DELETE FROM piece WHERE base = '{path}'; {pieces} COMMIT;"
 
 
 class Faulty:
@@ -36,7 +44,10 @@ class Faulty:
 
     def of_settings(self):
         return {
-            **{f"schema `{it}`": update("meta", f"val = '{it}'", "word = 'schema'") for it in ("", "0", "4", "01", "03", " 3", "3 ", "three")},
+            **{
+                f"schema `{it}`": update("meta", f"val = '{it}'", "word = 'schema'")
+                for it in ("", "0", "4", "01", "03", " 3", "3 ", "three")
+            },
             "no schema": "DELETE FROM meta WHERE word = 'schema';",
             "no store directory": "DELETE FROM meta WHERE word = 'store-dir';",
             "a store directory that is none": update("meta", "val = '/'", "word = 'store-dir'"),
@@ -47,16 +58,25 @@ class Faulty:
         low, top, own, drv, out, gone = self.low, self.top, self.own, self.drv, self.out, self.gone
         other = archive(b"other")
         return {
-            "a path of an object that is none": f"INSERT INTO object VALUES ('{self.malformed}', {blob(other)}, {blob(sha256(other))}, NULL, NULL);",
-            "an archive that is none": update("object", f"nar = x'00', hash = {blob(sha256(bytes(1)))}", f"base = '{own}'"),
+            "a path of an object that is none": "INSERT INTO object VALUES "
+            f"('{self.malformed}', {blob(other)}, {blob(sha256(other))}, NULL, NULL);",
+            "an archive that is none": update(
+                "object", f"nar = x'00', hash = {blob(sha256(bytes(1)))}", f"base = '{own}'"
+            ),
             "an archive without bytes": update("object", f"nar = x'', hash = {blob(sha256(b''))}", f"base = '{own}'"),
             "another digest": update("object", f"hash = {blob(sha256(b'x'))}", f"base = '{own}'"),
             "a digest that is too short": update("object", "hash = x'00'", f"base = '{own}'"),
             "another archive": update("object", f"nar = {blob(other)}", f"base = '{own}'"),
-            "another archive with its digest under an address": update("object", f"nar = {blob(other)}, hash = {blob(sha256(other))}", f"base = '{low}'"),
+            "another archive with its digest under an address": update(
+                "object", f"nar = {blob(other)}, hash = {blob(sha256(other))}", f"base = '{low}'"
+            ),
             "an address that is none": update("object", "ca = 'x'", f"base = '{low}'"),
-            "an address of another's": update("object", f"ca = (SELECT ca FROM object WHERE base = '{top}')", f"base = '{low}'"),
-            "an address of an object that refers to itself": update("object", f"ca = 'fixed:r:sha256:{base32(sha256(archive(b'own')))}'", f"base = '{own}'"),
+            "an address of another's": update(
+                "object", f"ca = (SELECT ca FROM object WHERE base = '{top}')", f"base = '{low}'"
+            ),
+            "an address of an object that refers to itself": update(
+                "object", f"ca = 'fixed:r:{nar_hash(archive(b'own'))}'", f"base = '{own}'"
+            ),
             "a deriver that is no path": update("object", f"deriver = '{self.malformed}'", f"base = '{own}'"),
             "a reference that isn't an object": f"INSERT INTO refs VALUES ('{own}', '{gone}');",
             "a reference that is no path": f"INSERT INTO refs VALUES ('{own}', '{self.malformed}');",
@@ -96,30 +116,27 @@ class Faulty:
 
     def cut(self, name, *parts, numbers=None):
         """The archive's row has the first of these bytes, and pieces the others, numbered from 1 or so."""
-        path = hidden(name)
-        numbered = zip(numbers or range(1, len(parts)), parts[1:])
-        put_again = "".join(f"INSERT INTO piece VALUES ('{path}', {number}, {blob(it)});" for number, it in numbered)
-        return f"BEGIN; UPDATE object SET nar = {blob(parts[0])} WHERE base = '{path}'; DELETE FROM piece WHERE base = '{path}'; {put_again} COMMIT;"
+        return cut_at(hidden(name), parts, numbers or range(1, len(parts)))
 
     def of_pieces(self):
         brim, over, even, long = (self.model.objects[hidden(name)]["nar"] for name in self.lengths)
-        first, second, rest = long[:PART], long[PART:2 * PART], long[2 * PART:]
+        first, second, rest = long[:PART], long[PART : 2 * PART], long[2 * PART :]
         short = self.model.objects[self.own]["nar"]
         huge = archive(bytes(16_777_224 - 112))
-        huge_parts = [huge[at:at + PART] for at in range(0, len(huge), PART)]
+        huge_parts = [huge[at : at + PART] for at in range(0, len(huge), PART)]
         return {
             "a piece of nobody": f"INSERT INTO piece VALUES ('{self.gone}', 1, x'00');",
             "a piece whose path is none": f"INSERT INTO piece VALUES ('{self.malformed}', 1, x'00');",
             "an empty piece of nobody": f"INSERT INTO piece VALUES ('{self.gone}', 1, x'');",
             "a byte behind an archive": f"INSERT INTO piece VALUES ('{self.own}', 1, x'00');",
             "an empty piece behind a short archive": f"INSERT INTO piece VALUES ('{self.own}', 1, x'');",
-            "a short archive in two": f"UPDATE object SET nar = {blob(short[:50])} WHERE base = '{self.own}'; INSERT INTO piece VALUES ('{self.own}', 1, {blob(short[50:])});",
-            "a short archive in its piece alone": f"UPDATE object SET nar = x'' WHERE base = '{self.own}'; INSERT INTO piece VALUES ('{self.own}', 1, {blob(short)});",
+            "a short archive in two": cut_at(self.own, [short[:50], short[50:]], [1]),
+            "a short archive in its piece alone": cut_at(self.own, [b"", short], [1]),
             "an empty piece behind a full row": self.cut("brim", brim, b""),
             "a full row that is cut": self.cut("brim", brim[:-8], brim[-8:]),
             "a row that is too long": self.cut("over", over),
             "a row that is too long, and an empty piece": self.cut("over", over, b""),
-            "a row that is too short": self.cut("over", over[:PART - 1], over[PART - 1:]),
+            "a row that is too short": self.cut("over", over[: PART - 1], over[PART - 1 :]),
             "a row without its piece": self.cut("over", over[:PART]),
             "a piece numbered 2": self.cut("over", over[:PART], over[PART:], numbers=[2]),
             "a piece numbered 0": self.cut("over", over[:PART], over[PART:], numbers=[0]),
@@ -137,7 +154,8 @@ class Faulty:
             "no first piece": self.cut("long", first, rest, numbers=[2]),
             "no last piece": self.cut("long", first, second),
             "a whole archive as the row of another cutting": self.cut("long", long),
-            "an archive above 16 MiB": update("object", f"hash = {blob(sha256(huge))}", f"base = '{hidden('long')}'") + self.cut("long", *huge_parts),
+            "an archive above 16 MiB": update("object", f"hash = {blob(sha256(huge))}", f"base = '{hidden('long')}'")
+            + self.cut("long", *huge_parts),
         }
 
     def of_sessions(self):
@@ -146,17 +164,28 @@ class Faulty:
             "session 0": put("ann", 0, self.low),
             "a session below 0": put("ann", -1, self.low),
             "session 4,194,305": put("ann", 4_194_305, self.low),
-            "a session far above": put("ann", 2 ** 63 - 1, self.low),
+            "a session far above": put("ann", 2**63 - 1, self.low),
             "a temporary root without its object": put("ann", 1, self.gone),
             "a temporary root of no path": put("ann", 1, self.malformed),
-            **{f"a temporary root of {what}": put(owner, 1, self.low) for what, owner in
-               {"nobody": "", "a bad owner": "-ann", "an owner with a blank": "a b", "an owner with a slash": "a/b", "a long owner": "a" * 65}.items()},
+            **{
+                f"a temporary root of {what}": put(owner, 1, self.low)
+                for what, owner in {
+                    "nobody": "",
+                    "a bad owner": "-ann",
+                    "an owner with a blank": "a b",
+                    "an owner with a slash": "a/b",
+                    "a long owner": "a" * 65,
+                }.items()
+            },
         }
 
     def of_tables(self):
         return {
             "no rows at all": "".join(f"DELETE FROM {it};" for it in FORMS),
-            **{f"schema `{it}` with all tables": update("meta", f"val = '{it}'", "word = 'schema'") for it in ("1", "2")},
+            **{
+                f"schema `{it}` with all tables": update("meta", f"val = '{it}'", "word = 'schema'")
+                for it in ("1", "2")
+            },
             **{f"a {table} without its table": f"DROP TABLE {table};" for table in FORMS},
         }
 

@@ -1,15 +1,14 @@
 """A server over a store or over files, and a client of it on one connection that stays open."""
 import contextlib
-import fcntl
 import signal
 import socket
-import struct
 import subprocess
 import sys
-import termios
 import time
 
-from figures import MIB, free_port
+from bench.lib.figures import MIB
+from tests.lib.http import free_port
+from tests.lib.pieces import unread
 
 
 class Client:
@@ -35,7 +34,7 @@ class Client:
             if not count:
                 sys.exit("the server closed the connection")
             at += count
-            end = bytes(self.room[:min(at, 4096)]).find(b"\r\n\r\n")
+            end = bytes(self.room[: min(at, 4096)]).find(b"\r\n\r\n")
         head = bytes(self.room[:end]).lower()
         if not head.startswith(b"http/1.1 200"):
             sys.exit(f"a reply: {bytes(self.room[:at])[:300]!r}")
@@ -45,18 +44,15 @@ class Client:
         return length
 
     def ask(self, method, target, body=b""):
-        self.socket.sendall(f"{method} {target} HTTP/1.1\r\nhost: a\r\nstore-user: root\r\ncontent-length: {len(body)}\r\n\r\n".encode() + body)
+        length = f"content-length: {len(body)}\r\n"
+        self.socket.sendall(
+            f"{method} {target} HTTP/1.1\r\nhost: a\r\nstore-user: root\r\n{length}\r\n".encode() + body
+        )
         return self.reply()
 
     def get(self, target):
         self.socket.sendall(f"GET {target} HTTP/1.1\r\nhost: a\r\nstore-user: root\r\n\r\n".encode())
         return self.reply()
-
-
-def timed(call, *words):
-    start = time.perf_counter()
-    call(*words)
-    return time.perf_counter() - start
 
 
 class Serving:
@@ -96,13 +92,15 @@ class Serving:
 
 
 class Handed(Serving):
-    """A server over a store in memory whose standard input and output are one connection, as a super-server hands it on. The other end is kept here too,
-    so that what the server hasn't read can be asked for."""
+    """A server over a store in memory whose standard input and output are one connection, as a super-server passes it
+    on. The other end is kept here too, so that what the server hasn't read can be asked for."""
 
     def __init__(self, run):
         ours, self.theirs = socket.socketpair()
         self.client = Client(ours)
-        self.started = subprocess.Popen([run.file, "serve"], stdin=self.theirs, stdout=self.theirs, stderr=subprocess.DEVNULL)
+        self.started = subprocess.Popen(
+            [run.file, "serve"], stdin=self.theirs, stdout=self.theirs, stderr=subprocess.DEVNULL
+        )
 
     def __exit__(self, *said):
         super().__exit__(*said)
@@ -112,7 +110,7 @@ class Handed(Serving):
         """Sends each byte only once the server has read all before it."""
         for byte in text:
             self.client.socket.sendall(bytes([byte]))
-            while struct.unpack("i", fcntl.ioctl(self.theirs, termios.FIONREAD, bytes(4)))[0]:
+            while unread(self.theirs):
                 if self.started.poll() is not None:
                     sys.exit("the server ended")
                 time.sleep(0)
@@ -120,4 +118,6 @@ class Handed(Serving):
 
 def served(run, path=None):
     port = free_port()
-    return Serving(port, run.file, *(["--db", path] if path else []), "serve", "--port", str(port), "--connections", "1")
+    return Serving(
+        port, run.file, *(["--db", path] if path else []), "serve", "--port", str(port), "--connections", "1"
+    )

@@ -1,0 +1,170 @@
+"""How the programs of this folder are called, and how they report: each figure with its limit, where it has one."""
+import argparse
+import json
+import os
+import statistics
+import subprocess
+import sys
+import time
+
+from tests.lib import program, report
+
+HERE = program.HERE
+ROUNDS = 5
+MIB = 1_048_576
+records = []
+section = None
+
+
+def title(text):
+    """Begins a section of figures."""
+    global section
+    section = text
+    report.tell(text)
+
+
+def note(text):
+    report.tell(f"  {text}")
+
+
+def shown(value, unit):
+    """A figure with its unit; seconds in the unit that suits them."""
+    if unit == "s":
+        value, unit = (value, "s") if value >= 1 else (value * 1e3, "ms") if value >= 1e-3 else (value * 1e6, "us")
+    return f"{value:,.3g} {unit}" if value < 1000 else f"{value:,.0f} {unit}"
+
+
+def spread(found):
+    """By how much the greatest of some rounds is above the least, as a part of it."""
+    return max(found) / min(found) - 1 if len(found) > 1 and min(found) else None
+
+
+def put(what, value, unit, limit, more, is_least=False):
+    """Keeps a figure and prints it: its value, or its ratio to a peer's, beside its limit."""
+    ratio = more.get("ratio")
+    measured = value if ratio is None else ratio
+    is_met = None if limit is None else measured >= limit if is_least else measured <= limit
+    word = "at least" if is_least else "at most"
+    wanted = None if limit is None else f"{word} {limit:g}{' times' if ratio is not None else ' ' + unit}"
+    records.append(
+        {"section": section, "what": what, "value": value, "unit": unit, "limit": wanted, "is_met": is_met, **more}
+    )
+    peer = f", {more['peer']} {shown(more['theirs'], unit)}: {ratio:.2f} times" if ratio is not None else ""
+    verdict = "no limit" if limit is None else f"limit: {wanted}; {'ok' if is_met else 'MISSED'}"
+    note(f"{what}: {shown(value, unit)}{peer} ({verdict})")
+
+
+def beside(what, theirs, ours, most=None, peer="C SQLite", of=min):
+    """The time of nixkeep next to that of a peer, in seconds, round by round: the least of each, since what else the
+    machine does only adds to it, or what else is asked for."""
+    theirs, ours = [theirs] if isinstance(theirs, float) else theirs, [ours] if isinstance(ours, float) else ours
+    more = {"peer": peer, "theirs": of(theirs), "ratio": of(ours) / of(theirs), "spread": spread(ours)}
+    put(what, of(ours), "s", most, more)
+
+
+def limit(what, found, most, unit="s", is_least=False, of=min):
+    """A figure of nixkeep alone, of one or more rounds, and its limit."""
+    found = [found] if isinstance(found, (int, float)) else found
+    put(what, of(found), unit, most, {"spread": spread(found)}, is_least)
+
+
+def median(what, found, most, unit="s"):
+    limit(what, found, most, unit, of=statistics.median)
+
+
+def skipped(*tools):
+    """Whether a peer isn't installed, which is printed and kept."""
+    why = report.missing(tools)
+    if why:
+        report.tell(f"skipped: {why}")
+        records.append({"section": section, "skipped": why})
+    return bool(why)
+
+
+def timed(call, *words):
+    """The seconds of a call."""
+    start = time.perf_counter()
+    call(*words)
+    return time.perf_counter() - start
+
+
+def rounds(call, count=ROUNDS):
+    return [timed(call) for _ in range(count)]
+
+
+class Runs:
+    """A program on a file, called by root: the time of each run, from the start of the process, and what it printed."""
+
+    def __init__(self, file):
+        self.file = file
+
+    def words(self, path, *words):
+        return [self.file, "--db", path, "--user", "root", *words]
+
+    def __call__(self, path, *words, given=b""):
+        start = time.perf_counter()
+        ran = subprocess.run(self.words(path, *words), input=given, capture_output=True)
+        took = time.perf_counter() - start
+        if ran.returncode:
+            sys.exit(f"{words}: {ran.stderr.decode()}")
+        return took, ran.stdout
+
+
+def command(words, given=None, env=None):
+    """Seconds and KiB of a run from the start of the process to its end, which has to be with 0; its input is a
+    file."""
+    source = open(given, "rb") if given else subprocess.DEVNULL
+    start = time.perf_counter()
+    ran = subprocess.Popen(words, env=env, stdin=source, stdout=subprocess.DEVNULL, stderr=subprocess.PIPE)
+    _, status, usage = os.wait4(ran.pid, 0)
+    took = time.perf_counter() - start
+    ran.returncode, said = os.waitstatus_to_exitcode(status), ran.stderr.read()
+    ran.stderr.close()
+    if given:
+        source.close()
+    if ran.returncode:
+        sys.exit(f"{' '.join(words)[:200]}: status {ran.returncode}: {said.decode(errors='replace')}")
+    return took, usage.ru_maxrss
+
+
+def commands(each, count, given=None):
+    """The seconds and the most MiB of commands that run in turn, by name."""
+    found = {name: [] for name in each}
+    for _ in range(count):
+        for name, words in each.items():
+            found[name].append(command(words, given))
+    return {name: ([it[0] for it in ran], max(it[1] for it in ran) / 1024) for name, ran in found.items()}
+
+
+def memory_of(words):
+    """The most memory in MiB that a command held: what this process holds would count in what is measured of its
+    children."""
+    code = "import resource, subprocess, sys; subprocess.run(sys.argv[1:], stdout=subprocess.DEVNULL, check=True); "
+    code += "print(resource.getrusage(resource.RUSAGE_CHILDREN).ru_maxrss)"
+    return (
+        int(subprocess.run([sys.executable, "-c", code, *words], capture_output=True, text=True, check=True).stdout)
+        / 1024
+    )
+
+
+def main(doc, run, parts=(), more=lambda asked: None):
+    """Runs a benchmark, or some of its parts, and ends with 1 where a figure misses its limit."""
+    asked = argparse.ArgumentParser(description=doc, formatter_class=argparse.RawDescriptionHelpFormatter)
+    asked.add_argument("--program", metavar="FILE", help="the program; else the one that bin/nixkeep proves and builds")
+    asked.add_argument("--quick", action="store_true", help="a tenth of the objects")
+    asked.add_argument("--records", metavar="FILE", help="writes the figures, for bench/run")
+    asked.add_argument("parts", nargs="*", metavar="PART", help=f"{', '.join(parts)}; else all" if parts else "none")
+    more(asked)
+    words = asked.parse_args()
+    if unknown := [it for it in words.parts if it not in parts]:
+        asked.error(f"no part {' '.join(unknown)}")
+    words.parts = words.parts or [*parts]
+    try:
+        run(words)
+    except report.Failed as why:
+        sys.exit(str(why))
+    if words.records:
+        with open(words.records, "w") as out:
+            json.dump(records, out)
+    missed = [it for it in records if it.get("is_met") is False]
+    sys.exit(1 if missed else 0)

@@ -1,0 +1,67 @@
+"""Stores to measure, which C SQLite makes, and the same work by C SQLite."""
+import contextlib
+import hashlib
+import os
+import sqlite3
+import time
+
+from tests.lib.nar import archive
+from tests.lib.tables import PART
+
+OF_OBJECT = ("object", "refs", "outs", "piece")
+
+
+def base(number):
+    return "%032d-object" % number
+
+
+def opened(path):
+    conn = sqlite3.connect(path, isolation_level=None)
+    conn.execute("PRAGMA journal_mode = WAL")
+    conn.execute("PRAGMA synchronous = FULL")
+    return contextlib.closing(conn)
+
+
+def drop_pages(path):
+    """Has the kernel drop its copies of a file's pages, as nixkeep does of its own file whenever it opens it."""
+    with open(path, "rb") as file:
+        os.fsync(file.fileno())
+        os.posix_fadvise(file.fileno(), 0, 0, os.POSIX_FADV_DONTNEED)
+
+
+def insert(conn, name, nar, digest):
+    """Puts an object: the first part of its archive in its row, the rest in pieces."""
+    conn.execute("INSERT INTO object (base, nar, hash) VALUES (?1, ?2, ?3)", (name, nar[:PART], digest))
+    pieces = [(name, at // PART, nar[at : at + PART]) for at in range(PART, len(nar), PART)]
+    conn.executemany("INSERT INTO piece VALUES (?1, ?2, ?3)", pieces)
+
+
+def refer(conn, name, targets):
+    conn.executemany("INSERT INTO refs (base, target) VALUES (?1, ?2)", [(name, base(it)) for it in targets])
+
+
+def filled(run, path, objects, size, references, roots=0):
+    """A store of N objects of a size in bytes, each with references to those after it, the first of them with roots."""
+    run(path, "list")
+    with opened(path) as conn:
+        conn.execute("BEGIN")
+        for number in range(objects):
+            nar = archive(number.to_bytes(8, "little") * (size // 8))
+            insert(conn, base(number), nar, hashlib.sha256(nar).digest())
+            refer(conn, base(number), {(number + near + 1) % objects for near in range(references)})
+        conn.executemany("INSERT INTO permanent VALUES (?1, ?2)", [(f"root{at}", base(at)) for at in range(roots)])
+        conn.execute("COMMIT")
+        conn.execute("PRAGMA wal_checkpoint(TRUNCATE)")
+    return path
+
+
+def delete(path, numbers):
+    """Seconds of deletes of these objects, in one transaction."""
+    with opened(path) as conn:
+        start = time.perf_counter()
+        conn.execute("BEGIN")
+        for number in numbers:
+            for table in OF_OBJECT:
+                conn.execute(f"DELETE FROM {table} WHERE base = ?1", (base(number),))
+        conn.execute("COMMIT")
+        return time.perf_counter() - start

@@ -1,0 +1,47 @@
+# shellcheck shell=bash disable=SC2034 # (the cases use the variables)
+# What more than one case uses. The case runner reads it before the steps of each; a case may define a name anew.
+
+# `as USER WORD..`: a command over the file store.db of the case, with its configuration.
+as() {
+  user=$1
+  shift
+  nixkeep --db store.db --config store.toml --user "$user" --group users "$@"
+}
+
+# `by USER WORD..`: the same without a configuration, so that root alone is trusted.
+by() {
+  user=$1
+  shift
+  nixkeep --db store.db --user "$user" "$@"
+}
+
+# `digits DIGIT`: a path of 32 equal digits, without its name; `$p0` to `$p9` are these.
+digits() { printf '/nix/store/%032d' 0 | sed "s/0/$1/g"; }
+for digit in {0..9}; do
+  printf -v "p$digit" '/nix/store/%s' "$(printf "%.0s$digit" {1..32})"
+done
+
+# `file CONTENTS`: the archive of a regular file.
+file() { spell nix-archive-1 '(' type regular contents "$1" ')'; }
+
+# `runtime PAIR..`: what `nixkeep runtime` reads, of pairs of a label and a path.
+runtime() {
+  for pair; do echo "root: $pair"; done
+  echo
+}
+
+# ---- HTTP
+
+# `message LINE..`: the head of a message.
+message() { printf '%s\r\n' "$@" ''; }
+
+# `ask USER METHOD TARGET`: a message with its body on standard input; `none` has no body.
+ask() {
+  cat >body
+  message "$2 $3 HTTP/1.1" "store-user: $1" "content-length: $(wc -c <body)"
+  cat body
+}
+none() { ask "$@" </dev/null; }
+
+# A server over a store in memory, which gets its input in many ways; of each reply the status and the text.
+serve() { in-pieces nixkeep serve | tr -d '\r' | sed '/^content-/d; /^$/d'; }

@@ -1,0 +1,83 @@
+/* Makes the call FAULT_AT on an input or an output go wrong. STREAM says on which, FAULT what it does, ONE_BYTE whether
+   each call takes one byte. How many bytes the stream had taken before is counted. */
+#include "preload.h"
+#include <errno.h>
+#include <netinet/in.h>
+#include <netinet/tcp.h>
+#include <string.h>
+#include <sys/socket.h>
+
+static unsigned long taken;
+static int is_over;
+
+static int is_named(const char *stream) {
+  const char *named = getenv("STREAM");
+  return named && !strcmp(named, stream);
+}
+
+static int passes_by(const char *stream) { return is_over || !is_named(stream); }
+
+/* How many of so many bytes a call may take, or what it returns at once, as -1 less that. */
+static ssize_t allowed(size_t size) {
+  const char *fault = getenv("FAULT");
+  if (++counts()->calls != number("FAULT_AT")) return getenv("ONE_BYTE") && size ? 1 : (ssize_t)size;
+  counts()->taken = taken + 1;
+  if (!strcmp(fault, "takes one byte")) return size ? 1 : 0;
+  if (!strcmp(fault, "takes none")) return -1;
+  errno = strcmp(fault, "fails") ? EINTR : EIO;
+  return -2;
+}
+
+static ssize_t told(ssize_t count) {
+  taken += count > 0 ? count : 0;
+  return count;
+}
+
+ssize_t read(int from, void *to, size_t size) {
+  NEXT(read);
+  if (from != 0 || passes_by("read")) return next(from, to, size);
+  ssize_t most = allowed(size);
+  return most < 0 ? most + 1 : told(next(from, to, most));
+}
+
+ssize_t write(int to, const void *from, size_t size) {
+  NEXT(write);
+  if (to != 1 || passes_by("write")) return next(to, from, size);
+  ssize_t most = allowed(size);
+  return most < 0 ? most + 1 : told(next(to, from, most));
+}
+
+ssize_t recv(int from, void *to, size_t size, int how) {
+  NEXT(recv);
+  if (passes_by("recv")) return next(from, to, size, how);
+  ssize_t most = allowed(size);
+  return most < 0 ? most + 1 : told(next(from, to, most, how));
+}
+
+ssize_t send(int to, const void *from, size_t size, int how) {
+  NEXT(send);
+  if (passes_by("send")) return next(to, from, size, how);
+  ssize_t most = allowed(size);
+  return most < 0 ? most + 1 : told(next(to, from, most, how));
+}
+
+int accept4(int at, __SOCKADDR_ARG who, socklen_t *size, int how) {
+  NEXT(accept4);
+  return is_named("accept") && allowed(0) < 0 ? -1 : next(at, who, size, how);
+}
+
+int accept(int at, __SOCKADDR_ARG who, socklen_t *size) { return accept4(at, who, size, 0); }
+
+/* Only the calls that have a connection send at once. */
+int setsockopt(int at, int level, int name, const void *value, socklen_t size) {
+  NEXT(setsockopt);
+  int is_asked = level == IPPROTO_TCP && name == TCP_NODELAY && !passes_by("setsockopt");
+  return is_asked && allowed(0) < 0 ? -1 : next(at, level, name, value, size);
+}
+
+/* After the first connection that is shut down nothing goes wrong any more, except for an accept. */
+int shutdown(int at, int how) {
+  NEXT(shutdown);
+  is_over = 1;
+  return next(at, how);
+}

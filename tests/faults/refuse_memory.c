@@ -1,0 +1,49 @@
+/* Refuses the allocation REFUSE of a run: of all, or of those after the first byte of standard input was asked for
+   (REFUSE_FROM_INPUT), or after a file was opened (REFUSE_FROM_FILE). */
+#include "preload.h"
+#include <stdarg.h>
+#include <string.h>
+
+static int asked, waits;
+static unsigned long refused;
+
+static int refuse(void) {
+  if (!asked) {
+    asked = 1;
+    refused = number("REFUSE");
+    waits = getenv("REFUSE_FROM_INPUT") || getenv("REFUSE_FROM_FILE");
+  }
+  return !waits && ++counts()->calls == refused;
+}
+
+ssize_t read(int from, void *to, size_t size) {
+  NEXT(read);
+  if (from == 0) waits = 0;
+  return next(from, to, size);
+}
+
+int open(const char *path, int how, ...) {
+  NEXT(open);
+  va_list more;
+  va_start(more, how);
+  int mode = va_arg(more, int);
+  va_end(more);
+  const char *named = getenv("REFUSE_FROM_FILE");
+  if (named && !strcmp(named, path)) waits = 0;
+  return next(path, how, mode);
+}
+
+void *malloc(size_t size) {
+  NEXT(malloc);
+  return refuse() ? 0 : next(size);
+}
+
+void *realloc(void *old, size_t size) {
+  NEXT(realloc);
+  return refuse() ? 0 : next(old, size);
+}
+
+void *aligned_alloc(size_t to, size_t size) {
+  NEXT(aligned_alloc);
+  return refuse() ? 0 : next(to, size);
+}

@@ -1,0 +1,96 @@
+/* Ends the process as it is about to make the call STOP_AT that changes a file whose path begins with STOP_IN; half of a
+   write is made where STOP_TORN stands. What a file has when it is synced is copied to a file next to it. */
+#include "preload.h"
+#include <stdio.h>
+#include <string.h>
+#include <sys/types.h>
+
+enum { STOPPED = 77, MOST = 4096 };
+
+static int is_within(const char *path) {
+  const char *in = getenv("STOP_IN");
+  return in && !strncmp(path, in, strlen(in));
+}
+
+/* Whether an open file is one that counts; its path. */
+static int path_of(int fd, char *path) {
+  char link[64];
+  snprintf(link, sizeof link, "/proc/self/fd/%d", fd);
+  ssize_t size = readlink(link, path, MOST - 1);
+  if (size < 0) return 0;
+  path[size] = 0;
+  return is_within(path);
+}
+
+/* Whether the process has to stop at this call on an open file. */
+static int is_stop(int fd) {
+  char path[MOST];
+  return path_of(fd, path) && ++counts()->calls == number("STOP_AT");
+}
+
+static typeof(pwrite64) *pwrite_of_c(void) {
+  NEXT(pwrite64);
+  return next;
+}
+
+static void stop_in(int fd, const void *from, size_t size, off_t at) {
+  if (getenv("STOP_TORN") && pwrite_of_c()(fd, from, size / 2, at) < 0) abort();
+  _exit(STOPPED);
+}
+
+ssize_t pwrite64(int fd, const void *from, size_t size, off_t at) {
+  if (is_stop(fd)) stop_in(fd, from, size, at);
+  return pwrite_of_c()(fd, from, size, at);
+}
+
+ssize_t pwrite(int fd, const void *from, size_t size, off_t at) { return pwrite64(fd, from, size, at); }
+
+ssize_t write(int fd, const void *from, size_t size) {
+  NEXT(write);
+  if (is_stop(fd)) stop_in(fd, from, size, lseek(fd, 0, SEEK_CUR));
+  return next(fd, from, size);
+}
+
+int ftruncate64(int fd, off_t size) {
+  NEXT(ftruncate64);
+  if (is_stop(fd)) _exit(STOPPED);
+  return next(fd, size);
+}
+
+int ftruncate(int fd, off_t size) { return ftruncate64(fd, size); }
+
+int unlink(const char *path) {
+  NEXT(unlink);
+  if (is_within(path) && ++counts()->calls == number("STOP_AT")) _exit(STOPPED);
+  return next(path);
+}
+
+/* Copies a file as it is synced. */
+static void keep(int fd) {
+  char path[MOST], block[65536], to[MOST + 16];
+  if (!path_of(fd, path)) return;
+  snprintf(to, sizeof to, "%s.synced", path);
+  int from = open(path, O_RDONLY), out = open(to, O_CREAT | O_TRUNC | O_WRONLY, 0600);
+  off_t at = 0;
+  for (ssize_t size; (size = pread(from, block, sizeof block, at)) > 0; at += size)
+    if (pwrite_of_c()(out, block, size, at) != size) abort();
+  close(from);
+  close(out);
+}
+
+static int synced(int fd, int (*next)(int)) {
+  if (is_stop(fd)) _exit(STOPPED);
+  int done = next(fd);
+  keep(fd);
+  return done;
+}
+
+int fsync(int fd) {
+  NEXT(fsync);
+  return synced(fd, next);
+}
+
+int fdatasync(int fd) {
+  NEXT(fdatasync);
+  return synced(fd, next);
+}

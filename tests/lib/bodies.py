@@ -1,0 +1,69 @@
+"""Wrong bodies: which of them the gate tries, and what a check's refusal of one is worth."""
+import re
+
+from tests.lib import program
+
+SELECTION = "tests/gate/bodies.txt"
+# An error for a name that an edit took away, or for what fell with it: it says nothing of what the body does.
+OF_NAMES = "has no field", "has no goal", "that depend"
+# A goal in which nothing is left to prove, which a proof of another shape doesn't fit.
+OF_NOTHING = re.compile(r"expected type `(?:\w+\.)*Unit(?: \{\d+\})?`")
+ERROR = re.compile(r"^\./proofs/(\S+)/\w+\.antt:\d+:\d+: error: (.*(?:\n(?:  |\t).*)*)", re.M)
+
+
+def selected():
+    """The edits that the gate tries: pairs of a crate and a name."""
+    with open(f"{program.HERE}/{SELECTION}") as file:
+        lines = [line.partition("#")[0].split() for line in file]
+    return [tuple(it) for it in lines if it]
+
+
+def plain(name):
+    """A function's path without what tells it from a type or a module of its name."""
+    return name.replace("fn::", "")
+
+
+class Check:
+    """What a check of a crate said: a line for each function that was changed, and for those in them, and errors in
+    proofs."""
+
+    def __init__(self, crate, output):
+        self.crate, self.output = crate, output
+        self.said = dict(re.findall(rf"^fn {crate}::(\S+): (.*)", output, re.M))
+        self.errors = {}
+        for folder, text in ERROR.findall(output):
+            self.errors.setdefault(folder, []).append(text)
+
+    def errors_of(self, function):
+        """The errors in the proofs of a function and of its closures."""
+        folder = function.replace("fn::", "+").replace("::", "/")
+        return [text for at, found in self.errors.items() if f"{at}/".startswith(f"{folder}/") for text in found]
+
+    def others(self, function):
+        """The functions that aren't proved and that this one calls, its own closures left out."""
+        own = {name: text for name, text in self.said.items() if f"{plain(name)}::".startswith(f"{plain(function)}::")}
+        calls = re.findall(r"it calls (.*), which (?:is|are) not proved", "\n".join(own.values()))
+        named = {plain(it.removeprefix(f"{self.crate}::")) for it in re.findall(r"`(.*?)`", " ".join(calls))}
+        return named - {plain(it) for it in own}
+
+    def is_refused(self, function):
+        """Whether a function is refused for what its body does: a search failed, or an error is of a goal of its own
+        and neither of a name that is gone nor of a goal in which nothing is left. None where another that it calls is
+        refused first."""
+        said, errors = self.said.get(function, ""), self.errors_of(function)
+        if not said.startswith(("not proved", "no proof")):
+            return False
+        if "did not prove" in said or any(is_of_meaning(it) for it in errors):
+            return True
+        return None if self.others(function) else False
+
+    def why_not(self, function):
+        """What was said of a function that isn't refused for what its body does."""
+        errors = [it.split("\n")[0] for it in self.errors_of(function)]
+        return (
+            f"{function}: {self.said.get(function, 'nothing is said of it')}{''.join(f'; {it}' for it in errors[:2])}"
+        )
+
+
+def is_of_meaning(error):
+    return not any(it in error for it in OF_NAMES) and not OF_NOTHING.search(error)

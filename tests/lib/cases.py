@@ -1,0 +1,142 @@
+"""The cases of tests/cases: pages with commands and what they print. tests/README.md says how one is written."""
+import difflib
+import os
+import re
+import signal
+import subprocess
+import sys
+import tempfile
+
+CASES = os.path.join(os.path.dirname(os.path.dirname(os.path.realpath(__file__))), "cases")
+# What a case may take.
+SECONDS = 120
+
+# Runs the steps in one shell, so that a later one sees the variables, the folder and the jobs of those before it.
+SHELL = """
+. "$PRELUDE"
+for step in "$STEPS"/*.step; do
+  eval "$(cat "$step")" </dev/null >"$step.output" 2>"$step.errors"
+  echo "$?" >"$step.status"
+done
+"""
+
+
+class Step:
+    """A command, the number of its line, and the lines behind it: what has to come."""
+
+    def __init__(self, line, command):
+        self.line, self.command, self.wanted = line, command, []
+
+    def parts(self):
+        """The lines of standard output, those of standard error, and the status."""
+        output, errors, status = [], [], 0
+        for line in self.wanted:
+            ends = re.fullmatch(r"\[(\d+)\]", line)
+            if ends:
+                status = int(ends[1])
+            elif line.startswith("2> ") or line == "2>":
+                errors.append(line[3:])
+            else:
+                output.append(line)
+        return output, errors, status
+
+
+def steps_of(text):
+    """The steps of a case: what stands indented by two blanks; all else is prose."""
+    steps, is_open = [], False
+    for number, line in enumerate(text.split("\n"), 1):
+        if line.startswith("  $ "):
+            steps.append(Step(number, line[4:]))
+        elif is_open and (line.startswith("  > ") or line == "  >"):
+            steps[-1].command += "\n" + line[4:]
+        elif steps and line.startswith("  ") and (is_open or steps[-1].wanted):
+            steps[-1].wanted.append(line[2:])
+        elif line.startswith("  "):
+            raise ValueError(f"line {number}: what is indented begins with a line '  $ COMMAND'")
+        is_open = line.startswith(("  $ ", "  > ")) or is_open and line == "  >"
+    return steps
+
+
+def lines_of(written):
+    """What was written, as lines; one without its line feed says so."""
+    lines = written.decode("utf-8", "backslashreplace").split("\n")
+    last = lines.pop()
+    return lines + [last + " (no newline)"] * bool(last)
+
+
+def is_line(wanted, line):
+    if wanted == "|" or wanted.startswith("| "):
+        return line == wanted[2:]
+    if wanted.endswith(" (glob)"):
+        return re.fullmatch(".*".join(map(re.escape, wanted[:-7].split("*"))), line) is not None
+    return line == wanted
+
+
+def are_lines(wanted, lines):
+    """Whether the lines are those wanted, where '...' stands for any number of them."""
+    for at, line in enumerate(wanted):
+        if line == "...":
+            return any(are_lines(wanted[at + 1 :], lines[skipped:]) for skipped in range(at, len(lines) + 1))
+        if at == len(lines) or not is_line(line, lines[at]):
+            return False
+    return len(wanted) == len(lines)
+
+
+def difference(step, path):
+    """What came of a step in place of what was wanted, or None."""
+    if not os.path.exists(f"{path}.status"):
+        return "the shell ended, or was stopped, before this step did"
+    with open(f"{path}.output", "rb") as output, open(f"{path}.errors", "rb") as errors:
+        with open(f"{path}.status") as status:
+            came = lines_of(output.read()), lines_of(errors.read()), int(status.read())
+    wanted = step.parts()
+    if are_lines(wanted[0], came[0]) and are_lines(wanted[1], came[1]) and wanted[2] == came[2]:
+        return None
+    return "\n".join(difflib.unified_diff(shown(*wanted), shown(*came), "wanted", "came", lineterm=""))
+
+
+def shown(output, errors, status):
+    return [*output, *("2> " + line for line in errors), *[f"[{status}]"] * (status != 0)]
+
+
+def environment(room):
+    """What the steps see: the program and the tools of the cases, before those of the system."""
+    tools = [f"{room}/bin", f"{CASES}/tools", "/usr/local/bin", "/usr/bin", "/bin", os.path.dirname(sys.executable)]
+    places = {"HOME": f"{room}/work", "STEPS": f"{room}/steps", "PRELUDE": f"{CASES}/prelude.sh"}
+    return {**places, "PATH": ":".join(tools), "LANG": "C.UTF-8"}
+
+
+def run_steps(steps, room, nixkeep, seconds=SECONDS):
+    """Runs the steps in a folder of their own; returns where each has left what it gave."""
+    for name in ("bin", "steps", "work"):
+        os.mkdir(f"{room}/{name}")
+    os.symlink(nixkeep, f"{room}/bin/nixkeep")
+    paths = [f"{room}/steps/{at:04}.step" for at in range(len(steps))]
+    for step, path in zip(steps, paths):
+        with open(path, "w") as file:
+            file.write(step.command)
+    where = {"cwd": f"{room}/work", "env": environment(room), "stdin": subprocess.DEVNULL, "start_new_session": True}
+    shell = subprocess.Popen(["bash", "-c", SHELL], **where)
+    try:
+        shell.wait(seconds)
+    except subprocess.TimeoutExpired:
+        pass
+    finally:
+        # (also what a step has left running)
+        try:
+            os.killpg(shell.pid, signal.SIGKILL)
+        except ProcessLookupError:
+            pass
+        shell.wait()
+    return paths
+
+
+def run_case(case, nixkeep, seconds=SECONDS):
+    """Returns the number of steps, and what is to be said of those that came out otherwise."""
+    with open(case) as file:
+        steps = steps_of(file.read())
+    if not steps:
+        raise ValueError("it has no step")
+    with tempfile.TemporaryDirectory(prefix="case-") as room:
+        told = [(step, difference(step, path)) for step, path in zip(steps, run_steps(steps, room, nixkeep, seconds))]
+    return len(steps), [f"line {step.line}: $ {step.command}\n{why}" for step, why in told if why]

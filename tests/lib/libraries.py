@@ -1,0 +1,26 @@
+"""The program of crates/bench, which has work of the libraries for comparisons and benchmarks."""
+import os
+import subprocess
+
+from tests.lib import program
+
+FOLDER = f"{program.HERE}/crates/bench"
+
+
+def option(asked):
+    """Adds the option that names another file than the one that is built."""
+    asked.add_argument("--libraries", metavar="FILE", help="the program of crates/bench; else it is proved and built")
+
+
+class Libraries:
+    def __init__(self, file=None):
+        if not file:
+            subprocess.run(["rt", "run"], cwd=FOLDER, check=True, stdin=subprocess.DEVNULL, capture_output=True)
+        self.file = os.path.abspath(file or f"{FOLDER}/out/bench")
+
+    def __call__(self, *words, given=b"", path=None):
+        """What it prints for this input, or for a file's."""
+        if path is None:
+            return subprocess.run([self.file, *words], input=given, capture_output=True, check=True).stdout
+        with open(path, "rb") as file:
+            return subprocess.run([self.file, *words], stdin=file, capture_output=True, check=True).stdout

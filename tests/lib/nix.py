@@ -1,0 +1,51 @@
+"""Real Nix over a throw-away store in a folder, with the usual directory in its paths."""
+import os
+import subprocess
+
+from tests.lib import report
+
+TOOLS = "nix", "nix-store", "nix-instantiate", "nix-hash"
+
+
+class Nix:
+    def __init__(self, folder, features="nix-command"):
+        self.root, self.state, self.folder = f"{folder}/root", f"{folder}/root/nix/var/nix", folder
+        os.makedirs(f"{folder}/conf", exist_ok=True)
+        with open(f"{folder}/conf/nix.conf", "w") as out:
+            out.write(f"build-users-group =\nexperimental-features = {features}\n")
+        places = {"NIX_LOG_DIR": "log", "NIX_CONF_DIR": "conf", "XDG_CACHE_HOME": "cache"}
+        self.env = {**os.environ, **{name: f"{folder}/{part}" for name, part in places.items()}}
+        self.env["NIX_REMOTE"] = f"local?root={self.root}"
+
+    def ran(self, *words, given=b""):
+        return subprocess.run(words, env=self.env, input=given, capture_output=True)
+
+    def __call__(self, *words, given=b""):
+        """What a command prints; it has to end with 0."""
+        ran = self.ran(*words, given=given)
+        if ran.returncode:
+            report.fail(f"{' '.join(map(str, words))[:200]}: {ran.stderr.decode(errors='replace')[:600]}")
+        return ran.stdout
+
+    def lines(self, *words):
+        return self(*words).decode().splitlines()
+
+    def place(self, path):
+        """Where the file or folder of a path is."""
+        return self.root + path
+
+    def objects(self):
+        """Each valid path with its archive's hash in hexadecimal, its size, deriver and references."""
+        left, found = iter(self.lines("nix-store", "--dump-db")), {}
+        for path in left:
+            digest, size, deriver, count = (next(left) for _ in range(4))
+            found[path] = digest, int(size), deriver, [next(left) for _ in range(int(count))]
+        return found
+
+    def contents(self, path):
+        with open(self.place(path), "rb") as file:
+            return file.read()
+
+    def clear(self):
+        """Makes what is in the store removable."""
+        subprocess.run(["chmod", "-R", "u+w", self.root], check=True)

@@ -1,0 +1,136 @@
+"""How a script of these folders is called and how it reports. Each check that passes is counted, the first that fails
+ends the script, and the last line is `N passed, M failed`."""
+import argparse
+import os
+import random
+import shutil
+import sys
+import tempfile
+import time
+
+from tests.lib import program
+
+# The Debian package of a tool that scripts need.
+PACKAGES = {
+    "cc": "gcc",
+    "nix": "nix-bin",
+    "nix-store": "nix-bin",
+    "nix-instantiate": "nix-bin",
+    "nix-hash": "nix-bin",
+    "nginx": "nginx-light",
+}
+passed = 0
+
+
+class Failed(Exception):
+    """A check that failed, with what to print of it."""
+
+
+def fail(what, kept=None, name="kept"):
+    """Ends the script. The bytes, or a copy of the file, that show the fault stay in the system's folder for
+    temporary files."""
+    if kept is not None:
+        place = os.path.join(tempfile.gettempdir(), f"nixkeep-{name}")
+        if isinstance(kept, bytes):
+            with open(place, "wb") as out:
+                out.write(kept)
+        elif os.path.isfile(kept):
+            shutil.copy(kept, place)
+        what = f"{what}\nsee {place}"
+    raise Failed(what)
+
+
+def passes(count=1):
+    global passed
+    passed += count
+
+
+def short(it, most=2000):
+    return repr(it[:most] if isinstance(it, (bytes, str, list)) else it)
+
+
+def same(what, came, wanted, kept=None):
+    """What came is what is wanted."""
+    if came != wanted:
+        fail(f"{what} differs:\n  came   {short(came)}\n  wanted {short(wanted)}", kept)
+    passes()
+
+
+def tell(text):
+    print(text, flush=True)
+
+
+def missing(tools):
+    """What to print of the tools that aren't installed; None where all are."""
+    found = [it for it in tools if not (shutil.which(it) or shutil.which(it, path="/usr/sbin"))]
+    return f"needs {', '.join(f'{it} (Debian: {PACKAGES.get(it, it)})' for it in found)}" if found else None
+
+
+def needs(*tools):
+    """Fails where a tool isn't installed: what it would test isn't tested."""
+    if why := missing(tools):
+        fail(why)
+
+
+def skips(*tools):
+    """Whether a tool isn't installed, and then it prints that this is skipped."""
+    why = missing(tools)
+    if why:
+        tell(f"skipped: {why}")
+    return bool(why)
+
+
+def today():
+    """The seed of a day."""
+    return int(time.time()) // 86_400
+
+
+def options(doc, count=None, more=lambda asked: None, parts=()):
+    """The words of the command line: those that each script of tests/ takes, more, and the parts to run, or all."""
+    asked = argparse.ArgumentParser(description=doc, formatter_class=argparse.RawDescriptionHelpFormatter)
+    asked.add_argument("--program", metavar="FILE", help="the program; else the one that bin/nixkeep proves and builds")
+    asked.add_argument("--seed", metavar="N", type=int, default=today(), help="what chance begins with; else the day")
+    asked.add_argument(
+        "--count", metavar="N", type=int, default=count, help=f"how much is tried ({count or 'all'}, if not given)"
+    )
+    more(asked)
+    if parts:
+        asked.add_argument("parts", nargs="*", metavar="PART", help=f"{', '.join(parts)}; else all")
+    words = asked.parse_args()
+    if parts:
+        unknown = [it for it in words.parts if it not in parts]
+        if unknown:
+            asked.error(f"the parts are {', '.join(parts)}")
+        words.parts = words.parts or [*parts]
+    return words
+
+
+def program_file(words):
+    """The file of the program, which is built where none is named."""
+    if not words.program:
+        program.build()
+    file = os.path.abspath(words.program or program.FILE)
+    if not os.access(file, os.X_OK):
+        fail(f"there is no program {file}")
+    return file
+
+
+def some(words, total, *of_what):
+    """The numbers from 1 to the total: all of them or, where a count is given, so many, by the seed and what they are
+    of. Where there is none the script fails: nothing tried shows nothing."""
+    if not total:
+        fail(f"{', '.join(map(str, of_what))}: nothing is counted that could go wrong")
+    if words.count is None or words.count >= total:
+        return range(1, total + 1)
+    return sorted(random.Random(f"{words.seed} {of_what}").sample(range(1, total + 1), words.count))
+
+
+def main(run):
+    """Runs a script and ends it, with 1 where a check failed: one that ended it, or as many as it returns."""
+    try:
+        failed = run() or 0
+    except Failed as why:
+        tell(why)
+        failed = 1
+    tell(f"{passed} passed, {failed} failed")
+    sys.exit(1 if failed else 0)
