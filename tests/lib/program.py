@@ -1,23 +1,24 @@
 """The program `nixkeep`: whether it is built for the sources as they stand, and building it.
 
-The crates below it are proved side by side where they don't stand on one another, and share the processors.
-What is proved is kept, function by function, in their folders out/: a run that was stopped goes on there.
+Crates are proved side by side, each once those below it are (`proving` does it). The library of each proved crate is kept in the
+folder out/ of the repository, with what it was made of and by which toolchain, so a run that was stopped goes on with the crates
+that it had not ended, and only what has changed is proved again, with what is above it.
 """
+import contextlib
+import fcntl
 import hashlib
+import json
 import os
 import re
 import shutil
-import subprocess
 import sys
-import threading
-import time
-from concurrent.futures import FIRST_COMPLETED, ThreadPoolExecutor, wait
+import tarfile
 
 HERE = os.path.dirname(os.path.dirname(os.path.dirname(os.path.realpath(__file__))))
 NAME = "nixkeep"
 FILE = f"{HERE}/crates/{NAME}/out/{NAME}"
-# The memory that a check takes for each of its jobs, in bytes, about as much as was seen.
-JOB = 1_600_000_000
+KEPT = f"{HERE}/out/proved"
+TIMES = f"{HERE}/out/times.json"
 
 
 def listed():
@@ -36,184 +37,160 @@ def with_below(crate, named):
     return [*found, crate]
 
 
-def made_by(crate):
-    return FILE if crate == NAME else f"{HERE}/crates/{crate}/out/rlib/{crate}.rlib"
-
-
 def toolchain():
-    """A line that changes with the toolchain; empty where none is on the path."""
+    """The folder of the toolchain whose command rt is on the path, or None where none is."""
     rt = shutil.which("rt")
-    if not rt:
+    return rt and os.path.dirname(os.path.dirname(os.path.realpath(rt)))
+
+
+def toolchain_line():
+    """A line that changes with the toolchain; empty where none is on the path."""
+    folder = toolchain()
+    if not folder:
         return ""
-    seen = os.stat(os.path.realpath(rt))
-    return f"{os.path.realpath(rt)} {seen.st_size} {int(seen.st_mtime)}"
+    seen = os.stat(f"{folder}/bin/rt")
+    return f"{folder} {seen.st_size} {int(seen.st_mtime)}"
 
 
-def sources(named):
-    """A line for the program and each crate below it, which changes with its sources and with theirs."""
+def files_of(crate):
+    """The paths of the files of a crate that a proof reads, below the top of the repository, in order."""
+    found = []
+    for part in ("src", "specs", "proofs"):
+        for at, folders, names in os.walk(f"{HERE}/crates/{crate}/{part}"):
+            folders.sort()
+            found += [f"{os.path.relpath(at, HERE)}/{it}" for it in sorted(names) if it.endswith((".rt", ".antt"))]
+    return found
+
+
+def sources(named, top=NAME):
+    """A sum for a crate and each below it, which changes with its sources and with theirs."""
     found = {}
-    for crate in with_below(NAME, named):
-        with open(f"{HERE}/HANDLES") as file:
-            read = hashlib.sha256(repr((file.read(), named[crate], [found.get(it) for it in named[crate]])).encode())
-        for part in ("src", "specs", "proofs"):
-            for at, folders, files in os.walk(f"{HERE}/crates/{crate}/{part}"):
-                folders.sort()
-                for name in sorted(it for it in files if it.endswith((".rt", ".antt"))):
-                    with open(f"{at}/{name}", "rb") as file:
-                        read.update(repr((os.path.relpath(at, HERE), name, file.read())).encode())
+    with open(f"{HERE}/HANDLES") as file:
+        handles = file.read()
+    for crate in with_below(top, named):
+        read = hashlib.sha256(repr((handles, named[crate], [found.get(it) for it in named[crate]])).encode())
+        for path in files_of(crate):
+            with open(f"{HERE}/{path}", "rb") as file:
+                read.update(repr((path, file.read())).encode())
         found[crate] = read.hexdigest()
     return found
 
 
-def mark(crate):
-    """What tells this very file, or folder, from one that was made anew."""
-    seen = os.stat(made_by(crate))
+def made_by(crate):
+    """The file that is made of a crate: the program, or a library's archive."""
+    return FILE if crate == NAME else f"{KEPT}/{crate}.tar"
+
+
+def record_of(crate):
+    return f"{HERE}/crates/{NAME}/out/built-for" if crate == NAME else f"{KEPT}/{crate}.made-of"
+
+
+def mark(file):
+    """What tells this very file from one that was made anew."""
+    seen = os.stat(file)
     return f"{seen.st_size} {seen.st_mtime_ns}"
 
 
 def is_kept(crate, source, by):
-    """Whether what was last made of a crate is there, by these sources and this toolchain; by any where it isn't known."""
+    """Whether what was last made of a crate is there, of these sources and by this toolchain; by any where it isn't known."""
     try:
-        with open(f"{HERE}/crates/{crate}/out/built-for") as file:
+        with open(record_of(crate)) as file:
             lines = file.read().split("\n")
-        return [lines[0], lines[2]] == [source, mark(crate)] and by in ("", lines[1])
+        return [lines[0], lines[2]] == [source, mark(made_by(crate))] and by in ("", lines[1])
     except (OSError, IndexError):
         return False
 
 
 def keep(crate, source, by):
-    with open(f"{HERE}/crates/{crate}/out/built-for", "w") as file:
-        file.write(f"{source}\n{by}\n{mark(crate)}\n")
+    with open(record_of(crate), "w") as file:
+        file.write(f"{source}\n{by}\n{mark(made_by(crate))}\n")
 
 
-class Shown:
-    """What is being proved, on standard error: on a terminal one line that is written anew, elsewhere a line for each crate."""
-
-    def __init__(self, crates, done):
-        self.crates, self.done, self.at, self.lock = crates, done, {}, threading.Lock()
-        self.runs = set()
-        self.is_line = sys.stderr.isatty()
-
-    def line(self, text="", end=""):
-        width = shutil.get_terminal_size().columns - 1
-        print(f"\r\x1b[K{text[:width]}", end=end, file=sys.stderr, flush=True)
-
-    def say(self):
-        if self.is_line:
-            now = ", ".join(f"{crate} {count}" for crate, count in self.at.items())
-            self.line(f"nixkeep: {self.done} of {len(self.crates)} crates proved; now {now}")
-
-    def starts(self, crate):
-        with self.lock:
-            self.at[crate] = ""
-            self.say()
-
-    def counts(self, crate, line):
-        """Reads how far a check is: `checked NAME, 3 of 40`, or `so far: 3 of 40 functions checked`."""
-        found = re.match(r"(?:checked .*, |so far: )(\d+ of \d+)\b", line)
-        if found:
-            with self.lock:
-                self.at[crate] = found[1]
-                self.say()
-
-    def ends(self, crate, functions, seconds):
-        with self.lock:
-            del self.at[crate]
-            self.done += 1
-            if self.is_line:
-                self.say()
-            else:
-                text = f"nixkeep: {crate} proved, {functions} functions, {seconds / 60:.1f} minutes ({self.done} of {len(self.crates)} crates)"
-                print(text, file=sys.stderr, flush=True)
-
-
-class Stopped(Exception):
-    """A crate could not be proved or built; with what was said of it."""
-
-
-def step(crate, words, shown):
-    """Runs a command of rt in a crate's folder, tells how far it is, and returns how many functions are proved."""
-    how = {"cwd": f"{HERE}/crates/{crate}", "stdin": subprocess.DEVNULL, "text": True, "errors": "replace"}
-    ran = subprocess.Popen(["rt", *words], stdout=subprocess.PIPE, stderr=subprocess.STDOUT, **how)
-    shown.runs.add(ran)
-    said = []
-    for line in ran.stdout:
-        shown.counts(crate, line)
-        said = [*said[-60:], line]
-    status = ran.wait()
-    shown.runs.discard(ran)
-    if status:
-        raise Stopped(f"{''.join(said)}nixkeep: {crate} could not be proved or built")
-    counted = re.search(r"^logic=proved functions=(\d+)", "".join(said), re.M)
-    return int(counted[1]) if counted else 0
-
-
-def prove(crate, source, by, jobs, shown):
-    """Proves a crate and builds what it makes, over what earlier runs have kept."""
-    start = time.monotonic()
-    shown.starts(crate)
-    functions = step(crate, ["check", "--jobs", str(jobs)], shown)
-    step(crate, ["run", "--", "--help"] if crate == NAME else ["lib", "--jobs", str(jobs)], shown)
+def keep_library(crate, folder, source, by):
+    """Keeps a library that was made of a crate, as one file: no .rt or .antt file may lie where rt ci doesn't read it."""
+    os.makedirs(KEPT, exist_ok=True)
+    fresh = f"{KEPT}/.{crate}-{os.getpid()}"
+    with tarfile.open(fresh, "w") as file:
+        file.add(folder, f"{crate}.rlib")
+    os.replace(fresh, made_by(crate))
     keep(crate, source, by)
-    shown.ends(crate, functions, time.monotonic() - start)
+
+
+def take_library(crate, room):
+    """Puts the kept library of a crate into a folder."""
+    with tarfile.open(made_by(crate)) as file:
+        file.extractall(room)
+
+
+def times():
+    """What earlier runs measured of each crate: the seconds that it took, those of the processors, and the memory in bytes."""
+    try:
+        with open(TIMES) as file:
+            return json.load(file)
+    except (OSError, ValueError):
+        return {}
+
+
+def keep_times(crate, seconds, work, memory):
+    found = {**times(), crate: {"seconds": round(seconds, 1), "work": round(work, 1), "memory": memory}}
+    with open(f"{TIMES}-{os.getpid()}", "w") as file:
+        json.dump(found, file, indent=1, sort_keys=True)
+    os.replace(file.name, TIMES)
 
 
 def free():
-    """The free memory in bytes, where the system tells it."""
+    """The free memory in bytes, or what two checks may take where the system doesn't say."""
     try:
         with open("/proc/meminfo") as file:
             return 1024 * int(re.search(r"MemAvailable:\s+(\d+)", file.read())[1])
     except OSError:
-        return 4 * JOB
+        return 4_000_000_000
 
 
-def prove_all(left, named, found, by, shown):
-    """Proves these crates, each after those below it, as many at once as there are processors and memory."""
-    running, processors = {}, len(os.sched_getaffinity(0))
-    held = lambda crate: {*with_below(crate, named)}
-    with ThreadPoolExecutor(processors) as pool:
-        while left or running:
-            # (rt keeps a crate and those below it to itself while it works there)
-            ready = [it for it in left if not held(it) & {*left, *[crate for crate, _ in running.values()]} - {it}]
-            ready = [it for at, it in enumerate(ready) if not any(held(it) & held(other) for other in ready[:at])]
-            ready = [it for it in ready if not any(held(it) & held(crate) for crate, _ in running.values())]
-            for at, crate in enumerate(ready):
-                idle = processors - sum(jobs for _, jobs in running.values())
-                jobs = min(idle // (len(ready) - at), int(free() / JOB))
-                if jobs < 1 and running:
-                    break
-                running[pool.submit(prove, crate, found[crate], by, max(jobs, 1), shown)] = crate, max(jobs, 1)
-                left.remove(crate)
-            for it in wait(running, return_when=FIRST_COMPLETED).done:
-                del running[it]
-                if it.exception():
-                    left.clear()
-                    for ran in [*shown.runs]:
-                        ran.terminate()
-                    raise it.exception()
+@contextlib.contextmanager
+def alone():
+    """Waits until no other run proves crates of this checkout."""
+    os.makedirs(KEPT, exist_ok=True)
+    with open(f"{KEPT}/lock", "w") as lock:
+        try:
+            fcntl.flock(lock, fcntl.LOCK_EX | fcntl.LOCK_NB)
+        except BlockingIOError:
+            print("nixkeep: another run proves crates here; waiting for it", file=sys.stderr, flush=True)
+            fcntl.flock(lock, fcntl.LOCK_EX)
+        yield
+
+
+def prove(top):
+    """Proves a crate and those below it, and builds what they make, where that isn't done for the sources as they stand.
+    Returns whether there was anything to do."""
+    named, by = listed(), toolchain_line()
+    found = sources(named, top)
+    if is_kept(top, found[top], by):
+        return False
+    if not by:
+        sys.exit("nixkeep: the command rt of the Rattle toolchain isn't on the path")
+    import proving
+    with alone():
+        left = [it for it in found if not is_kept(it, found[it], by)]
+        if left:
+            print(f"nixkeep: proving {len(left)} of {len(found)} crates; README.md says how long that takes, once", file=sys.stderr, flush=True)
+            proving.prove_all(left, found, named, by)
+    return True
 
 
 def build():
-    """Proves and builds the program where that isn't done for the sources as they stand, and tells so on standard error."""
-    named, by = listed(), toolchain()
-    found = sources(named)
-    if is_kept(NAME, found[NAME], by):
-        return
-    if not by:
-        sys.exit("nixkeep: the command rt of the Rattle toolchain isn't on the path")
-    left = [it for it in found if not is_kept(it, found[it], by)]
-    print("nixkeep: proving and building the program; README.md says how long that takes, once", file=sys.stderr, flush=True)
-    shown = Shown(found, len(found) - len(left))
-    try:
-        prove_all(left, named, found, by, shown)
-    except Stopped as stopped:
-        sys.exit(f"\n{stopped}")
-    finally:
-        if shown.is_line:
-            shown.line()
-    print("nixkeep: built", file=sys.stderr, flush=True)
+    """Proves and builds the program where that isn't done for the sources as they stand, and says so on standard error."""
+    if prove(NAME):
+        print("nixkeep: built", file=sys.stderr, flush=True)
 
 
 def keep_built():
-    """Says of the program that is there that it is built for the sources as they stand."""
-    keep(NAME, sources(listed())[NAME], toolchain())
+    """Says of the program that is there, and of the libraries that rt ci left, that they are of the sources as they stand."""
+    found, by = sources(listed()), toolchain_line()
+    for crate, source in found.items():
+        made = f"{HERE}/crates/{crate}/out/rlib"
+        if crate == NAME:
+            keep(NAME, source, by)
+        elif os.path.isdir(f"{made}/{crate}.rlib") and not os.path.exists(f"{made}/stamp"):
+            # (rt ci puts no stamp next to what it proved from nothing)
+            keep_library(crate, f"{made}/{crate}.rlib", source, by)

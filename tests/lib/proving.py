@@ -1,0 +1,308 @@
+"""Proves crates side by side: each once those below it are, and first those with the longest chain of others above them.
+
+Each crate is one run of the toolchain's `rattle build`, which proves it from nothing and writes its library with its statements
+alone (--statements), so a crate far up loads no proof of those below. The libraries lie in a folder of this run, where no other
+command waits for them. How long a crate takes, and how much memory, is known from earlier runs, or guessed from its lines.
+"""
+import contextlib
+import os
+import re
+import shutil
+import signal
+import subprocess
+import sys
+import tempfile
+import threading
+import time
+from concurrent.futures import FIRST_COMPLETED, ThreadPoolExecutor, wait
+
+import program
+
+TARGET = "x86_64-unknown-linux-gnu"
+# The most jobs that a crate gets: more than four seldom help.
+MOST = 4
+PREFIX = "nixkeep-proofs-"
+
+
+class Stopped(Exception):
+    """A crate could not be proved or built; with what was said of it."""
+
+
+def processors():
+    return len(os.sched_getaffinity(0))
+
+
+def words_of(crate, named, room, jobs):
+    """The words by which rattle reads a crate, with the libraries of this repository in a folder."""
+    kit = program.toolchain()
+    root = "main" if os.path.isfile(f"{program.HERE}/crates/{crate}/src/main.rt") else "lib"
+    words = ["--crate-name", crate, f"src/{root}.rt", "--links", f"{crate}=", "--jobs", str(jobs)]
+    for library in ["std", *named[crate]]:
+        words += ["--extern", f"{library}={room if library in named else f'{kit}/rlibs'}/{library}.rlib"]
+    words += ["-L", f"dependency={kit}/rlibs", "-L", f"dependency={room}"]
+    return [*words, "--antt-project", f"{kit}/rattle/logic/antt-project.json", "--logic-built", f"{kit}/logic_built"]
+
+
+class Runs:
+    """The commands that run now, so that all can be ended."""
+
+    def __init__(self):
+        self.now, self.is_over, self.lock = set(), False, threading.Lock()
+
+    def start(self, words, folder, out):
+        with self.lock:
+            if self.is_over:
+                raise Stopped("")
+            ran = subprocess.Popen(words, cwd=folder, stdin=subprocess.DEVNULL, stdout=out, stderr=subprocess.STDOUT)
+            self.now.add(ran)
+            return ran
+
+    def end(self):
+        with self.lock:
+            self.is_over = True
+            for ran in self.now:
+                ran.kill()
+
+    def run(self, words, folder):
+        """Runs a command to its end: its status, what it printed, its processor seconds and the memory of its largest process."""
+        with tempfile.TemporaryFile("w+", errors="replace") as out:
+            ran = self.start(words, folder, out)
+            _, status, used = os.wait4(ran.pid, 0)
+            with self.lock:
+                ran.returncode = os.waitstatus_to_exitcode(status)
+                self.now.discard(ran)
+            out.seek(0)
+            return ran.returncode, out.read(), used.ru_utime + used.ru_stime, 1024 * used.ru_maxrss
+
+
+def call(crate, words, folder, runs):
+    """Runs a command for a crate, once more with one job where it is killed, and returns its processor seconds and memory."""
+    status, said, *used = runs.run(words, folder)
+    if status == -signal.SIGKILL and "--jobs" in words and not runs.is_over:
+        # (most likely for memory)
+        words[words.index("--jobs") + 1] = "1"
+        status, said, *used = runs.run(words, folder)
+    if status:
+        raise Stopped(f"{''.join(said.splitlines(True)[-60:])}nixkeep: {crate} could not be proved or built")
+    return used
+
+
+def build(crate, named, room, jobs, runs):
+    """Proves a crate and writes its library into the folder, or the program to its place: its processor seconds and memory."""
+    kit, folder, is_program = program.toolchain(), f"{program.HERE}/crates/{crate}", crate == program.NAME
+    made = f"{program.FILE}.o" if is_program else f"{room}/.{crate}.rlib"
+    to = ["--toolchain", f"{kit}/toolchain", "--backend", "llvm"] if is_program else ["--statements"]
+    os.makedirs(os.path.dirname(made), exist_ok=True)
+    used = call(crate, [f"{kit}/bin/rattle", "build", *words_of(crate, named, room, jobs), *to, "-o", made], folder, runs)
+    if is_program:
+        link(made, runs)
+    else:
+        os.rename(made, f"{room}/{crate}.rlib")
+    return used
+
+
+def link(made, runs):
+    kit = program.toolchain()
+    words = ["--target", TARGET, "--toolchain", f"{kit}/toolchain", "-o", program.FILE, made]
+    call(program.NAME, [f"{kit}/bin/rattle-link", *words, f"{kit}/c/libos_c.a", f"{kit}/c/liblibc_c.a"], program.HERE, runs)
+    os.remove(made)
+
+
+class Plan:
+    """What each crate is likely to take: processor seconds and memory, as earlier runs measured them, or guessed from its lines."""
+
+    def __init__(self, crates, named):
+        known = program.times()
+        self.work, self.memory = {}, {}
+        for crate in crates:
+            lines = [sum(lines_of(it) for it in program.files_of(crate) if it.endswith(kind)) for kind in (".rt", ".antt")]
+            known_of = known.get(crate, {})
+            self.work[crate] = known_of.get("work") or 15 + 0.06 * lines[0] + 0.03 * lines[1]
+            self.memory[crate] = known_of.get("memory") or 1_200_000_000 + 400_000 * lines[0]
+        above = {it: [other for other in crates if it in named[other]] for it in crates}
+        # The work from the start of a crate to the end of all, on the longest way: crates stand lowest first.
+        self.chain = {}
+        for crate in reversed(crates):
+            self.chain[crate] = self.work[crate] + max((self.chain[it] for it in above[crate]), default=0)
+
+    def needs(self, crate, jobs):
+        return self.memory[crate] * (1 + 0.3 * (jobs - 1))
+
+    def seconds(self, crate, jobs):
+        """How long a crate is likely to take: it loads what it reads by one process, and jobs share the rest."""
+        alone = min(15, self.work[crate])
+        return alone + (self.work[crate] - alone) / (0.85 * jobs + 0.15)
+
+
+def lines_of(path):
+    with open(f"{program.HERE}/{path}", "rb") as file:
+        return file.read().count(b"\n")
+
+
+class Shown:
+    """What is being proved, on standard error: on a terminal one line that is written anew, elsewhere a line for each crate."""
+
+    def __init__(self, crates, left, plan):
+        self.crates, self.left, self.plan = crates, [*left], plan
+        self.at, self.taken, self.planned = {}, 60.0, 60.0
+        self.lock, self.is_line, self.is_over = threading.Lock(), sys.stderr.isatty(), threading.Event()
+        if self.is_line:
+            threading.Thread(target=self.tick, daemon=True).start()
+
+    def tick(self):
+        while not self.is_over.wait(2):
+            with self.lock:
+                self.say()
+
+    def minutes(self):
+        """How many minutes are likely to be left, by what the crates until now took of what was planned for them."""
+        gone = {it: (time.monotonic() - since) / (self.plan.seconds(it, jobs) * self.slow()) for it, (since, jobs) in self.at.items()}
+        work = {it: self.plan.work[it] * max(0.1, 1 - gone.get(it, 0)) for it in self.left}
+        chain = max((self.plan.chain[it] - self.plan.work[it] + work[it] for it in self.left), default=0)
+        return max(1, round(self.slow() * max(sum(work.values()) / processors() / 0.9, chain / 2.5) / 60))
+
+    def slow(self):
+        return self.taken / self.planned
+
+    def count(self):
+        done = len(self.crates) - len(self.left)
+        ahead = f", about {self.minutes()} minute{'s' * (self.minutes() > 1)} left" if self.left else ""
+        return f"{done} of {len(self.crates)} crates{ahead}"
+
+    def say(self, text=None):
+        if self.is_line and not self.is_over.is_set():
+            now = ", ".join(f"{crate} {time.monotonic() - since:.0f} s" for crate, (since, _) in self.at.items())
+            text = f"nixkeep: {self.count()}; now {now}" if text is None else text
+            print(f"\r\x1b[K{text[: shutil.get_terminal_size().columns - 1]}", end="", file=sys.stderr, flush=True)
+
+    def starts(self, crate, jobs):
+        with self.lock:
+            self.at[crate] = time.monotonic(), jobs
+
+    def ends(self, crate):
+        """Notes that a crate is proved, and returns the seconds that it took."""
+        with self.lock:
+            since, jobs = self.at.pop(crate)
+            seconds = time.monotonic() - since
+            self.left.remove(crate)
+            self.taken, self.planned = self.taken + seconds, self.planned + self.plan.seconds(crate, jobs)
+            if not self.is_line:
+                print(f"nixkeep: {crate} proved in {seconds / 60:.1f} minutes ({self.count()})", file=sys.stderr, flush=True)
+            self.say()
+            return seconds
+
+    def close(self):
+        with self.lock:
+            self.say("")
+            self.is_over.set()
+
+
+class Schedule:
+    """Which crate is proved next, and with how many jobs."""
+
+    def __init__(self, left, named, plan):
+        self.left = sorted(left, key=lambda it: -plan.chain[it])
+        self.below = {it: {*program.with_below(it, named)} for it in left}
+        self.plan, self.running, self.memory = plan, {}, 0.85 * program.free()
+        # A crate has times in which one process alone works, so there are more jobs than processors.
+        self.lanes = processors() + processors() // 2
+
+    def ready(self):
+        """The crates that can start, first those with the longest chain above them."""
+        waited_for = {*self.left, *self.running}
+        return [it for it in self.left if not self.below[it] & waited_for - {it}]
+
+    def jobs(self, crate, ready):
+        """How many jobs a crate can have now, next to so many that are ready too; none where it has to wait."""
+        idle = self.lanes - sum(self.running.values())
+        room = self.memory - sum(self.plan.needs(*it) for it in self.running.items())
+        most = min(MOST, processors(), idle, max(2, idle // ready))
+        return max((it for it in range(1, most + 1) if self.plan.needs(crate, it) <= room), default=int(not self.running))
+
+    def next(self):
+        """The next crate and its jobs, or None where nothing can start now."""
+        ready = self.ready()
+        for at, crate in enumerate(ready if len(self.running) < processors() else []):
+            jobs = self.jobs(crate, len(ready) - at)
+            if jobs:
+                self.left.remove(crate)
+                self.running[crate] = jobs
+                return crate, jobs
+        return None
+
+
+class Proving:
+    """A run over some crates: their libraries lie in its folder."""
+
+    def __init__(self, left, found, named, by, room):
+        self.found, self.named, self.by, self.room, self.runs = found, named, by, room, Runs()
+        plan = Plan([*found], named)
+        self.schedule, self.shown = Schedule(left, named, plan), Shown([*found], left, plan)
+
+    def prove(self, crate, jobs):
+        """Proves a crate and keeps what it makes; returns the crate, and what it took."""
+        self.shown.starts(crate, jobs)
+        used = build(crate, self.named, self.room, jobs, self.runs)
+        if crate == program.NAME:
+            program.keep(crate, self.found[crate], self.by)
+        else:
+            program.keep_library(crate, f"{self.room}/{crate}.rlib", self.found[crate], self.by)
+        return crate, self.shown.ends(crate), *used
+
+    def start(self, pool):
+        """Starts what can start now."""
+        started = set()
+        while next := self.schedule.next():
+            started.add(pool.submit(self.prove, *next))
+        return started
+
+    def run(self):
+        with ThreadPoolExecutor(processors()) as pool:
+            try:
+                running = self.start(pool)
+                while running:
+                    ended, running = wait(running, return_when=FIRST_COMPLETED)
+                    for it in ended:
+                        crate, *taken = it.result()
+                        program.keep_times(crate, *taken)
+                        del self.schedule.running[crate]
+                    running |= self.start(pool)
+            finally:
+                self.runs.end()
+                self.shown.close()
+
+
+@contextlib.contextmanager
+def stops_cleanly():
+    """Has a signal that ends this process end the runs below it first."""
+    def stop(number, _):
+        print("\nnixkeep: stopped; what is proved is kept, and the next run goes on from there", file=sys.stderr, flush=True)
+        sys.exit(128 + number)
+
+    is_main = threading.current_thread() is threading.main_thread()
+    old = {it: signal.signal(it, stop) for it in (signal.SIGINT, signal.SIGTERM, signal.SIGHUP)} if is_main else {}
+    try:
+        yield
+    finally:
+        for it, handler in old.items():
+            signal.signal(it, handler)
+
+
+def prove_all(left, found, named, by):
+    """Proves these crates of those found, lowest first, and builds what they make."""
+    sweep()
+    with stops_cleanly(), tempfile.TemporaryDirectory(prefix=f"{PREFIX}{os.getpid()}-") as room:
+        for crate in {below for it in left for below in program.with_below(it, named)} - {*left}:
+            program.take_library(crate, room)
+        try:
+            Proving(left, found, named, by, room).run()
+        except Stopped as stopped:
+            sys.exit(str(stopped))
+
+
+def sweep():
+    """Removes the folders of runs that were killed."""
+    for name in os.listdir(tempfile.gettempdir()):
+        found = re.match(rf"{PREFIX}(\d+)-", name)
+        if found and not os.path.exists(f"/proc/{found[1]}"):
+            shutil.rmtree(f"{tempfile.gettempdir()}/{name}", ignore_errors=True)
