@@ -1,0 +1,6 @@
+"""Tests the model itself."""
+import sys
+
+from . import worked
+
+sys.exit(worked.main())

@@ -1,0 +1,140 @@
+"""Archives (the NAR format): reading with the first fault, writing and listing.
+
+A node is ("regular", is_executable, contents), ("symlink", target) or ("directory", [(name, node)]), over bytes.
+"""
+import sys
+
+from .texts import Refused
+
+# (an archive of the greatest depth takes some frames for each of its nodes)
+sys.setrecursionlimit(10_000)
+LIMIT = 16_777_216
+DEPTH = 256
+
+
+def spell(text):
+    return len(text).to_bytes(8, "little") + text + bytes(-len(text) % 8)
+
+
+class Reader:
+    """The strings of an archive, from the beginning on."""
+
+    def __init__(self, data):
+        self.data, self.at = data, 0
+
+    def string(self):
+        start = self.at + 8
+        if start > len(self.data):
+            raise Refused(1)
+        size = int.from_bytes(self.data[self.at : start], "little")
+        end = start + size + -size % 8
+        if end > LIMIT:
+            raise Refused(8)
+        if end > len(self.data):
+            raise Refused(1)
+        if any(self.data[start + size : end]):
+            raise Refused(3)
+        self.at = end
+        return self.data[start : start + size]
+
+    def one_of(self, *tags):
+        found = self.string()
+        if found not in tags:
+            raise Refused(2)
+        return found
+
+    def name(self, before):
+        """The name of an entry, which is above that of the entry before it."""
+        name = self.string()
+        if name in (b"", b".", b"..") or b"/" in name or b"\0" in name:
+            raise Refused(4)
+        if before is not None and name <= before:
+            raise Refused(5)
+        return name
+
+    def entries(self, depth):
+        found = []
+        while self.one_of(b"entry", b")") == b"entry":
+            self.one_of(b"(")
+            self.one_of(b"name")
+            name = self.name(found[-1][0] if found else None)
+            self.one_of(b"node")
+            if depth == DEPTH:
+                raise Refused(6)
+            found.append((name, self.node(depth + 1)))
+            self.one_of(b")")
+        return found
+
+    def regular(self):
+        is_executable = self.one_of(b"executable", b"contents") == b"executable"
+        if is_executable:
+            self.one_of(b"")
+            self.one_of(b"contents")
+        return "regular", is_executable, self.string()
+
+    def symlink(self):
+        self.one_of(b"target")
+        return "symlink", self.string()
+
+    def node(self, depth):
+        """A node; depth counts it and those around it."""
+        self.one_of(b"(")
+        self.one_of(b"type")
+        kind = self.one_of(b"regular", b"symlink", b"directory")
+        if kind == b"directory":
+            return "directory", self.entries(depth)
+        node = self.regular() if kind == b"regular" else self.symlink()
+        self.one_of(b")")
+        return node
+
+
+def read(data):
+    """The node of an archive."""
+    reader = Reader(data)
+    reader.one_of(b"nix-archive-1")
+    node = reader.node(1)
+    if reader.at < len(data):
+        raise Refused(7)
+    return node
+
+
+def node_bytes(node):
+    if node[0] == "regular":
+        executable = [b"executable", b""] if node[1] else []
+        inner = b"".join(map(spell, [b"regular", *executable, b"contents", node[2]]))
+    elif node[0] == "symlink":
+        inner = b"".join(map(spell, [b"symlink", b"target", node[1]]))
+    else:
+        inner = spell(b"directory") + b"".join(entry_bytes(*entry) for entry in node[1])
+    return spell(b"(") + spell(b"type") + inner + spell(b")")
+
+
+def entry_bytes(name, node):
+    return b"".join(map(spell, [b"entry", b"(", b"name", name, b"node"])) + node_bytes(node) + spell(b")")
+
+
+def write(node):
+    return spell(b"nix-archive-1") + node_bytes(node)
+
+
+def file_archive(contents):
+    """The archive of a plain file with these contents."""
+    return write(("regular", False, contents))
+
+
+def plain_contents(node):
+    """The contents of a regular file that isn't executable; else None."""
+    return node[2] if node[:2] == ("regular", False) else None
+
+
+def shown(text):
+    return "".join(chr(it) if 33 <= it <= 126 and it != 92 else f"\\x{it:02x}" for it in text)
+
+
+def listing(node, path="."):
+    """The lines of a node and of all nodes inside it."""
+    if node[0] == "regular":
+        return f"{'x' if node[1] else 'r'} {len(node[2])} {path}\n"
+    if node[0] == "symlink":
+        return f"l {path} -> {shown(node[1])}\n"
+    return f"d {path}\n" + "".join(listing(inner, f"{path}/{shown(name)}") for name, inner in node[1])

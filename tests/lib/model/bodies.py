@@ -1,0 +1,121 @@
+"""Bodies of requests: lines `KEY: VALUE`, an empty line, and a payload."""
+import re
+
+from .store import request_of
+from .texts import Refused, address_of, base_of, digest_of, is_store_name
+
+LIMIT = 2**64 - 1
+ONE, OPTIONAL, MANY = "one", "optional", "many"
+
+
+def name(_, text):
+    if not is_store_name(text):
+        raise Refused(41)
+    return text
+
+
+def path(store_dir, text):
+    return base_of(store_dir, text)
+
+
+def digest(_, text):
+    found = digest_of(text, "sha256:")
+    if found is None:
+        raise Refused(41)
+    return found
+
+
+def address(_, text):
+    address_of(text)
+    return text
+
+
+def root(store_dir, text):
+    label, space, target = text.partition(" ")
+    if not space:
+        raise Refused(41)
+    return label, base_of(store_dir, target)
+
+
+def truth(_, text):
+    if text not in ("true", "false"):
+        raise Refused(41)
+    return text == "true"
+
+
+def limit_of(text):
+    """The number of bytes that a text gives, or None where it is no such text."""
+    is_right = re.fullmatch("0|[1-9][0-9]{0,19}", text) and int(text) <= LIMIT
+    return int(text) if is_right else None
+
+
+def limit(_, text):
+    found = limit_of(text)
+    if found is None:
+        raise Refused(41)
+    return found
+
+
+ADD = {"name": (ONE, "name", name), "reference": (MANY, "references", path)}
+IMPORT = {
+    "path": (ONE, "path", path),
+    "nar-hash": (ONE, "digest", digest),
+    "reference": (MANY, "references", path),
+    "deriver": (OPTIONAL, "deriver", path),
+    "ca": (OPTIONAL, "address", address),
+}
+PATH = {"path": (ONE, "path", path)}
+IGNORE = {"ignore-liveness": (OPTIONAL, "ignore_liveness", truth)}
+# For each kind of request with a body: its keys, and the field that takes the payload.
+FORMS = {
+    "add-text": (ADD, "contents"),
+    "add-source": (ADD, "archive"),
+    "import": (IMPORT, "archive"),
+    "set-permanent": (PATH, None),
+    "set-user-root": (PATH, None),
+    "set-profile": (PATH, None),
+    "add-temporary": (PATH, None),
+    "replace-runtime": ({"root": (MANY, "pairs", root)}, None),
+    "collect": ({**IGNORE, "max-freed": (OPTIONAL, "limit", limit)}, None),
+    "delete": ({"path": (MANY, "paths", path), **IGNORE}, None),
+}
+
+
+def lines_of(body):
+    """Key and value of each line, and the payload."""
+    found, rest = [], body or b"\n"
+    while True:
+        line, end, rest = rest.partition(b"\n")
+        if not end:
+            raise Refused(41)
+        if not line:
+            return found, rest
+        try:
+            key, colon, value = line.decode().partition(": ")
+        except UnicodeDecodeError as error:
+            raise Refused(41) from error
+        if not colon:
+            raise Refused(41)
+        found.append((key, value))
+
+
+def values_of(store_dir, count, values, read):
+    """What a field of a request takes from all values of its key."""
+    if count == ONE and len(values) != 1 or count == OPTIONAL and len(values) > 1:
+        raise Refused(41)
+    found = [read(store_dir, value) for value in values]
+    return found if count == MANY else found[0] if found else None
+
+
+def request(store_dir, kind, body, **fields):
+    """The request of this kind with this body; the fields are those that stand elsewhere."""
+    keys, payload = FORMS.get(kind, ({}, None))
+    lines, rest = lines_of(body)
+    if not {key for key, _ in lines} <= keys.keys() or rest and not payload:
+        raise Refused(41)
+    try:
+        for key, (count, field, read) in keys.items():
+            fields[field] = values_of(store_dir, count, [value for other, value in lines if other == key], read)
+    except Refused as refused:
+        raise Refused(41) from refused
+    return request_of(kind, **fields, **({payload: rest} if payload else {}))

@@ -1,0 +1,100 @@
+"""Derivation texts (the ATerm form of a .drv file): their outputs, and writing them."""
+import re
+
+from .texts import Refused, is_base, is_store_name
+
+# A string: bytes other than quotes and backslashes, or one of five escapes.
+STRING = re.compile(rb'"((?:[^"\\]|\\["\\nrt])*)"', re.S)
+ESCAPES = {b"\\n": b"\n", b"\\r": b"\r", b"\\t": b"\t", b'\\"': b'"', b"\\\\": b"\\"}
+
+
+class Text:
+    def __init__(self, data):
+        self.data, self.at = data, 0
+
+    def skip(self, word):
+        if not self.data.startswith(word, self.at):
+            raise Refused(17)
+        self.at += len(word)
+
+    def string(self):
+        found = STRING.match(self.data, self.at)
+        if not found:
+            raise Refused(17)
+        self.at = found.end()
+        return re.sub(rb"\\.", lambda it: ESCAPES[it[0]], found[1])
+
+    def list_of(self, item):
+        self.skip(b"[")
+        found = []
+        while not self.data.startswith(b"]", self.at):
+            if found:
+                self.skip(b",")
+            found.append(item())
+        self.skip(b"]")
+        return found
+
+    def tuple_of(self, *parts):
+        self.skip(b"(")
+        found = []
+        for part in parts:
+            if found:
+                self.skip(b",")
+            found.append(part())
+        self.skip(b")")
+        return found
+
+
+def read(data):
+    """The outputs of a whole text, each a name, a path, and two more strings."""
+    text = Text(data)
+    string = text.string
+    strings = lambda: text.list_of(string)
+    outputs = lambda: text.list_of(lambda: text.tuple_of(string, string, string, string))
+    inputs = lambda: text.list_of(lambda: text.tuple_of(string, strings))
+    env = lambda: text.list_of(lambda: text.tuple_of(string, string))
+    text.skip(b"Derive")
+    found = text.tuple_of(outputs, inputs, strings, string, string, strings, env)[0]
+    if text.at < len(data):
+        raise Refused(17)
+    return found
+
+
+def outputs(data, store_dir):
+    """Name and base name of each output that has a path, in the order of the text."""
+    found = [(name.decode("latin-1"), path.decode("latin-1")) for name, path, _, _ in read(data)]
+    for name, path in found:
+        is_full = path.startswith(store_dir + "/") and is_base(path[len(store_dir) + 1 :])
+        if not is_store_name(name) or path and not is_full:
+            raise Refused(17)
+    names = [name for name, _ in found]
+    if len(set(names)) < len(names):
+        raise Refused(18)
+    return [(name, path[len(store_dir) + 1 :]) for name, path in found if path]
+
+
+def quoted(data):
+    for escape, byte in reversed(ESCAPES.items()):
+        data = data.replace(byte, escape)
+    return b'"' + data + b'"'
+
+
+def listed(items):
+    return b"[" + b",".join(items) + b"]"
+
+
+def tupled(*parts):
+    return b"(" + b",".join(parts) + b")"
+
+
+def write(outs, inputs=(), sources=(), platform=b"p", builder=b"b", args=(), env=()):
+    """The text of a derivation with these parts."""
+    return b"Derive" + tupled(
+        listed(tupled(*map(quoted, it)) for it in outs),
+        listed(tupled(quoted(path), listed(map(quoted, names))) for path, names in inputs),
+        listed(map(quoted, sources)),
+        quoted(platform),
+        quoted(builder),
+        listed(map(quoted, args)),
+        listed(tupled(*map(quoted, it)) for it in env),
+    )

@@ -1,0 +1,112 @@
+"""Runs a scenario with the program and with the model, and says where they differ."""
+import contextlib
+import fcntl
+import os
+import sqlite3
+import struct
+import subprocess
+import tempfile
+import termios
+import time
+
+from . import tables
+from .scenarios import FILE
+
+SECONDS = 600
+ROOM = "/dev/shm" if os.access("/dev/shm", os.W_OK) else None
+
+
+def make_file(path, rows):
+    """Writes a database file with these rows; None stands for a file of other bytes."""
+    if rows is None:
+        with open(path, "wb") as file:
+            file.write(b"not a database\n" * 100)
+    elif rows:
+        with contextlib.closing(sqlite3.connect(path, isolation_level=None)) as database:
+            database.execute("PRAGMA synchronous = OFF")
+            database.execute("BEGIN")
+            for name, found in rows.items():
+                database.execute(tables.making(name))
+                marks = ", ".join("?" * (tables.TABLES[name][0].count(",") + 1))
+                database.executemany(f"INSERT INTO {name} VALUES ({marks})", sorted(found, key=repr))
+            database.execute("COMMIT")
+
+
+def rows_in(path):
+    """The rows of a database file, by table."""
+    if not os.path.exists(path):
+        return {}
+    with contextlib.closing(sqlite3.connect(path)) as database:
+        names = {name for (name,) in database.execute("SELECT name FROM sqlite_master WHERE type = 'table'")}
+        return {name: {*database.execute(f"SELECT * FROM {name}")} for name in tables.TABLES if name in names}
+
+
+def is_read(pipe):
+    return struct.unpack("i", fcntl.ioctl(pipe, termios.FIONREAD, bytes(4)))[0] == 0
+
+
+def feed(running, pieces):
+    """Gives a running program each piece once it has read all before it."""
+    pipe, end = running.stdin, time.monotonic() + SECONDS
+    with contextlib.suppress(BrokenPipeError), pipe:
+        for piece in pieces:
+            pipe.write(piece)
+            pipe.flush()
+            while not is_read(pipe) and running.poll() is None and time.monotonic() < end:
+                time.sleep(0)
+
+
+def pieces_of(step):
+    data, places = step.input(), [0, *step.cuts]
+    return [data[start:end] for start, end in zip(places, [*step.cuts, len(data)])]
+
+
+def status_of(words, step, how):
+    """Runs a command with the input of a step, and returns its status; None where it doesn't end."""
+    with tempfile.TemporaryFile(dir=how["cwd"]) as given:
+        if not step.cuts:
+            given.write(step.input())
+            given.seek(0)
+        running = subprocess.Popen(words, stdin=subprocess.PIPE if step.cuts else given, **how)
+        if step.cuts:
+            feed(running, pieces_of(step))
+        try:
+            return running.wait(SECONDS)
+        except subprocess.TimeoutExpired:
+            running.kill()
+            running.wait()
+            return None
+
+
+def run_step(program, room, step):
+    """Standard output, standard error and status of the program."""
+    with tempfile.TemporaryFile(dir=room) as output, tempfile.TemporaryFile(dir=room) as errors:
+        status = status_of([program, *step.words], step, {"stdout": output, "stderr": errors, "cwd": room})
+        output.seek(0)
+        errors.seek(0)
+        return output.read(), errors.read(), status
+
+
+def is_same(wanted, came):
+    """Whether the program printed what the model says; a text that the model doesn't tell is any but the empty one."""
+    has_errors = came[1] != b"" if wanted[1] is None else wanted[1] == came[1]
+    return has_errors and wanted[0] == came[0] and wanted[2] == came[2]
+
+
+def difference(program, scenario):
+    """The number of the first step that differs, what the model says and what came; None where all is the same.
+
+    After all steps, the rows of the database file stand for a last one."""
+    machine = scenario.machine()
+    with tempfile.TemporaryDirectory(prefix="model-", dir=ROOM) as room:
+        for name, text in scenario.configs.items():
+            with open(f"{room}/{name}", "wb") as file:
+                file.write(text)
+        make_file(f"{room}/{FILE}", scenario.rows)
+        for at, step in enumerate(scenario.steps):
+            wanted, came = machine.run(step.words, step.input()), run_step(program, room, step)
+            if not is_same(wanted, came):
+                return at, wanted, came
+        rows = machine.databases[FILE].final_rows() if FILE in machine.databases else {}
+        found = rows if rows is None else rows_in(f"{room}/{FILE}")
+        return None if found == rows else (len(scenario.steps), rows, found)

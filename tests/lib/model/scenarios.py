@@ -1,0 +1,221 @@
+"""Scenarios: a first database, configurations, and commands over them, some of which serve a stream of messages."""
+from . import policy, server, tables, texts, worlds
+from .commands import Machine
+from .forms import Commands
+from .store import Store
+from .values import STORE_DIRS, USERS
+
+FILE = "store.db"
+
+
+class Step:
+    """A command: its words, its standard input in parts that stand for themselves, and where this input is cut."""
+
+    def __init__(self, words, parts, cuts=()):
+        self.words, self.parts, self.cuts = words, parts, cuts
+
+    def input(self):
+        return b"".join(self.parts)
+
+
+class Scenario:
+    """The text of each configuration, the rows of the database or None for a file of other bytes, and the steps.
+
+    No rows at all stand for no file."""
+
+    def __init__(self, configs, rows, steps):
+        self.configs, self.rows, self.steps = configs, rows, steps
+
+    def machine(self):
+        """The model as it stands before the first step."""
+        return Machine(self.configs, {} if self.rows == {} else {FILE: tables.Database(self.rows)})
+
+
+class Scenarios(Commands):
+    """Draws scenarios."""
+
+    def scenario(self):
+        self.dir = self.pick(STORE_DIRS)
+        configs = {"c.toml": self.config()}
+        if self.chance(0.4):
+            configs["d.toml"] = self.config()
+        self.set_config(configs["c.toml"], worlds.World())
+        rows = self.first_rows() if self.chance(0.6) else {}
+        found = Scenario(configs, rows, [])
+        self.machine = found.machine()
+        form = self.rng.choices(["stream", "commands", "both"], [65, 20, 15])[0]
+        for is_stream in {"stream": [True], "commands": [False] * self.rng.randint(2, 5), "both": [False, True]}[form]:
+            found.steps.append(self.stream_step(found) if is_stream else self.command_step(found))
+        return found
+
+    def set_config(self, text, world):
+        self.set_store(Store(policy.config_of(text), world))
+
+    def follow(self, config):
+        """Draws from now on with the database as it stands in sight; false where it can't be opened."""
+        try:
+            parsed = policy.config_of(config)
+            world = self.machine.databases.setdefault(FILE, tables.Database({})).open(parsed["store-dir"])
+        except texts.Refused:
+            world = worlds.World()
+        self.set_config(config, world)
+
+    def config_words(self, configs):
+        names = [name for name in configs if not name.startswith("odd")]
+        name = self.pick([*names, None] if self.dir == "/nix/store" else names)
+        text = configs[name] if name else b""
+        return text, ["--config", name] if name else []
+
+    def stream_step(self, found):
+        config, words = self.config_words(found.configs)
+        self.follow(config)
+        messages, closes, count = [], False, self.rng.randint(8, 40)
+        while len(messages) < count and not closes:
+            messages.append(self.message())
+            if len(messages) == count and self.chance(0.4):
+                messages[-1] = messages[-1][: self.rng.randrange(len(messages[-1]))]
+            _, closes = server.serve(self.store, messages[-1])
+        if closes and self.chance(0.5):
+            messages.append(self.message())
+        if self.chance(0.1):
+            messages.append(self.pick([b"\r\n", b"\n", b"GET /paths", b"x", b"\r", b"\0"]))
+        return Step(["--db", FILE, *words, "serve"], messages, self.cuts(sum(map(len, messages))))
+
+    def cuts(self, size):
+        """Places at which an input is cut, if it is."""
+        count = self.rng.randint(1, 6) if self.chance(0.25) else 0
+        return sorted({self.rng.randrange(size + 1) for _ in range(count)})
+
+    def command_step(self, found):
+        if self.odd(0.06):
+            return self.odd_config_step(found)
+        config, words = self.config_words(found.configs)
+        self.follow(config)
+        if self.chance(0.15):
+            command, given = self.stateless()
+            user, group = self.pick(USERS), self.pick([None, "users"])
+        else:
+            it = self.request()
+            command, given, user, group = self.words(it), self.input(it), it.user, it.group
+        if self.odd(0.04):
+            command = self.odd_words(command)
+        database = ["--db", FILE] * (not self.chance(0.03))
+        step = Step([*database, *words, *self.common(user, group), *command], [given], self.cuts(len(given)))
+        self.machine.run(step.words, given)
+        return step
+
+    def odd_config_step(self, found):
+        name = f"odd{len(found.configs)}.toml"
+        if not self.chance(0.1):
+            found.configs[name] = self.odd_config()
+        command = self.pick([["who"], ["list"], ["ls"], ["serve"], ["text-path", ".."], ["list", "x"]])
+        return Step(["--config", name, *self.common(self.pick([None, "ann", "-x"]), None), *command], [b""])
+
+    def first_rows(self):
+        """The rows of a database of any schema, most often a sound one; None stands for a file of other bytes."""
+        if self.odd(0.01):
+            return None
+        world = self.first_world()
+        schema = self.pick([3, 3, 3, 3, 2, 1])
+        if schema < 3:
+            world.temporary.clear()
+        store_dir = self.dir if not self.odd(0.02) else "/other"
+        rows = tables.rows_of(world, store_dir, schema)
+        for _ in range(self.pick([1, 1, 2]) if self.odd(0.1) else 0):
+            self.change(rows)
+        return rows
+
+    def first_world(self):
+        """A world in which references may make cycles."""
+        world = worlds.World()
+        self.store.world = world
+        bases = sorted({self.base() for _ in range(self.rng.randint(1, 10))}, key=lambda it: (it.endswith(".drv"), it))
+        for base in bases:
+            references = frozenset(self.some(bases, 3)) if self.chance(0.7) else frozenset()
+            self.put(world, base, references, self.pick([None, None, *bases]), None)
+        for _ in range(self.rng.randint(0, 2)):
+            self.put_addressed(world, frozenset(self.some(bases, 2)) & world.objects.keys())
+        if self.chance(0.3):
+            self.put_ring(world)
+        for base, it in [*world.objects.items()]:
+            world.objects[base] = it._replace(references=it.references & world.objects.keys())
+        if world.objects and self.chance(0.7):
+            self.put_roots(world, sorted(world.objects))
+        return world
+
+    def put(self, world, base, references, deriver, address):
+        """Adds an object whose archive fits its name, if a drawn one does."""
+        if base.endswith(".drv"):
+            archive = tables.archives.file_archive(self.derivation())
+        else:
+            archive = tables.archives.write(self.node())
+        try:
+            outputs = tables.outputs_of(base, tables.archives.read(archive), self.dir)
+        except texts.Refused:
+            return
+        world.objects[base] = worlds.Object(archive, references, deriver, address, outputs)
+
+    def put_ring(self, world):
+        """Makes some objects refer to one another in a ring."""
+        plain = [base for base, it in world.objects.items() if it.address is None]
+        ring = self.rng.sample(plain, min(self.rng.randint(2, 3), len(plain)))
+        for base, after in zip(ring, ring[1:] + ring[:1]):
+            world.objects[base] = world.objects[base]._replace(references=frozenset([after]))
+
+    def put_addressed(self, world, references):
+        contents = self.contents()
+        archive = tables.archives.file_archive(contents)
+        base = texts.source_path(self.dir, "s", references, archive)
+        address = "fixed:r:sha256:" + texts.base32(texts.sha256(archive))
+        if self.chance(0.5):
+            base = texts.text_path(self.dir, "t", references, contents)
+            address = "text:sha256:" + texts.base32(texts.sha256(contents))
+        world.objects[base] = worlds.Object(archive, references, self.pick([None, self.base()]), address, [])
+
+    def put_roots(self, world, bases):
+        count = lambda: self.pick([0, 0, 0, 1, 1, 2])
+        named = lambda *pools: {tuple(map(self.pick, pools)): self.pick(bases) for _ in range(count())}
+        world.permanent.update({name: base for (name,), base in named(["r", "s"]).items()})
+        world.user.update(named(USERS, ["r", "s", "work"]))
+        for key in named(USERS, ["work", "sys"]):
+            numbers = self.rng.sample([1, 2, 3, 4, 9998, 9999], self.rng.randint(1, 3))
+            world.profiles[key] = worlds.Profile({n: self.pick(bases) for n in numbers}, self.pick(numbers))
+        labels = lambda: (self.pick(["a", "b", "/proc/1/exe"]), self.pick(bases))
+        world.runtime.update(labels() for _ in range(self.pick([0, 0, 3])))
+        sessions = lambda: (self.pick(USERS), self.pick([1, 2, 10, 4_194_304]), self.pick(bases))
+        world.temporary.update(sessions() for _ in range(self.pick([0, 0, 3])))
+
+    def change(self, rows):
+        """Takes a table or a row, or changes one value."""
+        if self.chance(0.05):
+            del rows[self.pick([*rows])]
+            return
+        filled = [name for name in rows if rows[name]]
+        if not filled:
+            return
+        name = self.pick(filled)
+        row = self.pick(sorted(rows[name], key=repr))
+        rows[name] = rows[name] - {row}
+        if self.chance(0.7):
+            at = self.rng.randrange(len(row))
+            new = (*row[:at], self.changed(row[at], self.column(name, at)), *row[at + 1 :])
+            if not any(self.has_key(name, new, it) for it in rows[name]):
+                rows[name] = rows[name] | {new}
+
+    def column(self, name, at):
+        return tables.TABLES[name][0].split(", ")[at].split(" ")[1]
+
+    def has_key(self, name, row, other):
+        columns = [it.split(" ")[0] for it in tables.TABLES[name][0].split(", ")]
+        key = [columns.index(it) for it in tables.TABLES[name][1].split(", ")]
+        return [row[at] for at in key] == [other[at] for at in key]
+
+    def changed(self, value, kind):
+        if kind == "INTEGER":
+            return self.pick([0, 1, 2, -1, 9999, 10_000, 4_194_304, 4_194_305, value + 1])
+        if kind == "BLOB":
+            return self.broken(value)
+        texts_of_all_kinds = ["", "x", "-x", "a b", "/other", "3", "2", "schema", "a" * 65]
+        return self.pick([*texts_of_all_kinds, self.base(), (value or "") + "x"])
+
+

@@ -1,0 +1,92 @@
+"""Makes a scenario in which program and model differ as small as can be."""
+import time
+
+from .runs import difference
+from .scenarios import Scenario, Step
+
+
+def fewest(items, differs):
+    """The items without those that a difference doesn't need; long runs of them are tried first."""
+    size = (len(items) + 1) // 2
+    while size:
+        at = 0
+        while at < len(items):
+            fewer = items[:at] + items[at + size :]
+            if differs(fewer):
+                items = fewer
+            else:
+                at += size
+        size = (size + 1) // 2 if size > 1 else 0
+    return items
+
+
+class Shrinker:
+    """A scenario with a difference, which is replaced by each smaller one that is tried and still has one."""
+
+    def __init__(self, program, scenario, seconds):
+        self.program, self.scenario = program, scenario
+        self.found, self.end = difference(program, scenario), time.monotonic() + seconds
+
+    def is_late(self):
+        return time.monotonic() > self.end
+
+    def tries(self, **changed):
+        """Takes the scenario with these changes in its place, if it still has a difference."""
+        if self.is_late():
+            return False
+        other = Scenario(**{**vars(self.scenario), **changed})
+        came = difference(self.program, other) if other.steps else None
+        if came:
+            self.scenario, self.found = other, came
+        return came is not None
+
+    def tries_step(self, at, **changed):
+        steps = [*self.scenario.steps]
+        steps[at] = Step(**{**vars(steps[at]), **changed})
+        return self.tries(steps=steps)
+
+    def steps(self):
+        fewest(self.scenario.steps, lambda steps: self.tries(steps=steps))
+        for at in range(len(self.scenario.steps)):
+            if not self.tries_step(at, cuts=[]):
+                fewest(self.scenario.steps[at].cuts, lambda cuts: self.tries_step(at, cuts=cuts))
+            if not self.scenario.steps[at].cuts:
+                fewest(self.scenario.steps[at].parts, lambda parts: self.tries_step(at, parts=parts))
+
+    def files(self):
+        scenario = self.scenario
+        if scenario.rows and not self.tries(rows={}):
+            for name, rows in scenario.rows.items():
+                if name != "meta":
+                    fewer = lambda left: self.tries(rows={**self.scenario.rows, name: {*left}})
+                    fewest(sorted(rows, key=repr), fewer)
+        for name, text in scenario.configs.items():
+            fewer = lambda left: self.tries(configs={**self.scenario.configs, name: b"".join(left)})
+            fewest(text.splitlines(keepends=True), fewer)
+
+    def lines(self):
+        """Takes lines of heads and words of command lines."""
+        for at in range(len(self.scenario.steps)):
+            fewest(self.scenario.steps[at].words, lambda words: self.tries_step(at, words=words))
+            if not self.scenario.steps[at].cuts:
+                for part in range(len(self.scenario.steps[at].parts)):
+                    self.head(at, part)
+
+    def head(self, at, part):
+        parts = self.scenario.steps[at].parts
+        lines = parts[part].split(b"\r\n\r\n")[0].split(b"\r\n")
+        if len(lines) > 1:
+            rest = parts[part][len(b"\r\n".join(lines)) :]
+            changed = lambda left: [*parts[:part], b"\r\n".join(left) + rest, *parts[part + 1 :]]
+            fewest(lines, lambda left: self.tries_step(at, parts=changed(left)))
+
+
+def shrink(program, scenario, seconds):
+    """A smaller scenario that has a difference, as small as is found in the time, and this difference."""
+    it = Shrinker(program, scenario, seconds)
+    if it.found:
+        it.steps()
+        it.files()
+        it.lines()
+        it.steps()
+    return it.scenario, it.found

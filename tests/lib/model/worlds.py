@@ -1,0 +1,99 @@
+"""What a store holds, as dictionaries: objects and roots, what reaches what, and what a collection deletes."""
+from collections import namedtuple
+
+# The archive, the set of base names of references, the deriver or None, the content address or None, and name and base
+# name of each recorded output.
+Object = namedtuple("Object", "archive references deriver address outputs")
+# Kinds in their order; tuples of this form are in the order of roots.
+PERMANENT, USER, PROFILE, RUNTIME, TEMPORARY = range(5)
+Root = namedtuple("Root", "kind target label")
+CENSORED = "{censored}"
+
+
+class Profile:
+    def __init__(self, generations, current):
+        self.generations, self.current = generations, current
+
+
+class World:
+    def __init__(self):
+        self.objects = {}
+        # by name; by owner and name; by owner and name
+        self.permanent, self.user, self.profiles = {}, {}, {}
+        # pairs of label and target; triples of owner, session and target
+        self.runtime, self.temporary = set(), set()
+
+    def roots(self):
+        """All roots in their order."""
+        found = {Root(PERMANENT, base, f"gcroots/{name}") for name, base in self.permanent.items()}
+        found |= {Root(USER, base, f"gcroots/per-user/{user}/{name}") for (user, name), base in self.user.items()}
+        for (user, name), profile in self.profiles.items():
+            label = f"profiles/per-user/{user}/{name}"
+            found |= {Root(PROFILE, base, f"{label}-{n}-link") for n, base in profile.generations.items()}
+        found |= {Root(RUNTIME, base, label) for label, base in self.runtime}
+        found |= {Root(TEMPORARY, base, f"{{temp:{session}}}") for _, session, base in self.temporary}
+        return sorted(found)
+
+    def next_of(self, base, config):
+        """The valid paths to which an edge leads."""
+        found = self.objects[base]
+        ends = set(found.references)
+        if config["keep-outputs"]:
+            ends |= {output for _, output in found.outputs}
+        if config["keep-derivations"]:
+            ends |= {found.deriver}
+        return ends & self.objects.keys()
+
+    def reached(self, base, config):
+        """All that a path reaches, itself too."""
+        found, left = set(), [base]
+        while left:
+            at = left.pop()
+            if at not in found:
+                found.add(at)
+                left += self.next_of(at, config)
+        return found
+
+    def roots_of(self, config):
+        """The roots that reach each live path, in their order."""
+        found, reach = {}, {}
+        for root in self.roots():
+            if root.target not in reach:
+                reach[root.target] = self.reached(root.target, config)
+            for base in reach[root.target]:
+                found.setdefault(base, []).append(root)
+        return found
+
+    def dead(self, config):
+        return self.objects.keys() - self.roots_of(config).keys()
+
+    def referrers(self, bases, among):
+        """These paths, and all among the given ones that have a way of references to one of them."""
+        found, grows = set(bases), True
+        while grows:
+            more = {it for it in among - found if self.objects[it].references & found}
+            found, grows = found | more, bool(more)
+        return found
+
+    def collected(self, config, limit):
+        """The paths that a collection deletes; with a limit, group by group until their bytes reach it."""
+        left, dead = self.objects.keys() - set(), self.dead(config)
+        if limit is None:
+            return dead
+        gone = set()
+        while dead and self.size(gone) < limit:
+            alone = [it for it in dead if not any(it in self.objects[other].references for other in left - {it})]
+            group = {min(alone)} if alone else self.referrers({min(dead)}, left)
+            gone, dead, left = gone | group, dead - group, left - group
+        return gone
+
+    def size(self, bases):
+        return sum(len(self.objects[base].archive) for base in bases)
+
+
+def seen(roots, is_trusted):
+    """Label and target of each root as a caller sees them."""
+    if is_trusted:
+        return [(root.label, root.target) for root in roots]
+    pairs = [(CENSORED if root.kind in (RUNTIME, TEMPORARY) else root.label, root.target) for root in roots]
+    return [*dict.fromkeys(pairs)]
