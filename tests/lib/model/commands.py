@@ -46,15 +46,17 @@ class Failed(Exception):
     """A file can't be read."""
 
 
-def divided(words, flags, options, most):
-    """The flags and options among words, and the other words, up to a number of these; and what is left."""
+def divided(words, flags, options, most, has_values=True):
+    """The flags and options among words, and the other words, up to a number of these; and what is left.
+
+    After `--` only values come; where the other word is a subcommand, there are none."""
     given, others, words, is_over = {}, [], [*words], False
     while words and len(others) < most:
         word = words.pop(0)
         name, equals, value = word[2:].partition("=")
         if is_over or word == "-" or not word.startswith("-"):
             others.append(word)
-        elif word == "--":
+        elif word == "--" and has_values:
             is_over = True
         elif word[:2] != "--" or name not in (*flags, *options) or name in given or name in flags and equals:
             raise Usage
@@ -77,7 +79,7 @@ def require(fact):
 
 def command_of(words):
     """The command that the words name: its common options, its subcommand, its own flags and options, its values."""
-    common, found, words = divided(words, (), COMMON, 1)
+    common, found, words = divided(words, (), COMMON, 1, has_values=False)
     require(found and found[0] in FORMS)
     flags, options, least, most = FORMS[found[0]]
     given, values, rest = divided(words, flags, options, most + 1)

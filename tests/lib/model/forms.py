@@ -146,9 +146,9 @@ class Messages(Requests):
         head = f"GET /paths HTTP/1.1\r\nstore-user: {it.user}\r\nx: "
         return head + "y" * (server.HEAD + self.pick([0, 1]) - len(head) - 4) + "\r\n\r\n"
 
-    def message(self):
-        """The bytes of a message."""
-        it = self.request()
+    def message(self, kind=None):
+        """The bytes of a message, which most often carries a request of this kind, or else of a random one."""
+        it = self.request(kind)
         if self.odd(0.004):
             return self.pick(HEADS).encode("latin-1")
         if self.odd(0.002):

@@ -49,7 +49,8 @@ class Requests(Values):
             return [self.base()] * self.pick([4096, 4097])
         if not self.store.world.objects and self.chance(0.8) or self.chance(0.4):
             return []
-        return [self.path() for _ in range(self.rng.randint(0, most))]
+        pool = self.pick([self.known, self.known, self.doomed])
+        return [self.path_text(pool()) for _ in range(self.rng.randint(0, most))]
 
     def caller(self, kind):
         """Name and group of who asks."""
@@ -65,13 +66,13 @@ class Requests(Values):
 
     def kind(self):
         """The kind of a request, most often an add where there is little."""
-        if len(self.store.world.objects) < 4 and self.chance(0.6):
+        if len(self.store.world.objects) < 6 and self.chance(0.5):
             return self.pick(["add-text", "add-source", "import", "import"])
         return self.rng.choices([*WEIGHTS], self.weights)[0]
 
-    def request(self):
-        """A request of a random kind: who asks, and its fields as texts and bytes."""
-        kind = self.kind()
+    def request(self, kind=None):
+        """A request of this kind, or of a random one: who asks, and its fields as texts and bytes."""
+        kind = kind or self.kind()
         user, group = self.caller(kind)
         found = SimpleNamespace(kind=kind, user=user, group=group, ignore=None)
         if kind in ("add-text", "add-source"):
@@ -82,7 +83,7 @@ class Requests(Values):
             found.pairs = [(self.label(), self.path()) for _ in range(self.rng.randint(0, 4))]
         elif kind in ("collect", "delete"):
             found.ignore = self.pick(["false", "false", "true", "yes"]) if self.chance(0.1) else None
-            found.limit = self.limit() if self.chance(0.6) else None
+            found.limit = self.limit() if self.chance(0.8) else None
             pool = self.pick([self.doomed, self.doomed, self.known])
             found.paths = [self.path_text(pool()) for _ in range(self.pick([0, 1, 1, 1, 2, 3]))]
         else:

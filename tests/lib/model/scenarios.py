@@ -69,10 +69,11 @@ class Scenarios(Commands):
     def stream_step(self, found):
         config, words = self.config_words(found.configs)
         self.follow(config)
-        messages, closes, count = [], False, self.rng.randint(8, 40)
-        while len(messages) < count and not closes:
-            messages.append(self.message())
-            if len(messages) == count and self.chance(0.4):
+        kinds = [None] * self.rng.randint(10, 60) + self.pick([["collect", "collect", "list"], ["roots", "live"], []])
+        messages, closes = [], False
+        while len(messages) < len(kinds) and not closes:
+            messages.append(self.message(kinds[len(messages)]))
+            if len(messages) == len(kinds) and self.chance(0.4):
                 messages[-1] = messages[-1][: self.rng.randrange(len(messages[-1]))]
             _, closes = server.serve(self.store, messages[-1])
         if closes and self.chance(0.5):
