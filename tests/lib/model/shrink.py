@@ -1,4 +1,5 @@
 """Makes a scenario in which program and model differ as small as can be."""
+import re
 import time
 
 from .runs import difference
@@ -53,14 +54,23 @@ class Shrinker:
             if not self.scenario.steps[at].cuts:
                 fewest(self.scenario.steps[at].parts, lambda parts: self.tries_step(at, parts=parts))
 
+    def rows(self):
+        """Takes objects, each with all rows that name it, and then rows alone."""
+        without = lambda left: {
+            name: {row for row in rows if name == "meta" or left.issuperset(all_bases.intersection(row))}
+            for name, rows in before.items()
+        }
+        before, all_bases = self.scenario.rows, {row[0] for row in self.scenario.rows.get("object", ())}
+        fewest(sorted(all_bases), lambda left: self.tries(rows=without({*left})))
+        for name in self.scenario.rows:
+            if name != "meta":
+                fewer = lambda left: self.tries(rows={**self.scenario.rows, name: {*left}})
+                fewest(sorted(self.scenario.rows[name], key=repr), fewer)
+
     def files(self):
-        scenario = self.scenario
-        if scenario.rows and not self.tries(rows={}):
-            for name, rows in scenario.rows.items():
-                if name != "meta":
-                    fewer = lambda left: self.tries(rows={**self.scenario.rows, name: {*left}})
-                    fewest(sorted(rows, key=repr), fewer)
-        for name, text in scenario.configs.items():
+        if self.scenario.rows and not self.tries(rows={}):
+            self.rows()
+        for name, text in self.scenario.configs.items():
             fewer = lambda left: self.tries(configs={**self.scenario.configs, name: b"".join(left)})
             fewest(text.splitlines(keepends=True), fewer)
 
@@ -74,10 +84,10 @@ class Shrinker:
 
     def head(self, at, part):
         parts = self.scenario.steps[at].parts
-        lines = parts[part].split(b"\r\n\r\n")[0].split(b"\r\n")
+        lines = re.split(rb"(?<=\n)\r?\n", parts[part])[0].splitlines(keepends=True)
         if len(lines) > 1:
-            rest = parts[part][len(b"\r\n".join(lines)) :]
-            changed = lambda left: [*parts[:part], b"\r\n".join(left) + rest, *parts[part + 1 :]]
+            rest = parts[part][sum(map(len, lines)) :]
+            changed = lambda left: [*parts[:part], b"".join(left) + rest, *parts[part + 1 :]]
             fewest(lines, lambda left: self.tries_step(at, parts=changed(left)))
 
 
