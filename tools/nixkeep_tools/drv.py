@@ -1,0 +1,95 @@
+"""Derivation texts: the outputs that one records."""
+from . import paths
+
+_ESCAPES = {b'\\"': b'"', b"\\\\": b"\\", b"\\n": b"\n", b"\\r": b"\r", b"\\t": b"\t"}
+
+
+class _Text:
+    """What is left of a text. A part that isn't there raises refusal 17, bad-derivation."""
+
+    def __init__(self, text):
+        self.text, self.at = text, 0
+
+    def is_next(self, word):
+        return self.text.startswith(word, self.at)
+
+    def word(self, word):
+        if not self.is_next(word):
+            raise paths.Malformed(17, "bad-derivation")
+        self.at += len(word)
+
+    def string(self):
+        self.word(b'"')
+        found = bytearray()
+        while not self.is_next(b'"'):
+            if self.is_next(b"\\"):
+                escape = self.text[self.at:self.at + 2]
+                self.word(escape if escape in _ESCAPES else b"no escape")
+                found += _ESCAPES[escape]
+            else:
+                ends = [it for it in (self.text.find(b'"', self.at), self.text.find(b"\\", self.at)) if it >= 0]
+                if not ends:
+                    raise paths.Malformed(17, "bad-derivation")
+                found += self.text[self.at:min(ends)]
+                self.at = min(ends)
+        self.word(b'"')
+        return bytes(found)
+
+    def items(self, item):
+        """A list of items."""
+        self.word(b"[")
+        found = []
+        while not self.is_next(b"]"):
+            if found:
+                self.word(b",")
+            found.append(item())
+        self.word(b"]")
+        return found
+
+    def parts(self, *parts):
+        """A tuple of these parts."""
+        self.word(b"(")
+        found = []
+        for at, part in enumerate(parts):
+            if at:
+                self.word(b",")
+            found.append(part())
+        self.word(b")")
+        return found
+
+
+def _output(name, path, store):
+    """An output's name and the base name of its path, or None where it has no path."""
+    try:
+        name, path = name.decode("ascii"), path.decode("ascii")
+    except UnicodeDecodeError:
+        raise paths.Malformed(17, "bad-derivation") from None
+    if not paths.is_store_name(name) or path and not path.startswith(store + "/"):
+        raise paths.Malformed(17, "bad-derivation")
+    try:
+        return name, paths.base_name(path, store) if path else None
+    except paths.Malformed:
+        raise paths.Malformed(17, "bad-derivation") from None
+
+
+def outputs(text, store=paths.STORE):
+    """The outputs of a derivation text that have a path, as pairs of name and base name in the text's order.
+
+    Raises refusal 17, bad-derivation, for a text that is none, and 18, double-output, for two outputs of one name.
+    """
+    given = _Text(text)
+    string = given.string
+    strings = lambda: given.items(string)
+    given.word(b"Derive(")
+    found = given.items(lambda: given.parts(string, string, string, string))
+    rest = [lambda: given.items(lambda: given.parts(string, strings)), strings, string, string, strings]
+    for part in [*rest, lambda: given.items(lambda: given.parts(string, string))]:
+        given.word(b",")
+        part()
+    given.word(b")")
+    if given.at != len(text):
+        raise paths.Malformed(17, "bad-derivation")
+    named = [_output(name, path, store) for name, path, _, _ in found]
+    if len({name for name, _ in named}) != len(named):
+        raise paths.Malformed(18, "double-output")
+    return [(name, path) for name, path in named if path]

@@ -1,0 +1,207 @@
+"""Archives (NAR), read as a stream: the nodes of one, or the first fault of what is none.
+
+`walk` yields the nodes of an archive, `check` returns its first fault, and `listing` yields the lines of `nixkeep ls`.
+Each takes the archive as an iterable of pieces of any length, and keeps one string or one piece in memory at a time.
+"""
+import collections
+
+# An archive has at most this many bytes, and at most this many nodes inside one another.
+LIMIT = 16_777_216
+DEPTH = 256
+# The names of the faults, with the numbers of their refusals.
+FAULTS = {
+    "truncated": 1,
+    "bad-tag": 2,
+    "bad-padding": 3,
+    "bad-name": 4,
+    "not-sorted": 5,
+    "too-deep": 6,
+    "trailing": 7,
+    "too-large": 8,
+}
+CHUNK = 65_536
+
+
+class Fault(ValueError):
+    """The first fault of an input: its number and name, and the offset in bytes of the string that has it."""
+
+    def __init__(self, name, offset):
+        super().__init__(f"{name} at byte {offset}")
+        self.number, self.name, self.offset = FAULTS[name], name, offset
+
+
+# A node. `kind` is its letter in a listing: `d`, `r`, `x` (executable) or `l`. `path` is bytes: `.` for the top and
+# `./a/b` below. `size` is the length of a file's contents, `target` the bytes of a link; both are None elsewhere.
+Node = collections.namedtuple("Node", "kind path size target")
+
+
+class _Input:
+    """The strings of an archive, one after another."""
+
+    def __init__(self, pieces):
+        self.pieces, self.piece, self.at = iter(pieces), b"", 0
+        self.offset = self.start = 0
+
+    def fault(self, name):
+        return Fault(name, self.start)
+
+    def some(self, count):
+        """At most this many bytes, at least one, and none at the end of the input."""
+        while self.at == len(self.piece):
+            self.piece, self.at = next(self.pieces, None), 0
+            if self.piece is None:
+                self.piece = b""
+                return b""
+        found = self.piece[self.at:self.at + count]
+        self.at += len(found)
+        self.offset += len(found)
+        return found
+
+    def chunks(self, count):
+        """Exactly this many bytes, in parts."""
+        while count:
+            found = self.some(min(count, CHUNK))
+            if not found:
+                raise self.fault("truncated")
+            count -= len(found)
+            yield found
+
+    def length(self):
+        """The length of the next string, which the limit allows."""
+        self.start = self.offset
+        length = int.from_bytes(b"".join(self.chunks(8)), "little")
+        if self.offset + length + -length % 8 > LIMIT:
+            raise self.fault("too-large")
+        return length
+
+    def padding(self, length):
+        if any(b"".join(self.chunks(-length % 8))):
+            raise self.fault("bad-padding")
+
+    def string(self):
+        length = self.length()
+        found = b"".join(self.chunks(length))
+        self.padding(length)
+        return found
+
+    def word(self, *words):
+        """The next string, which is one of these."""
+        found = self.string()
+        if found not in words:
+            raise self.fault("bad-tag")
+        return found
+
+    def name(self, previous):
+        """The next string, which is the name of an entry after that of this name; None before the first."""
+        found = self.string()
+        if found in (b"", b".", b"..") or b"/" in found or b"\0" in found:
+            raise self.fault("bad-name")
+        if previous is not None and found <= previous:
+            raise self.fault("not-sorted")
+        return found
+
+    def contents(self, take):
+        """The length of the next string, whose bytes are passed on."""
+        length = self.length()
+        for found in self.chunks(length):
+            take(found)
+        self.padding(length)
+        return length
+
+
+def _file(given, path, contents):
+    is_executable = given.word(b"executable", b"contents") == b"executable"
+    if is_executable:
+        given.word(b"")
+        given.word(b"contents")
+    size = given.contents((lambda part: contents(path, part)) if contents else len)
+    return Node("x" if is_executable else "r", path, size, None)
+
+
+def _node(given, path, contents):
+    """A node whole, or of a directory what comes before its entries."""
+    given.word(b"(")
+    given.word(b"type")
+    kind = given.word(b"regular", b"symlink", b"directory")
+    if kind == b"directory":
+        return Node("d", path, None, None)
+    if kind == b"regular":
+        found = _file(given, path, contents)
+    else:
+        given.word(b"target")
+        found = Node("l", path, None, given.string())
+    given.word(b")")
+    return found
+
+
+def walk(pieces, contents=None):
+    """Yields the nodes of an archive, parents first and entries in order. Raises the first Fault of any other input.
+
+    `contents`, if given, is called with the path of each file and each part of its contents, before the file's node.
+    """
+    given, folders = _Input(pieces), []
+    given.word(b"nix-archive-1")
+    top = _node(given, b".", contents)
+    yield top
+    if top.kind == "d":
+        folders.append([b".", None])
+    while folders:
+        folder = folders[-1]
+        if given.word(b"entry", b")") == b")":
+            folders.pop()
+            # (the end of the entry that holds this folder)
+            if folders:
+                given.word(b")")
+            continue
+        given.word(b"(")
+        given.word(b"name")
+        folder[1] = given.name(folder[1])
+        given.word(b"node")
+        if len(folders) == DEPTH:
+            raise given.fault("too-deep")
+        found = _node(given, folder[0] + b"/" + folder[1], contents)
+        yield found
+        if found.kind == "d":
+            folders.append([found.path, None])
+        else:
+            given.word(b")")
+    given.start = given.offset
+    if given.some(1):
+        raise given.fault("trailing")
+
+
+def check(pieces):
+    """The first Fault of the input, or None where it is an archive."""
+    try:
+        collections.deque(walk(pieces), 0)
+    except Fault as fault:
+        return fault
+    return None
+
+
+def _shown(text):
+    return "".join(chr(it) if 33 <= it <= 126 and it != 92 else f"\\x{it:02x}" for it in text)
+
+
+def line(node):
+    """The line of a node in a listing, without its line feed."""
+    path = _shown(node.path)
+    if node.kind == "d":
+        return f"d {path}"
+    return f"l {path} -> {_shown(node.target)}" if node.kind == "l" else f"{node.kind} {node.size} {path}"
+
+
+def listing(pieces):
+    """Yields the lines of the listing of an archive, as `nixkeep ls` prints it."""
+    return map(line, walk(pieces))
+
+
+def _string(text):
+    return len(text).to_bytes(8, "little") + text + bytes(-len(text) % 8)
+
+
+def regular_file(contents, is_executable=False):
+    """The archive of a regular file."""
+    mark = [b"executable", b""] if is_executable else []
+    words = [b"nix-archive-1", b"(", b"type", b"regular", *mark, b"contents", contents, b")"]
+    return b"".join(map(_string, words))

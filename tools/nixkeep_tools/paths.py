@@ -1,0 +1,152 @@
+"""Names, store paths and content addresses: which texts are well formed, and which path follows from contents.
+
+A function that rejects a text raises Malformed, with the number and the name of the refusal that nixkeep answers.
+A path is kept as its base name, such as `xv2iccirbrvklck36f1g7vldn5v58vck-myfile`; `full` adds the store directory.
+"""
+import hashlib
+import re
+
+DIGITS = "0123456789abcdfghijklmnpqrsvwxyz"
+STORE = "/nix/store"
+_VALUES = {digit: value for value, digit in enumerate(DIGITS)}
+_PLAIN = re.compile(r"[A-Za-z0-9_.][A-Za-z0-9_.-]{0,63}")
+_STORE_NAME = r"(?!\.{1,2}(?:-|\Z))[A-Za-z0-9+._?=-]{1,211}"
+_NAME = re.compile(_STORE_NAME)
+_BASE = re.compile(f"[{DIGITS}]{{32}}-{_STORE_NAME}")
+_FOLDERS = re.compile(r"(?:/(?!\.{1,2}(?:/|\Z))[A-Za-z0-9+._?=-]+)+")
+_LABEL = re.compile(r"[!-~]{1,256}")
+
+
+class Malformed(ValueError):
+    """A text that isn't of its kind: the number and the name of its refusal."""
+
+    def __init__(self, number, name):
+        super().__init__(f"refused: {number} {name}")
+        self.number, self.name = number, name
+
+
+# ---- base 32
+
+
+def base32(data):
+    """Bytes in Nix's base 32: they are one little-endian number, and its most significant digit comes first."""
+    number = int.from_bytes(data, "little")
+    return "".join(DIGITS[number >> 5 * at & 31] for at in reversed(range((8 * len(data) + 4) // 5)))
+
+
+def unbase32(text, count):
+    """The bytes, `count` of them, that the digits spell."""
+    if any(it not in _VALUES for it in text):
+        raise Malformed(9, "bad-digit")
+    if len(text) != (8 * count + 4) // 5:
+        raise Malformed(10, "bad-length")
+    number = 0
+    for digit in text:
+        number = number << 5 | _VALUES[digit]
+    if number >> 8 * count:
+        raise Malformed(11, "overflow")
+    return number.to_bytes(count, "little")
+
+
+# ---- texts of a kind
+
+
+def is_plain_name(text):
+    """Whether the text may name a user, a group, a root or a profile."""
+    return _PLAIN.fullmatch(text) is not None
+
+
+def is_store_name(text):
+    """Whether the text may follow the digits and the dash of a base name."""
+    return _NAME.fullmatch(text) is not None
+
+
+def is_store_dir(text):
+    """Whether the text may be a store directory: an absolute path of at most 200 bytes."""
+    return len(text) <= 200 and _FOLDERS.fullmatch(text) is not None
+
+
+def is_base_name(text):
+    """Whether the text is a base name: 32 digits, a dash and a store name."""
+    return _BASE.fullmatch(text) is not None
+
+
+def is_label(text):
+    """Whether the text may be the label of a runtime root: 1 to 256 printable ASCII characters without blanks."""
+    return _LABEL.fullmatch(text) is not None
+
+
+def store_name(text):
+    """The name, where it is a store name."""
+    if not is_store_name(text):
+        raise Malformed(12, "bad-store-name")
+    return text
+
+
+def base_name(text, store=STORE):
+    """The base name that a path text stands for: a base name, or a full path in the store directory."""
+    found = text.removeprefix(store + "/")
+    if not is_base_name(found):
+        raise Malformed(14, "bad-store-path")
+    return found
+
+
+def full(base, store=STORE):
+    """The full path of a base name."""
+    return f"{store}/{base}"
+
+
+# ---- paths that follow from contents
+
+
+def sha256(pieces):
+    """The SHA-256 of an iterable of pieces."""
+    digest = hashlib.sha256()
+    for it in pieces:
+        digest.update(it)
+    return digest.digest()
+
+
+def fold20(digest):
+    """The 20 bytes that the digits of a path spell, from the 32 bytes of a SHA-256."""
+    folded = bytearray(20)
+    for at, byte in enumerate(digest):
+        folded[at % 20] ^= byte
+    return bytes(folded)
+
+
+def path_of(kind, inner, name, references=(), store=STORE):
+    """The base name of an object with a content address.
+
+    `kind` is `text` or `source`. `inner` is the SHA-256 of the contents of a text, or of the archive of a source.
+    The references are base names. Their order and repeats make no difference.
+    """
+    start = ":".join([kind, *(full(it, store) for it in sorted(set(references)))])
+    fingerprint = f"{start}:sha256:{inner.hex()}:{store}:{name}"
+    return f"{base32(fold20(hashlib.sha256(fingerprint.encode()).digest()))}-{name}"
+
+
+# ---- content addresses
+
+_METHODS = {"text": "text:sha256:", "source": "fixed:r:sha256:"}
+
+
+def address(kind, inner):
+    """The content address of a `text` or a `source`; `inner` as for `path_of`."""
+    return _METHODS[kind] + base32(inner)
+
+
+def read_address(text):
+    """The kind, `text` or `source`, and the digest of a content address."""
+    for kind, start in _METHODS.items():
+        if text.startswith(start):
+            try:
+                return kind, unbase32(text[len(start):], 32)
+            except Malformed:
+                break
+    raise Malformed(15, "bad-ca")
+
+
+def nar_hash(digest):
+    """A SHA-256 as `nixkeep info` and the body of an import write it."""
+    return "sha256:" + base32(digest)

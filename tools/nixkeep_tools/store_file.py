@@ -1,0 +1,278 @@
+"""The file of a store, read and never written: its objects and roots, what keeps what, and how much of it.
+
+    with store_file.open_store("store.db") as conn:
+        store = store_file.read(conn)
+    for root, usage in store_file.usage_of_roots(store, store_file.edges(store)):
+        print(usage.all, usage.alone, root.label)
+
+Nothing here tests the rows: `nixkeep-explain` reports whether a file is sound, and nixkeep tests it at each opening.
+All sizes are bytes of archives, as in `nixkeep report`. Paths are base names.
+"""
+import collections
+import contextlib
+import fcntl
+import os
+import sqlite3
+import struct
+import urllib.parse
+
+# Each table of the third schema: its columns, `?` where NULL may stand, and how many of them make its key.
+FORMS = {
+    "meta": (["word TEXT", "val TEXT"], 1),
+    "object": (["base TEXT", "nar BLOB", "hash BLOB", "deriver TEXT ?", "ca TEXT ?"], 1),
+    "refs": (["base TEXT", "target TEXT"], 2),
+    "outs": (["base TEXT", "name TEXT", "target TEXT"], 2),
+    "permanent": (["name TEXT", "target TEXT"], 1),
+    "user_root": (["owner TEXT", "name TEXT", "target TEXT"], 2),
+    "profile": (["owner TEXT", "name TEXT", "cur INTEGER"], 2),
+    "generation": (["owner TEXT", "name TEXT", "num INTEGER", "target TEXT"], 3),
+    "runtime": (["label TEXT", "target TEXT"], 2),
+    "piece": (["base TEXT", "num INTEGER", "bytes BLOB"], 2),
+    "temp_root": (["owner TEXT", "session INTEGER", "target TEXT"], 3),
+}
+# The tables that each schema lacks.
+LACKS = {1: ["piece", "temp_root"], 2: ["temp_root"], 3: []}
+# The bytes of an archive in its object's row, and in each piece but the last.
+PART = 65_536
+# The bytes that SQLite and nixkeep lock.
+LOCKED = (1 << 30, 512)
+
+# An object: the length of its archive, the 32 bytes of the archive's SHA-256, the deriver and the content address or
+# None, a rising list of references, and a dictionary of outputs from name to path.
+Object = collections.namedtuple("Object", "size digest deriver address references outputs")
+# A root: one of KINDS, the path that it keeps, its label in listings, and its owner. `name` is the name of a root or a
+# profile, `number` that of a generation or a session. What a kind of root hasn't is None. Sessions of two users with
+# one number and one target are two roots here, and one root in nixkeep's listings.
+Root = collections.namedtuple("Root", "kind target label owner name number")
+KINDS = ["permanent", "user", "profile", "runtime", "temporary"]
+# The contents of a file: the number of its schema, its store directory, a dictionary of objects by path, a list of
+# roots in nixkeep's order, and a dictionary of current generations by owner and name of the profile.
+Store = collections.namedtuple("Store", "schema store_dir objects roots current")
+# What some roots keep: the bytes of all that they reach, and the bytes of what no other root reaches.
+Usage = collections.namedtuple("Usage", "all alone")
+
+
+# ---- opening
+
+
+class Locked(OSError):
+    """Another process has locked the file. `pid` is its number, or 0 if the system doesn't say."""
+
+    def __init__(self, path, pid):
+        super().__init__(f"{path} is locked by {f'process {pid}' if pid else 'another process'}")
+        self.path, self.pid = path, pid
+
+
+def locker(file):
+    """The number of the process whose lock keeps nixkeep from an open file, or None if there is no lock.
+
+    The number is 0 if the system doesn't say.
+    """
+    asked = struct.pack("hhqqi4x", fcntl.F_WRLCK, os.SEEK_SET, *LOCKED, 0)
+    kind, _, _, _, pid = struct.unpack("hhqqi4x", fcntl.fcntl(file, fcntl.F_GETLK, asked))
+    return None if kind == fcntl.F_UNLCK else max(pid, 0)
+
+
+def log_of(path):
+    """The path of the log of a file. If the file is a link, the log is next to its target."""
+    return os.path.realpath(path) + "-wal"
+
+
+def stamps(path):
+    """A value that changes whenever the file or its log is written."""
+    found = []
+    for it in (path, log_of(path)):
+        with contextlib.suppress(FileNotFoundError):
+            seen = os.stat(it)
+            found.append((seen.st_ino, seen.st_size, seen.st_mtime_ns))
+    return found
+
+
+def connect(path):
+    """An SQLite connection that reads the file and its log. It takes no lock, and writes and makes no file.
+
+    A text that isn't UTF-8 is returned with surrogates for its bad bytes.
+    """
+    where = urllib.parse.quote(os.path.abspath(path))
+    # (with locks, SQLite would make a file of shared memory next to the log; in exclusive mode it needs none)
+    conn = sqlite3.connect(f"file:{where}?mode=ro&vfs=unix-none", uri=True, isolation_level=None)
+    conn.text_factory = lambda it: it.decode("utf-8", "surrogateescape")
+    conn.execute("PRAGMA locking_mode = EXCLUSIVE")
+    return conn
+
+
+@contextlib.contextmanager
+def open_store(path, despite_lock=False):
+    """A connection as from `connect`, under a lock that keeps others from writing. Raises Locked if another has the file.
+
+    With `despite_lock` a locked file is read all the same. Its rows may be torn if `stamps` changes meanwhile.
+    """
+    with open(path, "rb") as file:
+        pid = locker(file)
+        if pid is not None and not despite_lock:
+            raise Locked(path, pid)
+        if pid is None:
+            fcntl.lockf(file, fcntl.LOCK_SH | fcntl.LOCK_NB, LOCKED[1], LOCKED[0])
+        with contextlib.closing(connect(path)) as conn:
+            yield conn
+
+
+# ---- rows as objects and roots
+
+
+def tables_of(conn):
+    """The names of the store's tables that exist."""
+    found = {name for name, in conn.execute("SELECT name FROM sqlite_schema WHERE type = 'table'")}
+    return [it for it in FORMS if it in found]
+
+
+def archive(conn, base):
+    """Yields the bytes of an object's archive in pieces."""
+    yield from (it for it, in conn.execute("SELECT nar FROM object WHERE base = ?", (base,)))
+    if "piece" in tables_of(conn):
+        yield from (it for it, in conn.execute("SELECT bytes FROM piece WHERE base = ? ORDER BY num", (base,)))
+
+
+def _lists(rows):
+    """Lists of rows by their first column, which is left out of the rows."""
+    found = collections.defaultdict(list)
+    for base, *rest in rows:
+        found[base].append(rest)
+    return found
+
+
+def read_objects(conn):
+    """The objects by path, in the order of paths."""
+    references = _lists(conn.execute("SELECT base, target FROM refs ORDER BY base, target"))
+    outputs = _lists(conn.execute("SELECT base, name, target FROM outs ORDER BY base, name"))
+    more = {}
+    if "piece" in tables_of(conn):
+        more = dict(conn.execute("SELECT base, sum(length(bytes)) FROM piece GROUP BY base"))
+    rows = conn.execute("SELECT base, length(nar), hash, deriver, ca FROM object ORDER BY base")
+    return {base: Object(size + more.get(base, 0), digest, deriver, address, [it for it, in references.get(base, [])],
+                         dict(outputs.get(base, []))) for base, size, digest, deriver, address in rows}
+
+
+def read_roots(conn):
+    """All roots, in nixkeep's order: by kind, target and label."""
+    found = []
+    for name, it in conn.execute("SELECT * FROM permanent"):
+        found.append(Root("permanent", it, f"gcroots/{name}", None, name, None))
+    for owner, name, it in conn.execute("SELECT * FROM user_root"):
+        found.append(Root("user", it, f"gcroots/per-user/{owner}/{name}", owner, name, None))
+    for owner, name, num, it in conn.execute("SELECT * FROM generation"):
+        found.append(Root("profile", it, f"profiles/per-user/{owner}/{name}-{num}-link", owner, name, num))
+    for label, it in conn.execute("SELECT * FROM runtime"):
+        found.append(Root("runtime", it, label, None, None, None))
+    if "temp_root" in tables_of(conn):
+        for owner, session, it in conn.execute("SELECT * FROM temp_root"):
+            found.append(Root("temporary", it, f"{{temp:{session}}}", owner, None, session))
+    return sorted(found, key=lambda it: (KINDS.index(it.kind), it.target, it.label, it.owner or ""))
+
+
+def read(conn):
+    """The Store of a connection."""
+    settings = dict(conn.execute("SELECT * FROM meta"))
+    current = {(owner, name): cur for owner, name, cur in conn.execute("SELECT * FROM profile")}
+    return Store(int(settings["schema"]), settings["store-dir"], read_objects(conn), read_roots(conn), current)
+
+
+# ---- what keeps what
+
+
+def edges(store, keep_outputs=False, keep_derivers=True):
+    """A list for each path: the objects that this object keeps directly, under these settings of a configuration."""
+    found = {}
+    for base, it in store.objects.items():
+        outputs = it.outputs.values() if keep_outputs else []
+        derivers = [it.deriver] if keep_derivers else []
+        found[base] = [to for to in (*it.references, *outputs, *derivers) if to in store.objects]
+    return found
+
+
+def reach(kept, starts):
+    """The set of objects that some paths reach, themselves included. `kept` is from `edges`."""
+    seen, left = set(), [it for it in starts if it in kept]
+    while left:
+        at = left.pop()
+        if at not in seen:
+            seen.add(at)
+            left += kept[at]
+    return seen
+
+
+def _order(kept):
+    """The paths in an order in which each comes before what it keeps, except in cycles."""
+    seen, found = set(), []
+    for start in kept:
+        open_ones = [] if start in seen else [(start, iter(kept[start]))]
+        seen.add(start)
+        while open_ones:
+            at, rest = open_ones[-1]
+            to = next((it for it in rest if it not in seen), None)
+            if to is None:
+                found.append(at)
+                open_ones.pop()
+            else:
+                seen.add(to)
+                open_ones.append((to, iter(kept[to])))
+    return found[::-1]
+
+
+def keepers(store, kept):
+    """A number for each path: bit N is set if `store.roots[N]` reaches it. The number of a dead path is 0."""
+    bits, order, is_changed = dict.fromkeys(kept, 0), _order(kept), True
+    for at, root in enumerate(store.roots):
+        if root.target in bits:
+            bits[root.target] |= 1 << at
+    while is_changed:
+        is_changed = False
+        for at in order:
+            for to in kept[at]:
+                if bits[at] & ~bits[to]:
+                    bits[to] |= bits[at]
+                    is_changed = True
+    return bits
+
+
+def _sizes(store, bits):
+    """The bytes of the objects that share a number of `keepers`, by this number."""
+    found = collections.Counter()
+    for base, it in bits.items():
+        found[it] += store.objects[base].size
+    return found
+
+
+def _usage(sizes, roots):
+    """The Usage of some roots, whose bits are set in the number `roots`."""
+    reached = sum(size for it, size in sizes.items() if it & roots)
+    return Usage(reached, sum(size for it, size in sizes.items() if it and not it & ~roots))
+
+
+def owner_of(root):
+    """The owner of a root: a user's name, or `(permanent)` or `(runtime)`."""
+    return root.owner or f"({root.kind})"
+
+
+def _largest_first(found):
+    return sorted(found, key=lambda it: (-it[1].all, -it[1].alone))
+
+
+def usage_of_roots(store, kept):
+    """Pairs of a root and its Usage, largest first. To delete a generation frees what its root keeps alone."""
+    sizes = _sizes(store, keepers(store, kept))
+    return _largest_first([(root, _usage(sizes, 1 << at)) for at, root in enumerate(store.roots)])
+
+
+def usage_of_owners(store, kept):
+    """Pairs of an owner, as from `owner_of`, and the Usage of all roots of this owner together, largest first."""
+    sizes, owned = _sizes(store, keepers(store, kept)), collections.Counter()
+    for at, root in enumerate(store.roots):
+        owned[owner_of(root)] += 1 << at
+    return _largest_first([(owner, _usage(sizes, roots)) for owner, roots in owned.items()])
+
+
+def usage_of_all(store, kept):
+    """The bytes of the live objects, of the dead, and of all."""
+    sizes = _sizes(store, keepers(store, kept))
+    return sum(sizes.values()) - sizes[0], sizes[0], sum(sizes.values())
