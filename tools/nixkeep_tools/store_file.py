@@ -103,7 +103,7 @@ def connect(path):
 
 @contextlib.contextmanager
 def open_store(path, despite_lock=False):
-    """A connection as from `connect`, under a lock that keeps others from writing. Raises Locked if another has the file.
+    """A connection as from `connect`, under a lock that keeps others from writing. Raises Locked if one has the file.
 
     With `despite_lock` a locked file is read all the same. Its rows may be torn if `stamps` changes meanwhile.
     """

@@ -1,0 +1,131 @@
+"""What keeps nixkeep from opening a file, whatever its tables hold: its path, its access, its locks and its log."""
+import collections
+import contextlib
+import os
+import stat
+
+from . import store_file
+
+# Why nixkeep refuses a file. `is_readable` says whether its rows can be examined all the same.
+Reason = collections.namedtuple("Reason", "text is_readable")
+HEAD = b"SQLite format 3\0"
+
+
+# ---- the path and the file
+
+
+def of_path(path):
+    """The Reasons that the path gives by itself, and the file at it."""
+    if path in ("", ":memory:") or path.startswith("file:"):
+        return [Reason("nixkeep opens no such path: it names a file by its path alone", False)]
+    if not os.path.exists(path):
+        return of_missing(path)
+    if not os.path.isfile(path):
+        return [Reason("a folder or a device, and no file", False)]
+    return [*of_file(os.path.realpath(path), "the file"), *of_log(path), *of_journal(path)]
+
+
+def of_missing(path):
+    folder = os.path.dirname(os.path.realpath(path))
+    if os.path.isdir(folder):
+        return []
+    return [Reason(f"there is no folder {folder}", False)]
+
+
+def of_file(path, what):
+    """Why nixkeep, as this user, can't have the file for itself."""
+    if not os.access(path, os.R_OK):
+        return [Reason(f"{what} may not be read by this user: {owned(path)}", False)]
+    found = []
+    if not os.access(path, os.W_OK):
+        found.append(Reason(f"{what} may not be written by this user: {owned(path)}", True))
+    if os.stat(path).st_nlink > 1:
+        found.append(Reason(f"{what} has {os.stat(path).st_nlink} names (hard links), and may have one", True))
+    return [*found, *of_locks(path, what)]
+
+
+def owned(path):
+    """The owner and the mode of a file, as numbers."""
+    seen = os.stat(path)
+    return f"its owner is {seen.st_uid}:{seen.st_gid}, its mode {stat.S_IMODE(seen.st_mode):o}"
+
+
+def of_log(path):
+    log = store_file.log_of(path)
+    if not os.path.lexists(log):
+        folder = os.path.dirname(log)
+        return [] if os.access(folder, os.W_OK) else [Reason(f"this user may make no log in the folder {folder}", True)]
+    if os.path.islink(log) or not os.path.isfile(log):
+        return [Reason(f"its log {log} is a link, a folder or a device, and no file", False)]
+    return of_file(log, f"its log {log}")
+
+
+def of_journal(path):
+    """A journal that SQLite left holds what a change that was stopped has overwritten."""
+    journal = os.path.realpath(path) + "-journal"
+    if not os.path.lexists(journal):
+        return []
+    if os.path.islink(journal) or not os.path.isfile(journal):
+        return [Reason(f"{journal} is a link, a folder or a device, and no journal", False)]
+    with open(journal, "rb") as file:
+        if file.read(1) in (b"", b"\0"):
+            return []
+    text = f"another program stopped in a change, and left {journal}: sqlite3 undoes the change when it opens the file"
+    return [Reason(text, False)]
+
+
+def unreadable(path, error):
+    """Why SQLite can't read a file: it is no database, or a damaged one."""
+    with open(path, "rb") as file:
+        is_database = file.read(len(HEAD)) == HEAD
+    return f"a damaged database: {error}" if is_database else "no SQLite database: the file doesn't begin as one"
+
+
+# ---- locks
+
+
+def of_locks(path, what):
+    with open(path, "rb") as file:
+        pid = store_file.locker(file)
+    if pid is None:
+        return []
+    holders = [it for it in {*locking(path), *([pid] if pid else [])} if is_running(it)] or having_open(path)
+    named = ", ".join(map(described, sorted(holders))) or "a process that this user can't see"
+    return [Reason(f"{what} is locked by {named}", True)]
+
+
+def is_running(pid):
+    return os.path.exists(f"/proc/{pid}")
+
+
+def locking(path):
+    """The processes that the system lists with a lock on the file."""
+    seen, found = os.stat(path), set()
+    name = f"{os.major(seen.st_dev):02x}:{os.minor(seen.st_dev):02x}:{seen.st_ino}"
+    with contextlib.suppress(OSError), open("/proc/locks") as file:
+        for line in file:
+            words = line.split()
+            if name in words and words[4].isdigit():
+                found.add(int(words[4]))
+    return found - {os.getpid()}
+
+
+def having_open(path):
+    """The processes that have the file open: a lock of an open file belongs to no process by itself."""
+    seen, found = os.stat(path), set()
+    for pid in (int(it) for it in os.listdir("/proc") if it.isdigit()):
+        with contextlib.suppress(OSError):
+            for name in os.listdir(f"/proc/{pid}/fd"):
+                with contextlib.suppress(OSError):
+                    if os.path.samestat(seen, os.stat(f"/proc/{pid}/fd/{name}")):
+                        found.add(pid)
+    return found - {os.getpid()}
+
+
+def described(pid):
+    """The number of a process and its command line."""
+    words = b""
+    with contextlib.suppress(OSError), open(f"/proc/{pid}/cmdline", "rb") as file:
+        words = file.read()
+    shown = " ".join(words.decode("utf-8", "backslashreplace").split("\0")).strip()
+    return f"process {pid} ({shown})" if shown else f"process {pid}"

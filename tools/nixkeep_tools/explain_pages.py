@@ -1,0 +1,172 @@
+"""What nixkeep asks of the whole file, the tables of other programs included: header, pages and foreign keys."""
+import os
+import re
+import sqlite3
+
+from . import store_file
+from .explain_rows import scanned
+from .explain_schema import Fault, foreign_keys, has_hidden_index, lower, quoted, words_of
+from .store_file import FORMS
+
+THE_FILE = "the file"
+MOST = 1_000
+HIDDEN = "a trigger, or an index with a WHERE or an expression"
+_ROW = re.compile(r"row (\d+) missing from index (?:sqlite_autoindex_)?(\w+?)(?:_\d+)?")
+_COLUMN = re.compile(r"(?:NULL|non-\w+|\w+) value in (\w+)\.(\w+)")
+_PAGE = re.compile(r"\bpage (\d+)", re.IGNORECASE)
+
+
+# ---- the header
+
+
+def number(data, at, size=4):
+    return int.from_bytes(data[at:at + size], "big")
+
+
+def page_in_log(path, size):
+    """The first page, or None, and the number of pages as of the last commit in the log; None if it has no commit."""
+    if not os.path.isfile(store_file.log_of(path)):
+        return None
+    page, pages, found = None, 0, None
+    with open(store_file.log_of(path), "rb") as log:
+        head = log.read(32)
+        for frame in iter(lambda: log.read(24), b""):
+            body = log.read(size)
+            if frame[8:16] != head[16:24] or len(body) < size:
+                break
+            page = body if number(frame, 0) == 1 else page
+            if number(frame, 4):
+                pages, found = number(frame, 4), page or found
+    return (found, pages) if pages else None
+
+
+def header_faults(path):
+    """The rules that the first 100 bytes of the database break."""
+    with open(path, "rb") as file:
+        head = file.read(100)
+    if not head:
+        return
+    size = 65_536 if number(head, 16, 2) == 1 else number(head, 16, 2)
+    if size not in (512 << at for at in range(8)):
+        yield f"bytes 16 and 17 state pages of {size} bytes, which SQLite hasn't"
+        return
+    pages, logged = os.path.getsize(path) // size, page_in_log(path, size)
+    if logged:
+        head, pages = logged[0] or head, logged[1]
+    yield from setting_faults(head)
+    if number(head, 28) != pages:
+        yield f"bytes 28 to 31 state {number(head, 28)} pages, and there are {pages}"
+
+
+def setting_faults(head):
+    """The rules on the settings in a header."""
+    if head[18:20] not in (b"\1\1", b"\2\2"):
+        yield "bytes 18 and 19 state no version of the format that nixkeep knows"
+    if head[20] not in (0, 8) or head[21:24] != b"\x40\x20\x20":
+        yield "bytes 20 to 23 reserve bytes of each page, or state other parts of a page than 64, 32 and 32"
+    if number(head, 44) not in (0, 4):
+        yield f"bytes 44 to 47 state format {number(head, 44)} of the schema, and have to state 4"
+    if number(head, 52) or number(head, 64):
+        yield "auto_vacuum is on: PRAGMA auto_vacuum = NONE and VACUUM turn it off"
+    if number(head, 56) not in (0, 1):
+        yield "texts are in UTF-16, and have to be in UTF-8"
+    if number(head, 24) != number(head, 92):
+        yield "bytes 24 to 27 and 92 to 95 differ, so the number of pages isn't known"
+
+
+# ---- pages
+
+
+def owners(conn):
+    """By page the table or index whose it is, where SQLite can say."""
+    try:
+        return dict(conn.execute("SELECT pageno, name FROM dbstat"))
+    except sqlite3.Error:
+        return {}
+
+
+def table_of(name, tables):
+    """The table of a table or an index."""
+    return tables.get(name, name)
+
+
+def key_of(conn, table, rowid):
+    """The key of a row by its number, if it can be read."""
+    columns, key = FORMS[table]
+    names = ", ".join(it.split()[0] for it in columns[:key])
+    try:
+        return conn.execute(f"SELECT {names} FROM {table} NOT INDEXED WHERE rowid = ?", (rowid,)).fetchone()
+    except sqlite3.Error:
+        return None
+
+
+def page_faults(conn, entries):
+    """The Faults that SQLite's own check finds, of the store's tables by their names."""
+    try:
+        lines = [line for row in conn.execute(f"PRAGMA integrity_check({MOST})") for line in row[0].split("\n")]
+    except sqlite3.Error as error:
+        yield Fault(THE_FILE, None, f"SQLite can't check its pages: {error}")
+        return
+    tables, pages = {it.name: it.table for it in entries}, None
+    for line in lines:
+        if line == "ok" or line.startswith("*** in database"):
+            continue
+        row, column, page = _ROW.fullmatch(line), _COLUMN.match(line), _PAGE.search(line)
+        if row and row[2] in FORMS:
+            yield Fault(row[2], key_of(conn, row[2], int(row[1])), "the row is missing from an index")
+        elif column and column[1] in FORMS:
+            yield Fault(column[1], None, line)
+        else:
+            pages = owners(conn) if pages is None and page else pages
+            name = (pages or {}).get(int(page[1])) if page else None
+            yield Fault(table_of(name, tables) if name else THE_FILE, None, line)
+
+
+# ---- tables of other programs
+
+
+def key_faults(conn, entries):
+    """The Faults of rows that refer by a foreign key to none."""
+    for it in (it for it in entries if it.type == "table" and not it.name.startswith("sqlite_")):
+        # (SQLite doesn't check a key to columns that are no key themselves)
+        rows, _ = scanned(conn, f"PRAGMA foreign_key_check({quoted(it.name)})")
+        for table, rowid, to, _ in rows:
+            yield Fault(table, None if rowid is None else (rowid,), f"a foreign key to {to} finds no row there")
+
+
+def frozen(conn, entries):
+    """The tables that nixkeep can't write, since they have a trigger or an index with a WHERE or an expression."""
+    found = {lower(it.table) for it in entries if it.type == "trigger"}
+    return found | {lower(it.name) for it in entries if it.type == "table" and has_hidden_index(conn, it.name)}
+
+
+def faults_of_others(conn, entries):
+    """What of other programs keeps nixkeep from the whole file, whatever the store's tables are."""
+    kinds = {lower(it.name): it.type for it in entries if it.type in ("table", "view")}
+    unwritten = frozen(conn, entries) - set(FORMS)
+    for it in entries:
+        if it.type == "table" and "VIRTUAL" in words_of(it.text)[:2]:
+            yield Fault(it.name, None, "a virtual table, which nixkeep doesn't know")
+        if it.type == "trigger" and kinds.get(lower(it.table)) == "view":
+            yield Fault(it.table, None, f"the trigger {it.name} is on a view")
+        if it.type == "trigger" and lower(it.name) in kinds:
+            yield Fault(it.table, None, f"the trigger {it.name} has the name of a table or a view")
+        if it.type == "table" and lower(it.name) in unwritten and "references" in lower(it.text):
+            yield Fault(it.name, None, f"the table has the word REFERENCES, and {HIDDEN}")
+    for name, to, columns in foreign_keys(conn, entries):
+        if to in unwritten and lower(name) not in unwritten and has_reference(conn, name, columns):
+            yield Fault(name, None, f"a row refers to {to}, which has {HIDDEN}")
+
+
+def has_reference(conn, table, columns):
+    """Whether a row of a table refers to one by these columns: none of them is NULL."""
+    values = " AND ".join(f"{quoted(it)} IS NOT NULL" for it in columns)
+    return conn.execute(f"SELECT EXISTS (SELECT 1 FROM {quoted(table)} WHERE {values})").fetchone()[0]
+
+
+def faults(conn, entries, path):
+    """All Faults of the file as a whole."""
+    yield from (Fault(THE_FILE, None, rule) for rule in header_faults(path))
+    yield from page_faults(conn, entries)
+    yield from key_faults(conn, entries)
+    yield from faults_of_others(conn, entries)

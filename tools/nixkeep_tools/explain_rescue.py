@@ -1,0 +1,193 @@
+"""Writes what is sound in a file to a folder: each object as a body for `nixkeep import`, and the roots as commands."""
+import collections
+import errno
+import heapq
+import os
+import shlex
+
+from . import paths
+from .explain_rows import HASH
+from .explain_schema import shown
+from .store_file import FORMS
+
+# How many objects and roots were written, and pairs of a row that is left out and the reason.
+Rescued = collections.namedtuple("Rescued", "objects roots left_out")
+
+SCRIPT = """#!/bin/sh
+# Makes a store of what nixkeep-explain has rescued from {file}.
+# usage: sh restore NEW.db
+# The program is $NIXKEEP, or nixkeep on the path. What is in NEW.db already stays.
+set -eu
+here=$(dirname "$0")
+store=${{1:?usage: sh restore NEW.db}}
+nixkeep() {{ "${{NIXKEEP:-nixkeep}}" --db "$store" --config "$here/store.toml" "$@"; }}
+
+# Each body goes to one server, so the file is opened once for all of them.
+answers=$(
+  for body in "$here"/objects/*; do
+    [ -e "$body" ] || continue
+    printf 'POST /import HTTP/1.1\\r\\nstore-user: root\\r\\ncontent-length: %d\\r\\n\\r\\n' "$(wc -c <"$body")"
+    cat "$body"
+  done | nixkeep serve | grep -a -E '^(HTTP/1.1 200|refused:|denied:|failed:)' || true
+)
+imported=$(printf '%s\\n' "$answers" | grep -c '^HTTP' || true)
+if [ "$imported" -ne {count} ]; then
+  printf '%s\\n' "$answers" | grep -v '^HTTP' >&2 || true
+  echo "restore: $imported of {count} objects imported" >&2
+  exit 1
+fi
+"""
+
+
+# ---- what is sound
+
+
+def bad_objects(objects, faults, partial):
+    """Why an object isn't sound by itself, by path."""
+    found = {}
+    for it in faults:
+        if it.table in ("object", "piece", "refs") and it.row and it.row[0] in objects.objects:
+            # (a digest that is wrong beside a content address that is right: the archive is the object's)
+            if it.rule != HASH or not objects.is_proved(it.row[0]):
+                found.setdefault(it.row[0], it.rule)
+    for base in objects.objects.keys() - objects.checked.keys():
+        found.setdefault(base, "its archive can't be read")
+    for base in objects.checked if "refs" in partial else ():
+        if not objects.is_proved(base):
+            found.setdefault(base, "not all references can be read, and no content address proves those that can")
+    return found
+
+
+def in_order(objects, bad):
+    """The sound objects, each after those that it refers to, and why others are left out, by path."""
+    left_out, waiting = dict(bad), {}
+    referrers, ready, found = collections.defaultdict(list), [], []
+    for base in objects.checked.keys() - bad.keys():
+        waiting[base] = {it for it in objects.references[base] if it != base}
+        for it in waiting[base]:
+            referrers[it].append(base)
+        if not waiting[base]:
+            ready.append(base)
+    heapq.heapify(ready)
+    while ready:
+        base = heapq.heappop(ready)
+        found.append(base)
+        for it in referrers[base]:
+            waiting[it].discard(base)
+            if not waiting[it]:
+                heapq.heappush(ready, it)
+    for base in sorted(waiting.keys() - set(found)):
+        left_out[base] = f"it refers to {min(waiting[base])}, which is left out or refers back"
+    return found, left_out
+
+
+# ---- objects
+
+
+def body_head(base, objects, store):
+    """The lines of a body for `nixkeep import`, and the empty line."""
+    _, (_, _, _, deriver, address) = objects.objects[base]
+    lines = [f"path: {paths.full(base, store)}", f"nar-hash: {paths.nar_hash(objects.checked[base].digest)}"]
+    lines += [f"reference: {paths.full(it, store)}" for it in objects.references[base]]
+    lines += [f"deriver: {paths.full(deriver, store)}"] if deriver else []
+    lines += [f"ca: {address}"] if address else []
+    return "".join(it + "\n" for it in lines).encode() + b"\n"
+
+
+def write_bodies(folder, bodies, objects, store):
+    os.mkdir(os.path.join(folder, "objects"))
+    width = len(str(len(bodies)))
+    for at, base in enumerate(bodies, 1):
+        with open(os.path.join(folder, "objects", f"{at:0{width}}-{base}"), "xb") as file:
+            file.write(body_head(base, objects, store))
+            for it in objects.archive(base):
+                file.write(it)
+
+
+# ---- roots
+
+
+def command(user, *words):
+    return " ".join(["nixkeep", "--user", *map(shlex.quote, (user, *words))])
+
+
+def profile_commands(owner, name, generations, current, store):
+    """The commands that make a profile's generations, as pairs of number and path, and the current one current.
+
+    They are numbered anew from 1, and two neighbours of one path become one.
+    """
+    numbers, count, last = {}, 0, None
+    for number, target in generations:
+        if target != last:
+            count, last = count + 1, target
+            yield command(owner, "profile", "set", name, paths.full(target, store)) + f"  # generation {number}"
+        numbers[number] = count
+    chosen = max([it for it in numbers if it <= current] or numbers)
+    if numbers[chosen] != count:
+        yield command(owner, "profile", "switch", name, str(numbers[chosen])) + f"  # generation {chosen}"
+
+
+def root_commands(rows, store):
+    """The commands that set all roots: `rows` has the rows of each table that are kept."""
+    for name, target in rows["permanent"]:
+        yield command("root", "root", "--permanent", name, paths.full(target, store))
+    for owner, name, target in rows["user_root"]:
+        yield command(owner, "root", name, paths.full(target, store))
+    generations = collections.defaultdict(list)
+    for owner, name, number, target in rows["generation"]:
+        generations[owner, name].append((number, target))
+    current = {row[:2]: row[2] for row in rows["profile"]}
+    for (owner, name), found in generations.items():
+        yield from profile_commands(owner, name, found, current[owner, name], store)
+    for owner, session, target in rows["temp_root"]:
+        yield command(owner, "temp", "add", str(session), paths.full(target, store))
+    if rows["runtime"]:
+        lines = [f"root: {label} {paths.full(target, store)}" for label, target in rows["runtime"]]
+        yield "\n".join([command("root", "runtime") + " <<'END'", *lines, "", "END"])
+
+
+def kept_roots(rows, faults, kept):
+    """The rows of roots that can be set again, by table; and pairs of a row and the reason why it is left out."""
+    rules = collections.defaultdict(list)
+    for it in faults:
+        rules[it.table, it.row].append(it.rule)
+    found, left_out = {}, []
+    for table in ("permanent", "user_root", "generation", "runtime", "temp_root"):
+        found[table] = []
+        for row in rows.of(table):
+            key = row[:FORMS[table][1]]
+            why = [*rules[table, key], *([] if row[-1] in kept else ["its target is left out"])]
+            if table == "generation":
+                why += [it for it in rules["profile", row[:2]] if not it.startswith("cur ")]
+            if why:
+                left_out.append((shown(table, key), why[0]))
+            else:
+                found[table].append(row)
+    found["profile"] = rows.of("profile")
+    return found, left_out
+
+
+# ---- the folder
+
+
+def rescue(folder, file, examined):
+    """Writes what is sound to a folder, which must be new or empty, and returns what was Rescued.
+
+    Raises OSError if the folder can't be written.
+    """
+    os.makedirs(folder, exist_ok=True)
+    if os.listdir(folder):
+        raise FileExistsError(errno.EEXIST, "the folder isn't empty", folder)
+    rows, objects, faults, store = examined.rows, examined.objects, examined.row_faults, examined.store_dir
+    bodies, left_out = in_order(objects, bad_objects(objects, faults, rows.partial))
+    roots, left_roots = kept_roots(rows, faults, set(bodies))
+    write_bodies(folder, bodies, objects, store)
+    with open(os.path.join(folder, "store.toml"), "x") as out:
+        out.write(f'store-dir = "{store}"\n')
+    with open(os.path.join(folder, "restore"), "x") as out:
+        out.write(SCRIPT.format(file=shlex.quote(file), count=len(bodies)))
+        out.writelines(it + "\n" for it in ["", "# The roots, each set by its owner.", *root_commands(roots, store)])
+    os.chmod(os.path.join(folder, "restore"), 0o755)
+    count = sum(len(found) for table, found in roots.items() if table != "profile")
+    lost = [(shown("object", (it,)), why) for it, why in sorted(left_out.items())]
+    return Rescued(len(bodies), count, [*lost, *left_roots])

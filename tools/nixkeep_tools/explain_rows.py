@@ -1,0 +1,352 @@
+"""The rows of a file: read as far as its damage allows, and every rule that one breaks."""
+import collections
+import hashlib
+import sqlite3
+
+from . import drv, nar, paths
+from .explain_schema import Fault
+from .store_file import FORMS, LACKS, PART
+
+MOST_REFERENCES = 4_096
+KINDS = {"TEXT": str, "INTEGER": int, "BLOB": bytes}
+
+# The rows of one table: a dictionary by row number in place of the columns, and whether none can be missing.
+Read = collections.namedtuple("Read", "rows is_whole faults")
+# What the test of an object found: the length and the SHA-256 of its archive, and whether its content address is right.
+Checked = collections.namedtuple("Checked", "size digest is_proved")
+HASH = "hash isn't the SHA-256 of the archive"
+
+
+# ---- reading
+
+
+def shown_columns(table):
+    """The columns as they are read: an archive's by their length alone."""
+    names = [it.split()[0] for it in FORMS[table][0]]
+    return [f"iif(typeof({it}) = 'blob', length({it}), NULL)" if it in ("nar", "bytes") else it for it in names]
+
+
+def scanned(conn, text, parameters=()):
+    """The rows of a query up to the first damage, and what SQLite says of that, or None."""
+    found = []
+    try:
+        for row in conn.execute(text, parameters):
+            found.append(row)
+    except sqlite3.Error as error:
+        return found, str(error)
+    return found, None
+
+
+def by_key(conn, table):
+    """The keys of a table as the index of its key has them, by row number; and what SQLite says of damage."""
+    columns, key = FORMS[table]
+    names = ", ".join(it.split()[0] for it in columns[:key])
+    index = [row[1] for row in conn.execute("SELECT * FROM pragma_index_list(?)", (table,)) if row[3] == "pk"]
+    if not index:
+        return {}, "there is no index of the key"
+    found, problem = scanned(conn, f'SELECT rowid, {names} FROM {table} INDEXED BY "{index[0]}" ORDER BY {names}')
+    return {row[0]: row[1:] for row in found}, problem
+
+
+def read_table(conn, table):
+    """The Read of a table: by its pages in both directions, and row by row where these are damaged."""
+    columns = ", ".join(shown_columns(table))
+    text = f"SELECT rowid, {columns} FROM {table} NOT INDEXED ORDER BY rowid"
+    found, problem = scanned(conn, text)
+    rows = {row[0]: row[1:] for row in found}
+    if problem is None:
+        return Read(rows, True, [])
+    keys, key_problem = by_key(conn, table)
+    rows.update((row[0], row[1:]) for row in scanned(conn, text + " DESC")[0])
+    for rowid in keys.keys() - rows.keys():
+        single, _ = scanned(conn, f"SELECT rowid, {columns} FROM {table} WHERE rowid = ?", (rowid,))
+        rows.update((row[0], row[1:]) for row in single)
+    is_key_all = FORMS[table][1] == len(FORMS[table][0])
+    if is_key_all:
+        rows.update({rowid: key for rowid, key in keys.items() if rowid not in rows})
+    lost = [Fault(table, keys[it], "the row can't be read") for it in sorted(keys.keys() - rows.keys())]
+    is_whole = key_problem is None and not lost
+    return Read(rows, is_whole, [Fault(table, None, f"not all pages can be read: {problem}"), *lost])
+
+
+class Rows:
+    """The rows of the tables of a schema, by table and row number, and the Faults of reading them.
+
+    `partial` names the tables of which rows may be missing: they can't be read whole, or aren't `there`.
+    """
+
+    def __init__(self, conn, schema, there):
+        self.conn, self.schema, self.tables, self.faults, self.partial = conn, schema, {}, [], set()
+        for table in FORMS:
+            read = read_table(conn, table) if table in there else Read({}, table in LACKS[schema], [])
+            self.faults += read.faults
+            self.tables[table] = {rowid: row for rowid, row in read.rows.items() if self.is_of_kinds(table, row)}
+            if not read.is_whole:
+                self.partial.add(table)
+
+    def is_of_kinds(self, table, row):
+        """Whether each value has the type of its column; what hasn't is a Fault."""
+        for column, value in zip(FORMS[table][0], row):
+            name, kind = column.split()[:2]
+            # (of an archive the length is read)
+            wanted = int if kind == "BLOB" and name != "hash" else KINDS[kind]
+            if not isinstance(value, wanted) and not (value is None and column.endswith("?")):
+                self.faults.append(Fault(table, row[:FORMS[table][1]], f"{name} isn't a value of type {kind}"))
+                return False
+        return True
+
+    def of(self, table):
+        """The rows of a table, in the order of their keys."""
+        return sorted(self.tables[table].values(), key=lambda row: row[:FORMS[table][1]])
+
+    def bytes_of(self, table, column, rowid):
+        """The bytes of one archive column."""
+        found, problem = scanned(self.conn, f"SELECT {column} FROM {table} WHERE rowid = ?", (rowid,))
+        if problem or not found:
+            raise Unreadable(problem or "the row is missing")
+        return found[0][0]
+
+
+class Unreadable(Exception):
+    """Bytes of an archive that SQLite can't read."""
+
+
+# ---- settings
+
+
+def settings(rows):
+    """The Faults of meta."""
+    found = dict(rows.of("meta"))
+    for word in ("schema", "store-dir"):
+        if word not in found:
+            yield Fault("meta", (word,), "the row is missing")
+    if found.get("schema", str(rows.schema)) != str(rows.schema):
+        yield Fault("meta", ("schema",), f"val {found['schema']!r} isn't the number of a schema: 1, 2 or 3")
+    if not paths.is_store_dir(found.get("store-dir", paths.STORE)):
+        yield Fault("meta", ("store-dir",), f"val {found['store-dir']!r} isn't a store directory")
+    for word in found.keys() - {"schema", "store-dir"}:
+        yield Fault("meta", (word,), "meta has the rows schema and store-dir, and no other")
+
+
+# ---- objects
+
+
+class Objects:
+    """The objects of a file, each tested with its references, outputs and pieces."""
+
+    def __init__(self, rows, store):
+        self.rows, self.store = rows, store
+        self.objects = {row[0]: (rowid, row) for rowid, row in rows.tables["object"].items()}
+        self.references, self.outputs, self.pieces = (collections.defaultdict(list) for _ in range(3))
+        for base, target in rows.of("refs"):
+            self.references[base].append(target)
+        for base, name, target in rows.of("outs"):
+            self.outputs[base].append((name, target))
+        for rowid, (base, num, length) in rows.tables["piece"].items():
+            self.pieces[base].append((num, rowid, length))
+        for it in self.pieces.values():
+            it.sort()
+        self.checked = {}
+
+    def archive(self, base):
+        """Yields the bytes of an archive as they are: the row of the object and its pieces in order."""
+        yield self.rows.bytes_of("object", "nar", self.objects[base][0])
+        for _, rowid, _ in self.pieces[base]:
+            yield self.rows.bytes_of("piece", "bytes", rowid)
+
+    def faults(self):
+        """The Faults of all objects and of the rows that belong to them."""
+        for base in sorted(self.objects):
+            yield from self.faults_of(base)
+        yield from self.faults_beside()
+
+    def faults_of(self, base):
+        _, (_, length, digest, deriver, address) = self.objects[base]
+        row = (base,)
+        if not paths.is_base_name(base):
+            yield Fault("object", row, "base isn't the base name of a store path")
+        if deriver is not None and not paths.is_base_name(deriver):
+            yield Fault("object", row, f"deriver {deriver!r} isn't the base name of a store path")
+        if len(self.references[base]) > MOST_REFERENCES:
+            count = len(self.references[base])
+            yield Fault("object", row, f"it has {count} references, and may have {MOST_REFERENCES}")
+        yield from self.cutting(base, length)
+        read = ArchiveRead(self.archive(base), base.endswith(".drv"))
+        if read.problem:
+            yield Fault("object", row, f"its archive can't be read: {read.problem}")
+            return
+        if read.fault:
+            yield Fault("object", row, f"nar and its pieces are no archive: {read.fault}")
+        if read.digest != digest:
+            yield Fault("object", row, HASH)
+        found = [*self.address_faults(base, address, read)]
+        yield from found
+        outputs, rule = read.outputs(self.store) if base.endswith(".drv") else ([], None)
+        if rule:
+            yield Fault("object", row, rule)
+        yield from self.output_faults(base, outputs)
+        self.checked[base] = Checked(read.size, read.digest, address is not None and not found and not read.fault)
+
+    def is_proved(self, base):
+        """Whether a content address proves the path, the references and the archive of an object."""
+        return base in self.checked and self.checked[base].is_proved
+
+    def cutting(self, base, length):
+        """The rules on how an archive is cut: the row first, then each piece."""
+        most = None if self.rows.schema == 1 else PART
+        if most and length > most:
+            yield Fault("object", (base,), f"nar has {length} bytes, and may have {most}")
+        if self.pieces[base] and length < PART:
+            yield Fault("object", (base,), f"nar has {length} bytes, and must have {PART} where pieces follow")
+        for at, (num, _, length) in enumerate(self.pieces[base], 1):
+            is_last = at == len(self.pieces[base])
+            if num != at:
+                yield Fault("piece", (base, num), f"num has to be {at}: pieces are numbered from 1 without a gap")
+            if not 0 < length <= PART:
+                yield Fault("piece", (base, num), f"bytes has {length} bytes, and must have 1 to {PART}")
+            elif not is_last and length < PART:
+                yield Fault("piece", (base, num), f"bytes has {length} bytes, and must have {PART} where pieces follow")
+
+    def address_faults(self, base, address, read):
+        """The rules on a content address."""
+        if address is None:
+            return
+        row, references = (base,), self.references[base]
+        try:
+            kind, inner = paths.read_address(address)
+        except paths.Malformed:
+            yield Fault("object", row, f"ca {address!r} isn't a content address")
+            return
+        if base in references:
+            yield Fault("refs", (base, base), "an object with a content address may not refer to itself")
+        if kind == "text" and read.plain is None:
+            yield Fault("object", row, "ca is that of a text, and the archive isn't one file that isn't executable")
+        elif inner != (read.plain if kind == "text" else read.digest):
+            yield Fault("object", row, "ca isn't that of the archive")
+        elif paths.path_of(kind, inner, base[33:], references, self.store) != base:
+            wanted = paths.path_of(kind, inner, base[33:], references, self.store)
+            yield Fault("object", row, f"ca and the references give another path: {wanted}")
+
+    def output_faults(self, base, outputs):
+        """The rules on the recorded outputs of an object; None where its derivation text isn't known."""
+        if outputs is None:
+            return
+        wanted, found = dict(outputs), dict(self.outputs[base])
+        for name in sorted(wanted.keys() - found.keys()):
+            yield Fault("outs", (base, name), f"the row is missing: the derivation has the output {wanted[name]}")
+        for name in sorted(found):
+            if not base.endswith(".drv"):
+                yield Fault("outs", (base, name), "the name of base doesn't end in .drv, so it has no outputs")
+            elif name not in wanted:
+                yield Fault("outs", (base, name), "the derivation has no such output")
+            elif found[name] != wanted[name]:
+                yield Fault("outs", (base, name), f"target has to be that of the derivation: {wanted[name]}")
+
+    def faults_beside(self):
+        """The Faults of rows that belong to no object, and of references to none."""
+        for base in sorted({*self.references, *self.outputs, *self.pieces} - self.objects.keys()):
+            for target in self.references[base]:
+                yield Fault("refs", (base, target), "base isn't an object")
+            for name, _ in self.outputs[base]:
+                yield Fault("outs", (base, name), "base isn't an object")
+            for num, _, _ in self.pieces[base]:
+                yield Fault("piece", (base, num), "base isn't an object")
+        for base, target in self.rows.of("refs"):
+            if target not in self.objects:
+                yield Fault("refs", (base, target), "target isn't an object")
+
+
+class ArchiveRead:
+    """What one pass over an archive finds: its size, digest and fault, and the digest of a plain file's contents."""
+
+    def __init__(self, pieces, is_derivation):
+        self.size, self.whole, self.inner = 0, hashlib.sha256(), hashlib.sha256()
+        self.contents, self.problem, self.fault, top = bytearray() if is_derivation else None, None, None, None
+        passed = self.passing(pieces)
+        try:
+            for node in nar.walk(passed, self.take):
+                top = top or node
+        except nar.Fault as fault:
+            self.fault = fault
+        except Unreadable as problem:
+            self.problem = problem
+        try:
+            # (what comes after a fault belongs to the digest too)
+            for _ in () if self.problem else passed:
+                pass
+        except Unreadable as problem:
+            self.problem = problem
+        self.digest = self.whole.digest()
+        self.is_file = not self.fault and top is not None and top.kind in "rx"
+        self.plain = self.inner.digest() if self.is_file and top.kind == "r" else None
+
+    def passing(self, pieces):
+        for it in pieces:
+            self.size += len(it)
+            self.whole.update(it)
+            yield it
+
+    def take(self, path, part):
+        if path == b".":
+            self.inner.update(part)
+            if self.contents is not None:
+                self.contents += part
+
+    def outputs(self, store):
+        """The outputs of the derivation text; or None, and the rule that it breaks."""
+        if not self.is_file:
+            return None, "the name ends in .drv, and the archive isn't a regular file"
+        try:
+            return drv.outputs(bytes(self.contents), store), None
+        except paths.Malformed as error:
+            what = "two outputs share a name" if error.number == 18 else "the file is no derivation text"
+            return None, f"the name ends in .drv, and {what}"
+
+
+# ---- roots
+
+
+def names(row, count):
+    """The rules on the first columns of a row of roots: owner and name, or name."""
+    for what, value in zip(("owner", "name")[-count:], row):
+        if not paths.is_plain_name(value):
+            yield f"{what} {value!r} isn't a plain name"
+
+
+def root_rules(table, row, generations):
+    """The rules that a row of roots breaks by itself, but for its target."""
+    if table == "permanent":
+        yield from names(row, 1)
+    elif table == "user_root":
+        yield from names(row, 2)
+    elif table == "profile":
+        yield from names(row, 2)
+        if row not in generations:
+            yield f"cur {row[2]} isn't the number of a generation of the profile"
+    elif table == "runtime" and not paths.is_label(row[0]):
+        yield "label has to be 1 to 256 bytes that print, without blanks"
+    elif table == "temp_root":
+        if not paths.is_plain_name(row[0]):
+            yield f"owner {row[0]!r} isn't a plain name"
+        if not 1 <= row[1] <= 4_194_304:
+            yield "session has to be 1 to 4194304"
+
+
+def generation_rules(row, profiles):
+    if not 1 <= row[2] <= 9_999:
+        yield "num has to be 1 to 9999"
+    if row[:2] not in profiles:
+        yield "there is no such profile"
+
+
+def roots(rows, objects):
+    """The Faults of all roots."""
+    generations = {row[:3] for row in rows.of("generation")}
+    profiles = {row[:2] for row in rows.of("profile")}
+    for table in ("permanent", "user_root", "profile", "generation", "runtime", "temp_root"):
+        for row in rows.of(table):
+            rules = generation_rules(row, profiles) if table == "generation" else root_rules(table, row, generations)
+            for rule in rules:
+                yield Fault(table, row[:FORMS[table][1]], rule)
+            if table != "profile" and row[-1] not in objects:
+                yield Fault(table, row[:FORMS[table][1]], f"target {row[-1]!r} isn't an object")
