@@ -1,0 +1,233 @@
+"""The parts of a team's deployment on this machine's loopback: the server, nixkeep-cache, and real Nix over a store
+of its own. Also how a script here reports: a line for each check, and `N passed, M failed` at the end."""
+import contextlib
+import hashlib
+import os
+import random
+import shutil
+import signal
+import socket
+import subprocess
+import sys
+import time
+
+HERE = os.path.dirname(os.path.realpath(__file__))
+ROOT = os.path.dirname(os.path.dirname(HERE))
+sys.path.insert(0, f"{ROOT}/tools")
+sys.dont_write_bytecode = True
+from nixkeep_tools import nar, paths  # noqa: F401 (for the scripts that import this module)
+
+PACKAGES = {
+    "nginx": "nginx-light",
+    "nix": "nix-bin",
+    "htpasswd": "apache2-utils",
+    "dot": "graphviz",
+    "sqlite3": "sqlite3",
+    "openssl": "openssl",
+    "curl": "curl",
+    "chromium": "chromium",
+    "aiohttp": "python3-aiohttp",
+    "zstandard": "python3-zstandard",
+    "jinja2": "python3-jinja2",
+}
+counts = {"passed": 0, "failed": 0}
+
+
+def check(what, is_so, seen=""):
+    """Counts a check, and prints it with what was seen where it failed."""
+    counts["passed" if is_so else "failed"] += 1
+    print(f"{'ok' if is_so else 'FAILED'}: {what}{'' if is_so else f': {str(seen)[:2000]}'}", flush=True)
+    return is_so
+
+
+def same(what, came, wanted):
+    return check(what, came == wanted, f"{came!r:.900} where {wanted!r:.900} is meant")
+
+
+def end():
+    """Ends a script."""
+    print(f"{counts['passed']} passed, {counts['failed']} failed")
+    sys.exit(1 if counts["failed"] else 0)
+
+
+def skipped(what, missing):
+    print(
+        f"SKIPPED: {what}: install the Debian packages: {' '.join(PACKAGES.get(it, it) for it in missing)}", flush=True
+    )
+
+
+def found(tool):
+    return shutil.which(tool) or shutil.which(tool, path="/usr/sbin")
+
+
+def missing(tools=(), modules=()):
+    """The tools that aren't installed, and the modules of Debian's Python."""
+    lacks = lambda module: subprocess.run(
+        ["/usr/bin/python3", "-c", f"import {module}"], stderr=subprocess.DEVNULL
+    ).returncode
+    return [*(it for it in tools if not found(it)), *(it for it in modules if lacks(it))]
+
+
+def free_port():
+    with socket.create_server(("127.0.0.1", 0)) as listener:
+        return listener.getsockname()[1]
+
+
+def until(what, is_so, seconds=300):
+    """Waits until something is so."""
+    ends = time.monotonic() + seconds
+    while not is_so():
+        if time.monotonic() > ends:
+            sys.exit(f"waited in vain for {seconds} seconds: {what}")
+        time.sleep(0.05)
+
+
+def is_open(place):
+    """Whether somebody listens on a port or a Unix socket."""
+    kind, address = (socket.AF_UNIX, place) if isinstance(place, str) else (socket.AF_INET, ("127.0.0.1", place))
+    with socket.socket(kind) as connected:
+        return connected.connect_ex(address) == 0
+
+
+class Part:
+    """A program that runs until the `with` statement ends; it is ready once somebody listens at its place."""
+
+    def __init__(self, name, words, place, log):
+        self.name, self.words, self.place, self.log, self.running = name, [str(it) for it in words], place, log, None
+
+    def start(self):
+        with open(self.log, "ab") as log:
+            self.running = subprocess.Popen(self.words, stdin=subprocess.DEVNULL, stdout=log, stderr=log)
+        until(f"{self.name} listens", lambda: is_open(self.place) or self.running.poll() is not None)
+        if self.running.poll() is not None:
+            with open(self.log) as log:
+                sys.exit(f"{self.name} ended: {log.read()[-2000:]}")
+        return self
+
+    def end(self, by=signal.SIGTERM):
+        if self.running:
+            with contextlib.suppress(ProcessLookupError):
+                self.running.send_signal(by)
+            self.running.wait()
+            self.running = None
+
+    __enter__ = start
+
+    def __exit__(self, *_):
+        self.end()
+
+
+def server(program, folder, config, database, port=None):
+    """The store's server, on a port of its own."""
+    port = port or free_port()
+    words = [program, "--config", config, "--db", database, "serve", "--port", port, "--connections", "1000000"]
+    return Part("nixkeep serve", words, port, f"{folder}/server.log")
+
+
+def cache(folder, port, place=None, *more):
+    """nixkeep-cache before the server on that port; a proxy says who asks where nothing else is said."""
+    place = place or free_port()
+    listen = place if isinstance(place, str) else f"127.0.0.1:{place}"
+    words = [
+        f"{ROOT}/tools/nixkeep-cache",
+        "--store",
+        f"127.0.0.1:{port}",
+        "--listen",
+        listen,
+        "--waiting",
+        f"{folder}/waiting",
+        "--patience",
+        "300",
+    ]
+    return Part("nixkeep-cache", [*words, *(more or ["--proxied"])], place, f"{folder}/cache.log")
+
+
+class Nix:
+    """Real Nix over a store of its own in a folder, with the usual directory in its paths."""
+
+    def __init__(self, folder, settings=""):
+        self.root = f"{folder}/root"
+        os.makedirs(f"{folder}/conf")
+        with open(f"{folder}/conf/nix.conf", "w") as out:
+            out.write(
+                f"build-users-group =\nsubstituters =\nexperimental-features = nix-command\nrequire-sigs = false\n{settings}"
+            )
+        places = {"NIX_LOG_DIR": "log", "NIX_CONF_DIR": "conf", "XDG_CACHE_HOME": "cache", "HOME": "home"}
+        self.env = {
+            **os.environ,
+            **{name: f"{folder}/{part}" for name, part in places.items()},
+            "NIX_REMOTE": f"local?root={self.root}",
+        }
+
+    def run(self, *words, given=b""):
+        return subprocess.run(words, env=self.env, input=given, capture_output=True)
+
+    def __call__(self, *words, given=b""):
+        ran = self.run(*words, given=given)
+        if ran.returncode:
+            sys.exit(f"{' '.join(words)}: {ran.stderr.decode()}")
+        return ran.stdout.decode()
+
+    def archive(self, path):
+        return self.run("nix-store", "--dump", self.root + path).stdout
+
+    def references(self, path):
+        return sorted(self("nix-store", "--query", "--references", path).split())
+
+    def texts(self, count, word="text"):
+        """Texts, each of which refers to the one before; each has a content address."""
+        chain = "".join(f'; t{at} = builtins.toFile "{word}{at}" "{at} ${{t{at - 1}}}\\n"' for at in range(1, count))
+        names = " ".join(f"t{at}" for at in range(count))
+        return (
+            self(
+                "nix-instantiate",
+                "--eval",
+                "--strict",
+                "--json",
+                "--read-write-mode",
+                "-E",
+                f'let t0 = builtins.toFile "{word}0" "first\\n"{chain}; in [ {names} ]',
+            )
+            .strip('[]\n"')
+            .split('","')
+        )
+
+    def outputs(self, references, sizes, rng):
+        """Objects without content addresses, as builds make them: each refers to itself, to the one before and to the
+        given paths."""
+        made, lines = [], []
+        for at, size in enumerate(sizes):
+            path = f"/nix/store/{paths.base32(rng.randbytes(20))}-output{at}"
+            with open(self.root + path, "wb") as out:
+                out.write(rng.randbytes(size))
+            os.chmod(self.root + path, 0o444)
+            archive = self.archive(path)
+            refs = sorted({path, *made[-1:], *references})
+            lines += [path, hashlib.sha256(archive).hexdigest(), str(len(archive)), "", str(len(refs)), *refs]
+            made.append(path)
+        self("nix-store", "--load-db", given="".join(f"{it}\n" for it in lines).encode())
+        return made
+
+    def closure(self, count, seed=1, word="text"):
+        """Paths, half of them texts and half of them outputs; the last refers to all others by and by."""
+        rng, texts = random.Random(f"closure {seed}"), self.texts(count // 2, word)
+        return [
+            *texts,
+            *self.outputs(texts[-1:], [rng.choice([0, 1, 100, 70_000]) for _ in range(count - len(texts))], rng),
+        ]
+
+
+def curl(*words, given=None):
+    """The status and the text of a reply; the status is 0 where none came."""
+    ran = subprocess.run(
+        ["curl", "-s", "--max-time", "120", "-w", "\n%{http_code}", "-H", "expect:", *words],
+        input=given,
+        capture_output=True,
+    )
+    text, _, status = ran.stdout.rpartition(b"\n")
+    return int(status or 0), text
+
+
+def body(*lines, payload=b""):
+    """A body of the store's requests: lines, an empty one, and what follows."""
+    return "".join(f"{key}: {value}\n" for key, value in lines).encode() + b"\n" + payload

@@ -1,0 +1,46 @@
+"""The store's paths by their 32 digits, which is how clients of a binary cache ask for them."""
+import time
+
+
+class Names:
+    """The base names of the store's paths.
+
+    They are listed once for each connection to the server. After that each add and each deletion that passes is
+    followed. So a path with unknown digits isn't there, and nobody has to be asked. A change that doesn't pass here
+    is seen at the next listing; an unknown path causes one, at most once in `every` seconds.
+    """
+
+    def __init__(self, server, every):
+        self.server, self.every = server, every
+        self.found, self.twins, self.connection, self.listed = {}, set(), None, 0
+
+    async def base(self, caller, digits):
+        """The first base name with these digits or None, and the reply of a server that doesn't list its paths or
+        None."""
+        is_old = digits not in self.found and time.monotonic() - self.listed > self.every
+        if is_old or self.connection != self.server.connections:
+            reply = await self.server.ask(caller, "GET", "/paths")
+            if reply.status != 200:
+                return None, reply
+            self.found.clear()
+            self.twins.clear()
+            self.added(reply.text)
+            self.connection, self.listed = self.server.connections, time.monotonic()
+        return self.found.get(digits), None
+
+    def added(self, text):
+        """Follows a reply that names paths which are there, one a line."""
+        for line in text.decode().splitlines():
+            base = line.rpartition("/")[2]
+            other = self.found.setdefault(base[:32], base)
+            if other != base:
+                self.found[base[:32]] = min(base, other)
+                self.twins.add(base[:32])
+
+    def deleted(self, text):
+        """Follows a reply that names the paths which have been deleted, one a line."""
+        for line in text.decode().splitlines():
+            digits = line.rpartition("/")[2][:32]
+            self.found.pop(digits, None)
+            if digits in self.twins:
+                self.connection = None

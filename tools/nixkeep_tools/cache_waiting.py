@@ -1,0 +1,100 @@
+"""Archives that have been uploaded and wait on the disk until their records come."""
+import collections
+import contextlib
+import hashlib
+import os
+import time
+
+from . import cache_records, nar, paths
+
+# The longest file of one: an archive at its limit, and what a compression may add to one that doesn't get smaller.
+LONGEST = nar.LIMIT + (1 << 20)
+
+# `bytes` is its length, `since` when it came, `owner` the user who sent it. One that `is_used` is in the store. It
+# stays while there is room, since a client sends an archive that two of its paths share only once.
+File = collections.namedtuple("File", "bytes since owner is_used")
+
+
+class Full(Exception):
+    """There is no room for one more."""
+
+
+class Waiting:
+    """The files in a folder: at most `count`, `size` bytes in all, each for `seconds`. One user has half of the room
+    at most, so that nobody takes it from all others."""
+
+    def __init__(self, folder, count, size, seconds):
+        self.folder, self.count, self.size, self.seconds = folder, count, size, seconds
+        self.files, self.coming = {}, 0
+        os.makedirs(folder, mode=0o700, exist_ok=True)
+        for name in os.listdir(folder):
+            if cache_records.FILE.fullmatch(name):
+                found = os.stat(f"{folder}/{name}")
+                self.files[name] = File(found.st_size, found.st_mtime, None, False)
+            elif name.endswith(".part"):
+                os.unlink(f"{folder}/{name}")
+        self.expire()
+
+    def expire(self):
+        """Deletes what has waited too long."""
+        for name, file in [*self.files.items()]:
+            if time.time() - file.since > self.seconds:
+                self.delete(name)
+
+    def delete(self, name):
+        del self.files[name]
+        with contextlib.suppress(FileNotFoundError):
+            os.unlink(f"{self.folder}/{name}")
+
+    def is_over(self, share, found):
+        return len(found) > self.count // share or sum(it.bytes for it in found) > self.size // share
+
+    def reserve(self, key, file):
+        """Keeps room for a file that comes. Raises Full."""
+        self.expire()
+        self.files[key] = file
+        for name, other in sorted(self.files.items(), key=lambda it: it[1].since):
+            if other.is_used and self.is_over(1, self.files.values()):
+                self.delete(name)
+        if self.is_over(1, self.files.values()) or self.is_over(
+            2, [it for it in self.files.values() if it.owner == file.owner]
+        ):
+            del self.files[key]
+            raise Full
+
+    async def take(self, owner, name, length, pieces):
+        """Writes a file as it comes, and keeps it if it is the one that its name says. Raises Full, or Bad."""
+        digits = cache_records.file_named(name)
+        if length > LONGEST:
+            raise cache_records.Bad(f"nar/{name}: an archive has at most {nar.LIMIT} bytes")
+        self.coming += 1
+        key, digest, size = f"{self.coming}.part", hashlib.sha256(), 0
+        self.reserve(key, File(length, time.time(), owner, False))
+        try:
+            with open(f"{self.folder}/{key}", "wb") as out:
+                async for piece in pieces:
+                    size += len(piece)
+                    if size > length:
+                        raise cache_records.Bad(f"nar/{name} is longer than was said")
+                    digest.update(piece)
+                    out.write(piece)
+            if paths.base32(digest.digest()) != digits:
+                raise cache_records.Bad(f"nar/{name} has another SHA-256: sha256:{paths.base32(digest.digest())}")
+            os.rename(f"{self.folder}/{key}", f"{self.folder}/{name}")
+            self.files[name] = self.files[key]._replace(bytes=size)
+        finally:
+            self.delete(key)
+
+    def read(self, name):
+        """The bytes of a file that waits. Raises Bad."""
+        if name not in self.files:
+            raise cache_records.Bad(
+                f"nar/{name} isn't here: an archive comes first, and its record within {self.seconds:.0f} seconds"
+            )
+        with open(f"{self.folder}/{name}", "rb") as file:
+            return file.read()
+
+    def use(self, name):
+        """Says of a file that it is in the store."""
+        if name in self.files:
+            self.files[name] = self.files[name]._replace(is_used=True)
