@@ -101,7 +101,7 @@ class Part:
         until(f"{self.name} listens", lambda: is_open(self.place) or self.running.poll() is not None)
         if self.running.poll() is not None:
             with open(self.log) as log:
-                sys.exit(f"{self.name} ended: {log.read()[-2000:]}")
+                sys.exit(f"{self.name} ended with {self.running.returncode}: {log.read()[-2000:]}")
         return self
 
     def end(self, by=signal.SIGTERM):

@@ -6,15 +6,22 @@ import logging
 import os
 import re
 import sys
+import tomllib
+import urllib.parse
 
 from aiohttp import web
 from aiohttp.http_exceptions import HttpProcessingError
 
-from . import cache_records, cache_waiting, paths
+from . import cache_records, cache_waiting, overview, overview_source, paths
 from .cache_names import Names
 from .cache_records import Bad
 from .cache_server import Caller, Server, Unreachable
 from .cache_waiting import Full, Waiting
+
+try:
+    from . import overview_page
+except ModuleNotFoundError:
+    overview_page = None
 
 # Targets are matched as they are, as the server does it: a name may have `?` and `=` in it.
 RECORD = re.compile(r"/([0-9abcdfghijklmnpqrsvwxyz]{32})\.narinfo")
@@ -43,11 +50,14 @@ def passed(answer, kind=None, keep="no-store"):
 
 
 class Cache:
-    """The answers of the cache. `fixed` is the caller that all clients are, or None where a proxy says who each is."""
+    """The answers of the cache. `fixed` is the caller that all clients are, or None where a proxy says who each is.
+    `settings` are those of the store: its directory, and whether it keeps outputs and derivers."""
 
-    def __init__(self, server, waiting, fixed, store, idle, every):
-        self.server, self.waiting, self.fixed, self.store, self.idle = server, waiting, fixed, store, idle
+    def __init__(self, server, waiting, fixed, settings, idle, every):
+        self.server, self.waiting, self.fixed, self.idle = server, waiting, fixed, idle
+        self.store, *self.keeps = settings
         self.names, self.large = Names(server, every), asyncio.Semaphore(MANY)
+        self.pages, self.records = asyncio.Lock(), overview_source.Records(server, self.keeps[0])
 
     def caller(self, request):
         """Who asks, or None where that isn't said by one field and at most one group, as the server demands it."""
@@ -105,7 +115,28 @@ class Cache:
             return await self.archive(request, caller, target)
         if file:
             return reply(200 if file[1] in self.waiting.files else 404, b"", "application/octet-stream")
+        if target.partition("?")[0] == "/overview":
+            return await self.page(caller, target)
         return await self.other(request, caller, target)
+
+    async def page(self, caller, target):
+        """A page of who keeps how much, or of why one path is kept; as this caller sees the store's roots."""
+        if not overview_page:
+            return reply(404, "the overview needs the Debian package python3-jinja2\n")
+        why = urllib.parse.parse_qs(target.partition("?")[2]).get("why", [""])[0].strip().removeprefix(f"{self.store}/")
+        async with self.pages:
+            try:
+                store, live = await self.records.store(caller)
+            except overview_source.Denied as denied:
+                return passed(denied.reply)
+
+            def text():
+                return overview_page.page(overview.Overview(store, *self.keeps, live), "/overview", why)
+
+            made = await asyncio.get_running_loop().run_in_executor(None, text)
+        answer = reply(200, made, "text/html; charset=utf-8")
+        answer.headers["content-security-policy"] = overview_page.POLICY
+        return answer
 
     async def record(self, caller, base):
         return passed(await self.server.ask(caller, "GET", f"/info/{base}"), "text/x-nix-narinfo", MINUTE)
@@ -203,6 +234,7 @@ class Cache:
             self.names.added(text)
         elif target in ("/collect", "/delete"):
             self.names.deleted(text)
+            self.records.forget(text)
 
 
 async def application(cache):
@@ -270,7 +302,9 @@ def parser():
         metavar="HOST:PORT|/SOCKET",
         help="where clients are accepted, a port or a Unix socket [127.0.0.1:8081]",
     )
-    asked.add_argument("--store-dir", default=paths.STORE, metavar="DIR", help="the store directory [/nix/store]")
+    asked.add_argument(
+        "--config", metavar="FILE", help="the configuration of the store: its directory, and what it keeps"
+    )
     asked.add_argument(
         "--waiting",
         default="/var/cache/nixkeep-cache",
@@ -306,8 +340,9 @@ def main(words=None):
     if said.group and not said.user:
         asked.error("--group needs --user")
     try:
+        settings = overview_source.settings(said.config)
         waiting = Waiting(said.waiting, said.waiting_count, said.waiting_bytes, said.waiting_seconds)
-    except OSError as error:
+    except (OSError, tomllib.TOMLDecodeError) as error:
         sys.exit(f"nixkeep-cache: {error}")
     fixed = Caller(said.user, said.group) if said.user else None
     # A client's malformed head is answered; it is no line for the journal.
@@ -317,7 +352,7 @@ def main(words=None):
 
     async def start():
         server = Server(*said.store, said.patience)
-        return await application(Cache(server, waiting, fixed, said.store_dir, said.idle, said.list_every))
+        return await application(Cache(server, waiting, fixed, settings, said.idle, said.list_every))
 
     where = {"path": said.listen} if isinstance(said.listen, str) else {"host": said.listen[0], "port": said.listen[1]}
     try:

@@ -1,0 +1,68 @@
+"""The command nixkeep-overview."""
+import argparse
+import asyncio
+import sqlite3
+import sys
+import tomllib
+
+from . import cache_server, overview_page, overview_source, paths, store_file
+from .overview import Overview
+
+
+def place(text):
+    host, colon, port = text.rpartition(":")
+    if not (host and port.isdigit()):
+        raise argparse.ArgumentTypeError(f"{text}: HOST:PORT is meant")
+    return host, int(port)
+
+
+def parser():
+    asked = argparse.ArgumentParser(
+        prog="nixkeep-overview", description="Writes a page of who keeps how much of a store: HTML, by itself."
+    )
+    where = asked.add_mutually_exclusive_group(required=True)
+    where.add_argument("--db", metavar="FILE", help="the file of a store that no server has open")
+    where.add_argument("--store", type=place, metavar="HOST:PORT", help="the server of a store")
+    asked.add_argument("--user", help="the caller, for --store")
+    asked.add_argument("--group", help="the primary group of the caller")
+    asked.add_argument(
+        "--config", metavar="FILE", help="the configuration of the store, for keep-outputs and keep-derivations"
+    )
+    asked.add_argument("--why", metavar="PATH", help="write why this path is kept in place of the figures")
+    asked.add_argument("--output", metavar="FILE", help="the page [standard output]")
+    return asked
+
+
+async def of_server(where, caller, keeps):
+    server = cache_server.Server(*where, patience=10)
+    try:
+        store, live = await overview_source.Records(server, keeps[0]).store(caller)
+    finally:
+        server.close()
+    return Overview(store, *keeps, live)
+
+
+def made(said):
+    _, *keeps = overview_source.settings(said.config)
+    if said.db:
+        return Overview(overview_source.of_file(said.db), *keeps)
+    return asyncio.run(of_server(said.store, cache_server.Caller(said.user, said.group), keeps))
+
+
+def main(words=None):
+    asked = parser()
+    said = asked.parse_args(words)
+    if said.store and not said.user:
+        asked.error("--store needs --user")
+    try:
+        found = made(said)
+        text = overview_page.page(found, why=said.why and paths.base_name(said.why, found.store.store_dir))
+        if said.output:
+            with open(said.output, "w", encoding="utf-8") as out:
+                out.write(text)
+        else:
+            print(text)
+    except (OSError, sqlite3.Error, tomllib.TOMLDecodeError, KeyError) as error:
+        sys.exit(f"nixkeep-overview: {error}")
+    except (overview_source.Denied, overview_source.Unreachable, paths.Malformed, store_file.Locked) as error:
+        sys.exit(f"nixkeep-overview: {error}")

@@ -1,0 +1,113 @@
+"""What a store holds, for an overview: read from its file, or asked of its server."""
+import re
+import tomllib
+
+from . import drv, nar, paths, store_file
+from .cache_server import Unreachable
+
+_LABELS = [
+    ("user", re.compile(r"gcroots/per-user/(?P<owner>[^/]+)/(?P<name>[^/]+)")),
+    ("permanent", re.compile(r"gcroots/(?P<name>[^/]+)")),
+    ("profile", re.compile(r"profiles/per-user/(?P<owner>[^/]+)/(?P<name>.+)-(?P<number>[0-9]+)-link")),
+    ("temporary", re.compile(r"\{temp:(?P<number>[0-9]+)\}")),
+]
+
+
+class Denied(Exception):
+    """The server's reply to a caller that may not ask, or that it refuses for another reason."""
+
+    def __init__(self, reply):
+        super().__init__(reply.text.decode().strip())
+        self.reply = reply
+
+
+def settings(file):
+    """The store directory, whether outputs are kept and whether derivers are, by a configuration file or by the
+    defaults."""
+    found = {}
+    if file:
+        with open(file, "rb") as config:
+            found = tomllib.load(config)
+    return found.get("store-dir", paths.STORE), found.get("keep-outputs", False), found.get("keep-derivations", True)
+
+
+def of_file(file):
+    """The Store in a file that no other process has open."""
+    with store_file.open_store(file) as conn:
+        return store_file.read(conn)
+
+
+# ---- from a server
+
+
+def root(label, target):
+    """A root of a line in the listing of roots. A runtime root's label may be any text, or hidden."""
+    for kind, form in _LABELS:
+        if found := form.fullmatch(label):
+            more = {"owner": None, "name": None, "number": None, **found.groupdict()}
+            number = int(more["number"]) if more["number"] else None
+            return store_file.Root(kind, target, label, more["owner"], more["name"], number)
+    return store_file.Root("runtime", target, label, None, None, None)
+
+
+def item(text):
+    """The object of a record, without its outputs, which a record doesn't have."""
+    record = dict(line.split(": ", 1) for line in text.decode().splitlines())
+    references = record["References"].split()
+    deriver, address = record.get("Deriver"), record.get("CA")
+    return store_file.Object(int(record["NarSize"]), None, deriver, address, references, {})
+
+
+def outputs(archive, store_dir):
+    """The outputs of a derivation, from its archive."""
+    text = bytearray()
+    list(nar.walk([archive], lambda _, part: text.extend(part)))
+    return dict(drv.outputs(bytes(text), store_dir))
+
+
+class Records:
+    """The objects of a server, kept from one overview to the next: an object never changes while it is there."""
+
+    def __init__(self, server, keeps_outputs):
+        self.server, self.keeps_outputs, self.found, self.connection = server, keeps_outputs, {}, None
+
+    def forget(self, text):
+        """Forgets the paths that a reply names, one a line: they have been deleted."""
+        for line in text.decode().splitlines():
+            self.found.pop(line.rpartition("/")[2], None)
+
+    async def ask(self, caller, target):
+        reply = await self.server.ask(caller, "GET", target)
+        if reply.status != 200:
+            raise Denied(reply)
+        return reply.text.decode().splitlines()
+
+    async def store(self, caller):
+        """The Store as a caller sees it, and the set of live paths by the server's own word. Raises Denied or
+        Unreachable."""
+        lines = await self.ask(caller, "/paths")
+        if self.connection != self.server.connections:
+            self.found, self.connection = {}, self.server.connections
+        listed = [line.rpartition("/")[2] for line in lines]
+        store_dir = lines[0].rpartition("/")[0] if lines else paths.STORE
+        await self.read([it for it in listed if it not in self.found], caller, store_dir)
+        objects = {it: self.found[it] for it in listed if it in self.found}
+        self.found = objects
+        roots = [root(*line.split(" ")) for line in await self.ask(caller, "/roots")]
+        roots = [it._replace(target=it.target.rpartition("/")[2]) for it in roots]
+        live = {line.rpartition("/")[2] for line in await self.ask(caller, "/live")}
+        return store_file.Store(None, store_dir, objects, [it for it in roots if it.target in objects], {}), live
+
+    async def read(self, bases, caller, store_dir):
+        replies = await self.server.gets(caller, [f"/info/{it}" for it in bases])
+        # (an object that has been deleted meanwhile is left out)
+        self.found |= {base: item(it.text) for base, it in zip(bases, replies) if it.status == 200}
+        if self.keeps_outputs:
+            derivations = [it for it in bases if it.endswith(".drv") and it in self.found]
+            replies = await self.server.gets(caller, [f"/nar/{it}" for it in derivations])
+            for base, it in zip(derivations, replies):
+                if it.status == 200:
+                    self.found[base] = self.found[base]._replace(outputs=outputs(it.text, store_dir))
+
+
+__all__ = ["Denied", "Records", "Unreachable", "of_file", "settings"]
