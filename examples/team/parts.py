@@ -7,6 +7,7 @@ import random
 import shutil
 import signal
 import socket
+import sqlite3
 import subprocess
 import sys
 import time
@@ -15,7 +16,7 @@ HERE = os.path.dirname(os.path.realpath(__file__))
 ROOT = os.path.dirname(os.path.dirname(HERE))
 sys.path.insert(0, f"{ROOT}/tools")
 sys.dont_write_bytecode = True
-from nixkeep_tools import nar, paths  # noqa: F401 (for the scripts that import this module)
+from nixkeep_tools import nar, paths, store_file  # noqa: F401 (for the scripts that import this module)
 
 PACKAGES = {
     "nginx": "nginx-light",
@@ -142,6 +143,42 @@ def cache(folder, port, place=None, *more):
     return Part("nixkeep-cache", [*words, *(more or ["--proxied"])], place, f"{folder}/cache.log")
 
 
+def put_store(file, count, rng, roots, label="/proc/1/exe"):
+    """A file with so many texts that refer to one another, and for each of three users so many roots and twelve
+    generations."""
+    with contextlib.closing(sqlite3.connect(file)) as conn, conn:
+        for table, (columns, key) in store_file.FORMS.items():
+            written = [it[:-2] if it.endswith(" ?") else f"{it} NOT NULL" for it in columns]
+            keys = ", ".join(it.split()[0] for it in columns[:key])
+            conn.execute(f"CREATE TABLE {table} ({', '.join(written)}, PRIMARY KEY ({keys})) STRICT")
+        conn.executemany("INSERT INTO meta VALUES (?, ?)", [("schema", "3"), ("store-dir", "/nix/store")])
+        made = put_objects(conn, count, rng)
+        for user in ("ann", "bob", "carol"):
+            rows = [(user, f"root{at}", rng.choice(made)) for at in range(roots)]
+            conn.executemany("INSERT INTO user_root VALUES (?, ?, ?)", rows)
+            conn.execute("INSERT INTO profile VALUES (?, 'tools', 9)", (user,))
+            rows = [(user, at, rng.choice(made)) for at in range(1, 13)]
+            conn.executemany("INSERT INTO generation VALUES (?, 'tools', ?, ?)", rows)
+        conn.execute("INSERT INTO permanent VALUES ('release', ?)", (made[-1],))
+        conn.execute("INSERT INTO runtime VALUES (?, ?)", (label, made[0]))
+    return made
+
+
+def put_objects(conn, count, rng):
+    """Rows of texts, each with references to some of those before. Returns their paths."""
+    made = []
+    for at in range(count):
+        contents = rng.randbytes(rng.choice([10, 100, 1000]))
+        references = sorted(set(rng.choices(made[-400:], k=rng.randrange(5)))) if made else []
+        digest = paths.sha256([contents])
+        path, archive = paths.path_of("text", digest, f"object-{at}", references), nar.regular_file(contents)
+        address = paths.address("text", digest)
+        conn.execute("INSERT INTO object VALUES (?, ?, ?, NULL, ?)", (path, archive, paths.sha256([archive]), address))
+        conn.executemany("INSERT INTO refs VALUES (?, ?)", [(path, it) for it in references])
+        made.append(path)
+    return made
+
+
 class Nix:
     """Real Nix over a store of its own in a folder, with the usual directory in its paths."""
 
@@ -150,7 +187,8 @@ class Nix:
         os.makedirs(f"{folder}/conf")
         with open(f"{folder}/conf/nix.conf", "w") as out:
             out.write(
-                f"build-users-group =\nsubstituters =\nexperimental-features = nix-command\nrequire-sigs = false\n{settings}"
+                "build-users-group =\nsubstituters =\nexperimental-features = nix-command\nrequire-sigs = false\n"
+                + settings
             )
         places = {"NIX_LOG_DIR": "log", "NIX_CONF_DIR": "conf", "XDG_CACHE_HOME": "cache", "HOME": "home"}
         self.env = {
