@@ -40,7 +40,7 @@ def spread(found):
 
 
 def put(what, value, unit, limit, more, is_least=False):
-    """Keeps a figure and prints it: its value, or its ratio to a peer's, beside its limit."""
+    """Keeps a figure and prints it: its value, or its ratio to a peer's, next to its limit."""
     ratio = more.get("ratio")
     measured = value if ratio is None else ratio
     is_met = None if limit is None else measured >= limit if is_least else measured <= limit

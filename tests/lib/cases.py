@@ -22,7 +22,7 @@ done
 
 
 class Step:
-    """A command, the number of its line, and the lines behind it: what has to come."""
+    """A command, the number of its line, and the lines after it: what has to come."""
 
     def __init__(self, line, command):
         self.line, self.command, self.wanted = line, command, []

@@ -196,13 +196,13 @@ def some_model(rng, count):
     for at in range(count):
         refs = rng.sample(paths, min(len(paths), rng.choice([0, 0, 1, 2, 5])))
         contents = rng.randbytes(rng.choice(SIZES))
-        kind = rng.choice(["text", "source", "handed in", "derivation"])
+        kind = rng.choice(["text", "source", "imported", "derivation"])
         deriver = rng.choice([None, None, hidden(f"gone{at}.drv"), *[it for it in paths if it.endswith(".drv")][:3]])
         if kind == "text":
             path = made.add_text(f"text{at}", contents, refs, deriver=deriver)
         elif kind == "source":
             path = made.add_source(f"source{at}", archive(contents, rng.random() < 0.5), refs, deriver)
-        elif kind == "handed in":
+        elif kind == "imported":
             path = hidden(f"handed{at}")
             made.add(path, archive(contents), [*refs, *([path] if rng.random() < 0.3 else [])], deriver)
         else:

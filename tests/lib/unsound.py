@@ -128,11 +128,11 @@ class Faulty:
             "a piece of nobody": f"INSERT INTO piece VALUES ('{self.gone}', 1, x'00');",
             "a piece whose path is none": f"INSERT INTO piece VALUES ('{self.malformed}', 1, x'00');",
             "an empty piece of nobody": f"INSERT INTO piece VALUES ('{self.gone}', 1, x'');",
-            "a byte behind an archive": f"INSERT INTO piece VALUES ('{self.own}', 1, x'00');",
-            "an empty piece behind a short archive": f"INSERT INTO piece VALUES ('{self.own}', 1, x'');",
+            "a byte after an archive": f"INSERT INTO piece VALUES ('{self.own}', 1, x'00');",
+            "an empty piece after a short archive": f"INSERT INTO piece VALUES ('{self.own}', 1, x'');",
             "a short archive in two": cut_at(self.own, [short[:50], short[50:]], [1]),
             "a short archive in its piece alone": cut_at(self.own, [b"", short], [1]),
-            "an empty piece behind a full row": self.cut("brim", brim, b""),
+            "an empty piece after a full row": self.cut("brim", brim, b""),
             "a full row that is cut": self.cut("brim", brim[:-8], brim[-8:]),
             "a row that is too long": self.cut("over", over),
             "a row that is too long, and an empty piece": self.cut("over", over, b""),
@@ -143,7 +143,7 @@ class Faulty:
             "a piece below 0": self.cut("over", over[:PART], over[PART:], numbers=[-1]),
             "another byte in a piece": self.cut("over", over[:PART], over[PART:-1] + b"\1"),
             "a byte too few in the last piece": self.cut("over", over[:PART], over[PART:-1]),
-            "an empty piece behind a full one": self.cut("even", even[:PART], even[PART:], b""),
+            "an empty piece after a full one": self.cut("even", even[:PART], even[PART:], b""),
             "a full piece that is cut": self.cut("even", even[:PART], even[PART:-1], even[-1:]),
             "a last piece that is too long": self.cut("long", first, second + rest),
             "pieces of other lengths": self.cut("long", first, second[:-1], second[-1:] + rest),
@@ -206,8 +206,8 @@ def changed(table, old, new):
 
 
 def schemas():
-    """Texts for an empty file, and whether it is a store then: taken up, made, or refused."""
-    taken, made, refused = "taken up", "made", "refused"
+    """Texts for an empty file, and whether it is a store then: opened, made, or refused."""
+    taken, made, refused = "opened", "made", "refused"
     return [
         ("", made),
         (BEFORE + BETWEEN, made),
