@@ -2,12 +2,11 @@
 import argparse
 import collections
 import os
-import sqlite3
 import sys
 import tomllib
 
 from . import explain_file, explain_rescue, explain_usage, paths, store_file
-from .explain_schema import shown
+from .explain_schema import DAMAGED, shown
 from .explain_verdict import BAD_SCHEMA, Examined
 
 BAD_CONFIG = "19 bad-config"
@@ -62,16 +61,21 @@ def print_verdict(file, examined, config):
         print(f"  {shown(it.table, it.row)}: {it.rule}")
     if examined.names and not examined.are_rows_tested:
         print("  no row is tested, since the tables are not those of one schema")
-    if not refusal and examined.views:
-        print(f"  if nixkeep refuses it all the same, its SQLite doesn't read a view: {', '.join(examined.views)}")
+    if not refusal and examined.foreign:
+        names = ", ".join(examined.foreign)
+        print(f"  of other programs: {names}; nixkeep refuses the file if its SQLite can't read their SQL")
     return REFUSED if refusal else SOUND
+
+
+def nothing_to_rescue(file):
+    return Stopped(f"{file}: failed: nothing to rescue: no object can be read", FAILED)
 
 
 def print_rescue(folder, file, examined):
     if not examined.names or not examined.objects.objects:
-        raise Stopped(f"{file}: nothing to rescue: no object can be read", FAILED)
+        raise nothing_to_rescue(file)
     found = explain_rescue.rescue(folder, file, examined)
-    print(f"{folder}: {found.objects} objects and {found.roots} roots; sh {folder}/restore NEW.db makes a store of them")
+    print(f"{folder}: {found.objects} objects, {found.roots} roots; sh {folder}/restore NEW.db makes a store of them")
     for what, why in found.left_out:
         print(f"  left out: {what}: {why}")
 
@@ -123,8 +127,10 @@ def explain(words):
     before = store_file.stamps(words.file)
     try:
         status = explain_tables(words, config)
-    except sqlite3.Error as error:
+    except DAMAGED as error:
         print(f"{words.file}: refused: {BAD_SCHEMA}: {explain_file.unreadable(words.file, error)}")
+        if words.rescue:
+            raise nothing_to_rescue(words.file) from None
         return REFUSED
     if store_file.stamps(words.file) != before:
         print(f"{words.file}: written while it was read, so this may be out of date: run it again")
@@ -133,6 +139,9 @@ def explain(words):
 
 def main(arguments):
     words = parser().parse_args(arguments)
+    if hasattr(sys.stdout, "reconfigure"):
+        # (a damaged name may be no UTF-8)
+        sys.stdout.reconfigure(errors="backslashreplace")
     try:
         status = explain(words)
         sys.stdout.flush()

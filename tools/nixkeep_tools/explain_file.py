@@ -9,6 +9,8 @@ from . import store_file
 # Why nixkeep refuses a file. `is_readable` says whether its rows can be examined all the same.
 Reason = collections.namedtuple("Reason", "text is_readable")
 HEAD = b"SQLite format 3\0"
+# How much of a command line is shown.
+LONGEST = 300
 
 
 # ---- the path and the file
@@ -127,5 +129,5 @@ def described(pid):
     words = b""
     with contextlib.suppress(OSError), open(f"/proc/{pid}/cmdline", "rb") as file:
         words = file.read()
-    shown = " ".join(words.decode("utf-8", "backslashreplace").split("\0")).strip()
+    shown = " ".join(words.decode("utf-8", "backslashreplace").replace("\0", " ").split())[:LONGEST]
     return f"process {pid} ({shown})" if shown else f"process {pid}"

@@ -1,11 +1,10 @@
 """What nixkeep asks of the whole file, the tables of other programs included: header, pages and foreign keys."""
 import os
 import re
-import sqlite3
 
 from . import store_file
 from .explain_rows import scanned
-from .explain_schema import Fault, foreign_keys, has_hidden_index, lower, quoted, words_of
+from .explain_schema import DAMAGED, Fault, foreign_keys, has_hidden_index, lower, quoted, words_of
 from .store_file import FORMS
 
 THE_FILE = "the file"
@@ -81,7 +80,7 @@ def owners(conn):
     """By page the table or index whose it is, where SQLite can say."""
     try:
         return dict(conn.execute("SELECT pageno, name FROM dbstat"))
-    except sqlite3.Error:
+    except DAMAGED:
         return {}
 
 
@@ -96,7 +95,7 @@ def key_of(conn, table, rowid):
     names = ", ".join(it.split()[0] for it in columns[:key])
     try:
         return conn.execute(f"SELECT {names} FROM {table} NOT INDEXED WHERE rowid = ?", (rowid,)).fetchone()
-    except sqlite3.Error:
+    except DAMAGED:
         return None
 
 
@@ -104,7 +103,7 @@ def page_faults(conn, entries):
     """The Faults that SQLite's own check finds, of the store's tables by their names."""
     try:
         lines = [line for row in conn.execute(f"PRAGMA integrity_check({MOST})") for line in row[0].split("\n")]
-    except sqlite3.Error as error:
+    except DAMAGED as error:
         yield Fault(THE_FILE, None, f"SQLite can't check its pages: {error}")
         return
     tables, pages = {it.name: it.table for it in entries}, None

@@ -1,10 +1,9 @@
 """The rows of a file: read as far as its damage allows, and every rule that one breaks."""
 import collections
 import hashlib
-import sqlite3
 
 from . import drv, nar, paths
-from .explain_schema import Fault
+from .explain_schema import DAMAGED, Fault
 from .store_file import FORMS, LACKS, PART
 
 MOST_REFERENCES = 4_096
@@ -32,7 +31,7 @@ def scanned(conn, text, parameters=()):
     try:
         for row in conn.execute(text, parameters):
             found.append(row)
-    except sqlite3.Error as error:
+    except DAMAGED as error:
         return found, str(error)
     return found, None
 

@@ -1,6 +1,7 @@
 """The schema of a file: whether the store's tables have their form, and what of another program's is in their way."""
 import collections
 import re
+import sqlite3
 
 from .store_file import FORMS, LACKS
 
@@ -8,6 +9,8 @@ from .store_file import FORMS, LACKS
 Fault = collections.namedtuple("Fault", "table row rule")
 # An entry of SQLite's list of tables, indexes, views and triggers.
 Entry = collections.namedtuple("Entry", "type name table root text")
+# What an SQLite call raises on a damaged file: a message or a name may be no UTF-8.
+DAMAGED = (sqlite3.Error, UnicodeError)
 # Quoted parts and comments of SQL, and its words.
 _QUOTED = r"'(?:[^']|'')*'|\"(?:[^\"]|\"\")*\"|`(?:[^`]|``)*`|\[[^\]]*\]"
 _SQL = re.compile(_QUOTED + r"|--[^\n]*|/\*.*?(?:\*/|\Z)|\w+", re.DOTALL)

@@ -39,7 +39,8 @@ class Examined:
     @property
     def schema(self):
         """The schema whose tables the file should have."""
-        return self.stated if self.stated in LACKS else explain_schema.number_by_tables(self.formed)
+        tables = [name for name, it in self.names.items() if it.type == "table"]
+        return self.stated if self.stated in LACKS else explain_schema.number_by_tables(tables)
 
     @property
     def is_of_another(self):
@@ -47,9 +48,10 @@ class Examined:
         return bool(self.names) and not self.formed
 
     @property
-    def views(self):
-        """The views of other programs: nixkeep's SQLite knows less of SQL, and refuses a file with one that it can't read."""
-        return [it.name for it in self.entries if it.type == "view"]
+    def foreign(self):
+        """The tables and views of other programs."""
+        found = [it.name for it in self.entries if it.type in ("table", "view") and it.name not in self.names]
+        return [it for it in found if not it.startswith("sqlite_")]
 
     def schema_faults(self, conn):
         if not self.names:
@@ -74,7 +76,7 @@ class Examined:
     def refusal(self, wanted):
         """What nixkeep answers if it is asked for the store of this directory; None if it opens the file."""
         if self.stated is not None and self.stated > LAST:
-            return f"{BAD_SCHEMA}: made by a later version of nixkeep: schema {self.stated}; the last one known is {LAST}"
+            return f"{BAD_SCHEMA}: made by a later version of nixkeep: schema {self.stated}; the last known is {LAST}"
         if self.is_of_another:
             taken = ", ".join(sorted(self.names))
             return f"{BAD_SCHEMA}: the database of another program, which uses names of the store's tables: {taken}"
