@@ -10,5 +10,5 @@ pub returns-in_ok-root-in-Delete : goal.returns-in_ok-root-in-Delete
 returns-in_ok-root-in-Delete c w is =
     let s = c.args.config.now in
     subst (λ (q : asked.Request). IsDenial s w c.args.caller.now q c.in_ok-root-in-Delete.root)
-    (ap (λ (ps : List Path). asked.delete ps c.in-Delete.field-1) c.deref.ensures.value ∙ ap request_view (sym c.in-Delete.is))
-    (denied_as s w c.args.caller.now c.deref.result.now c.in-Delete.field-1 c.class.result c.class.ensures c.in_ok-root-in-Delete.root (c.in_ok-root-in-Delete.ensures.root w is) (c.in_ok-root-in-Delete.ensures.lives w is))
+    (ap (λ (ps : List Path). asked.delete ps c.in-Delete.ignore_liveness) c.deref.ensures.value ∙ ap request_view (sym c.in-Delete.is))
+    (denied_as s w c.args.caller.now c.deref.result.now c.in-Delete.ignore_liveness c.class.result c.class.ensures c.in_ok-root-in-Delete.root (c.in_ok-root-in-Delete.ensures.root w is) (c.in_ok-root-in-Delete.ensures.lives w is))
