@@ -41,6 +41,8 @@ HEADS = [
     "GET /paths HTTP/1.1\r\nx: \x01\r\n\r\n",
     "GET /paths HTTP/1.1 \r\n\r\n",
     "GET /\x7f HTTP/1.1\r\n\r\n",
+    "GET /\xff HTTP/1.1\r\nstore-user: ann\r\n\r\n",
+    "GET /paths HTTP/1.1\nstore-user: ann\n\r\r\n",
     "\x16\x03\x01",
 ]
 
@@ -123,7 +125,8 @@ class Messages(Requests):
         if self.odd(0.01):
             lines += self.pick([["store-user: ann"], ["store-group: users", "store-group: users"]])
         if self.odd(0.02):
-            lines += [self.field("connection", self.pick(["close", "CLOSE", "close, te", "keep-alive", "", "upgrade"]))]
+            values = self.some(["close", "CLOSE", "close, te", "keep-alive", "", "upgrade"], 2)
+            lines += [self.field("connection", value) for value in values]
         self.rng.shuffle(lines)
         return lines
 
@@ -193,7 +196,14 @@ class Commands(Messages):
         words = made.get(it.kind, lambda: [it.kind])()
         if it.kind in ("collect", "delete") and it.ignore == "true":
             words.insert(1, "--ignore-liveness")
-        return words
+        return self.moved(words)
+
+    def moved(self, words):
+        """The words, now and then with the flags behind all else, or with `--` before the last word."""
+        if self.chance(0.1):
+            flags = [word for word in words if word in ("--permanent", "--ignore-liveness")]
+            return [word for word in words if word not in flags] + flags
+        return [*words[:-1], "--", words[-1]] if self.chance(0.02) else words
 
     def input(self, it):
         """What stands on standard input of a command."""

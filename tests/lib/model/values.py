@@ -5,10 +5,11 @@ from . import archives, derivations, texts
 
 USERS = ["ann", "bob", "eve", "root"]
 GROUPS = ["users", "wheel"]
-ODD_NAMES = ["-x", "a" * 64, "a" * 65, "a*b", ".", "..", "A.b_c-1", "a@b", "%41", "0"]
+ODD_NAMES = ["-x", "a" * 64, "a" * 65, "a*b", ".", "..", "A.b_c-1", "a@b", "%41", "0", "", "\u00fc"]
 STORE_NAMES = ["p", "x", "y", "o", "lib-1.0", "a+b?c=d_e", "d.drv", "e.drv", ".x", ".drv"]
 ODD_STORE_NAMES = [".", "..", "..-x", ".-x", "", "a b", "a/b", "a" * 211, "a" * 212, "a\u00e9", "..x", "a:b", "x.drv "]
 STORE_DIRS = ["/nix/store", "/nix/store", "/nix/store", "/nix/store", "/a", "/tmp/s.t-o/r=e"]
+QUOTED = '"keep-derivations" '
 OUTPUTS = [b"out", b"dev", b"lib"]
 WORDS = [b"", b"x", b"hello", b"mycontent\n", b"name: a\n\n", b"12345678", bytes(range(16)), b"\xff\x00\r\n"]
 
@@ -155,27 +156,46 @@ class Values:
     def number(self, items, odd=("0", "007", "+1", "-1", "1 ", "x", "1e3", "9999", "10000", "123456789012", "\u0661")):
         return self.often([str(it) for it in items], odd, 0.06)
 
+    def text(self, value):
+        """A text of a configuration, in one of the ways to write it."""
+        return self.pick([f'"{value}"', f'"{value}"', f"'{value}'"])
+
+    def listed(self, items):
+        """An array of a configuration, on one line or on more."""
+        if self.chance(0.2):
+            return "[\n" + "".join(f"  {self.text(it)}, # one\n" for it in items) + "]"
+        return "[" + ", ".join(map(self.text, items)) + "]"
+
     def entries(self):
-        pool = [*USERS, *(f"@{it}" for it in GROUPS), "@admins", "nobody", "*"]
-        return "[" + ", ".join(f'"{it}"' for it in self.some(pool, 3)) + "]"
+        return self.listed(self.some([*USERS, *(f"@{it}" for it in GROUPS), "@admins", "nobody", "*"], 3))
 
     def groups(self):
-        users = lambda: "[" + ", ".join(f'"{it}"' for it in self.some(USERS, 2)) + "]"
-        return [f"{name} = {users()}" for name in ("wheel", "users", "admins") if self.chance(0.6)]
+        """Names of groups, each with its members."""
+        return {name: self.some(USERS, 2) for name in ("wheel", "users", "admins") if self.chance(0.6)}
+
+    def group_lines(self, groups):
+        """Lines of a configuration before all tables, and its table, for these groups."""
+        form = self.rng.randrange(3)
+        lines = [f"{name} = {self.listed(users)}" for name, users in groups.items()]
+        if form == 0 and groups:
+            pairs = [f"{name} = [{', '.join(map(self.text, users))}]" for name, users in groups.items()]
+            return [f"groups = {{ {', '.join(pairs)} }}"], []
+        if form == 1:
+            return [f"groups.{line}" for line in lines], []
+        return [], [self.pick(["[groups]", '[ "groups" ] # all'])] * bool(groups) + lines
 
     def config(self):
         """The text of a valid configuration, with the store directory of this scenario."""
-        lines = [f'store-dir = "{self.dir}"'] * (self.dir != "/nix/store" or self.chance(0.2))
+        lines = [f"store-dir = {self.text(self.dir)}"] * (self.dir != "/nix/store" or self.chance(0.2))
         lines += [f"allowed-users = {self.entries()}"] * self.chance(0.15)
         trusted = self.pick(['["ann"]', '["@wheel"]', '["root", "ann"]', '["*"]', "[]", self.entries()])
         lines += [f"trusted-users = {trusted}"] * self.chance(0.5)
         lines += [f"keep-outputs = {self.pick(['true', 'false'])}"] * self.chance(0.7)
-        lines += [f"keep-derivations = {self.pick(['true', 'false'])}"] * self.chance(0.6)
+        lines += [f'{self.pick(["keep-derivations", QUOTED])}={self.pick(["true", "false"])}'] * self.chance(0.6)
+        before, table = self.group_lines(self.groups() if self.chance(0.5) else {})
+        lines += before
         self.rng.shuffle(lines)
-        groups = self.groups() if self.chance(0.5) else []
-        if groups and self.chance(0.3):
-            return "\n".join([f"groups = {{ {', '.join(groups)} }}", *lines, ""]).encode()
-        return "\n".join([*lines, *["[groups]"] * bool(groups), *groups, ""]).encode()
+        return "\n".join([*lines, *table, ""]).encode()
 
     def odd_config(self):
         """The text of a configuration with one line against the rules, or two."""
