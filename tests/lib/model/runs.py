@@ -33,12 +33,15 @@ def make_file(path, rows):
 
 
 def rows_in(path):
-    """The rows of a database file, by table."""
+    """The rows of a database file, by table; a name of no table stands for a file that can't be read."""
     if not os.path.exists(path):
         return {}
-    with contextlib.closing(sqlite3.connect(path)) as database:
-        names = {name for (name,) in database.execute("SELECT name FROM sqlite_master WHERE type = 'table'")}
-        return {name: {*database.execute(f"SELECT * FROM {name}")} for name in tables.TABLES if name in names}
+    try:
+        with contextlib.closing(sqlite3.connect(path)) as database:
+            names = {name for (name,) in database.execute("SELECT name FROM sqlite_master WHERE type = 'table'")}
+            return {name: {*database.execute(f"SELECT * FROM {name}")} for name in tables.TABLES if name in names}
+    except sqlite3.DatabaseError as error:
+        return {str(error): set()}
 
 
 def is_read(pipe):
@@ -53,7 +56,7 @@ def feed(running, pieces):
             pipe.write(piece)
             pipe.flush()
             while not is_read(pipe) and running.poll() is None and time.monotonic() < end:
-                time.sleep(0)
+                time.sleep(0.0005)
 
 
 def pieces_of(step):
