@@ -6,7 +6,7 @@ import sys
 
 from .texts import Refused
 
-# (an archive of the greatest depth takes some frames for each of its nodes)
+# (reading or writing an archive uses some frames for each node on the way down)
 sys.setrecursionlimit(10_000)
 LIMIT = 16_777_216
 DEPTH = 256

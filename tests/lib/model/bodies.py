@@ -66,7 +66,7 @@ IMPORT = {
 }
 PATH = {"path": (ONE, "path", path)}
 IGNORE = {"ignore-liveness": (OPTIONAL, "ignore_liveness", truth)}
-# For each kind of request with a body: its keys, and the field that takes the payload.
+# For each kind of request with a body: its keys, and the field that holds the payload.
 FORMS = {
     "add-text": (ADD, "contents"),
     "add-source": (ADD, "archive"),
@@ -100,7 +100,7 @@ def lines_of(body):
 
 
 def values_of(store_dir, count, values, read):
-    """What a field of a request takes from all values of its key."""
+    """The value of a field of a request, from all values of its key."""
     if count == ONE and len(values) != 1 or count == OPTIONAL and len(values) > 1:
         raise Refused(41)
     found = [read(store_dir, value) for value in values]
@@ -108,7 +108,7 @@ def values_of(store_dir, count, values, read):
 
 
 def request(store_dir, kind, body, **fields):
-    """The request of this kind with this body; the fields are those that stand elsewhere."""
+    """The request of this kind with this body; the fields given here come from the target."""
     keys, payload = FORMS.get(kind, ({}, None))
     lines, rest = lines_of(body)
     if not {key for key, _ in lines} <= keys.keys() or rest and not payload:

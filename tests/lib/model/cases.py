@@ -56,7 +56,7 @@ def line_text(line):
 
 
 def command_text(step):
-    """The command with its input, and whether its output goes to a file first."""
+    """The command of a step, with what writes its input."""
     command = f"nixkeep {shlex.join(step.words)}"
     if step.cuts:
         pieces = "; sleep 0.1; ".join(map(printf, pieces_of(step)))

@@ -89,7 +89,7 @@ def command_of(words):
 
 
 def check_own(word, given, values):
-    """What the words of one subcommand have to be beside their number."""
+    """Raises a usage fault for what the number of words alone doesn't decide."""
     if word == "profile":
         require(values[0] in ("set", "rollback", "switch", "delete"))
         require(len(values) == (2 if values[0] == "rollback" else 3))
@@ -216,7 +216,7 @@ class Machine:
         return Store(config, self.databases.setdefault(name, Database({})).open(config["store-dir"]))
 
     def run(self, words, given):
-        """Standard output, standard error and status; None for a text that is not told here."""
+        """Standard output, standard error and status; None is a text that the model doesn't know."""
         try:
             command = command_of(words)
         except Usage:

@@ -10,7 +10,7 @@ FIELDS = ["host: localhost", "host: other", "accept: */*", "x: ", "x:", "x-y: \u
 # Lines of a body that most often don't belong there.
 LINES = ["x: 1", "name", "name:a", "path: ", ": ", "ignore-liveness: true", "max-freed: 1", "reference: x"]
 LINES += ["root: a", ""]
-# Lines of a head, beside or in place of the length, that close the connection.
+# Lines of a head that make the server close the connection.
 LENGTHS = [
     "content-length: 0\r\ncontent-length: 0",
     "content-length: +1",
@@ -89,7 +89,7 @@ class Messages(Requests):
         return body + b"x" if self.odd(0.01) else body
 
     def spoil(self, lines):
-        """Changes one line of a body, or adds or takes one."""
+        """Changes, adds or removes one line of a body."""
         at = self.rng.randint(0, max(len(lines) - 1, 0))
         change = self.rng.randrange(5)
         if change < 2:
@@ -167,7 +167,7 @@ class Commands(Messages):
     """Draws command lines: the words after the common options, and standard input."""
 
     def words(self, it):
-        """The words of a request, and what stands on standard input."""
+        """The words of a request."""
         option = lambda name, value: self.pick([[f"--{name}", value], [f"--{name}={value}"]])
         named = getattr(it, "owner", None)
         owner = option("owner", named) if named is not None and (named != it.user or self.chance(0.2)) else []
@@ -199,14 +199,14 @@ class Commands(Messages):
         return self.moved(words)
 
     def moved(self, words):
-        """The words, now and then with the flags behind all else, or with `--` before the last word."""
+        """The words, now and then with the flags last, or with `--` before the last word."""
         if self.chance(0.1):
             flags = [word for word in words if word in ("--permanent", "--ignore-liveness")]
             return [word for word in words if word not in flags] + flags
         return [*words[:-1], "--", words[-1]] if self.chance(0.02) else words
 
     def input(self, it):
-        """What stands on standard input of a command."""
+        """The standard input of a command."""
         return self.body(it) if it.kind in ("import", "replace-runtime") else getattr(it, "payload", b"")
 
     def odd_words(self, words):

@@ -10,7 +10,7 @@ WEIGHTS = {
     "dead": 3, "roots": 4, "roots-of": 4, "report": 2, "set-permanent": 3, "drop-permanent": 2, "set-user-root": 4,
     "drop-user-root": 3, "set-profile": 5, "rollback": 3, "switch": 3, "delete-generation": 3, "replace-runtime": 4,
     "add-temporary": 4, "end-session": 3, "collect": 4, "delete": 4,
-}  # fmt: skip
+}
 # Kinds that are drawn more often in one scenario than in another.
 THEMES = [
     (),

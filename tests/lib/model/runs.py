@@ -17,7 +17,7 @@ ROOM = "/dev/shm" if os.access("/dev/shm", os.W_OK) else None
 
 
 def make_file(path, rows):
-    """Writes a database file with these rows; None stands for a file of other bytes."""
+    """Writes a database file with these rows; None is a file that is no database."""
     if rows is None:
         with open(path, "wb") as file:
             file.write(b"not a database\n" * 100)
@@ -33,7 +33,7 @@ def make_file(path, rows):
 
 
 def rows_in(path):
-    """The rows of a database file, by table; a name of no table stands for a file that can't be read."""
+    """The rows of a database file, by table; where the file can't be read, its fault in place of a table."""
     if not os.path.exists(path):
         return {}
     try:
@@ -91,7 +91,7 @@ def run_step(program, room, step):
 
 
 def is_same(wanted, came):
-    """Whether the program printed what the model says; a text that the model doesn't tell is any but the empty one."""
+    """Whether the program printed what the model says; where the model knows no text, any but the empty one is right."""
     has_errors = came[1] != b"" if wanted[1] is None else wanted[1] == came[1]
     return has_errors and wanted[0] == came[0] and wanted[2] == came[2]
 
@@ -99,7 +99,7 @@ def is_same(wanted, came):
 def difference(program, scenario):
     """The number of the first step that differs, what the model says and what came; None where all is the same.
 
-    After all steps, the rows of the database file stand for a last one."""
+    After all steps the rows of the database file are compared, as if they were a last step."""
     machine = scenario.machine()
     with tempfile.TemporaryDirectory(prefix="model-", dir=ROOM) as room:
         for name, text in scenario.configs.items():

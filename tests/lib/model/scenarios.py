@@ -9,7 +9,7 @@ FILE = "store.db"
 
 
 class Step:
-    """A command: its words, its standard input in parts that stand for themselves, and where this input is cut."""
+    """A command: its words, the parts of its standard input, and where this input is cut."""
 
     def __init__(self, words, parts, cuts=()):
         self.words, self.parts, self.cuts = words, parts, cuts
@@ -19,15 +19,15 @@ class Step:
 
 
 class Scenario:
-    """The text of each configuration, the rows of the database or None for a file of other bytes, and the steps.
+    """The text of each configuration, the rows of the database, and the steps.
 
-    No rows at all stand for no file."""
+    Rows of no table are no file; None is a file that is no database."""
 
     def __init__(self, configs, rows, steps):
         self.configs, self.rows, self.steps = configs, rows, steps
 
     def machine(self):
-        """The model as it stands before the first step."""
+        """The model before the first step."""
         return Machine(self.configs, {} if self.rows == {} else {FILE: tables.Database(self.rows)})
 
 
@@ -52,7 +52,7 @@ class Scenarios(Commands):
         self.set_store(Store(policy.config_of(text), world))
 
     def follow(self, config):
-        """Draws from now on with the database as it stands in sight; false where it can't be opened."""
+        """Draws from now on with the present database in sight, or an empty one where it can't be opened."""
         try:
             parsed = policy.config_of(config)
             world = self.machine.databases.setdefault(FILE, tables.Database({})).open(parsed["store-dir"])
@@ -113,7 +113,7 @@ class Scenarios(Commands):
         return Step(["--config", name, *self.common(self.pick([None, "ann", "-x"]), None), *command], [b""])
 
     def first_rows(self):
-        """The rows of a database of any schema, most often a sound one; None stands for a file of other bytes."""
+        """The rows of a database of any schema, most often a sound one; None is a file that is no database."""
         if self.odd(0.01):
             return None
         world = self.first_world()
@@ -187,7 +187,7 @@ class Scenarios(Commands):
         world.temporary.update(sessions() for _ in range(self.pick([0, 0, 3])))
 
     def change(self, rows):
-        """Takes a table or a row, or changes one value."""
+        """Removes a table or a row, or changes one value."""
         if self.chance(0.05):
             del rows[self.pick([*rows])]
             return

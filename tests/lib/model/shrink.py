@@ -32,7 +32,7 @@ class Shrinker:
         return time.monotonic() > self.end
 
     def tries(self, **changed):
-        """Takes the scenario with these changes in its place, if it still has a difference."""
+        """Replaces the scenario by one with these changes, if that still has a difference."""
         if self.is_late():
             return False
         other = Scenario(**{**vars(self.scenario), **changed})
@@ -55,7 +55,7 @@ class Shrinker:
                 fewest(self.scenario.steps[at].parts, lambda parts: self.tries_step(at, parts=parts))
 
     def rows(self):
-        """Takes objects, each with all rows that name it, and then rows alone."""
+        """Removes objects, each with all rows that name it, and then single rows."""
         without = lambda left: {
             name: {row for row in rows if name == "meta" or left.issuperset(all_bases.intersection(row))}
             for name, rows in before.items()
@@ -75,7 +75,7 @@ class Shrinker:
             fewest(text.splitlines(keepends=True), fewer)
 
     def lines(self):
-        """Takes lines of heads and words of command lines."""
+        """Removes lines of heads and words of command lines."""
         for at in range(len(self.scenario.steps)):
             fewest(self.scenario.steps[at].words, lambda words: self.tries_step(at, words=words))
             if not self.scenario.steps[at].cuts:

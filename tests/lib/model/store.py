@@ -1,6 +1,6 @@
 """What a store answers to each request, and how its world changes.
 
-A request is a namespace with a kind and that kind's fields. Base names stand for paths.
+A request is a namespace with a kind and that kind's fields. Its paths are base names.
 """
 from collections import namedtuple
 from types import SimpleNamespace

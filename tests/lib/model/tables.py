@@ -1,4 +1,4 @@
-"""The rows of a database file: from a world, and back where they tell a sound one. There are three schemas."""
+"""The rows of a database file: from a world, and back to it where they are sound. There are three schemas."""
 from . import archives, texts
 from .store import GENERATIONS, REFERENCES, SESSIONS, outputs_of
 from .texts import Refused, is_base, is_label, is_plain_name, is_store_dir
@@ -136,9 +136,9 @@ def world_of(rows):
 
 
 class Database:
-    """A database file: its rows as they stand, or, once it is opened, its world.
+    """A database file: its rows, or, once it is opened, its world.
 
-    None for the rows is a file of other bytes."""
+    None in place of rows is a file that is no database."""
 
     def __init__(self, rows):
         self.rows, self.world, self.dir = rows, None, None

@@ -57,7 +57,7 @@ class Values:
         return f"{digits}-{self.pick(STORE_NAMES)}"
 
     def known(self):
-        """A base name that may stand in a text; where a store is in sight, most often one of its paths."""
+        """A base name to name in a text; where a store is in sight, most often one of its paths."""
         return self.base()
 
     def odd_path(self, base):
@@ -67,7 +67,7 @@ class Values:
             "", base[1:], "e" + base[1:], base[:32], f"{digits}-", f"{digits}_{name}", f"{digits}-..-{name}",
             f"/other/store/{base}", f"{self.dir}//{base}", f"{self.dir}/", f"{base} ", f"{digits.upper()}-{name}",
             f"{self.dir}/{base}/x", f"{digits}-" + "n" * 211, f"{digits}-" + "n" * 212, f" {base}", f"{base}\u00e9",
-        ])  # fmt: skip
+        ])
 
     def path_text(self, base):
         if self.odd(0.03):
@@ -207,6 +207,6 @@ class Values:
             'groups = ["ann"]', "groups = { wheel = 1 }", 'groups = { wheel = ["*"] }', 'groups = { "a b" = [] }',
             "keep-outputs = ", "= 1", 'a = "', 'Store-Dir = "/nix/store"', "[[groups]]",
             f'store-dir = "/{"a" * 199}"', f'store-dir = "/{"a" * 200}"', "keep-outputs = true\nkeep-outputs = true",
-        ]  # fmt: skip
+        ]
         lines = [self.pick(odd) for _ in range(self.pick([1, 1, 2]))]
         return self.pick([b"\xff\n", "\n".join([*lines, ""]).encode(), "\n".join([*lines, ""]).encode()])

@@ -50,7 +50,7 @@ def names():
     yield [it for it in ("a" * 64, "a" * 65, "", "-a", ".", "a-b") if texts.is_plain_name(it)], ["a" * 64, ".", "a-b"]
     yield [texts.is_store_dir(it) for it in ("/", "/a", "/a/", "/a/../b", "/" + "a" * 199, "/" + "a" * 200)], [
         False, True, False, False, True, False,
-    ]  # fmt: skip
+    ]
     addresses = [f"text:sha256:{ABC}", "text:sha256:" + "1" * 52, "text:sha256:" + "2" + "0" * 51, f"sha256:{ABC}"]
     yield [refused(texts.address_of, it) for it in addresses], [0, 0, 15, 15]
 
