@@ -91,7 +91,7 @@ def run_step(program, room, step):
 
 
 def is_same(wanted, came):
-    """Whether the program printed what the model says; where the model knows no text, any but the empty one is right."""
+    """Whether the program printed what the model says; where it knows no text, any but the empty one is right."""
     has_errors = came[1] != b"" if wanted[1] is None else wanted[1] == came[1]
     return has_errors and wanted[0] == came[0] and wanted[2] == came[2]
 
