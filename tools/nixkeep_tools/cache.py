@@ -35,6 +35,8 @@ MINUTE = "public, max-age=60"
 BODY, INFO = 20_971_520, 1_200_000
 # The larger bodies and replies that are in memory at once, and the bytes from which on one counts as large.
 LARGE, MANY = 65_536, 8
+# The bytes of an archive that are sent at once.
+PIECE = 1 << 20
 
 
 def reply(status, text, kind="text/plain", keep="no-store"):
@@ -75,7 +77,7 @@ class Cache:
             return reply(400, f"{bad}\n")
         except Full:
             return reply(503, "no room for one more archive that waits for its record: try again later\n")
-        except asyncio.TimeoutError:
+        except TimeoutError:
             return reply(408, f"nothing came for {self.idle:.0f} seconds\n")
         except (Unreachable, OSError) as error:
             print(f"nixkeep-cache: {request.method} {request.raw_path[:300]!r}: {error}", file=sys.stderr, flush=True)
@@ -162,17 +164,27 @@ class Cache:
                 "content-length": str(len(answer.text)),
             }
             response = web.StreamResponse(headers=head)
-            await response.prepare(request)
             text = memoryview(answer.text)
-            for at in range(0, len(text), LARGE):
-                await asyncio.wait_for(response.write(bytes(text[at : at + LARGE])), self.idle)
+            try:
+                await response.prepare(request)
+                for at in range(0, len(text), PIECE):
+                    async with asyncio.timeout(self.idle):
+                        await response.write(text[at : at + PIECE])
+            except (ConnectionError, TimeoutError):
+                # (the client has gone, or takes nothing: it can't be told)
+                if request.transport:
+                    request.transport.abort()
             return response
 
     # ---- what comes
 
     async def pieces(self, request):
         """The body, piece by piece. A client that is silent is given up."""
-        while piece := await asyncio.wait_for(request.content.readany(), self.idle):
+        while True:
+            async with asyncio.timeout(self.idle):
+                piece = await request.content.readany()
+            if not piece:
+                return
             yield piece
 
     async def body(self, request, most):

@@ -13,8 +13,8 @@ Reply = collections.namedtuple("Reply", "status kind text")
 
 # Requests that may be sent once more: they change nothing, or nothing further the second time.
 ADDS = ("/text", "/source", "/import")
-# A head of the server's is much shorter. A reply is at most an archive or a listing.
-HEAD = 65_536
+# The bytes of a reply that are read ahead. A head is much shorter.
+AHEAD = 1 << 20
 # What a connection that ends, or isn't the server's, raises.
 BROKEN = (OSError, EOFError, ValueError, KeyError, IndexError, asyncio.LimitOverrunError)
 # The requests that go out together where many are asked at once.
@@ -26,11 +26,8 @@ class Unreachable(Exception):
 
 
 def message(caller, method, target, body):
-    fields = [
-        f"store-user: {caller.user}",
-        *([f"store-group: {caller.group}"] if caller.group else []),
-        f"content-length: {len(body)}",
-    ]
+    fields = ["host: store", f"store-user: {caller.user}", f"content-length: {len(body)}"]
+    fields += [f"store-group: {caller.group}"] if caller.group else []
     return "\r\n".join([f"{method} {target} HTTP/1.1", *fields, "", ""]).encode("ascii") + body
 
 
@@ -60,14 +57,14 @@ class Server:
             while True:
                 await self.connect()
                 try:
-                    exchange = self.exchange([message(caller, method, target, body)])
-                    return (await asyncio.wait_for(exchange, self.longest))[0]
+                    async with asyncio.timeout(self.longest):
+                        return (await self.exchange([message(caller, method, target, body)]))[0]
                 except BROKEN as error:
                     self.close()
                     if method != "GET" and target not in ADDS or now() > until:
                         raise Unreachable(f"the server ended the connection before its reply ({error!r})") from error
                     await asyncio.sleep(0.1)
-                except (asyncio.CancelledError, asyncio.TimeoutError):
+                except asyncio.CancelledError:
                     self.close()
                     raise
 
@@ -79,7 +76,8 @@ class Server:
                 await self.connect()
                 try:
                     asked = [message(caller, "GET", it, b"") for it in targets[at : at + TOGETHER]]
-                    found += await asyncio.wait_for(self.exchange(asked), self.longest)
+                    async with asyncio.timeout(self.longest):
+                        found += await self.exchange(asked)
                 except BaseException as error:
                     self.close()
                     if isinstance(error, Exception):
@@ -110,7 +108,7 @@ class Server:
         until = asyncio.get_running_loop().time() + self.patience
         while not self.writer:
             try:
-                self.reader, self.writer = await asyncio.open_connection(self.host, self.port, limit=HEAD)
+                self.reader, self.writer = await asyncio.open_connection(self.host, self.port, limit=AHEAD)
                 self.connections += 1
                 self.denials.clear()
             except OSError as error:
