@@ -38,8 +38,8 @@ def sum_of(path, kind="sha256"):
 
 
 def tools():
-    """The places below a prefix of the programs next to nixkeep and of the Python package that they share, with their files.
-    They lie in one folder, where each finds the package, and bin has a link to each."""
+    """The places below a prefix of the programs next to nixkeep and of the Python package that they share, as files and
+    links. They lie in one folder, where each finds the package, and bin has a link to each."""
     programs = [it for it in names_in("tools") if it.startswith("nixkeep-")]
     modules = [f"nixkeep_tools/{it}" for it in names_in("tools/nixkeep_tools") if it.endswith(".py")]
     files = [(f"lib/nixkeep/{it}", f"{HERE}/tools/{it}", 0o755) for it in programs]
@@ -59,7 +59,8 @@ def parts(file):
     """What lies below a prefix: files as triples of place, path and mode, and links as pairs of place and target."""
     files, links = tools()
     files = [(f"bin/{program.NAME}", file, 0o755), *files]
-    files += [(f"share/man/man{it[-1]}/{it}", f"{HERE}/man/{it}", 0o644) for it in names_in("man") if re.search(r"\.[1-8]$", it)]
+    pages = [it for it in names_in("man") if re.search(r"\.[1-8]$", it)]
+    files += [(f"share/man/man{it[-1]}/{it}", f"{HERE}/man/{it}", 0o644) for it in pages]
     shells = [(completion_of(it), f"{HERE}/completion/{it}", 0o644) for it in names_in("completion")]
     return files + [it for it in shells if it[0]], links
 
@@ -81,8 +82,8 @@ def examples(folder):
 
 def sources():
     """The sums of all files that the proof of the program has read, as sha256sum writes and checks them."""
-    named = program.listed()
-    paths = ["HANDLES", "crates.txt", *[it for crate in program.with_below(program.NAME, named) for it in program.files_of(crate)]]
+    crates = program.with_below(program.NAME, program.listed())
+    paths = ["HANDLES", "crates.txt", *[it for crate in crates for it in program.files_of(crate)]]
     return "".join(f"{sum_of(f'{HERE}/{it}')}  {it}\n" for it in paths)
 
 

@@ -1,8 +1,9 @@
 """The program `nixkeep`: whether it is built for the sources as they stand, and building it.
 
-Crates are proved side by side, each once those below it are (`proving` does it). The library of each proved crate is kept in the
-folder out/ of the repository, with what it was made of and by which toolchain, so a run that was stopped goes on with the crates
-that it had not ended, and only what has changed is proved again, with what is above it.
+Crates are proved side by side, each once those below it are (`proving` does it). The library of each proved crate
+is kept in the folder out/ of the repository, with what it was made of and by which toolchain, so a run that was
+stopped goes on with the crates that it had not ended, and only what has changed is proved again, with what is above
+it.
 """
 import contextlib
 import fcntl
@@ -19,6 +20,11 @@ NAME = "nixkeep"
 FILE = f"{HERE}/crates/{NAME}/out/{NAME}"
 KEPT = f"{HERE}/out/proved"
 TIMES = f"{HERE}/out/times.json"
+
+
+def say(text):
+    """Says something on standard error, as the program itself does."""
+    print(f"{NAME}: {text}", file=sys.stderr, flush=True)
 
 
 def listed():
@@ -62,12 +68,12 @@ def files_of(crate):
     return found
 
 
-def sources(named, top=NAME):
-    """A sum for a crate and each below it, which changes with its sources and with theirs."""
+def sources(named, tops=(NAME,)):
+    """A sum for each of these crates and those below them, lowest first, of its sources and of theirs."""
     found = {}
     with open(f"{HERE}/HANDLES") as file:
         handles = file.read()
-    for crate in with_below(top, named):
+    for crate in dict.fromkeys(it for top in tops for it in with_below(top, named)):
         read = hashlib.sha256(repr((handles, named[crate], [found.get(it) for it in named[crate]])).encode())
         for path in files_of(crate):
             with open(f"{HERE}/{path}", "rb") as file:
@@ -92,7 +98,7 @@ def mark(file):
 
 
 def is_kept(crate, source, by):
-    """Whether what was last made of a crate is there, of these sources and by this toolchain; by any where it isn't known."""
+    """Whether what was last made of a crate is there, of these sources, and by this toolchain where it is known."""
     try:
         with open(record_of(crate)) as file:
             lines = file.read().split("\n")
@@ -107,7 +113,7 @@ def keep(crate, source, by):
 
 
 def keep_library(crate, folder, source, by):
-    """Keeps a library that was made of a crate, as one file: no .rt or .antt file may lie where rt ci doesn't read it."""
+    """Keeps the library of a crate, as one file: rt ci stops at a .rt or .antt file that no check reads."""
     os.makedirs(KEPT, exist_ok=True)
     fresh = f"{KEPT}/.{crate}-{os.getpid()}"
     with tarfile.open(fresh, "w") as file:
@@ -123,7 +129,7 @@ def take_library(crate, room):
 
 
 def times():
-    """What earlier runs measured of each crate: the seconds that it took, those of the processors, and the memory in bytes."""
+    """What earlier runs measured of each crate: seconds, processor seconds (work), and bytes of memory."""
     try:
         with open(TIMES) as file:
             return json.load(file)
@@ -155,17 +161,17 @@ def alone():
         try:
             fcntl.flock(lock, fcntl.LOCK_EX | fcntl.LOCK_NB)
         except BlockingIOError:
-            print("nixkeep: another run proves crates here; waiting for it", file=sys.stderr, flush=True)
+            say("another run proves crates here; waiting for it")
             fcntl.flock(lock, fcntl.LOCK_EX)
         yield
 
 
-def prove(top):
-    """Proves a crate and those below it, and builds what they make, where that isn't done for the sources as they stand.
-    Returns whether there was anything to do."""
+def prove(tops):
+    """Proves these crates and those below them, and builds what they make, where that isn't done for the sources
+    as they stand. Returns whether there was anything to do."""
     named, by = listed(), toolchain_line()
-    found = sources(named, top)
-    if is_kept(top, found[top], by):
+    found = sources(named, tops)
+    if all(is_kept(it, found[it], by) for it in tops):
         return False
     if not by:
         sys.exit("nixkeep: the command rt of the Rattle toolchain isn't on the path")
@@ -173,19 +179,19 @@ def prove(top):
     with alone():
         left = [it for it in found if not is_kept(it, found[it], by)]
         if left:
-            print(f"nixkeep: proving {len(left)} of {len(found)} crates; README.md says how long that takes, once", file=sys.stderr, flush=True)
+            say(f"proving {len(left)} of {len(found)} crates; README.md says how long that takes, once")
             proving.prove_all(left, found, named, by)
     return True
 
 
 def build():
-    """Proves and builds the program where that isn't done for the sources as they stand, and says so on standard error."""
-    if prove(NAME):
-        print("nixkeep: built", file=sys.stderr, flush=True)
+    """Proves and builds the program where that isn't done for the sources as they stand, and says so."""
+    if prove([NAME]):
+        say("built")
 
 
 def keep_built():
-    """Says of the program that is there, and of the libraries that rt ci left, that they are of the sources as they stand."""
+    """Notes that the program, and the libraries that rt ci left, are made of the sources as they stand."""
     found, by = sources(listed()), toolchain_line()
     for crate, source in found.items():
         made = f"{HERE}/crates/{crate}/out/rlib"

@@ -1,8 +1,10 @@
-"""Proves crates side by side: each once those below it are, and first those with the longest chain of others above them.
+"""Proves crates side by side: each once those below it are, and first those with the longest chain of others above
+them.
 
-Each crate is one run of the toolchain's `rattle build`, which proves it from nothing and writes its library with its statements
-alone (--statements), so a crate far up loads no proof of those below. The libraries lie in a folder of this run, where no other
-command waits for them. How long a crate takes, and how much memory, is known from earlier runs, or guessed from its lines.
+Each crate is one run of the toolchain's `rattle build`, which proves it from nothing and writes its library with
+its statements alone (--statements), so a crate far up loads no proof of those below. The libraries lie in a folder
+of this run, where no other command waits for them. How long a crate takes, and how much memory, is known from
+earlier runs, or guessed from its lines.
 """
 import contextlib
 import os
@@ -64,7 +66,7 @@ class Runs:
                 ran.kill()
 
     def run(self, words, folder):
-        """Runs a command to its end: its status, what it printed, its processor seconds and the memory of its largest process."""
+        """Runs a command: its status, what it printed, its processor seconds and the memory of its largest process."""
         with tempfile.TemporaryFile("w+", errors="replace") as out:
             ran = self.start(words, folder, out)
             _, status, used = os.wait4(ran.pid, 0)
@@ -76,7 +78,7 @@ class Runs:
 
 
 def call(crate, words, folder, runs):
-    """Runs a command for a crate, once more with one job where it is killed, and returns its processor seconds and memory."""
+    """Runs a command for a crate, once more with one job where it is killed: its processor seconds and memory."""
     status, said, *used = runs.run(words, folder)
     if status == -signal.SIGKILL and "--jobs" in words and not runs.is_over:
         # (most likely for memory)
@@ -88,12 +90,13 @@ def call(crate, words, folder, runs):
 
 
 def build(crate, named, room, jobs, runs):
-    """Proves a crate and writes its library into the folder, or the program to its place: its processor seconds and memory."""
+    """Proves a crate, and makes its library in the folder or the program: its processor seconds and memory."""
     kit, folder, is_program = program.toolchain(), f"{program.HERE}/crates/{crate}", crate == program.NAME
     made = f"{program.FILE}.o" if is_program else f"{room}/.{crate}.rlib"
     to = ["--toolchain", f"{kit}/toolchain", "--backend", "llvm"] if is_program else ["--statements"]
     os.makedirs(os.path.dirname(made), exist_ok=True)
-    used = call(crate, [f"{kit}/bin/rattle", "build", *words_of(crate, named, room, jobs), *to, "-o", made], folder, runs)
+    words = [f"{kit}/bin/rattle", "build", *words_of(crate, named, room, jobs), *to, "-o", made]
+    used = call(crate, words, folder, runs)
     if is_program:
         link(made, runs)
     else:
@@ -104,21 +107,29 @@ def build(crate, named, room, jobs, runs):
 def link(made, runs):
     kit = program.toolchain()
     words = ["--target", TARGET, "--toolchain", f"{kit}/toolchain", "-o", program.FILE, made]
-    call(program.NAME, [f"{kit}/bin/rattle-link", *words, f"{kit}/c/libos_c.a", f"{kit}/c/liblibc_c.a"], program.HERE, runs)
+    words += [f"{kit}/c/libos_c.a", f"{kit}/c/liblibc_c.a"]
+    call(program.NAME, [f"{kit}/bin/rattle-link", *words], program.HERE, runs)
     os.remove(made)
 
 
+def guess(crate, libraries):
+    """The processor seconds and the memory that a crate may take, by its lines and the number of its libraries."""
+    files = program.files_of(crate)
+    code, proofs = [sum(lines_of(it) for it in files if it.endswith(kind)) for kind in (".rt", ".antt")]
+    memory = 900_000_000 + 500_000 * code + 50_000 * proofs + 60_000_000 * libraries
+    return 8 + 0.13 * code + 0.012 * proofs + 1.5 * libraries, memory
+
+
 class Plan:
-    """What each crate is likely to take: processor seconds and memory, as earlier runs measured them, or guessed from its lines."""
+    """What each crate is likely to take: processor seconds and memory, as measured by earlier runs, or guessed."""
 
     def __init__(self, crates, named):
         known = program.times()
         self.work, self.memory = {}, {}
         for crate in crates:
-            lines = [sum(lines_of(it) for it in program.files_of(crate) if it.endswith(kind)) for kind in (".rt", ".antt")]
-            known_of = known.get(crate, {})
-            self.work[crate] = known_of.get("work") or 15 + 0.06 * lines[0] + 0.03 * lines[1]
-            self.memory[crate] = known_of.get("memory") or 1_200_000_000 + 400_000 * lines[0]
+            work, memory = guess(crate, len(named[crate]))
+            self.work[crate] = known.get(crate, {}).get("work", work)
+            self.memory[crate] = known.get(crate, {}).get("memory", memory)
         above = {it: [other for other in crates if it in named[other]] for it in crates}
         # The work from the start of a crate to the end of all, on the longest way: crates stand lowest first.
         self.chain = {}
@@ -140,7 +151,7 @@ def lines_of(path):
 
 
 class Shown:
-    """What is being proved, on standard error: on a terminal one line that is written anew, elsewhere a line for each crate."""
+    """Shows what is being proved: on a terminal one line that is written anew, elsewhere a line for each crate."""
 
     def __init__(self, crates, left, plan):
         self.crates, self.left, self.plan = crates, [*left], plan
@@ -156,13 +167,17 @@ class Shown:
 
     def minutes(self):
         """How many minutes are likely to be left, by what the crates until now took of what was planned for them."""
-        gone = {it: (time.monotonic() - since) / (self.plan.seconds(it, jobs) * self.slow()) for it, (since, jobs) in self.at.items()}
-        work = {it: self.plan.work[it] * max(0.1, 1 - gone.get(it, 0)) for it in self.left}
+        work = {it: self.plan.work[it] * self.part_left(it) for it in self.left}
         chain = max((self.plan.chain[it] - self.plan.work[it] + work[it] for it in self.left), default=0)
         return max(1, round(self.slow() * max(sum(work.values()) / processors() / 0.9, chain / 2.5) / 60))
 
     def slow(self):
         return self.taken / self.planned
+
+    def part_left(self, crate):
+        """What part of a crate is likely to be left: of one that runs, never none."""
+        since, jobs = self.at.get(crate, (time.monotonic(), 1))
+        return max(0.1, 1 - (time.monotonic() - since) / (self.plan.seconds(crate, jobs) * self.slow()))
 
     def count(self):
         done = len(self.crates) - len(self.left)
@@ -187,7 +202,7 @@ class Shown:
             self.left.remove(crate)
             self.taken, self.planned = self.taken + seconds, self.planned + self.plan.seconds(crate, jobs)
             if not self.is_line:
-                print(f"nixkeep: {crate} proved in {seconds / 60:.1f} minutes ({self.count()})", file=sys.stderr, flush=True)
+                program.say(f"{crate} proved in {seconds / 60:.1f} minutes ({self.count()})")
             self.say()
             return seconds
 
@@ -205,7 +220,7 @@ class Schedule:
         self.below = {it: {*program.with_below(it, named)} for it in left}
         self.plan, self.running, self.memory = plan, {}, 0.85 * program.free()
         # A crate has times in which one process alone works, so there are more jobs than processors.
-        self.lanes = processors() + processors() // 2
+        self.lanes = 2 * processors()
 
     def ready(self):
         """The crates that can start, first those with the longest chain above them."""
@@ -217,7 +232,8 @@ class Schedule:
         idle = self.lanes - sum(self.running.values())
         room = self.memory - sum(self.plan.needs(*it) for it in self.running.items())
         most = min(MOST, processors(), idle, max(2, idle // ready))
-        return max((it for it in range(1, most + 1) if self.plan.needs(crate, it) <= room), default=int(not self.running))
+        fitting = [it for it in range(1, most + 1) if self.plan.needs(crate, it) <= room]
+        return max(fitting, default=int(not self.running))
 
     def next(self):
         """The next crate and its jobs, or None where nothing can start now."""
@@ -272,11 +288,30 @@ class Proving:
                 self.shown.close()
 
 
+def sweep():
+    """Removes the folders of runs that were killed."""
+    for name in os.listdir(tempfile.gettempdir()):
+        found = re.match(rf"{PREFIX}(\d+)-", name)
+        if found and not os.path.exists(f"/proc/{found[1]}"):
+            shutil.rmtree(f"{tempfile.gettempdir()}/{name}", ignore_errors=True)
+
+
+@contextlib.contextmanager
+def room_with(crates):
+    """A folder with the kept libraries of these crates, for as long as it is used."""
+    sweep()
+    with tempfile.TemporaryDirectory(prefix=f"{PREFIX}{os.getpid()}-") as room:
+        for crate in crates:
+            program.take_library(crate, room)
+        yield room
+
+
 @contextlib.contextmanager
 def stops_cleanly():
     """Has a signal that ends this process end the runs below it first."""
     def stop(number, _):
-        print("\nnixkeep: stopped; what is proved is kept, and the next run goes on from there", file=sys.stderr, flush=True)
+        print(file=sys.stderr)
+        program.say("stopped; what is proved is kept, and the next run goes on from there")
         sys.exit(128 + number)
 
     is_main = threading.current_thread() is threading.main_thread()
@@ -290,19 +325,9 @@ def stops_cleanly():
 
 def prove_all(left, found, named, by):
     """Proves these crates of those found, lowest first, and builds what they make."""
-    sweep()
-    with stops_cleanly(), tempfile.TemporaryDirectory(prefix=f"{PREFIX}{os.getpid()}-") as room:
-        for crate in {below for it in left for below in program.with_below(it, named)} - {*left}:
-            program.take_library(crate, room)
+    kept = {below for it in left for below in program.with_below(it, named)} - {*left}
+    with stops_cleanly(), room_with(kept) as room:
         try:
             Proving(left, found, named, by, room).run()
         except Stopped as stopped:
             sys.exit(str(stopped))
-
-
-def sweep():
-    """Removes the folders of runs that were killed."""
-    for name in os.listdir(tempfile.gettempdir()):
-        found = re.match(rf"{PREFIX}(\d+)-", name)
-        if found and not os.path.exists(f"/proc/{found[1]}"):
-            shutil.rmtree(f"{tempfile.gettempdir()}/{name}", ignore_errors=True)
