@@ -9,7 +9,7 @@ import tempfile
 
 CASES = os.path.join(os.path.dirname(os.path.dirname(os.path.realpath(__file__))), "cases")
 # What a case may take.
-SECONDS = 120
+SECONDS = 600
 
 # Runs the steps in one shell, so that a later one sees the variables, the folder and the jobs of those before it.
 SHELL = """
