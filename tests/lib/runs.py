@@ -17,6 +17,13 @@ def scripts(folder, start=""):
     return [it for it in files if os.access(f"{TESTS}/{folder}/{it}", os.X_OK)]
 
 
+def options_of(file, given):
+    """The options that a script takes, as its help says, of those that are given by name."""
+    ran = subprocess.run([file, "--help"], capture_output=True, text=True)
+    taken = [name for name, value in given.items() if value is not None and f"--{name}" in ran.stdout]
+    return [word for name in taken for word in (f"--{name}", str(given[name]))]
+
+
 class Ran:
     """A run of a script: its status, how much passed and failed, what it printed and how long it took."""
 
