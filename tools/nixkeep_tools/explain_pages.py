@@ -22,23 +22,6 @@ def number(data, at, size=4):
     return int.from_bytes(data[at:at + size], "big")
 
 
-def page_in_log(path, size):
-    """The first page, or None, and the number of pages as of the last commit in the log; None if it has no commit."""
-    if not os.path.isfile(store_file.log_of(path)):
-        return None
-    page, pages, found = None, 0, None
-    with open(store_file.log_of(path), "rb") as log:
-        head = log.read(32)
-        for frame in iter(lambda: log.read(24), b""):
-            body = log.read(size)
-            if frame[8:16] != head[16:24] or len(body) < size:
-                break
-            page = body if number(frame, 0) == 1 else page
-            if number(frame, 4):
-                pages, found = number(frame, 4), page or found
-    return (found, pages) if pages else None
-
-
 def header_faults(path):
     """The rules that the first 100 bytes of the database break."""
     with open(path, "rb") as file:
@@ -49,9 +32,9 @@ def header_faults(path):
     if size not in (512 << at for at in range(8)):
         yield f"bytes 16 and 17 state pages of {size} bytes, which SQLite hasn't"
         return
-    pages, logged = os.path.getsize(path) // size, page_in_log(path, size)
-    if logged:
-        head, pages = logged[0] or head, logged[1]
+    pages = os.path.getsize(path) // size
+    for first, count in store_file.commits(path):
+        head, pages = first or head, count
     yield from setting_faults(head)
     if number(head, 28) != pages:
         yield f"bytes 28 to 31 state {number(head, 28)} pages, and there are {pages}"

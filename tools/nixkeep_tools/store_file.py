@@ -88,14 +88,53 @@ def stamps(path):
     return found
 
 
+def _sum(data, order, first, second):
+    """The sum of a log over these bytes, which goes on from that over those before."""
+    words = struct.unpack(f"{order}{len(data) // 4}I", data)
+    for at in range(0, len(words), 2):
+        first = first + words[at] + second & 0xFFFFFFFF
+        second = second + words[at + 1] + first & 0xFFFFFFFF
+    return first, second
+
+
+def commits(path):
+    """Yields the commits that SQLite takes from the log of a file.
+
+    Each is a pair of the first page, or None if the log has none so far, and the number of pages of the database.
+    """
+    try:
+        log = open(log_of(path), "rb")
+    except OSError:
+        return
+    with log:
+        head, first = log.read(32), None
+        order = {b"\x37\x7f\x06\x82": "<", b"\x37\x7f\x06\x83": ">"}.get(head[:4])
+        if order is None or len(head) < 32:
+            return
+        size, found = struct.unpack(">I", head[8:12])[0], _sum(head[:24], order, 0, 0)
+        if found != struct.unpack(">2I", head[24:]):
+            return
+        while len(frame := log.read(24 + size)) == 24 + size:
+            number, pages, *sums = struct.unpack(">2I8x2I", frame[:24])
+            found = _sum(frame[24:], order, *_sum(frame[:8], order, *found))
+            if frame[8:16] != head[16:24] or tuple(sums) != found or not number:
+                return
+            first = frame[24:] if number == 1 else first
+            if pages:
+                yield first, pages
+
+
 def connect(path):
     """An SQLite connection that reads the file and its log. It takes no lock, and writes and makes no file.
 
     A text that isn't UTF-8 is returned with surrogates for its bad bytes.
     """
     where = urllib.parse.quote(os.path.abspath(path))
-    # (with locks, SQLite would make a file of shared memory next to the log; in exclusive mode it needs none)
-    conn = sqlite3.connect(f"file:{where}?mode=ro&vfs=unix-none", uri=True, isolation_level=None)
+    # SQLite deletes a log without a commit, or next to an empty file, so it must not look for such a log.
+    # It makes no file of shared memory next to a log if it has the file for itself.
+    is_in_log = os.path.getsize(path) and next(commits(path), None)
+    how = "mode=ro&vfs=unix-none" if is_in_log else "mode=ro&immutable=1"
+    conn = sqlite3.connect(f"file:{where}?{how}", uri=True, isolation_level=None)
     conn.text_factory = lambda it: it.decode("utf-8", "surrogateescape")
     conn.execute("PRAGMA locking_mode = EXCLUSIVE")
     return conn
