@@ -38,5 +38,6 @@ def lines(store, keep_outputs, keep_derivers):
     live, dead, total = store_file.usage_of_all(store, kept)
     yield from table(("bytes", "class"), [(live, "live"), (dead, "dead"), (total, "total")])
     for part in (owners_table(store, kept), roots_table(usages), generations_table(store, usages)):
-        yield ""
-        yield from part
+        heads, *rows = part
+        if rows:
+            yield from ["", heads, *rows]
