@@ -119,7 +119,8 @@ def graph(why):
     nodes += [f"n{at} [label={quoted(it.base[33:])} tooltip={quoted(it.base)}]" for at, it in enumerate(why.steps)]
     names = ["r", *(f"n{at}" for at in range(len(why.steps)))]
     edges = [f"{a} -> {b} [label={quoted(it.by)}]" for a, b, it in zip(names, names[1:], why.steps)]
-    style = 'bgcolor=transparent; node [shape=box style=rounded fontname="sans-serif"]; edge [fontname="sans-serif" fontsize=11]'
+    style = 'bgcolor=transparent; node [shape=box style=rounded fontname="sans-serif"]; '
+    style += 'edge [fontname="sans-serif" fontsize=11]'
     return f"digraph why {{ {style}; {'; '.join([*nodes, *edges])} }}"
 
 
