@@ -84,7 +84,7 @@ def sources(named, tops=(NAME,)):
 
 def made_by(crate):
     """The file that is made of a crate: the program, or a library's archive."""
-    return FILE if crate == NAME else f"{KEPT}/{crate}.tar"
+    return FILE if crate == NAME else f"{KEPT}/{crate}.tar.gz"
 
 
 def record_of(crate):
@@ -113,10 +113,11 @@ def keep(crate, source, by):
 
 
 def keep_library(crate, folder, source, by):
-    """Keeps the library of a crate, as one file: rt ci stops at a .rt or .antt file that no check reads."""
+    """Keeps the library of a crate, as one file: rt ci stops at a .rt or .antt file that no check reads.
+    A library has up to some hundred MB, and packed a sixth of that."""
     os.makedirs(KEPT, exist_ok=True)
     fresh = f"{KEPT}/.{crate}-{os.getpid()}"
-    with tarfile.open(fresh, "w") as file:
+    with tarfile.open(fresh, "w:gz", compresslevel=1) as file:
         file.add(folder, f"{crate}.rlib")
     os.replace(fresh, made_by(crate))
     keep(crate, source, by)

@@ -23,7 +23,11 @@ import program
 TARGET = "x86_64-unknown-linux-gnu"
 # The most jobs that a crate gets: more than four seldom help.
 MOST = 4
+# Where the libraries of a run lie, which are several GB: a folder for temporary files that isn't in memory.
+ROOMS = os.environ.get("TMPDIR") or ("/var/tmp" if os.path.isdir("/var/tmp") else tempfile.gettempdir())
 PREFIX = "nixkeep-proofs-"
+# How many bytes they may take in all.
+ROOM = 5_000_000_000
 
 
 class Stopped(Exception):
@@ -256,14 +260,18 @@ class Proving:
         self.schedule, self.shown = Schedule(left, named, plan), Shown([*found], left, plan)
 
     def prove(self, crate, jobs):
-        """Proves a crate and keeps what it makes; returns the crate, and what it took."""
+        """Proves a crate; returns it, and what it took."""
         self.shown.starts(crate, jobs)
         used = build(crate, self.named, self.room, jobs, self.runs)
+        return crate, self.shown.ends(crate), *used
+
+    def keep(self, crate, *taken):
+        """Keeps what a proved crate made, while those above it begin."""
+        program.keep_times(crate, *taken)
         if crate == program.NAME:
             program.keep(crate, self.found[crate], self.by)
         else:
             program.keep_library(crate, f"{self.room}/{crate}.rlib", self.found[crate], self.by)
-        return crate, self.shown.ends(crate), *used
 
     def start(self, pool):
         """Starts what can start now."""
@@ -273,34 +281,38 @@ class Proving:
         return started
 
     def run(self):
-        with ThreadPoolExecutor(processors()) as pool:
+        """Proves all, and returns when what is proved is kept."""
+        kept = []
+        with ThreadPoolExecutor(1) as keeper, ThreadPoolExecutor(processors()) as pool:
             try:
                 running = self.start(pool)
                 while running:
                     ended, running = wait(running, return_when=FIRST_COMPLETED)
-                    for it in ended:
+                    for it in sorted(ended, key=lambda it: it.exception() is not None):
                         crate, *taken = it.result()
-                        program.keep_times(crate, *taken)
+                        kept.append(keeper.submit(self.keep, crate, *taken))
                         del self.schedule.running[crate]
                     running |= self.start(pool)
             finally:
                 self.runs.end()
                 self.shown.close()
+        for it in kept:
+            it.result()
 
 
 def sweep():
     """Removes the folders of runs that were killed."""
-    for name in os.listdir(tempfile.gettempdir()):
+    for name in os.listdir(ROOMS):
         found = re.match(rf"{PREFIX}(\d+)-", name)
         if found and not os.path.exists(f"/proc/{found[1]}"):
-            shutil.rmtree(f"{tempfile.gettempdir()}/{name}", ignore_errors=True)
+            shutil.rmtree(f"{ROOMS}/{name}", ignore_errors=True)
 
 
 @contextlib.contextmanager
 def room_with(crates):
     """A folder with the kept libraries of these crates, for as long as it is used."""
     sweep()
-    with tempfile.TemporaryDirectory(prefix=f"{PREFIX}{os.getpid()}-") as room:
+    with tempfile.TemporaryDirectory(prefix=f"{PREFIX}{os.getpid()}-", dir=ROOMS) as room:
         for crate in crates:
             program.take_library(crate, room)
         yield room
@@ -325,6 +337,8 @@ def stops_cleanly():
 
 def prove_all(left, found, named, by):
     """Proves these crates of those found, lowest first, and builds what they make."""
+    if shutil.disk_usage(ROOMS).free < ROOM:
+        program.say(f"note: this takes {ROOM / 1e9:.0f} GB in {ROOMS}, which has less; TMPDIR names another folder")
     kept = {below for it in left for below in program.with_below(it, named)} - {*left}
     with stops_cleanly(), room_with(kept) as room:
         try:
