@@ -45,7 +45,7 @@ class Requests(Values):
         return self.path_text(self.known())
 
     def references(self, most=3):
-        if self.odd(0.001):
+        if self.chance(0.002):
             return [self.base()] * self.pick([4096, 4097])
         if not self.store.world.objects and self.chance(0.8) or self.chance(0.4):
             return []
@@ -81,6 +81,8 @@ class Requests(Values):
             self.fill_import(found)
         elif kind == "replace-runtime":
             found.pairs = [(self.label(), self.path()) for _ in range(self.rng.randint(0, 4))]
+            if self.odd(0.05):
+                found.pairs = [("a b", self.path_text(self.base())), *found.pairs]
         elif kind in ("collect", "delete"):
             found.ignore = self.pick(["false", "false", "true", "yes"]) if self.chance(0.1) else None
             found.limit = self.limit() if self.chance(0.8) else None

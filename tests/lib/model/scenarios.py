@@ -69,7 +69,9 @@ class Scenarios(Commands):
     def stream_step(self, found):
         config, words = self.config_words(found.configs)
         self.follow(config)
-        kinds = [None] * self.rng.randint(10, 60) + self.pick([["collect", "collect", "list"], ["roots", "live"], []])
+        first = ["collect", "collect"] if self.chance(0.2 if self.store.world.roots() else 0.6) else []
+        last = self.pick([["collect", "collect", "list"], ["roots", "live"], []])
+        kinds = [*first, *[None] * self.rng.randint(10, 60), *last]
         messages, closes = [], False
         while len(messages) < len(kinds) and not closes:
             messages.append(self.message(kinds[len(messages)]))
@@ -136,11 +138,11 @@ class Scenarios(Commands):
             self.put(world, base, references, self.pick([None, None, *bases]), None)
         for _ in range(self.rng.randint(0, 2)):
             self.put_addressed(world, frozenset(self.some(bases, 2)) & world.objects.keys())
-        if self.chance(0.3):
+        if self.chance(0.4):
             self.put_ring(world)
         for base, it in [*world.objects.items()]:
             world.objects[base] = it._replace(references=it.references & world.objects.keys())
-        if world.objects and self.chance(0.7):
+        if world.objects and self.chance(0.6):
             self.put_roots(world, sorted(world.objects))
         return world
 
@@ -157,11 +159,13 @@ class Scenarios(Commands):
         world.objects[base] = worlds.Object(archive, references, deriver, address, outputs)
 
     def put_ring(self, world):
-        """Makes some objects refer to one another in a ring."""
+        """Makes some objects refer to one another in a ring; now and then there are no others."""
         plain = [base for base, it in world.objects.items() if it.address is None]
         ring = self.rng.sample(plain, min(self.rng.randint(2, 3), len(plain)))
         for base, after in zip(ring, ring[1:] + ring[:1]):
             world.objects[base] = world.objects[base]._replace(references=frozenset([after]))
+        if self.chance(0.4):
+            world.objects = {base: world.objects[base] for base in ring}
 
     def put_addressed(self, world, references):
         contents = self.contents()
