@@ -87,7 +87,8 @@ input::placeholder { color: var(--quiet); opacity: 1; }
 {% else %}<p class="quiet">The Debian package graphviz draws it.</p>{% endif %}
 {% else %}<p>No root reaches it. The next collection deletes it.</p>{% endif %}
 {% else %}
-{% if it.differs %}<p class="notice" role="alert">By the server's own listing {{ it.differs }} paths are live that aren't
+{% if it.differs %}<p class="notice"
+ role="alert">By the server's own listing {{ it.differs }} paths are live that aren't
   here, or the other way round: the store changed meanwhile, or its settings keep-outputs and keep-derivations are
   others.</p>{% endif %}
 <dl class="sums">{% for word, (count, bytes) in sums %}<div><dt>{{ word }}</dt><dd class="size">{{ size(bytes) }}</dd>

@@ -159,7 +159,7 @@ def profiles():
 def roots():
     told = Told()
     told.add(P), told.run(f"bob root r {P}")
-    yield told.ask(message(f"POST /root/user/bob/r", f"path: {P}\n\n", "root")).endswith(b"denied: own-root\n"), True
+    yield told.ask(message("POST /root/user/bob/r", f"path: {P}\n\n", "root")).endswith(b"denied: own-root\n"), True
     yield [told.run("root unroot --owner bob r") for _ in range(2)], ["done\n", "refused: 27 no-root\n"]
     yield told.run(f"root root --permanent r {P}") + told.run("root unroot --permanent r"), "done\ndone\n"
     usage = ["unroot --permanent --owner bob r", "profile keep w", "profile set w", "delete"]
