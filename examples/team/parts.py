@@ -16,7 +16,7 @@ HERE = os.path.dirname(os.path.realpath(__file__))
 ROOT = os.path.dirname(os.path.dirname(HERE))
 sys.path.insert(0, f"{ROOT}/tools")
 sys.dont_write_bytecode = True
-from nixkeep_tools import nar, paths, store_file  # noqa: F401 (for the scripts that import this module)
+from nixkeep_tools import nar, paths, store_file
 
 PACKAGES = {
     "nginx": "nginx-light",
