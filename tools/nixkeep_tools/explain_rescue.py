@@ -47,7 +47,7 @@ def bad_objects(objects, faults, partial):
     found = {}
     for it in faults:
         if it.table in ("object", "piece", "refs") and it.row and it.row[0] in objects.objects:
-            # (a digest that is wrong beside a content address that is right: the archive is the object's)
+            # (if the content address is right, the archive is the object's, and the digest alone is wrong)
             if it.rule != HASH or not objects.is_proved(it.row[0]):
                 found.setdefault(it.row[0], it.rule)
     for base in objects.objects.keys() - objects.checked.keys():
@@ -112,9 +112,9 @@ def command(user, *words):
 
 
 def profile_commands(owner, name, generations, current, store):
-    """The commands that make a profile's generations, as pairs of number and path, and the current one current.
+    """The commands that make a profile of generations, pairs of number and path, and set the current one.
 
-    They are numbered anew from 1, and two neighbours of one path become one.
+    nixkeep numbers them anew from 1, and makes one generation of two neighbours with one path.
     """
     numbers, count, last = {}, 0, None
     for number, target in generations:
@@ -185,7 +185,8 @@ def rescue(folder, file, examined):
     with open(os.path.join(folder, "store.toml"), "x") as out:
         out.write(f'store-dir = "{store}"\n')
     with open(os.path.join(folder, "restore"), "x") as out:
-        out.write(SCRIPT.format(file=shlex.quote(file), count=len(bodies)))
+        # (no file name ends the comment that it is in)
+        out.write(SCRIPT.format(file=ascii(file), count=len(bodies)))
         out.writelines(it + "\n" for it in ["", "# The roots, each set by its owner.", *root_commands(roots, store)])
     os.chmod(os.path.join(folder, "restore"), 0o755)
     count = sum(len(found) for table, found in roots.items() if table != "profile")

@@ -9,7 +9,7 @@ from .store_file import FORMS, LACKS, PART
 MOST_REFERENCES = 4_096
 KINDS = {"TEXT": str, "INTEGER": int, "BLOB": bytes}
 
-# The rows of one table: a dictionary by row number in place of the columns, and whether none can be missing.
+# The rows of one table by row number, whether none seems to be missing, and the Faults of reading them.
 Read = collections.namedtuple("Read", "rows is_whole faults")
 # What the test of an object found: the length and the SHA-256 of its archive, and whether its content address is right.
 Checked = collections.namedtuple("Checked", "size digest is_proved")
@@ -37,10 +37,10 @@ def scanned(conn, text, parameters=()):
 
 
 def by_key(conn, table):
-    """The keys of a table as the index of its key has them, by row number; and what SQLite says of damage."""
+    """The keys of a table in the index of its key, by row number, and what SQLite says of damage, or None."""
     columns, key = FORMS[table]
     names = ", ".join(it.split()[0] for it in columns[:key])
-    index = [row[1] for row in conn.execute("SELECT * FROM pragma_index_list(?)", (table,)) if row[3] == "pk"]
+    index = [row[1] for row in scanned(conn, "SELECT * FROM pragma_index_list(?)", (table,))[0] if row[3] == "pk"]
     if not index:
         return {}, "there is no index of the key"
     found, problem = scanned(conn, f'SELECT rowid, {names} FROM {table} INDEXED BY "{index[0]}" ORDER BY {names}')
@@ -48,24 +48,24 @@ def by_key(conn, table):
 
 
 def read_table(conn, table):
-    """The Read of a table: by its pages in both directions, and row by row where these are damaged."""
-    columns = ", ".join(shown_columns(table))
-    text = f"SELECT rowid, {columns} FROM {table} NOT INDEXED ORDER BY rowid"
-    found, problem = scanned(conn, text)
-    rows = {row[0]: row[1:] for row in found}
-    if problem is None:
-        return Read(rows, True, [])
+    """The Read of a table: of its pages in both directions and, for rows that these lack, of the index of its key."""
+    columns, width = ", ".join(shown_columns(table)), FORMS[table][1]
+    text = f"SELECT rowid, {columns} FROM {table} NOT INDEXED"
+    found, problem = scanned(conn, text + " ORDER BY rowid")
+    more = scanned(conn, text + " ORDER BY rowid DESC")[0] if problem else []
+    rows = {row[0]: row[1:] for row in (*more, *found)}
     keys, key_problem = by_key(conn, table)
-    rows.update((row[0], row[1:]) for row in scanned(conn, text + " DESC")[0])
+    in_table = {(rowid, *row[:width]) for rowid, row in rows.items()}
+    in_index = {(rowid, *key) for rowid, key in keys.items()}
     for rowid in keys.keys() - rows.keys():
-        single, _ = scanned(conn, f"SELECT rowid, {columns} FROM {table} WHERE rowid = ?", (rowid,))
-        rows.update((row[0], row[1:]) for row in single)
-    is_key_all = FORMS[table][1] == len(FORMS[table][0])
-    if is_key_all:
-        rows.update({rowid: key for rowid, key in keys.items() if rowid not in rows})
+        single = scanned(conn, f"{text} WHERE rowid = ?", (rowid,))[0]
+        # (an index of all columns has the row whole)
+        whole = {rowid: keys[rowid]} if width == len(FORMS[table][0]) else {}
+        rows.update({row[0]: row[1:] for row in single} or whole)
     lost = [Fault(table, keys[it], "the row can't be read") for it in sorted(keys.keys() - rows.keys())]
-    is_whole = key_problem is None and not lost
-    return Read(rows, is_whole, [Fault(table, None, f"not all pages can be read: {problem}"), *lost])
+    is_whole = not problem and in_index <= in_table or not key_problem and in_table <= in_index
+    faults = [Fault(table, None, f"not all pages can be read: {problem}"), *lost] if problem else lost
+    return Read(rows, is_whole and not lost, faults)
 
 
 class Rows:
@@ -157,7 +157,7 @@ class Objects:
         """The Faults of all objects and of the rows that belong to them."""
         for base in sorted(self.objects):
             yield from self.faults_of(base)
-        yield from self.faults_beside()
+        yield from self.faults_around()
 
     def faults_of(self, base):
         _, (_, length, digest, deriver, address) = self.objects[base]
@@ -241,7 +241,7 @@ class Objects:
             elif found[name] != wanted[name]:
                 yield Fault("outs", (base, name), f"target has to be that of the derivation: {wanted[name]}")
 
-    def faults_beside(self):
+    def faults_around(self):
         """The Faults of rows that belong to no object, and of references to none."""
         for base in sorted({*self.references, *self.outputs, *self.pieces} - self.objects.keys()):
             for target in self.references[base]:

@@ -52,7 +52,10 @@ def form_faults(conn, entry):
         yield f"the table is named {entry.name}"
         return
     seen = [row for row in conn.execute("SELECT * FROM pragma_table_list(?)", (table,)) if row[0] == "main"]
-    kind, is_keyed, is_strict = (seen[0][2], seen[0][4], seen[0][5]) if seen else ("no table", 0, 0)
+    if not seen or seen[0][1] != table or entry.table != table:
+        yield "the list of tables has another name for it"
+        return
+    _, _, kind, _, is_keyed, is_strict = seen[0]
     if kind != "table":
         yield f"it is a {kind}, and no table"
         return
