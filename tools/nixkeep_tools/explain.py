@@ -63,7 +63,7 @@ def print_verdict(file, examined, config):
         print("  no row is tested, since the tables are not those of one schema")
     if not refusal and examined.foreign:
         names = ", ".join(examined.foreign)
-        print(f"  of other programs: {names}; nixkeep refuses the file if its SQLite can't read their SQL")
+        print(f"  of other programs: {names}; nixkeep refuses the file if its own SQLite can't read them")
     return REFUSED if refusal else SOUND
 
 
