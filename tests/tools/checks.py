@@ -1,0 +1,203 @@
+"""What the tests of nixkeep-remote and nixkeep-closure share: checks that go on, servers, and a small proxy."""
+import base64
+import contextlib
+import fcntl
+import http.client
+import os
+import pty
+import socket
+import ssl
+import struct
+import subprocess
+import tempfile
+import termios
+import threading
+from http.server import BaseHTTPRequestHandler, ThreadingHTTPServer
+
+from tests.lib import report
+from tests.tools import shim
+
+HERE = shim.HERE
+
+
+class Checks:
+    """Comparisons, of which those that fail are printed and counted. A test goes on after one."""
+
+    def __init__(self):
+        self.failed = 0
+
+    def same(self, what, came, wanted):
+        self.true(what, came == wanted, f"{report.short(came)}\n  wanted {report.short(wanted)}")
+
+    def true(self, what, holds, came=""):
+        if holds:
+            report.passes()
+        else:
+            self.failed += 1
+            report.tell(f"{what}:\n  came   {came if isinstance(came, str) else report.short(came)}")
+
+
+def run(doc, parts, needs=(), start=lambda program, folder: program):
+    """Runs the functions of a test, by the names of its parts. Each gets what `start` makes, once, and the checks."""
+    words = report.options(doc, parts=[*parts])
+    if report.skips(*needs):
+        return 0
+    check = Checks()
+    with tempfile.TemporaryDirectory() as folder:
+        first = start(report.program_file(words), folder)
+        for part in words.parts:
+            parts[part](first, check)
+    return check.failed
+
+
+def ran(command, given=b"", **more):
+    """The exit status of a command, and what it wrote to standard output and error."""
+    done = subprocess.run(command, input=given, capture_output=True, timeout=600, **more)
+    return done.returncode, done.stdout, done.stderr
+
+
+@contextlib.contextmanager
+def server(program, *words, connections=10_000):
+    """A server with these options: its port."""
+    with tempfile.TemporaryFile() as errors:
+        started, port = shim.started(program, words, errors, connections)
+        try:
+            yield port
+        finally:
+            started.terminate()
+            started.wait()
+
+
+def on_terminal(command, take=lambda pipe: pipe.read(), **more):
+    """The exit status of a command, its output, and what it wrote to the terminal that is its standard error."""
+    ours, theirs = pty.openpty()
+    fcntl.ioctl(theirs, termios.TIOCSWINSZ, struct.pack("HHHH", 24, 100, 0, 0))
+    running = subprocess.Popen(command, stdout=subprocess.PIPE, stderr=theirs, **more)
+    os.close(theirs)
+    output, shown = take(running.stdout), b""
+    running.stdout.close()
+    # The end of a terminal is an error.
+    with contextlib.suppress(OSError):
+        while part := os.read(ours, 4096):
+            shown += part
+    os.close(ours)
+    return running.wait(), output, shown
+
+
+# ---- a proxy
+
+
+class Handler(BaseHTTPRequestHandler):
+    """A proxy that recognises users by Basic authentication or a token, and passes their requests on with their names.
+
+    A hook is called with the method and the target of each request. The connection ends there if it returns True.
+    """
+
+    protocol_version = "HTTP/1.1"
+
+    def user(self):
+        field = self.headers.get("authorization", "")
+        kind, _, value = field.partition(" ")
+        if kind == "Bearer":
+            return self.server.tokens.get(value)
+        name, _, password = base64.b64decode(value if kind == "Basic" else "").decode().partition(":")
+        return name if name and self.server.users.get(name) == password else None
+
+    def answer(self, status, text, media="text/html", **fields):
+        self.send_response(status)
+        for key, value in {"content-type": media, "content-length": str(len(text)), **fields}.items():
+            self.send_header(key, value)
+        self.end_headers()
+        self.wfile.write(text)
+
+    def pass_on(self):
+        behind = self.server
+        length = int(self.headers.get("content-length", 0))
+        if behind.hook and behind.hook(self.command, self.path):
+            self.close_connection = True
+            return None
+        if behind.page:
+            return self.answer(*behind.page)
+        if length > behind.most:
+            self.close_connection = True
+            return self.answer(413, b"<html>too large</html>")
+        body, user = self.rfile.read(length), self.user() if behind.users else behind.everybody
+        if not user:
+            return self.answer(401, b"<html>who are you?</html>", **{"www-authenticate": "Basic"})
+        try:
+            connection = http.client.HTTPConnection("127.0.0.1", behind.port, timeout=60)
+            connection.request(self.command, self.path.removeprefix(behind.prefix), body, {"store-user": user})
+            reply = connection.getresponse()
+            text = reply.read()
+            connection.close()
+        except OSError:
+            return self.answer(502, b"<html>nobody is behind</html>")
+        if behind.cut:
+            self.send_response(200)
+            self.send_header("content-type", "text/plain")
+            self.send_header("content-length", str(len(text)))
+            self.end_headers()
+            self.wfile.write(text[: behind.cut])
+            self.close_connection = True
+            return None
+        return self.answer(reply.status, text, reply.headers["content-type"])
+
+    do_GET = do_POST = do_DELETE = pass_on
+
+    def log_message(self, *_):
+        pass
+
+
+class UnixServer(ThreadingHTTPServer):
+    address_family = socket.AF_UNIX
+
+    def server_bind(self):
+        self.socket.bind(self.server_address)
+        self.server_name, self.server_port = "localhost", 0
+
+    def get_request(self):
+        found, _ = super().get_request()
+        return found, ("unix", 0)
+
+
+class TcpServer(ThreadingHTTPServer):
+    def handle_error(self, *_):
+        # (a client that doesn't trust the certificate goes away)
+        pass
+
+
+@contextlib.contextmanager
+def proxy(port, path=None, certificate=None, **more):
+    """A proxy for the server on a port: on the Unix socket `path`, or else on a port of its own.
+
+    With a certificate it speaks TLS. `more` are settings.
+    """
+    made = UnixServer(path, Handler) if path else TcpServer(("127.0.0.1", 0), Handler)
+    made.daemon_threads = True
+    settings = {
+        "users": {},
+        "tokens": {},
+        "everybody": "ann",
+        "most": 1 << 30,
+        "page": None,
+        "prefix": "",
+        "cut": 0,
+        "hook": None,
+        "port": port,
+    }
+    for key, value in {**settings, **more}.items():
+        setattr(made, key, value)
+    if certificate:
+        context = ssl.SSLContext(ssl.PROTOCOL_TLS_SERVER)
+        context.load_cert_chain(*certificate)
+        made.socket = context.wrap_socket(made.socket, server_side=True, do_handshake_on_connect=False)
+    threading.Thread(target=made.serve_forever, args=(0.05,), daemon=True).start()
+    try:
+        yield made
+    finally:
+        made.shutdown()
+        made.server_close()
+
+
+def url(made, scheme="http"):
+    return f"{scheme}://127.0.0.1:{made.server_address[1]}"

@@ -1,0 +1,169 @@
+"""A stand-in for the program `nixkeep`, which starts a server for each command and asks it by `nixkeep-remote`.
+
+The options before the subcommand become a server (`--db`, `--config`) and its caller (`--user`, `--group`). The
+program itself does what no server can be asked: `serve`, `help`, and words before the subcommand that are no such
+options. A log gets a line for each command: its subcommand, and whether a server was asked.
+"""
+import contextlib
+import os
+import socket
+import subprocess
+import sys
+import tempfile
+import time
+
+HERE = os.path.dirname(os.path.dirname(os.path.dirname(os.path.realpath(__file__))))
+sys.path.insert(0, f"{HERE}/tools")
+from nixkeep_tools import paths, remote, streams, subcommands
+from nixkeep_tools.command_line import Told
+
+OPTIONS = ("db", "config", "user", "group")
+# What nixkeep-remote computes by itself.
+LOCAL = ("text-path", "source-path", "ls")
+
+
+def leading(words):
+    """The options before the subcommand by name, and all words from that on; None where something else is there."""
+    found, left = {}, list(words)
+    while left and left[0].startswith("-"):
+        name, has_value, value = left.pop(0)[2:].partition("=")
+        if name not in OPTIONS or name in found or not (has_value or left):
+            return None
+        found[name] = value if has_value else left.pop(0)
+        if not has_value and found[name].startswith("-"):
+            return None
+    return (found, left) if left else None
+
+
+def why_not(found):
+    """Why the program itself does what the words say, or None."""
+    if not found:
+        return "words before the subcommand"
+    word = found[1][0]
+    return word if word in ("serve", "help") else None
+
+
+def is_text(word):
+    return word == word.encode("utf-8", "replace").decode()
+
+
+def caller(options):
+    """The value of `--as`: a bad one where the names aren't plain, and no text where one is none."""
+    names = [options[it] for it in ("user", "group") if it in options]
+    is_plain = "user" in options and all(map(paths.is_plain_name, names))
+    return ":".join(names) if is_plain or not all(map(is_text, names)) else ""
+
+
+class Ended(Exception):
+    """The server ended before it served: what it wrote, and its exit status."""
+
+    def __init__(self, text, status):
+        super().__init__(text)
+        self.text, self.status = text, status
+
+
+def free_port():
+    with socket.create_server(("127.0.0.1", 0)) as free:
+        return free.getsockname()[1]
+
+
+def listeners(port):
+    """The links of /proc to the sockets that listen on a port of this machine."""
+    with open("/proc/net/tcp") as file:
+        rows = [line.split() for line in file]
+    return {f"socket:[{row[9]}]" for row in rows if row[1].endswith(f":{port:04X}") and row[3] == "0A"}
+
+
+def listens(port, server):
+    """Waits until this server, and no other program, listens on a port. Returns False if it ends before."""
+    folder = f"/proc/{server.pid}/fd"
+    while server.poll() is None:
+        found = listeners(port)
+        with contextlib.suppress(OSError):
+            if found and any(os.readlink(f"{folder}/{it}") in found for it in os.listdir(folder)):
+                return True
+        time.sleep(0.005)
+    return False
+
+
+def started(program, words, errors, connections=3):
+    """A server on a port. Another program may take the port first, and then it is another one."""
+    while True:
+        port = free_port()
+        command = [program, *words, "serve", "--port", str(port), "--connections", str(connections)]
+        # (a case may have signals ignored, as they are for this process)
+        null = subprocess.DEVNULL
+        server = subprocess.Popen(command, stdin=null, stdout=null, stderr=errors, restore_signals=False)
+        if listens(port, server):
+            return server, port
+        errors.seek(0)
+        text = errors.read()
+        if text != b"failed: input\n":
+            raise Ended(text, server.returncode)
+        errors.seek(0)
+        errors.truncate()
+
+
+@contextlib.contextmanager
+def serving(program, options):
+    """The port of a server that has the file and the configuration of the options."""
+    words = [word for name in ("db", "config") if name in options for word in (f"--{name}", options[name])]
+    with tempfile.TemporaryFile() as errors:
+        server, port = started(program, words, errors)
+        try:
+            yield port
+        finally:
+            # (the connections that are left, so that it ends as it does by itself)
+            while server.poll() is None:
+                with contextlib.suppress(OSError):
+                    socket.create_connection(("127.0.0.1", port)).close()
+                time.sleep(0.005)
+
+
+def told(ended, is_who):
+    streams.write([ended.text], 1 if is_who else 2)
+    return ended.status
+
+
+def store_dir(options):
+    if "config" not in options:
+        return []
+    # It is needed rarely, and takes time to load.
+    import tomllib
+
+    with open(options["config"], "rb") as file:
+        return ["--store-dir", tomllib.load(file).get("store-dir", paths.STORE)]
+
+
+def by_remote(program, title, options, words):
+    """Does a command by nixkeep-remote, and returns its exit status."""
+    as_words = [title, "--as", caller(options), *words]
+    try:
+        name = subcommands.read(as_words[1:], title).name
+        is_ready = name in LOCAL or caller(options) != ""
+    except Told:
+        is_ready = False
+    if not is_ready:
+        # (it ends before any server is asked)
+        return remote.main([title, "--server", "unix:/nowhere", *as_words[1:]])
+    if name in (*LOCAL, "who"):
+        options = {key: value for key, value in options.items() if key != "db"}
+    try:
+        if name in LOCAL and "config" not in options:
+            return remote.main(as_words)
+        with serving(program, options) as port:
+            folder = store_dir(options) if name in LOCAL else []
+            return remote.main([title, "--server", f"http://127.0.0.1:{port}", *folder, *as_words[1:]])
+    except Ended as ended:
+        return told(ended, name == "who")
+
+
+def main(program, log):
+    found = leading(sys.argv[1:])
+    why = why_not(found)
+    with open(log, "a") as file:
+        file.write(f"{'by the program: ' + why if why else 'by a server: ' + found[1][0][:20]!r}\n")
+    if why:
+        os.execv(program, sys.argv)
+    streams.keep_closed()
+    return by_remote(program, os.path.basename(sys.argv[0]), *found)

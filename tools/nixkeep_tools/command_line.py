@@ -1,0 +1,251 @@
+"""Command lines in the grammar of `nixkeep`, with the texts of its usage faults and of its help.
+
+argparse has another grammar: it abbreviates options, lets them be repeated, and drops `--` from the values. Here an
+option is given once. Its value is the next word, or follows `=`. Options belong to the command before them. After `--`
+every word is a value. One thing of `nixkeep` is missing: no similar words are suggested for a faulty one.
+"""
+import collections
+
+# `kind` is flag, option, required, optional, any (any number of values) or some (one value at least). `value` is the
+# word for the value in a usage line.
+Argument = collections.namedtuple("Argument", "name kind value help")
+# `options` holds the values of the options before the subcommand, `name` is that of the subcommand, `values` holds
+# the values of its arguments, by their names.
+Line = collections.namedtuple("Line", "options name values")
+POSITIONAL = ("required", "optional", "any", "some")
+HELP = "Print this message or the help of the given subcommand(s)"
+MORE = "For more information, try '--help'."
+
+
+class Told(Exception):
+    """A usage fault or a request for help: the text that is printed, and the exit status."""
+
+    def __init__(self, text, status=2):
+        super().__init__(text)
+        self.text, self.status = text, status
+
+
+class Command:
+    """A command, its arguments, and its subcommands by name."""
+
+    def __init__(self, name, about, *arguments, commands=()):
+        self.name, self.about, self.arguments = name, about, arguments
+        self.commands = {it.name: it for it in commands}
+        self.options = {it.name: it for it in arguments if it.kind not in POSITIONAL}
+        self.positional = [it for it in arguments if it.kind in POSITIONAL]
+
+
+def flag(name, text):
+    return Argument(name, "flag", None, text)
+
+
+def option(name, value, text):
+    return Argument(name, "option", value, text)
+
+
+def required(name, text):
+    return Argument(name, "required", name.upper(), text)
+
+
+def optional(name, text):
+    return Argument(name, "optional", name.upper(), text)
+
+
+# ---- texts
+
+
+def shown(argument):
+    """An argument as it is written in a usage line."""
+    if argument.kind == "flag":
+        return f"--{argument.name}"
+    if argument.kind == "option":
+        return f"--{argument.name} <{argument.value}>"
+    marks = {"required": "<{}>", "optional": "[{}]", "any": "[{}]...", "some": "<{}>..."}
+    return marks[argument.kind].format(argument.value)
+
+
+def usage(command, title, used=None):
+    """The usage line of a command, with the options that are used, or `[OPTIONS]` if `used` is None."""
+    if used is None:
+        words = ["[OPTIONS]"] * bool(command.options) + ["[COMMAND]"] * bool(command.commands)
+    else:
+        words = [shown(it) for it in command.options.values() if it.name in used]
+        words += ["--help"] * ("help" in used)
+    return " ".join(["Usage:", title, *words, *map(shown, command.positional)])
+
+
+def fault(text, line=None, tip=None):
+    return Told("".join(f"{it}\n\n" for it in (f"error: {text}", tip and f"  tip: {tip}", line) if it) + f"{MORE}\n")
+
+
+def columns(rows):
+    width = max(len(left) for left, _ in rows)
+    return "".join(f"  {left:{width}}  {right}\n" for left, right in rows)
+
+
+def help_text(command, title):
+    options = [(f"    {shown(it)}", it.help) for it in command.options.values()]
+    parts = [f"{command.about}\n\n{usage(command, title)}\n"]
+    if command.commands:
+        rows = [(it.name, it.about) for it in command.commands.values()]
+        parts.append(f"Commands:\n{columns([*rows, ('help', HELP)])}")
+    if command.positional:
+        parts.append(f"Arguments:\n{columns([(shown(it), it.help) for it in command.positional])}")
+    parts.append(f"Options:\n{columns([*options, ('-h, --help', 'Print help')])}")
+    return Told("\n".join(parts), 0)
+
+
+def help_of(top, title, words):
+    """The help of the subcommand that the words after `help` name."""
+    command = top
+    for word in words:
+        if word == "help" and command is top:
+            arguments = "Arguments:\n  [COMMAND]...  Print help for the subcommand(s)"
+            return Told(f"{HELP}\n\nUsage: {title} help [COMMAND]...\n\n{arguments}\n", 0)
+        if word not in command.commands:
+            return fault(f"unrecognized subcommand '{word}'", usage(command, title))
+        command, title = command.commands[word], f"{title} {word}"
+    return help_text(command, title)
+
+
+# ---- reading
+
+
+class Reader:
+    """A reader of the words of one command, up to its subcommand if it has any.
+
+    `values` holds what was read, by names, `given` the values without an option. `waiting` is an option whose value
+    comes next.
+    """
+
+    def __init__(self, command, title, words):
+        self.command, self.title, self.words = command, title, collections.deque(words)
+        self.values, self.waiting, self.is_escaped, self.given = {}, None, False, []
+
+    def unexpected(self, word, used, tip=None):
+        return fault(f"unexpected argument '{word}' found", usage(self.command, self.title, used), tip)
+
+    def lacks(self):
+        return fault(f"a value is required for '{shown(self.waiting)}' but none was supplied")
+
+    def used(self):
+        """The names of the options so far, or None if there is no word so far."""
+        return {*self.values} if self.values or self.given else None
+
+    def put(self, argument, value):
+        if argument.name in self.values:
+            line = usage(self.command, self.title)
+            raise fault(f"the argument '{shown(argument)}' cannot be used multiple times", line)
+        self.values[argument.name] = value
+
+    def unknown(self, word, used):
+        tip = f"to pass '{word}' as a value, use '-- {word}'" if self.command.positional else None
+        return self.unexpected(word, used, tip)
+
+    def long(self, word):
+        """Reads `--NAME`, `--NAME=VALUE`, or the first word of `--NAME VALUE`."""
+        name, has_value, value = word[2:].partition("=")
+        found = self.command.options.get(name)
+        if not found and name != "help":
+            raise self.unknown(f"--{name}", self.used())
+        if self.waiting:
+            raise self.lacks()
+        if has_value and (name == "help" or found.kind == "flag"):
+            line = usage(self.command, self.title, {*self.values, name})
+            raise fault(f"unexpected value '{value}' for '--{name}' found; no more were expected", line)
+        if name == "help":
+            raise help_text(self.command, self.title)
+        if found.kind == "flag":
+            self.put(found, True)
+        elif has_value:
+            self.put(found, value)
+        else:
+            self.waiting = found
+
+    def short(self, word):
+        if not word.startswith("-h"):
+            raise self.unknown(word[:2], None)
+        if self.waiting:
+            raise self.lacks()
+        raise help_text(self.command, self.title)
+
+    def value(self, word):
+        """Reads a word without a hyphen, and returns whether it is the subcommand."""
+        if self.waiting and not self.is_escaped:
+            argument, self.waiting = self.waiting, None
+            self.put(argument, word)
+        elif self.command.commands:
+            return self.subcommand(word)
+        else:
+            self.given.append(word)
+            many = self.command.positional and self.command.positional[-1].kind in ("any", "some")
+            if len(self.given) > len(self.command.positional) and not many:
+                raise self.unexpected(word, None)
+        return False
+
+    def subcommand(self, word):
+        is_known = word in self.command.commands or word == "help"
+        line = usage(self.command, self.title)
+        if self.is_escaped:
+            tip = f"subcommand '{word}' exists; to use it, remove the '--' before it" if is_known else None
+            raise fault(f"unexpected argument '{word}' found", line, tip)
+        if word == "help":
+            raise help_of(self.command, self.title, self.words)
+        if not is_known:
+            raise fault(f"unrecognized subcommand '{word}'", line)
+        return True
+
+    def read(self):
+        """Reads words up to the subcommand, and returns its name; None if there is no subcommand."""
+        while self.words:
+            word = self.words.popleft()
+            if self.is_escaped or word == "-" or not word.startswith("-"):
+                if self.value(word):
+                    return word
+            elif word == "--":
+                self.is_escaped = True
+            elif word.startswith("--"):
+                self.long(word)
+            else:
+                self.short(word)
+        if self.waiting:
+            raise self.lacks()
+        return None
+
+    def place(self):
+        """Gives the values without an option to their arguments."""
+        given, missing = collections.deque(self.given), []
+        for it in self.command.positional:
+            if it.kind in ("any", "some"):
+                self.values[it.name] = [*given]
+                missing += [it] * (it.kind == "some" and not given)
+            elif given:
+                self.values[it.name] = given.popleft()
+            else:
+                missing += [it] * (it.kind == "required")
+        if missing:
+            names = "".join(f"\n  {shown(it)}" for it in missing)
+            line = usage(self.command, self.title, {*self.values})
+            raise fault(f"the following required arguments were not provided:{names}", line)
+
+
+def read(top, title, words):
+    """The Line of the words. Raises Told. `title` is the name of the program in its texts."""
+    try:
+        for word in words:
+            word.encode()
+    except UnicodeEncodeError:
+        raise Told("error: a word of the command line isn't UTF-8\n") from None
+    reader = Reader(top, title, words)
+    name = reader.read()
+    if name is None:
+        raise misuse("no subcommand is named", title)
+    own = Reader(top.commands[name], f"{title} {name}", reader.words)
+    own.read()
+    own.place()
+    return Line(reader.values, name, own.values)
+
+
+def misuse(text, title):
+    """The usage fault of words that don't go together."""
+    return fault(text, f"Usage: {title} [OPTIONS] [COMMAND]")

@@ -1,0 +1,106 @@
+"""Standard input and output. A stream that can't be read or written raises Stop with the line that `nixkeep` prints."""
+import os
+import stat
+import tempfile
+
+from .failures import Stop
+
+CHUNK = 65_536
+# Bytes of an input from a pipe that are held in memory; a longer one is held in a file.
+IN_MEMORY = 1_048_576
+
+
+def keep_closed():
+    """Opens standard streams that are closed, so that no other file gets their numbers. They fail as closed ones do."""
+    for number, mode in enumerate((os.O_WRONLY, os.O_RDONLY, os.O_RDONLY)):
+        try:
+            os.fstat(number)
+        except OSError:
+            # The lowest free number is this one.
+            os.open(os.devnull, mode)
+
+
+def write(parts, number=1):
+    """Writes bytes to standard output or another open file."""
+    try:
+        for part in parts:
+            left = memoryview(part)
+            while left:
+                left = left[os.write(number, left) :]
+    except OSError:
+        raise Stop("failed: output") from None
+
+
+def say(line):
+    """Writes a line to standard error, and returns whether that was possible."""
+    try:
+        write([f"{line}\n".encode("utf-8", "backslashreplace")], 2)
+        return True
+    except Stop:
+        return False
+
+
+def read(count):
+    try:
+        return os.read(0, count)
+    except OSError:
+        raise Stop("failed: input") from None
+
+
+def received(most=None):
+    """Yields the bytes of standard input, at most `most` of them."""
+    while most is None or most > 0:
+        part = read(CHUNK if most is None else min(CHUNK, most))
+        if not part:
+            return
+        most = most and most - len(part)
+        yield part
+
+
+def _left_in_file():
+    """The number of bytes that are left on standard input if it is a regular file, else None."""
+    try:
+        seen = os.fstat(0)
+        return seen.st_size - os.lseek(0, 0, os.SEEK_CUR) if stat.S_ISREG(seen.st_mode) else None
+    except OSError:
+        return None
+
+
+class Input:
+    """At most `most` bytes of standard input, with their number, which a request states before its body."""
+
+    def __init__(self, most):
+        left = _left_in_file()
+        self.is_file = left is not None
+        if self.is_file:
+            self.length = max(0, min(left, most))
+            # A file that can't be read is found out before a request is sent.
+            self.first = read(min(CHUNK, self.length)) if self.length else b""
+            return
+        self.file = tempfile.SpooledTemporaryFile(IN_MEMORY)
+        for part in received(most):
+            self.file.write(part)
+        self.length = self.file.tell()
+        self.file.seek(0)
+
+    def parts(self):
+        """Yields exactly `length` bytes."""
+        if not self.is_file:
+            yield from iter(lambda: self.file.read(CHUNK), b"")
+            return
+        left = self.length - len(self.first)
+        if self.first:
+            yield self.first
+        for part in received(left):
+            left -= len(part)
+            yield part
+        if left:
+            # The file became shorter.
+            raise Stop("failed: input")
+
+
+def is_terminal(number=2):
+    try:
+        return os.isatty(number)
+    except OSError:
+        return False
