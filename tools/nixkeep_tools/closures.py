@@ -1,0 +1,178 @@
+"""Transfers of closures between stores: references first, without what is there, and with what is under way kept.
+
+A source has `closure(tops)` and `archive(record)`. A target has `valid(bases)`, `keep(base)`, `put(record, archive)`
+and `set_root(kind, name, base)`. Both have `folder`, `full(base)`, `check_folder()` and `end_session()`. A nixkeep
+store and real Nix can each be both. Paths are base names.
+"""
+import collections
+import hashlib
+
+from . import nar, objects, paths, streams
+from .failures import DENIED, REFUSED, Stop
+from .progress import Progress
+
+MOST_REFERENCES = 4_096
+SESSIONS = 4_194_304
+Done = collections.namedtuple("Done", "sent bytes there")
+
+
+class Refused(Stop):
+    """A refusal of a transfer before it begins, with a line for each object that is to blame."""
+
+
+def session_of(tops):
+    """The number of the session for a transfer of these paths, the same whenever it is repeated."""
+    digest = hashlib.sha256("\n".join(sorted(tops)).encode()).digest()
+    return 1 + int.from_bytes(digest[:8], "little") % SESSIONS
+
+
+def references_first(records):
+    """The paths of the records, each after those that it refers to."""
+    order, seen = [], set()
+    for top in sorted(records):
+        left = [(top, False)]
+        while left:
+            base, is_done = left.pop()
+            if is_done:
+                order.append(base)
+            elif base not in seen:
+                seen.add(base)
+                left.append((base, True))
+                left += [(it, False) for it in records[base].refs if it in records and it not in seen]
+    return order
+
+
+def reached(records, base):
+    """The closure of a path, as a set."""
+    found, left = set(), [base]
+    while left:
+        at = left.pop()
+        if at not in found:
+            found.add(at)
+            left += records[at].refs
+    return found
+
+
+class Transfer:
+    """A transfer of the closure of the paths `tops`. `what` is its name in the line of progress."""
+
+    def __init__(self, source, target, tops, what):
+        self.source, self.target, self.tops, self.what = source, target, tops, what
+        self.records, self.missing, self.done, self.is_sending = {}, [], 0, False
+
+    def prepare(self):
+        """Finds what is missing in the target. Raises Refused if not all of it can be sent."""
+        try:
+            self.find()
+        except Refused:
+            self.end_sessions()
+            raise
+
+    def find(self):
+        self.target.check_folder()
+        self.source.check_folder()
+        found = self.source.closure(self.tops)
+        self.records = {base: objects.with_address(it, self.target.folder) for base, it in found.items()}
+        self.refuse_large()
+        there = self.held(self.target.valid(self.records))
+        self.missing = [base for base in references_first(self.records) if base not in there]
+        self.refuse_untrusted()
+
+    def refuse_large(self):
+        large = [it for it in self.records.values() if it.nar_size > nar.LIMIT]
+        many = [it for it in self.records.values() if len(it.refs) > MOST_REFERENCES]
+        lines = [f"refused: 8 too-large {self.source.full(it.base)} {it.nar_size} bytes" for it in large]
+        lines += [f"refused: 33 too-many-references {self.source.full(it.base)}" for it in many]
+        if lines:
+            raise Refused("\n".join(lines), REFUSED)
+
+    def held(self, there, is_careful=False):
+        """Keeps the paths that are there, and returns them, without those that a collection has deleted meanwhile.
+
+        A path that is kept keeps what it refers to. `is_careful` keeps each path by itself all the same.
+        """
+        held = set()
+        for base in reversed(references_first(self.records)):
+            if base in there and (is_careful or base not in held) and self.target.keep(base):
+                held |= {base} if is_careful else reached(self.records, base) & there
+        return held
+
+    def refuse_untrusted(self):
+        """Raises Refused if an object without a content address is missing, and the caller isn't trusted."""
+        left = [self.records[it] for it in self.missing if not self.records[it].ca]
+        if not left or not isinstance(self.target, objects.Store) or self.target.is_trusted():
+            return
+        folder = self.target.folder
+        found = [it for it in left if not objects.text_address(it, self.archive(it), folder)]
+        if found:
+            raise Refused("\n".join(f"denied: trusted-import {self.target.full(it.base)}" for it in found), DENIED)
+
+    def archive(self, record):
+        """The archive of an object, tested by its record."""
+        found = self.source.archive(record)
+        if len(found) != record.nar_size or paths.sha256([found]) != record.nar_hash:
+            raise Stop(
+                f"failed: archive: {self.source.full(record.base)} in {self.source} has another hash than its record"
+            )
+        return found
+
+    def send(self):
+        """Sends what is missing, and returns what was done."""
+        self.is_sending = True
+        total = sum(self.records[it].nar_size for it in self.missing)
+        there, progress = len(self.records) - len(self.missing), Progress(self.what, total, len(self.missing))
+        try:
+            for base in self.missing:
+                self.put(self.records[base])
+                self.done += 1
+                progress.add(self.records[base].nar_size, 1)
+        finally:
+            progress.end()
+        return Done(self.done, total, there)
+
+    def put(self, record):
+        archive = self.archive(record)
+        for _ in range(3):
+            if self.target.put(record, archive):
+                return
+            self.restore(record)
+        raise Stop(f"refused: 24 missing-reference {self.target.full(record.base)}", REFUSED)
+
+    def restore(self, record):
+        """Sends what is missing of the references of an object.
+
+        That is needed if an object in the target has other references than the same path in the source, so that it
+        doesn't keep these.
+        """
+        needed = reached(self.records, record.base) - {record.base}
+        there = self.held(self.target.valid(needed), is_careful=True)
+        for base in references_first(self.records):
+            if base in needed and base not in there:
+                self.target.put(self.records[base], self.archive(self.records[base]))
+
+    def finish(self, root):
+        """Sets the root, a kind and a name, unless it is None, and ends the sessions."""
+        if root:
+            kind, name = root
+            streams.write([self.target.set_root(kind, name, self.tops[0]).encode()])
+        self.end_sessions()
+
+    def end_sessions(self):
+        self.target.end_session()
+        self.source.end_session()
+
+    def plan(self):
+        """The bytes and the path of each object that is missing, a line each."""
+        return "".join(f"{self.records[it].nar_size:>10} {self.target.full(it)}\n" for it in self.missing)
+
+    def stopped(self):
+        """The line that is printed of a transfer that was broken off."""
+        kept = [it for it in (self.source, self.target) if isinstance(it, objects.Store)]
+        lines = [f"session {it.session} of {it.me} at {it} keeps what is there" for it in kept]
+        return "; ".join(
+            [f"{self.done} of {len(self.missing)} objects were sent, and the same command goes on there", *lines]
+        )
+
+
+def summary(what, done):
+    return f"{what} {done.sent} objects, {done.bytes} bytes; {done.there} were there\n"

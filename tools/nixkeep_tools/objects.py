@@ -1,0 +1,245 @@
+"""The objects of a nixkeep store over HTTP: records, archives, imports, roots, and a session for what is under way.
+
+Paths are base names. A request that isn't done raises Stop with the line of `nixkeep`, the path, and the exit status.
+"""
+import collections
+import os
+import re
+import socket
+import subprocess
+import tempfile
+
+from . import nar, paths
+from .failures import DONE, REFUSED, Stop
+from .http_client import Foreign, Lost, Server, SocketConnection
+
+# `nar_hash` is 32 bytes, `refs` a list of base names, `deriver` a base name or None, `ca` a content address or None.
+Record = collections.namedtuple("Record", "base nar_hash nar_size refs deriver ca")
+NOT_VALID, MISSING_REFERENCE, BAD_BODY, BAD_NAME = 23, 24, 41, 34
+TRIES = 10
+
+
+def lines(*pairs):
+    """The lines of a body, and the empty one after them."""
+    return "".join(f"{key}: {value}\n" for key, value in pairs).encode() + b"\n"
+
+
+def read_record(text):
+    """The Record in a text of `nixkeep info`."""
+    fields = dict(line.partition(": ")[::2] for line in text.splitlines())
+    base = fields["StorePath"].rpartition("/")[2]
+    digest = paths.unbase32(fields["NarHash"].removeprefix("sha256:"), 32)
+    refs = fields["References"].split()
+    return Record(base, digest, int(fields["NarSize"]), refs, fields.get("Deriver"), fields.get("CA"))
+
+
+def source_address(record, folder):
+    """The content address of a source if the path is that of one, else None."""
+    if record.base in record.refs:
+        return None
+    of = paths.path_of("source", record.nar_hash, record.base[33:], record.refs, folder)
+    return paths.address("source", record.nar_hash) if of == record.base else None
+
+
+def contents(archive):
+    """The contents of an archive that is a regular file and not executable, else None."""
+    found = bytearray()
+    try:
+        kinds = [it.kind for it in nar.walk([archive], lambda _, part: found.extend(part))]
+    except nar.Fault:
+        return None
+    return bytes(found) if kinds == ["r"] else None
+
+
+def text_address(record, archive, folder):
+    """The content address of a text if the path is that of one, else None."""
+    found = None if record.base in record.refs else contents(archive)
+    if found is None:
+        return None
+    digest = paths.sha256([found])
+    of = paths.path_of("text", digest, record.base[33:], record.refs, folder)
+    return paths.address("text", digest) if of == record.base else None
+
+
+def _is_address(text):
+    try:
+        return text is not None and bool(paths.read_address(text))
+    except paths.Malformed:
+        return False
+
+
+def with_address(record, folder):
+    """The record with its content address if nixkeep has such addresses, else with that of a source, or none."""
+    is_kept = _is_address(record.ca) and record.base not in record.refs
+    return record._replace(ca=record.ca if is_kept else source_address(record, folder))
+
+
+class Child:
+    """A process `nixkeep serve` on a database file, over a pair of sockets."""
+
+    def __init__(self, program, file, config):
+        ours, theirs = socket.socketpair()
+        self.errors, self.socket = tempfile.TemporaryFile(), ours
+        words = [program, "--db", file, *(["--config", config] if config else []), "serve"]
+        try:
+            self.process = subprocess.Popen(words, stdin=theirs, stdout=theirs, stderr=self.errors)
+        except OSError as error:
+            raise Stop(f"failed: program: {program}: {error.strerror}") from None
+        finally:
+            theirs.close()
+
+    def server(self, place, caller):
+        return Server(place, caller, connection=SocketConnection(self.socket))
+
+    def end(self):
+        """Ends the process, and returns its standard error and its exit status."""
+        self.socket.close()
+        status = self.process.wait()
+        self.errors.seek(0)
+        return self.errors.read().decode("utf-8", "backslashreplace").strip(), status
+
+
+class FilePlace:
+    """The place of a server that is a child process."""
+
+    is_private, prefix, host = True, "", None
+
+    def __init__(self, file):
+        self.url = file
+
+
+class Store:
+    """A nixkeep store with a caller, named `me` there, and the number of the caller's session.
+
+    `folder` is the store directory. `child` is the process for a database file.
+    """
+
+    def __init__(self, server, me, folder, child=None):
+        self.server, self.me, self.folder, self.child = server, me, folder, child
+        self.session = None
+
+    def __str__(self):
+        return self.server.place.url
+
+    def ask(self, method, target, body=b"", about=None, allowed=()):
+        """The number of the refusal, None if the request is done, and the bytes of the reply.
+
+        Raises Stop for a request that isn't done, except refusals whose numbers are `allowed`. `about` is a full path.
+        """
+        try:
+            reply = self.server.ask(method, target, body, is_repeated=True)
+            text = b"".join(reply.parts())
+        except Lost:
+            # A child that ended has printed why.
+            said, status = self.child.end() if self.child else ("", 0)
+            if said:
+                raise Stop(said, status) from None
+            raise
+        number = reply.refusal()
+        if reply.status != DONE and number not in allowed:
+            line = text.decode("utf-8", "backslashreplace").rstrip("\n")
+            raise Stop(f"{line} {about}" if about else line, reply.status)
+        return number, text
+
+    def full(self, base):
+        return f"{self.folder}/{base}"
+
+    def check_folder(self):
+        """Tests the store directory, by a deletion that is denied to everybody."""
+        head = lines(("path", self.full("0" * 32 + "-none")), ("ignore-liveness", "true"))
+        if self.probe("POST", "/delete", head) == BAD_BODY:
+            raise Stop(f"failed: store-dir: {self}: it isn't a store of {self.folder}")
+
+    def probe(self, method, target, body=b""):
+        """The number of the refusal of a request that is never done; None if a rule or a proxy forbids it."""
+        try:
+            return self.ask(method, target, body, allowed=(BAD_BODY, BAD_NAME))[0]
+        except Foreign:
+            return None
+        except Stop as stop:
+            if stop.line in ("denied: no-ignore-liveness", "denied: trusted-permanent-root"):
+                return None
+            raise
+
+    def is_trusted(self):
+        """Whether the caller is trusted. Only then the server looks at the bad name of a permanent root."""
+        return self.probe("DELETE", "/root/permanent/-") == BAD_NAME
+
+    # ---- what is there
+
+    def record(self, base):
+        _, text = self.ask("GET", f"/info/{base}", about=self.full(base))
+        return read_record(text.decode())
+
+    def closure(self, tops):
+        """The records of the closure of these paths, by base names. The session keeps it."""
+        for base in tops:
+            if not self.keep(base):
+                raise Stop(f"refused: {NOT_VALID} not-valid {self.full(base)}", REFUSED)
+        found, left = {}, list(tops)
+        while left:
+            base = left.pop()
+            if base not in found:
+                found[base] = self.record(base)
+                left += found[base].refs
+        return found
+
+    def valid(self, bases):
+        """The valid ones of these paths, as a set."""
+        _, text = self.ask("GET", "/paths")
+        return {line.rpartition("/")[2] for line in text.decode().splitlines()} & set(bases)
+
+    def archive(self, record):
+        return self.ask("GET", f"/nar/{record.base}", about=self.full(record.base))[1]
+
+    # ---- what is put there
+
+    def keep(self, base):
+        """Keeps a path by the session, and returns whether the path is valid."""
+        target = f"/temp/{self.me}/{self.session}"
+        number, _ = self.ask("POST", target, lines(("path", base)), self.full(base), (NOT_VALID,))
+        return number is None
+
+    def put(self, record, archive):
+        """Imports an object and keeps it. Returns False if a reference of it isn't valid."""
+        pairs = [("path", record.base), ("nar-hash", paths.nar_hash(record.nar_hash))]
+        pairs += [("reference", it) for it in record.refs]
+        address = record.ca or text_address(record, archive, self.folder)
+        pairs += [(key, value) for key, value in (("deriver", record.deriver), ("ca", address)) if value]
+        body, about = lines(*pairs) + archive, self.full(record.base)
+        for _ in range(TRIES):
+            number, _ = self.ask("POST", "/import", body, about, (MISSING_REFERENCE,))
+            if number is not None:
+                return False
+            # A collection may have deleted it before it is kept.
+            if self.keep(record.base):
+                return True
+        raise Stop(f"failed: collected: {about} was deleted {TRIES} times before it could be kept")
+
+    def set_root(self, kind, name, base):
+        """Sets a root, and returns the text of the reply. `kind` is root, permanent or profile."""
+        targets = {
+            "permanent": f"/root/permanent/{name}",
+            "root": f"/root/user/{self.me}/{name}",
+            "profile": f"/profile/{self.me}/{name}",
+        }
+        return self.ask("POST", targets[kind], lines(("path", base)), self.full(base))[1].decode()
+
+    def end_session(self):
+        self.ask("DELETE", f"/temp/{self.me}/{self.session}")
+
+    def close(self):
+        if self.child:
+            self.child.end()
+        else:
+            self.server.connection.close()
+
+
+def is_url(text):
+    return re.match(r"(?:https?|unix):", text) is not None
+
+
+def program_beside(folder):
+    """The program `nixkeep` in a folder if it is there, else the name of the one on the path."""
+    beside = os.path.join(folder, "nixkeep")
+    return beside if os.access(beside, os.X_OK) and not os.path.isdir(beside) else "nixkeep"
