@@ -32,6 +32,8 @@ PACKAGES = {
     "jinja2": "python3-jinja2",
 }
 counts = {"passed": 0, "failed": 0}
+# A script that is ended ends its parts, too.
+signal.signal(signal.SIGTERM, lambda *_: sys.exit(1))
 
 
 def check(what, is_so, seen=""):
