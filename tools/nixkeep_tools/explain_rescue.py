@@ -20,7 +20,7 @@ SCRIPT = """#!/bin/sh
 set -eu
 here=$(dirname "$0")
 store=${{1:?usage: sh restore NEW.db}}
-nixkeep() {{ "${{NIXKEEP:-nixkeep}}" --db "$store" --config "$here/store.toml" "$@"; }}
+nixkeep() {{ command "${{NIXKEEP:-nixkeep}}" --db "$store" --config "$here/store.toml" "$@"; }}
 
 # Each body goes to one server, so the file is opened once for all of them.
 answers=$(
