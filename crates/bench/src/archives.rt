@@ -27,7 +27,7 @@ pub fn example(rt: &HostRuntime) -> io::Result<()> {
     made::run(rt)
 }
 
-/// What the words behind the first two ask for.
+/// What the words after the first two ask for.
 pub fn run(rt: &HostRuntime, words: &[String]) -> io::Result<()> {
     let Some(first) = words.get(2) else {
         return println!(rt; "{USAGE}");

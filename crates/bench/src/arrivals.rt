@@ -29,7 +29,7 @@ pub fn example(rt: &HostRuntime) -> io::Result<()> {
     seams::run(rt, NEAR)
 }
 
-/// What the words behind the first two ask for.
+/// What the words after the first two ask for.
 pub fn run(rt: &HostRuntime, words: &[String]) -> io::Result<()> {
     let Some(first) = words.get(2) else {
         return println!(rt; "{USAGE}");

@@ -24,7 +24,7 @@ pub fn example(rt: &HostRuntime) -> io::Result<()> {
     shown::run(rt)
 }
 
-/// What the words behind the first two ask for.
+/// What the words after the first two ask for.
 pub fn run(rt: &HostRuntime, words: &[String]) -> io::Result<()> {
     let numbers = (
         number(words.get(3)),

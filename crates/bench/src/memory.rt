@@ -2,7 +2,7 @@
 
 use std::{fs, io};
 
-/// Prints the most memory that the process has held so far, as Linux tells it: `VmHWM: N kB`.
+/// Prints the most memory that the process has held so far, as Linux reports it: `VmHWM: N kB`.
 pub fn peak(rt: &HostRuntime) -> io::Result<()> {
     let status = fs::read_to_string(rt, "/proc/self/status")?;
     for line in status.as_str().lines() {

@@ -1,9 +1,9 @@
--- What a function answers, beside what reading gives.
+-- What a function answers, compared with what reading gives.
 use Rattle.std.specs.Prelude.{◌≡◌, Option, Some, None, Result, Ok, Err, ⊤}
 use Rattle.drv.specs.declared.error.DrvError.{DrvError}
 use Rattle.drv.specs.declared.error.DrvError.TheVariants.{BadDerivation, DoubleOutput, Memory}
 
--- want of memory says nothing
+-- running out of memory says nothing
 abbrev pub Fails : {A : Type 0} → DrvError → Option A → Type 0
 Fails BadDerivation read = read ≡ None
 Fails DoubleOutput read = ⊥

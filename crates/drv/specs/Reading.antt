@@ -1,4 +1,4 @@
--- What reading from the front gives, as functions on bytes. Nobody needs to believe them: the laws tie the last
+-- What reading from the beginning gives, as functions on bytes. Nobody needs to believe them: the laws tie the last
 -- of them to the text that a derivation is written as.
 use Rattle.std.specs.Prelude.{ℕ, zero, suc, ◌+◌, ◌==◌, ◌&&◌, Bool, true, false, List, [], ◌∷◌, ◌++◌, length, drop, codes, Option, Some, None, option_map, if◌then◌else◌}
 use Rattle.paths.specs.Names.{is_store_name, begins}
@@ -16,7 +16,7 @@ after byte (b ∷ rest) = if b == byte then Some rest else None
 
 -- ---- strings
 
--- the byte that is meant by a letter behind a backslash
+-- the byte that a letter after a backslash means
 abbrev pub unescaped : ℕ → Option ℕ
 unescaped letter =
     if letter == 34 then Some 34
@@ -30,7 +30,7 @@ abbrev pub with_byte : ℕ → Option (List ℕ × List ℕ) → Option (List �
 with_byte b (Some x) = Some (b ∷ x.0, x.1)
 with_byte b None = None
 
--- the bytes that are meant up to the quote that ends a string, and what follows it; behind a backslash, or not
+-- the bytes that are meant up to the quote that ends a string, and what follows it; after a backslash, or not
 unfoldable pub body_at : Bool → List ℕ → Option (List ℕ × List ℕ)
 body_at escaped [] = None
 body_at true (b ∷ rest) = unescaped b >>= λ byte. with_byte byte (body_at false rest)
@@ -59,7 +59,7 @@ abbrev pub with_item : {A : Type 0} → A → Option (List A × List ℕ) → Op
 with_item x (Some y) = Some (x ∷ y.0, y.1)
 with_item x None = None
 
--- with items in front
+-- with items before it
 abbrev pub with_items : {A : Type 0} → List A → Option (List A × List ℕ) → Option (List A × List ℕ)
 with_items front (Some y) = Some (front ++ y.0, y.1)
 with_items front None = None
@@ -87,12 +87,12 @@ list_end item text = rest_of (list_at (alone item) text)
 
 -- ---- the parts of a derivation
 
--- one behind the other
+-- one after the other
 infixl 20 ◌>=>◌
 abbrev pub ◌>=>◌ : (List ℕ → Option (List ℕ)) → (List ℕ → Option (List ℕ)) → List ℕ → Option (List ℕ)
 (first >=> second) text = first text >>= second
 
--- behind a comma
+-- after a comma
 unfoldable pub further : (List ℕ → Option (List ℕ)) → List ℕ → Option (List ℕ)
 further part text = after 44 text >>= part
 
@@ -135,7 +135,7 @@ output_at dir text =
 unfoldable pub front_end : List ℕ → Option (List ℕ)
 front_end = after 68 >=> after 101 >=> after 114 >=> after 105 >=> after 118 >=> after 101 >=> after 40
 
--- what comes behind the outputs
+-- what comes after the outputs
 unfoldable pub inputs_end : List ℕ → Option (List ℕ)
 inputs_end = further (list_end input_end) >=> further (list_end string_end)
 

@@ -6,7 +6,7 @@ use Rattle.std.specs.List.{flat_map}
 abbrev pub is_plain : ℕ → Bool
 is_plain b = not (b == 34) && not (b == 92)
 
--- A byte as it is written: a plain one as itself, or one of the five that are written behind a backslash.
+-- A byte as it is written: a plain one as itself, or one of the five that are written after a backslash.
 pub data Written : Type 0 where
   itself : (b : ℕ) → is_plain b ≡ true → Written
   quote : Written
@@ -15,7 +15,7 @@ pub data Written : Type 0 where
   carriage_return : Written
   tab : Written
 
--- how it stands in the text
+-- how it is written in the text
 abbrev pub written : Written → List ℕ
 written (itself b plain) = b ∷ []
 written quote = 92 ∷ 34 ∷ []

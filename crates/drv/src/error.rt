@@ -12,7 +12,7 @@ pub enum DrvError {
     /// The text isn't that of a derivation with outputs in the store directory.
     #[error("bad-derivation")]
     BadDerivation,
-    /// It is, and two of its outputs share a name.
+    /// The text is a derivation, and two of its outputs share a name.
     #[error("double-output")]
     DoubleOutput,
     /// Memory was refused: it says nothing of the text.

@@ -1,4 +1,4 @@
-//! A derivation text, read from the front to the end.
+//! A derivation text, read from its beginning to its end.
 
 ghost use Rattle.std.specs.Prelude.{◌≡◌, length};
 ghost use Rattle.drv.specs.Answer.{Gives};

@@ -19,7 +19,7 @@ pub fn after(text: &[u8], byte: u8) -> Option<&[u8]>
     }
 }
 
-/// The byte that is meant by a letter behind a backslash.
+/// The byte that a letter after a backslash means.
 fn unescaped(letter: u8) -> Option<u8>
     ensures { result ≡ reading.unescaped letter }
 {

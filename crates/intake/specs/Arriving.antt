@@ -1,4 +1,4 @@
--- What an intake knows of the bytes that it has taken, and what it tells of them.
+-- What an intake knows of the bytes that it has taken, and what it says of them.
 use Rattle.std.specs.Prelude.{List, ℕ, [], ◌++◌, ◌*◌, ◌/◌, length, take, Option, Some, None, Result, Ok, Err, ⊤}
 use Rattle.sha2.specs.declared.Sha256.{Sha256}
 use Rattle.sha2.specs.Hashers.{Holds256}
@@ -22,7 +22,7 @@ pub record HasTaken (checker : Checker) (hasher : Sha256) (contents : Option Sha
   pub hashed : Holds256 hasher (take (65536 * (length bytes / 65536)) bytes)
   pub contents_hashed : MayHold contents (contents_so_far (take (65536 * (length bytes / 65536)) bytes))
 
--- the bytes and a piece behind them; nothing where the intake is spent
+-- the bytes and a piece after them; nothing where the intake is spent
 abbrev pub appended : Option (List ℕ) → List ℕ → Option (List ℕ)
 appended None piece = None
 appended (Some bytes) piece = Some (bytes ++ piece)

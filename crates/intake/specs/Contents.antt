@@ -14,7 +14,7 @@ plain_front = spelling (other (codes "nix-archive-1") ∷ other (codes "(") ∷ 
 abbrev pub begins_plain : List ℕ → Bool
 begins_plain bytes = bytes_eq (take 88 bytes) plain_front
 
--- of the bytes behind the length that stands behind the front, as many as it says
+-- of the bytes after the length that follows the prefix, as many as it says
 abbrev pub behind_front : List ℕ → List ℕ
 behind_front bytes = take (length_at (drop 88 bytes)) (drop 96 bytes)
 

@@ -1,4 +1,4 @@
--- What is told of an archive that has come.
+-- What is found of an archive that has come.
 use Rattle.std.specs.Prelude.{◌≡◌, IfSome}
 use Rattle.sha2.specs.Sha256.{sha256}
 use Rattle.nar.specs.Tree.{IsBytes}

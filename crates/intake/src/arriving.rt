@@ -15,21 +15,21 @@ use std::alloc::{AllocError, Global};
 use std::marker::Model;
 use streams::Pieces;
 
-/// The bytes that came, and what is told of them.
+/// The bytes that came, and what is found of them.
 #[derive(Drop)]
 pub struct Arrived {
     /// What is wrong with them as an archive, if anything is.
     pub fault: Option<NarError>,
-    /// Their SHA-256 digest.
+    /// The SHA-256 digest of the bytes.
     pub nar_hash: [u8; 32],
-    /// That of the contents which they begin with as the archive of a file that isn't executable, where it was asked for.
+    /// The digest of the contents with which the bytes begin as the archive of a file that isn't executable, where it was asked for.
     pub contents_hash: Option<[u8; 32]>,
     /// The bytes themselves.
     pub pieces: Pieces,
 }
 
 impl Arrived {
-    /// What is told of the bytes for a content address. Where they are the archive of a file that isn't executable, and
+    /// What is found of the bytes for a content address. Where they are the archive of a file that isn't executable, and
     /// the digest of its contents wasn't asked for, these are hashed here.
     pub fn facts(&self) -> Facts
         ensures { IsTold self.now → result ≡ facts_of self.now.pieces }
@@ -134,7 +134,7 @@ impl Arriving {
         let _len = self.pieces.len();
     }
 
-    /// What is told at the end. Of the bytes it looks only at what isn't hashed yet.
+    /// What is found at the end. Of the bytes it looks only at what isn't hashed yet.
     pub fn finish(self) -> Arrived
         ensures pieces { result.pieces ≡ self }
         ensures told { IsTold result }

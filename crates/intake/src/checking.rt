@@ -9,7 +9,7 @@ ghost use Rattle.intake.specs.Arriving.{fault_of};
 use nar::{Checker, NarError};
 use std::alloc::AllocError;
 
-/// Feeds a checker, of which only want of memory is told: it remembers a fault by itself.
+/// Feeds a checker. Only running out of memory is reported: the checker remembers a fault by itself.
 pub(crate) fn feed(checker: &mut Checker, piece: &[u8]) -> Result<(), AllocError>
     ensures fed { (all : List ℕ) → HasBeenFed checker.old all → HasBeenFed checker.new (all ++ piece.now) }
     ensures sound { OnOk result (¬ HasFailed checker.new memory) }

@@ -27,7 +27,7 @@ pub fn begins_plain(archive: &[u8]) -> bool
     same_bytes(front, FRONT)
 }
 
-/// The length that stands behind the front.
+/// The length that follows the prefix.
 fn length_behind_front(archive: &[u8]) -> u64
     requires { 96 ≤ length archive.now }
     ensures { result ≡ length_at (drop 88 archive.now) }
@@ -39,7 +39,7 @@ fn length_behind_front(archive: &[u8]) -> u64
     ])
 }
 
-/// What of a piece is contents, where the archive begins with `first`, and so many bytes came before the piece.
+/// The part of a piece that is contents, where the archive begins with `first`, and a given number of bytes came before the piece.
 pub fn contents_in<'a>(first: &[u8], before: usize, piece: &'a [u8]) -> &'a [u8]
     ensures { (old : List ℕ) → length old ≡ before → first.now ≡ take 65536 (old ++ piece.now) → contents_so_far (old ++ piece.now) ≡ contents_so_far old ++ result.now }
 {

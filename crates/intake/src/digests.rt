@@ -54,7 +54,7 @@ fn hash_contents(hasher: &mut Sha256, pieces: &Pieces, from: usize, to: usize)
     }
 }
 
-/// The same, where contents are asked for.
+/// Hashes the contents from one place up to another, where they are asked for.
 pub fn hash_asked(contents: &mut Option<Sha256>, pieces: &Pieces, from: usize, to: usize)
     requires order { from ≤ to }
     requires within { to ≤ count_of pieces.now }
@@ -98,7 +98,7 @@ fn contents_hash(known: Option<[u8; 32]>, pieces: &Pieces) -> [u8; 32]
     }
 }
 
-/// The same, where the bytes begin as the archive of a file that isn't executable.
+/// The digest of the contents, where the bytes begin as the archive of a file that isn't executable.
 fn hash_if_plain(known: Option<[u8; 32]>, pieces: &Pieces) -> Option<[u8; 32]>
     requires small { length pieces.now < 2 ^ 64 }
     ensures { IfSome known (λ h. h ≡ sha256 (contents_so_far pieces.now)) → result ≡ hash_so_far pieces.now }

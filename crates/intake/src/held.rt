@@ -1,4 +1,4 @@
-//! What is told of bytes that are held already.
+//! What is found of bytes that are held already.
 
 ghost use Rattle.std.specs.Prelude.{◌≡◌, IfOk};
 ghost use Rattle.intake.specs.Told.{IsTold};
@@ -11,7 +11,7 @@ use std::alloc::{AllocError, Global};
 use streams::Pieces;
 
 impl Arrived {
-    /// What is told of these bytes. Each piece is checked and hashed once, where it lies, and none is copied; the digest of contents
+    /// What is found of these bytes. Each piece is checked and hashed once, where it lies, and none is copied; the digest of contents
     /// isn't among it.
     ///
     /// # Errors

@@ -26,7 +26,7 @@ impl Model for Intake {
     ghost view = { λ i. i.so_far };
 }
 
-/// Lets go what has come. It stands apart from `push`, which would else clear room for it at each call.
+/// Lets go what has come. A function apart from `push`, which would else clear room for it at each call.
 #[cold]
 #[inline(never)]
 fn spend(so_far: &mut Option<Arriving>)
@@ -45,7 +45,7 @@ impl Intake {
         }
     }
 
-    /// These bytes.
+    /// An intake of these bytes.
     ///
     /// # Errors
     ///

@@ -1,4 +1,4 @@
--- Laws of adds that have several faults: which of them is told.
+-- Laws of adds that have several faults: which of them is reported.
 use Rattle.std.specs.Prelude.{◌≡◌, ℕ, ◌<◌, ◌≤◌, Bool, List, length, Some, Ok, Err, IsTrue, IsFalse, Contains}
 use Rattle.std.specs.FinMap as finite
 use Rattle.sha2.specs.Sha256.{sha256}
@@ -24,7 +24,7 @@ use Rattle.model.specs.Adds.{text_archive}
 use Rattle.model.specs.Step.{Step}
 use Rattle.laws.specs.Faults.{IsRefusedWith}
 
--- whatever a call of this request is told, if the rules allow it and it doesn't fail, is this refusal
+-- whatever a call of this request answers, if the rules allow it and it doesn't fail, is this refusal
 abbrev pub Refuses : Settings → World → Caller → Request → Refusal → Type 0
 Refuses s w c q r = (reply : Reply) (new : World) → Step s w c q reply new → IsRefusedWith r reply
 
@@ -46,7 +46,7 @@ abbrev pub IsRightTree : List ℕ → Path → Tree → Type 0
 IsRightTree dir p t = (e : DrvError) → IsTrue (is_derivation p) → IsFaultyTree dir t e → ⊥
 
 -- Of a source: too many references; what is wrong with the archive; a reference to itself; what is wrong with a derivation; and a
--- missing reference. Each is told where nothing before it is wrong.
+-- missing reference. Each is reported where nothing before it is wrong.
 pub record SourceFaults (s : Settings) (w : World) (c : Caller) (name : List ℕ) (refs : List Path) (b : List ℕ) : Type 0 where
   pub count : most_references < length refs → Refuses s w c (add_source name refs b) too_many_references
   pub archive_ : length refs ≤ most_references → (e : NarError) → outcome_of b ≡ Err e → Refuses s w c (add_source name refs b) (archive e)
@@ -80,7 +80,7 @@ pub record IsAsAddressed (dir : List ℕ) (i : Imported) : Type 0 where
   pub itself : (a : ContentAddress) → i.ca ≡ Some a → Contains i.refs i.path → ⊥
   pub address : (a : ContentAddress) → i.ca ≡ Some a → IsTrue (verifies a dir i.path (finite.keys (set_of bytes_cmp i.refs)) i.nar)
 
--- Of an import too many references, and what is wrong with the archive; another digest, which `adds_are_refused_for_their_faults` tells;
+-- Of an import too many references, and what is wrong with the archive; another digest, which `adds_are_refused_for_their_faults` covers;
 -- then, under an address, a reference to itself, and an address that doesn't verify; what is wrong with a derivation; and a missing
 -- reference.
 pub record ImportFaults (s : Settings) (w : World) (c : Caller) (i : Imported) : Type 0 where

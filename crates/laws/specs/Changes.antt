@@ -1,4 +1,4 @@
--- Laws of adds, deletions and collections that are done: exactly what comes, what goes, and what is told of it.
+-- Laws of adds, deletions and collections that are done: exactly what comes, what is deleted, and what is answered.
 use Rattle.std.specs.Prelude.{◌≡◌, ◌↔◌, ℕ, ◌+◌, false, Bool, List, [], ◌∷◌, length, Option, Some, None, IsTrue, IsFalse, Contains}
 use Rattle.std.specs.List.Sorted.{IsStrictlySortedBy}
 use Rattle.std.specs.FinMap as finite
@@ -21,7 +21,7 @@ use Rattle.model.specs.Collection.{KeepsRoots}
 
 -- ---- adds
 
--- what an add hands in: a path, references in any order and perhaps twice, a deriver and an address if there are, an archive
+-- what an add passes: a path, references in any order and perhaps twice, a deriver and an address if there are, an archive
 pub record HandedIn : Type 0 where
   pub path : Path
   pub references : List Path
@@ -42,7 +42,7 @@ with_source dir name refs nar = record { path = source_path dir name refs nar; r
 abbrev pub with_import : Imported → HandedIn
 with_import i = record { path = i.path; references = i.refs; deriver = i.deriver; ca = i.ca; nar = i.nar }
 
--- the object that was handed in: the same archive, references, deriver and address, and the outputs that the archive tells
+-- the object that was passed: the same archive, references, deriver and address, and the outputs that the archive records
 pub record IsAsHandedIn (dir : List ℕ) (a : HandedIn) (o : Object) : Type 0 where
   pub nar : o.nar ≡ a.nar
   pub references : (r : Path) → IsTrue (finite.contains_key o.references r) ↔ Contains a.references r
@@ -58,14 +58,14 @@ pub record Gains (dir : List ℕ) (a : HandedIn) (w new : World) : Type 0 where
   pub others : (p : Path) → (p ≡ a.path → ⊥) → finite.get new.objects p ≡ finite.get w.objects p
   pub roots : KeepsRoots w new
 
--- an add that is done answers the path, and gains what was handed in
+-- an add that is done answers the path, and gains what was passed
 abbrev pub AddsExactly : Settings → Request → HandedIn → Type 0
 AddsExactly s q a = (w : World) (c : Caller) (reply : Reply) (new : World) → Step s w c q reply new → IsDone reply
     → (reply ≡ done (path a.path)) × Gains s.store_dir a w new
 
 -- ---- deletions
 
--- From the one world to the other exactly those went that reach one of the named by references, named or not; each other
+-- From the one world to the other exactly those were deleted that reach one of the named by references, named or not; each other
 -- object, and all roots and profiles, are as they were.
 pub record DeletesExactly (named : List Path) (w new : World) : Type 0 where
   pub gone : (p : Path) → RefersToAny (graph_of w) named p → IsFalse (has new p)
@@ -77,14 +77,14 @@ abbrev pub Deletes : Type 0
 Deletes = (s : Settings) (w : World) (c : Caller) (named : List Path) (ignores : Bool) (reply : Reply) (new : World)
     → Step s w c (delete named ignores) reply new → IsDone reply → DeletesExactly named w new
 
--- ---- what is told to be freed
+-- ---- what is said to be freed
 
 -- a number is the sum of the bytes of the archives at these paths, all of them valid
 abbrev pub Weigh : World → List Path → ℕ → Type 0
 Weigh w [] n = n ≡ 0
 Weigh w (p ∷ ps) n = (o : Object) × (rest : ℕ) × (finite.get w.objects p ≡ Some o) × Weigh w ps rest × (n ≡ length o.nar + rest)
 
--- The answer is exactly what went: in order and each once, the paths that were valid before and aren't after, and the bytes
+-- The answer is exactly what was deleted: in order and each once, the paths that were valid before and aren't after, and the bytes
 -- of their archives. What is left is as it was.
 pub record TellsWhatWent (w new : World) (a : Answer) : Type 0 where
   pub went : List Path
@@ -95,6 +95,6 @@ pub record TellsWhatWent (w new : World) (a : Answer) : Type 0 where
   pub weight : Weigh w went bytes
   pub left : (p : Path) → IsTrue (has new p) → finite.get new.objects p ≡ finite.get w.objects p
 
--- a request that is done is answered by what went
+-- a request that is done is answered by what was deleted
 abbrev pub FreesAsTold : Settings → Request → Type 0
 FreesAsTold s q = (w : World) (c : Caller) (a : Answer) (new : World) → Step s w c q (done a) new → TellsWhatWent w new a

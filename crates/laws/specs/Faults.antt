@@ -1,4 +1,4 @@
--- Laws of refusals: which fault of a request is told.
+-- Laws of refusals: which fault of a request is reported.
 use Rattle.std.specs.Prelude.{◌≡◌, ℕ, ◌≤◌, ◌⊎◌, Bool, List, IsTrue, IsFalse, Contains}
 use Rattle.paths.specs.Names.{is_plain_name}
 use Rattle.model.specs.World.{Path, World, has}
@@ -26,7 +26,7 @@ pub record IsSessionOf (owner : List ℕ) (session : ℕ) : Type 0 where
   pub owner_ : IsTrue (is_plain_name owner)
   pub number : IsInBounds session
 
--- A path is kept for a session where nothing is wrong with the session and the path is valid; else the first fault is told, that of
+-- A path is kept for a session where nothing is wrong with the session and the path is valid; else the first fault is reported, that of
 -- the path last.
 pub record TellsTemporaryFault (s : Settings) (w : World) (c : Caller) (owner : List ℕ) (session : ℕ) (p : Path) : Type 0 where
   pub done_ : (a : Answer) (new : World) → Step s w c (add_temp owner session p) (done a) new → IsSessionOf owner session × IsTrue (has w p)
@@ -78,15 +78,15 @@ IsRefusedWith r (done a) = ⊥
 IsRefusedWith r (denied rule root) = Unit {0}
 IsRefusedWith r (failed f) = Unit {0}
 
--- a name that isn't plain is told before any other fault
+-- a name that isn't plain is reported before any other fault
 abbrev pub NamesComeFirst : Type 0
 NamesComeFirst = (s : Settings) (w : World) (c : Caller) (q : Request) (reply : Reply) (new : World) → Step s w c q reply new → HasBadName q → IsRefusedWith bad_root_name reply
 
--- a profile that isn't there is told before any fault of a generation
+-- a profile that isn't there is reported before any fault of a generation
 abbrev pub ProfilesComeNext : Type 0
 ProfilesComeNext = (s : Settings) (w : World) (c : Caller) (q : Request) (reply : Reply) (new : World) → Step s w c q reply new → LacksProfile w q → IsRefusedWith no_profile reply
 
--- of a profile a path that isn't valid is told before a number that is beyond the greatest
+-- of a profile a path that isn't valid is reported before a number that is beyond the greatest
 abbrev pub PathsComeBeforeNumbers : Type 0
 PathsComeBeforeNumbers = (s : Settings) (w : World) (c : Caller) (owner name : List ℕ) (p : Path) (reply : Reply) (new : World) → Step s w c (set_profile owner name p) reply new
     → IsTrue (is_plain_name owner) → IsTrue (is_plain_name name) → IsFalse (has w p) → IsRefusedWith not_valid reply

@@ -7,7 +7,7 @@ use Rattle.tables_world.specs.Rows.{two, three}
 use Rattle.tables_world.specs.Told.{IsSoundBy}
 use Rattle.laws.specs.FaultyRows.{AreUnsound}
 
--- what stands of a path in the table of pieces
+-- what the table of pieces has of a path
 pub record ExcludesFaultyPieces (c : Contents) (p : Path) : Type 0 where
   pub of_no_object : (n : ℤ) → IsTrue (finite.contains_key c.pieces (p, n)) → finite.get c.objects p ≡ None → AreUnsound c
   pub below_1 : (n : ℤ) → IsTrue (finite.contains_key c.pieces (p, n)) → n <ℤ pos 1 → AreUnsound c

@@ -71,7 +71,7 @@ pub record ExcludesFaultyOutputs (c : Contents) (p : Path) : Type 0 where
   pub of_no_object : (name : List ℕ) → IsTrue (finite.contains_key c.outs (p, name)) → finite.get c.objects p ≡ None → AreUnsound c
   pub of_no_derivation : (name : List ℕ) → IsTrue (finite.contains_key c.outs (p, name)) → ((stem : List ℕ) → p ≢ stem ++ codes ".drv") → AreUnsound c
 
--- the object of a path whose name ends in `.drv`, beside its archive, in a store directory
+-- the object of a path whose name ends in `.drv`, with its archive, in a store directory
 pub record ExcludesFaultyDerivation (dir : List ℕ) (c : Contents) (p : Path) (nar : List ℕ) : Type 0 where
   -- the archive is that of no regular file with a derivation text whose outputs have names of their own
   pub no_derivation : ((executable : Bool) (text : List ℕ) (outputs : List (List ℕ × Path)) → IsArchive (regular executable text) nar → ¬ (Records dir text outputs)) → AreUnsoundIn dir c

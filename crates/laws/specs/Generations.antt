@@ -50,7 +50,7 @@ SetsAsTold = (s : Settings) (w : World) (c : Caller) (owner name : List ℕ) (t 
 
 -- ---- another generation becomes the current one
 
--- the profile stood, this number is now its current one, and its generations are as they were
+-- the profile was there, this number is now its current one, and its generations are as they were
 pub record MovesTo (w : World) (owned : Pair) (n : ℕ) (new : World) : Type 0 where
   pub was : Profile
   pub stood : finite.get w.profiles owned ≡ Some was
@@ -60,7 +60,7 @@ pub record MovesTo (w : World) (owned : Pair) (n : ℕ) (new : World) : Type 0 w
   pub current : now.current ≡ n
   pub generations : now.generations ≡ was.generations
 
--- the generation before the current one: it is lower, and none stands between the two
+-- the generation before the current one: it is lower, and none is between the two
 pub record IsPrevious (p : Profile) (n : ℕ) : Type 0 where
   pub there : IsTrue (has_generation p n)
   pub lower : n < p.current
@@ -85,7 +85,7 @@ SwitchesAsTold = (s : Settings) (w : World) (c : Caller) (owner name : List ℕ)
 
 -- ---- a generation is deleted
 
--- it stood and wasn't the current one; it is gone, and the current number and every other generation are as they were
+-- it was there and wasn't the current one; it is gone, and the current number and every other generation are as they were
 pub record LosesGeneration (w : World) (owned : Pair) (n : ℕ) (new : World) : Type 0 where
   pub was : Profile
   pub stood : finite.get w.profiles owned ≡ Some was

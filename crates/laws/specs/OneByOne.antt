@@ -27,7 +27,7 @@ pub record MayGo (s : Settings) (w : World) (limit : ℕ) (gone : List Path) (p 
   pub referrers : (q : Path) (o : Object) → finite.get w.objects q ≡ Some o → IsTrue (finite.contains_key o.references p) → (q ≡ p → ⊥) → Contains gone q
   pub wanted : (bytes : ℕ) → Weigh w gone bytes → bytes < limit
 
--- What went is what may go, one path after another, each the least of those that may; and at the end the archives have as many bytes as the limit, or no dead path is left.
+-- What was deleted is what may be, one path after another, each the least of those that may; and at the end the archives have as many bytes as the limit, or no dead path is left.
 pub record GoesOneByOne (s : Settings) (w : World) (limit : ℕ) (new : World) : Type 0 where
   pub order : List Path
   pub each : (front back : List Path) (p : Path) → order ≡ front ++ p ∷ back → MayGo s w limit front p

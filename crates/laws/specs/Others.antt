@@ -13,13 +13,13 @@ use Rattle.model.specs.Step.{Step}
 
 -- ---- what nobody does for another
 
--- a profile after a call beside the same before: the current generation is as it was, and there are none but those that were
+-- a profile after a call compared with the same before: the current generation is as it was, and there are none but those that were
 pub record HasNoMore (before now : Profile) : Type 0 where
   pub current : now.current ≡ before.current
   pub current_target : finite.get now.generations now.current ≡ finite.get before.generations before.current
   pub generations : (n : ℕ) (t : Path) → finite.get now.generations n ≡ Some t → finite.get before.generations n ≡ Some t
 
--- Of what an owner has things may go, and nothing else changes: no root comes or gets another target, no profile comes or goes, or
+-- Of what an owner has things may be dropped, and nothing else changes: no root comes or gets another target, no profile comes or is dropped, or
 -- moves to another generation.
 pub record OnlyLoses (owner : List ℕ) (w new : World) : Type 0 where
   pub user_roots : (name : List ℕ) (t : Path) → finite.get new.user_roots (owner, name) ≡ Some t → finite.get w.user_roots (owner, name) ≡ Some t
@@ -49,7 +49,7 @@ pub record MayAsTrusted (s : Settings) (w : World) (c : Caller) : Type 0 where
 abbrev pub TrustedMay : Type 0
 TrustedMay = (s : Settings) (w : World) (c : Caller) → IsTrue (is_trusted (class_of s c)) → MayAsTrusted s w c
 
--- what each caller but a stranger may do with what he owns: all that there is
+-- what each caller but a stranger may do with what they own: all that there is
 pub record MayWithHisOwn (s : Settings) (w : World) (c : Caller) : Type 0 where
   pub set_user_root : (name : List ℕ) (p : Path) → verdict s w c (set_user_root c.name name p) ≡ None
   pub drop_user_root : (name : List ℕ) → verdict s w c (drop_user_root c.name name) ≡ None

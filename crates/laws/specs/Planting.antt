@@ -14,7 +14,7 @@ use Rattle.model.specs.Step.{Run}
 use Rattle.model.specs.Soundness.{AreWellFormed}
 use Rattle.laws.specs.Changes.{with_import, IsAsHandedIn}
 
--- How an object came to its path over some calls from a world: it stood there before; or it has a content address, which verifies for
+-- How an object came to its path over some calls from a world: it was there before; or it has a content address, which verifies for
 -- the path, its references and its archive; or a trusted caller imported it there as it is.
 pub data Came (s : Settings) (w : World) (calls : List (Caller × Request)) (p : Path) (o : Object) : Type 0 where
   stood : finite.get w.objects p ≡ Some o → Came s w calls p o

@@ -31,7 +31,7 @@ use Rattle.model.specs.Step.{Step}
 
 -- ---- refusals
 
--- the content address with which an object is handed in doesn't verify
+-- the content address with which an object is passed doesn't verify
 pub record IsNoAddressOf (dir path : List ℕ) (refs : List Path) (nar : List ℕ) (ca : Option ContentAddress) : Type 0 where
   pub given : ContentAddress
   pub is : ca ≡ Some given
@@ -46,7 +46,7 @@ pub record IsNoDerivation (dir path nar : List ℕ) (r : Refusal) : Type 0 where
   pub is : r ≡ derivation fault
   pub faulty : IsFaultyTree dir tree fault
 
--- The fault of a request that a refusal tells, a line each: no request has any other.
+-- The fault of a request that a refusal reports, a line each: no request has any other.
 abbrev pub HasFault : Settings → World → Request → Refusal → Type 0
 HasFault s w (info p) not_valid = IsFalse (has w p)
 HasFault s w (nar p) not_valid = IsFalse (has w p)
@@ -99,11 +99,11 @@ HasFault s w (import_object i) (derivation e) = IsNoDerivation s.store_dir i.pat
 HasFault s w (import_object i) missing_reference = Lacks w i.path i.refs
 HasFault s w _ _ = ⊥
 
--- a request that is refused has the fault that is told
+-- a request that is refused has the fault that is reported
 abbrev pub RefusalsHaveReasons : Type 0
 RefusalsHaveReasons = (s : Settings) (w : World) (c : Caller) (q : Request) (r : Refusal) (new : World) → Step s w c q (refused r) new → HasFault s w q r
 
--- a path of which something is told is valid
+-- a path of which something is answered is valid
 pub record TellsOfTheValid (s : Settings) (w : World) (c : Caller) (p : Path) : Type 0 where
   pub info_ : (a : Answer) (new : World) → Step s w c (info p) (done a) new → IsTrue (has w p)
   pub nar_ : (a : Answer) (new : World) → Step s w c (nar p) (done a) new → IsTrue (has w p)

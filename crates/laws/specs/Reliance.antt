@@ -16,7 +16,7 @@ use Rattle.model.specs.Soundness.{IsWellFormed}
 
 -- ---- strangers
 
--- a stranger changes nothing, and is told nothing but the denial
+-- a stranger changes nothing, and gets nothing but the denial
 abbrev pub StrangersAreDenied : Type 0
 StrangersAreDenied = (s : Settings) (w : World) (c : Caller) (q : Request) (reply : Reply) (new : World)
     → IsTrue (is_stranger (class_of s c)) → Step s w c q reply new → (reply ≡ denied Connect None) × (new ≡ w)

@@ -1,4 +1,4 @@
--- Laws of what listings of roots tell after a call: what came, what went, and nothing else.
+-- Laws of what listings of roots have after a call: what came, what was dropped, and nothing else.
 use Rattle.std.specs.Prelude.{◌≡◌, ◌⊎◌, ℕ, ◌++◌, List, codes, decimal, IsTrue, Contains}
 use Rattle.std.specs.FinMap as finite
 use Rattle.paths.specs.Root.{Kind, permanent, user, profile, runtime, temporary, Root, permanent_label, user_label, generation_label, temporary_label}
@@ -16,7 +16,7 @@ use Rattle.model.specs.Step.{Step}
 use Rattle.laws.specs.Tellings.{ShowsExactly}
 use Rattle.laws.specs.RootsTold.{Shows}
 
--- A caller who asks for all roots, or for those of a path, is told exactly the roots of which something holds, as he sees them.
+-- A caller who asks for all roots, or for those of a path, gets exactly the roots of which something is true, as the caller sees them.
 pub record ListsRoots (s : Settings) (w : World) (c : Caller) (Holds : Root → Type 0) : Type 0 where
   pub all : (a : Answer) (new : World) → Step s w c list_roots (done a) new → ShowsExactly s c Holds a
   pub of : (p : Path) (a : Answer) (new : World) → Step s w c (list_roots_of p) (done a) new
@@ -41,7 +41,7 @@ pub record IsKeptByAnother (w : World) (owner : List ℕ) (session : ℕ) (r : R
   pub keeps : IsTrue (finite.contains_key w.temporary (record { owner = another; session = session; path = r.target }))
   pub is : r ≡ temporary_root (record { owner = another; session = session; path = r.target })
 
--- What was dropped isn't told to whoever asks next, and all that stood beside it is: a permanent root, a user root, a generation;
+-- What was dropped isn't listed to whoever asks next, and every other root from before is: a permanent root, a user root, a generation;
 -- the runtime roots that aren't among those given; and what a session kept, but for what another owner's session of its number keeps.
 pub record DroppedRootsGo (s : Settings) (w : World) (c : Caller) (mid : World) (next : Caller) : Type 0 where
   pub permanent_ : (name : List ℕ) (a : Answer) → Step s w c (drop_permanent name) (done a) mid → ListsRoots s mid next (StoodBeside w permanent (permanent_label name))
@@ -53,7 +53,7 @@ pub record DroppedRootsGo (s : Settings) (w : World) (c : Caller) (mid : World) 
   pub session_ : (owner : List ℕ) (session : ℕ) (a : Answer) → Step s w c (end_session owner session) (done a) mid
       → ListsRoots s mid next (λ r. IsKeptByAnother w owner session r ⊎ StoodBeside w temporary (temporary_label session) r)
 
--- What was set is told, and of what stood all is told but a root that it replaced: a permanent root, or a user root, of its name. A
+-- What was set is listed, and so is every root from before but one that it replaced: a permanent root, or a user root, of its name. A
 -- profile that goes to another generation keeps all of them.
 pub record SetRootsCome (s : Settings) (w : World) (c : Caller) (mid : World) (next : Caller) : Type 0 where
   pub permanent_ : (name : List ℕ) (p : Path) (a : Answer) → Step s w c (set_permanent name p) (done a) mid
@@ -76,7 +76,7 @@ SetsAreTold = (s : Settings) (w : World) (c : Caller) (mid : World) (next : Call
 
 -- ---- labels
 
--- A caller who asks for all roots, or for those of a path, isn't told this label, but for a runtime root's, which a trusted caller is told.
+-- A caller who asks for all roots, or for those of a path, doesn't get this label, but for a runtime root's, which a trusted caller gets.
 pub record TellsNoMore (s : Settings) (w : World) (c : Caller) (label : List ℕ) : Type 0 where
   pub all : (a : Answer) (new : World) → Step s w c list_roots (done a) new
       → (p : Path) → Shows a (label, p) → IsTrue (is_trusted (class_of s c)) × IsTrue (finite.contains_key w.runtime (label, p))

@@ -88,7 +88,7 @@ AddsForSessions = (s : Settings) (w : World) (c : Caller) (owner : List ℕ) (se
     → Step s w c (add_temp owner session p) (done a) new → (a ≡ changed) × AddsTemporary w (record { owner = owner; session = session; path = p }) new
 
 -- What this session of this owner kept is gone, and each other temporary root is as it was. The answer is the number of those that
--- went, in order and each once.
+-- were deleted, in order and each once.
 pub record Ends (w : World) (owner : List ℕ) (session : ℕ) (a : Answer) (new : World) : Type 0 where
   pub went : List Temporary
   pub told : a ≡ temporary_count (length went)

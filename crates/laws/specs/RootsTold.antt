@@ -1,4 +1,4 @@
--- Laws of what is told of a root that was set.
+-- Laws of what is listed of a root that was set.
 use Rattle.std.specs.Prelude.{ℕ, ◌++◌, List, codes, decimal, IsTrue, IsFalse, Contains}
 use Rattle.policy.specs.Settings.{Settings}
 use Rattle.policy.specs.Caller.{Caller}
@@ -14,17 +14,17 @@ abbrev pub Shows : Answer → Pair → Type 0
 Shows (roots told) pair = Contains told pair
 Shows _ pair = ⊥
 
--- a caller who asks is told a label with its target: of all roots, and of those that reach the target
+-- a caller who asks gets a label with its target: of all roots, and of those that reach the target
 pub record TellsRoot (s : Settings) (w : World) (c : Caller) (pair : Pair) : Type 0 where
   pub all : (a : Answer) (new : World) → Step s w c list_roots (done a) new → Shows a pair
   pub of : (a : Answer) (new : World) → Step s w c (list_roots_of pair.1) (done a) new → Shows a pair
 
--- the label is told to trusted callers alone, and to any other that there is such a root
+-- the label is listed to trusted callers alone, and to any other that there is such a root
 pub record TellsHidden (s : Settings) (w : World) (c : Caller) (label : List ℕ) (p : Path) : Type 0 where
   pub trusted : IsTrue (is_trusted (class_of s c)) → TellsRoot s w c (label, p)
   pub others : IsFalse (is_trusted (class_of s c)) → TellsRoot s w c (codes "{censored}", p)
 
--- A root that was set is told to each caller who asks next: a permanent root, a user root, the generation of a profile that got a
+-- A root that was set is listed to each caller who asks next: a permanent root, a user root, the generation of a profile that got a
 -- path; and a runtime root whose target is valid, and what a session keeps, with their labels hidden.
 pub record SetRootsAreTold (s : Settings) (w : World) (c : Caller) (mid : World) (next : Caller) : Type 0 where
   pub permanent : (name : List ℕ) (p : Path) (a : Answer) → Step s w c (set_permanent name p) (done a) mid → TellsRoot s mid next (codes "gcroots/" ++ name, p)

@@ -1,4 +1,4 @@
--- Laws of answers that only tell: a record and an archive, listings, roots, the report.
+-- Laws of answers that change nothing: a record and an archive, listings, roots, the report.
 use Rattle.std.specs.Prelude.{◌≡◌, ◌↔◌, ℕ, ◌+◌, List, length, codes, Some, IsTrue, IsFalse, Contains}
 use Rattle.std.specs.List.Sorted.{IsStrictlySortedBy}
 use Rattle.std.specs.FinMap as finite
@@ -42,7 +42,7 @@ TellingChangesNothing = (s : Settings) (w : World) (c : Caller) (q : Request) (r
 
 -- ---- objects
 
--- a record tells exactly what an object has: each reference once, in the order of paths
+-- a record says exactly what an object has: each reference once, in the order of paths
 pub record TellsObject (p : Path) (o : Object) (a : Answer) : Type 0 where
   pub record_ : Info
   pub told : a ≡ record_of record_
@@ -68,7 +68,7 @@ abbrev pub ListingsAreTheObjects : Type 0
 ListingsAreTheObjects = (s : Settings) (w : World) (c : Caller) (p : Path) (a : Answer) (new : World) → IsSound s.store_dir w → Step s w c (ls p) (done a) new
     → (o : Object) × (t : Tree) × (finite.get w.objects p ≡ Some o) × IsArchive t o.nar × (a ≡ listing_of (listing (codes ".") t))
 
--- a record tells exactly what was handed in
+-- a record says exactly what was passed
 pub record TellsHandedIn (h : HandedIn) (a : Answer) : Type 0 where
   pub record_ : Info
   pub told : a ≡ record_of record_
@@ -80,7 +80,7 @@ pub record TellsHandedIn (h : HandedIn) (a : Answer) : Type 0 where
   pub deriver : record_.deriver ≡ h.deriver
   pub ca : record_.ca ≡ h.ca
 
--- after an add that is done of a path that wasn't valid the record tells what was handed in
+-- after an add that is done of a path that wasn't valid the record says what was passed
 abbrev pub RecordsAdds : Settings → Request → HandedIn → Type 0
 RecordsAdds s q h = (w : World) (c : Caller) (reply : Reply) (mid : World) → Step s w c q reply mid → IsDone reply → IsFalse (has w h.path)
     → (next : Caller) (a : Answer) (last : World) → Step s mid next (info h.path) (done a) last → TellsHandedIn h a

@@ -9,7 +9,7 @@ ghost use Rattle.laws.specs.Tellings.{ArchivesAreTheObjects, RecordsAdds, Record
 ghost use Rattle.laws.specs.AddFaults.{DigestsComeFirst, MissingAreMissing, TextsAreMeasured};
 ghost use Rattle.laws.specs.AddOrder.{ImportFaultsInOrder, SourceFaultsInOrder, TextFaultsInOrder};
 
-/// An add answers the path and gains exactly the object that was handed in, or nothing where its path was valid.
+/// An add answers the path and gains exactly the object that was passed, or nothing where its path was valid.
 pub fn adds_are_exact()
     ensures text { (s : Settings) (name : List ℕ) (refs : List Path) (contents : List ℕ) →
         AddsExactly s (add_text name refs contents) (with_text s.store_dir name refs contents) }
@@ -26,7 +26,7 @@ pub fn adds_are_refused_for_their_faults()
     ensures missing { MissingAreMissing }
 {}
 
-/// Of an add that has several faults the first is told: the number of references; the archive, or its size; of an import its digest; a
+/// Of an add that has several faults the first is reported: the number of references; the archive, or its size; of an import its digest; a
 /// reference to itself; an address that doesn't verify; the derivation; and at last a missing reference.
 pub fn faults_of_adds_come_in_order()
     ensures text { TextFaultsInOrder }
@@ -34,7 +34,7 @@ pub fn faults_of_adds_come_in_order()
     ensures import { ImportFaultsInOrder }
 {}
 
-/// A record and an archive are those of the object, and after an add the record tells exactly what was handed in.
+/// A record and an archive are those of the object, and after an add the record says exactly what was passed.
 pub fn records_tell_what_was_added()
     ensures record { RecordsTell }
     ensures archive { ArchivesAreTheObjects }

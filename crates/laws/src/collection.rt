@@ -17,13 +17,13 @@ pub fn collection_is_exact()
     ensures limited { CollectsUpToALimit }
 {}
 
-/// What a collection or a deletion answers is exactly what went.
+/// What a collection or a deletion answers is exactly what was deleted.
 pub fn the_freed_are_told()
     ensures collection { (s : Settings) (ignores : Bool) (limit : Option ℕ) → FreesAsTold s (collect ignores limit) }
     ensures deletion { (s : Settings) (named : List Path) (ignores : Bool) → FreesAsTold s (delete named ignores) }
 {}
 
-/// A limit counts the bytes of archives: a collection stops as soon as so many are free, and not before while a dead path is left.
+/// A limit counts the bytes of archives: a collection stops as soon as that many are free, and not before while a dead path is left.
 pub fn limits_count_bytes()
     ensures { CollectsByBytes }
 {}

@@ -8,7 +8,7 @@ pub fn deletions_are_exact()
     ensures { Deletes }
 {}
 
-/// After a deletion no reference that is left points at a path that went.
+/// After a deletion no reference that is left points at a path that was deleted.
 pub fn deletion_leaves_no_reference()
     ensures { LeavesNoReference }
 {}

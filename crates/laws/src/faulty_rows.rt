@@ -24,7 +24,7 @@ pub fn faulty_settings_are_unsound()
 {}
 
 /// An object isn't sound whose path or deriver is no base name, whose archive is none, whose digest is of other bytes, or whose address
-/// is none, another's, or beside a reference to itself.
+/// is none, that of other contents, or next to a reference to itself.
 pub fn faulty_objects_are_unsound()
     ensures { FaultyObjectsAreUnsound }
 {}

@@ -13,7 +13,7 @@ pub fn listings_are_of_the_object()
 {}
 
 /// Listings have exactly the paths that they name, in order, the roots of a path are exactly those that reach it, and the report
-/// tells live paths before dead ones.
+/// lists live paths before dead ones.
 pub fn listings_tell_what_is_there()
     ensures paths { ListingsTell }
     ensures roots { RootListingsTell }
@@ -32,7 +32,7 @@ pub fn usage_adds_up()
     ensures { (s : Settings) (w : World) → UsageAddsUp (usage_of w (live_paths s w)) (usage_of w (dead_paths s w)) (usage_of w (all_paths w)) }
 {}
 
-/// A request that only tells changes nothing: for a record, an archive, a listing or the report.
+/// A request that only asks changes nothing: for a record, an archive, a listing or the report.
 pub fn what_only_tells_changes_nothing()
     ensures { TellingChangesNothing }
 {}

@@ -13,7 +13,7 @@ pub fn roots_are_seen_in_order()
     ensures denial { ShowsTheLabel }
 {}
 
-/// No call of a caller that isn't trusted tells two worlds apart that differ in runtime labels alone.
+/// No call of a caller that isn't trusted distinguishes two worlds that differ in runtime labels alone.
 pub fn runtime_labels_do_not_show()
     ensures step { MirrorsSteps }
     ensures run { MirrorsRuns }

@@ -20,7 +20,7 @@ pub fn only_done_changes()
     ensures { LeavesUnlessDone }
 {}
 
-/// A refusal tells the first fault: of a session, 1 to 4,194,304, before its path; a name before what it names; a profile before
+/// A refusal names the first fault: of a session, 1 to 4,194,304, before its path; a name before what it names; a profile before
 /// its generation, and a path that isn't valid before a profile that has no number left. A deletion that is done named valid paths
 /// alone.
 pub fn first_faults_are_told()
@@ -31,7 +31,7 @@ pub fn first_faults_are_told()
     ensures named { NamedAreThere }
 {}
 
-/// A request is refused for a fault that it has, what is told of a path is told of a valid one, and a deletion is denied for the first of
+/// A request is refused for a fault that it has, what is said of a path is said of a valid one, and a deletion is denied for the first of
 /// the named that lives.
 pub fn refusals_and_denials_have_reasons()
     ensures refusals { RefusalsHaveReasons }

@@ -25,7 +25,7 @@ pub fn roots_change_exactly()
     ensures end_session { EndsSessions }
 {}
 
-/// A root that was set is told to each caller who asks next, with the labels of runtime roots and of sessions hidden from those who
+/// A root that was set is listed to each caller who asks next, with the labels of runtime roots and of sessions hidden from those who
 /// aren't trusted.
 pub fn roots_that_were_set_are_told()
     ensures { RootsSetAreTold }
@@ -38,7 +38,7 @@ pub fn roots_that_were_dropped_are_not_told()
     ensures labels { DroppedLabelsAreNotTold }
 {}
 
-/// After a root is set, listings tell it and all that stood, but for the root that it replaced.
+/// After a root is set, listings have it and all roots from before, but for the root that it replaced.
 pub fn listings_gain_what_was_set()
     ensures { SetsAreTold }
 {}
@@ -49,7 +49,7 @@ pub fn roots_are_labelled_in_order()
     ensures kinds { KindsInOrder }
 {}
 
-/// A root keeps what it reaches, over a step and over a run through which it stands.
+/// A root keeps what it reaches, over a step and over a run through which it exists.
 pub fn a_root_pins_what_it_reaches()
     ensures step { Pins }
     ensures run { PinsOverRuns }

@@ -14,7 +14,7 @@ pub fn the_new_world_is_sound()
     ensures { (dir : List ℕ) → IsSound dir no_world }
 {}
 
-/// The rows of a database that was just made are sound by their schema, and tell the new world.
+/// The rows of a database that was just made are sound by their schema, and their world is the new one.
 pub fn new_rows_are_sound()
     ensures sound { (schema : Schema) (dir : List ℕ) → IsTrue (is_store_dir dir) → IsSoundRows schema dir (new_rows schema dir) }
     ensures world { (schema : Schema) (dir : List ℕ) → world_of (new_rows schema dir) ≡ no_world }
@@ -25,12 +25,12 @@ pub fn archives_are_cut_one_way()
     ensures { (nar : List ℕ) → CutsOneWay nar }
 {}
 
-/// Sound rows tell the world entry by entry: what stands in each column.
+/// The world of sound rows, entry by entry: what each column holds.
 pub fn rows_tell_the_world()
     ensures { RowsTellTheWorld }
 {}
 
-/// What the eleven tables hold is the rows, each table its own, and tells the world of these; an object's archive is its row and the pieces
+/// What the eleven tables hold is the rows, each table its own, and has the world of these; an object's archive is its row and the pieces
 /// that follow it, from the first on.
 pub fn tables_are_rows()
     ensures rows { TablesAreRows }
@@ -42,7 +42,7 @@ pub fn migration_keeps_the_world()
     ensures { MigratesSoundly }
 {}
 
-/// Rows are sound exactly where each of them is, beside the others: what an opening tests, row by row.
+/// Rows are sound exactly where each of them is, compared with the others: what an opening tests, row by row.
 pub fn sound_rows_are_sound_parts()
     ensures { AreSoundByParts }
 {}

@@ -25,7 +25,7 @@ pub fn runs_end_alike()
     ensures { RunsEndAlike }
 {}
 
-/// A run goes one step after another, each from the world that the one before left.
+/// A run makes one step after another, each from the world that the one before left.
 pub fn runs_go_step_by_step()
     ensures { RunsGoStepByStep }
 {}

@@ -6,8 +6,8 @@ ghost use Rattle.laws.specs.Planting.{NobodyPlantsInRuns};
 ghost use Rattle.laws.specs.Others.{OthersOnlyLose, OwnersMay, TrustedMay};
 ghost use Rattle.laws.specs.Leave.{AllMayAsk, NobodyIgnoresLiveness};
 
-/// A stranger changes nothing and is told nothing but the denial. A caller who isn't trusted adds nothing but what its content
-/// address says, and changes no root but his own. What stands is never replaced.
+/// A stranger changes nothing and gets nothing but the denial. A caller who isn't trusted adds nothing but what its content
+/// address says, and changes no root but their own. What exists is never replaced.
 pub fn people_can_rely_on()
     ensures strangers { StrangersAreDenied }
     ensures objects { NothingIsReplaced }
@@ -15,12 +15,12 @@ pub fn people_can_rely_on()
     ensures roots { RootsAreTheirOwners }
 {}
 
-/// Each object that is there after a run stood before it, or has a content address that verifies, or a trusted caller imported it.
+/// Each object after a run was there before it, or has a content address that verifies, or a trusted caller imported it.
 pub fn nobody_plants_over_runs()
     ensures { NobodyPlantsInRuns }
 {}
 
-/// Each caller but a stranger may add what has an address, ask all that only tells, collect, and delete what doesn't live; and nobody
+/// Each caller but a stranger may add what has an address, ask for each answer, collect, and delete what doesn't live; and nobody
 /// may ask that liveness is ignored.
 pub fn all_but_strangers_may_ask()
     ensures may { AllMayAsk }
@@ -28,7 +28,7 @@ pub fn all_but_strangers_may_ask()
 {}
 
 /// Whoever calls: what another owns only loses by it, and only by calls that drop, delete or end. A trusted caller is allowed these,
-/// and each caller but a stranger all that there is with what he owns.
+/// and each caller but a stranger all that there is with what they own.
 pub fn owners_are_respected()
     ensures others { OthersOnlyLose }
     ensures trusted { TrustedMay }

@@ -1,4 +1,4 @@
--- Rows and roots as they are handed in, as the definitions have them.
+-- Rows and roots as a caller passes them, as the definitions have them.
 use Rattle.std.specs.Prelude.{List, map}
 use Rattle.std.specs.Option.{option_copied}
 use Rattle.paths.specs.Root as roots

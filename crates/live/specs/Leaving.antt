@@ -1,4 +1,4 @@
--- What a collection up to a limit has left as it goes, by places.
+-- What a collection up to a limit has left after each step, by places.
 use Rattle.std.proofs.Common.{Vec, Global}
 use Rattle.std.specs.Prelude.{nat_lt, ◌-◌, ◌≡◌, ℕ, ◌+◌, ◌<◌, ◌==◌, Bool, false, if◌then◌else◌, List, [], ◌∷◌, length, map, IsTrue, Contains}
 use Rattle.std.specs.List.{slice_index, slice_index_or, filter, sum_by, count_by, range_with_len}
@@ -43,7 +43,7 @@ times_left es left t q = if is_in left q then times es q t else 0
 abbrev pub referred : List Entries → List Bool → ℕ → ℕ
 referred es left t = sum_by (times_left es left t) (range_with_len 0 (length left))
 
--- What is left is told right, but that some references still count whose object is gone.
+-- What is left is right, but that some references still count whose object is gone.
 pub record IsRemaining (es : List Entries) (owed : ℕ → ℕ) (s : Remaining) : Type 0 where
   pub deads : length s.dead ≡ length es
   pub places : length s.left ≡ length es

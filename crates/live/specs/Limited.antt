@@ -31,7 +31,7 @@ next_group g dead left = option_or (next_alone g dead left) (next_with_referrers
 abbrev pub without : List Path → List Path → List Path
 without group left = filter (λ p. not (holds group p)) left
 
--- From these paths left, with so many bytes still wanted, these groups go: each is the next one of the paths left by those
+-- From these paths left, with this number of bytes still wanted, these groups are deleted: each is the next one of the paths left by those
 -- before it, which free less than is wanted; all free what is wanted, or no dead path is left.
 abbrev pub Takes : Graph → (Path → Bool) → (Path → ℕ) → List Path → ℕ → List (List Path) → Type 0
 Takes g dead size left wanted [] = (wanted ≡ 0) ⊎ (next_group g dead left ≡ None)

@@ -6,7 +6,7 @@ use Rattle.paths.specs.Root.{bytes_cmp}
 use Rattle.live.specs.Graph.{Path}
 use Rattle.live.specs.declared.numbered.rows.Row.{Row}
 
--- where the path may still stand: from the low place on, and before the high one
+-- where the path may still be: from the low place on, and before the high one
 pub record IsSearched (rows : List Row) (p : Path) (low high : ℕ) : Type 0 where
   pub ordered : low ≤ high
   pub within : high ≤ length rows

@@ -58,7 +58,7 @@ impl Leaving {
         }
     }
 
-    /// A group goes. What is still wanted is less by its size.
+    /// Deletes a group. What is still wanted is less by its size.
     fn remove_all(
         &mut self,
         graph: &Graph,
@@ -82,7 +82,7 @@ impl Leaving {
         Ok(wanted)
     }
 
-    /// The next group goes, if more is wanted. Gives what is still wanted: nothing, where no dead path is left.
+    /// Deletes the next group, if more is wanted. Returns what is still wanted: nothing, where no dead path is left.
     pub(crate) fn turn(
         &mut self,
         alloc: Global,
@@ -109,7 +109,7 @@ impl Leaving {
         }
     }
 
-    /// The places that went, rising.
+    /// The places that were deleted, rising.
     pub(crate) fn gone(&self, alloc: Global) -> Result<Vec<usize>, AllocError>
         ensures { IfOk result (λ v. v.items ≡ filter (λ i. not (is_in self.now.left i)) (range_with_len 0 (length self.now.left))) }
     {

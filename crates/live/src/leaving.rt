@@ -1,4 +1,4 @@
-//! What a collection up to a limit has left as it goes.
+//! What a collection up to a limit has left after each step.
 ghost use Rattle.std.specs.Prelude.{◌≡◌, ℕ, ◌+◌, ◌-◌, ◌<◌, ◌&&◌, ◌==◌, not, if◌then◌else◌, ◌∷◌, false, length, IsTrue, IfOk, OnOk, IfSome, IfNone, is_none, slice_set};
 ghost use Rattle.std.specs.List.{slice_index, slice_index_or};
 ghost use Rattle.std.specs.List.Sorted.{IsPermutation};
@@ -32,7 +32,7 @@ impl Model for Leaving {
 }
 
 impl Leaving {
-    /// All paths are left; those are dead that no mark stands at.
+    /// All paths are left; those are dead that have no mark.
     pub(crate) fn new(alloc: Global, graph: &Graph, marks: &Marks) -> Result<Leaving, AllocError>
         requires { length marks.now.first ≡ length graph.now }
         ensures remaining { IfOk result (IsRemaining graph.now nothing_owed) }
@@ -75,7 +75,7 @@ impl Leaving {
         Ok(())
     }
 
-    /// The references of an object that went count no more.
+    /// Stops counting the references of an object that was deleted.
     fn forget(&mut self, graph: &Graph, place: usize) -> Result<(), AllocError>
         requires place { place < length graph.now }
         requires remaining { IsRemaining graph.now (times graph.now place) self.old }
@@ -94,7 +94,7 @@ impl Leaving {
         Ok(())
     }
 
-    /// A path goes, if it is left.
+    /// Deletes a path, if it is left.
     pub(crate) fn remove(&mut self, graph: &Graph, place: usize) -> Result<(), AllocError>
         requires place { place < length graph.now }
         requires remaining { IsRemaining graph.now nothing_owed self.old }

@@ -29,7 +29,7 @@ fn count(
     Ok(())
 }
 
-/// How many references of others there are to each path, an entry that stands twice counting twice.
+/// The number of references from others to each path; an entry that is listed twice counts twice.
 pub(crate) fn referrers_of(alloc: Global, graph: &Graph) -> Result<Vec<usize>, AllocError>
     ensures places { IfOk result (λ v. length v.items ≡ length graph.now) }
     ensures counted { IfOk result (λ v. (t : ℕ) → t < length graph.now → slice_index v.items t ≡ sum_by (λ q. times graph.now q t) (range_with_len 0 (length graph.now))) }

@@ -37,7 +37,7 @@ impl Walk {
         Ok(())
     }
 
-    /// The same, where entries of this kind count.
+    /// Marks what the entries from one place up to another lead to, where entries of this kind count.
     fn look_if(
         &mut self,
         walker: &mut Walker,

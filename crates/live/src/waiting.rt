@@ -30,7 +30,7 @@ pub(crate) struct Waiting {
 }
 
 impl Waiting {
-    /// Nothing waits, of so many places.
+    /// Nothing waits, of `places` places.
     pub(crate) fn new(alloc: Global, count: usize) -> Result<Waiting, AllocError>
         ensures waiting { IfOk result (λ w. w.waiting.items ≡ replicate count false) }
         ensures listed { IfOk result IsListed }

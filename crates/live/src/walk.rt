@@ -23,7 +23,7 @@ impl Model for Walk {
 }
 
 impl Walk {
-    /// So many places, each with this mark, none of which waits.
+    /// A number of places, each with this mark, none of which waits.
     pub(crate) fn new(alloc: Global, mark: usize, count: usize) -> Result<Walk, AllocError>
         ensures first { IfOk result (λ w. w.first ≡ replicate count mark) }
         ensures waiting { IfOk result (λ w. w.waiting ≡ replicate count false) }

@@ -1,4 +1,4 @@
--- What an add hands in: the path and the object.
+-- What an add passes: the path and the object.
 use Rattle.std.specs.Prelude.{ℕ, ◌+◌, false, List, length, Option, Some, None}
 use Rattle.nar.specs.String.{padded}
 use Rattle.nar.specs.Tree.{regular}
@@ -10,7 +10,7 @@ use Rattle.model.specs.World.{Path, Object}
 use Rattle.model.specs.Objects.{outputs_at}
 use Rattle.model.specs.Request.{Imported}
 
--- a path with the object that is to stand there
+-- a path with the object that is to be there
 pub record Added : Type 0 where
   pub path : Path
   pub object : Object
@@ -38,6 +38,6 @@ added_text dir name refs contents = added_at dir (text_path dir name refs conten
 abbrev pub added_source : List ℕ → List ℕ → List Path → List ℕ → Added
 added_source dir name refs nar = added_at dir (source_path dir name refs nar) refs None (Some (source_address nar)) nar
 
--- an object as it is handed in
+-- an object as it is passed
 abbrev pub added_import : List ℕ → Imported → Added
 added_import dir i = added_at dir i.path i.refs i.deriver i.ca i.nar

@@ -8,7 +8,7 @@ use Rattle.nar.specs.Outcome.{outcome_of}
 use Rattle.drv.specs.Outcome.{outputs_of}
 use Rattle.model.specs.World.{Path}
 
--- the most references that are handed in with an object
+-- the most references that an object is passed with
 abbrev pub most_references : ℕ
 most_references = 4096
 

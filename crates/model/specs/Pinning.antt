@@ -11,7 +11,7 @@ use Rattle.model.specs.Liveness.{graph_of, keep_of}
 use Rattle.model.specs.Step.{Step, Run}
 use Rattle.model.specs.Reply.{Reply}
 
--- what a root reaches stands from the one world to the other: it is still reached, and its object is the same
+-- what a root reaches stays from the one world to the other: it is still reached, and its object is the same
 abbrev pub Stands : Settings → Root → World → World → Type 0
 Stands s r w new = (p : Path) → Reaches (keep_of s) (graph_of w) r.target p
     → Reaches (keep_of s) (graph_of new) r.target p × (finite.get new.objects p ≡ finite.get w.objects p)
@@ -21,7 +21,7 @@ abbrev pub Pins : Type 0
 Pins = (s : Settings) (w : World) (c : Caller) (q : Request) (reply : Reply) (new : World) → Step s w c q reply new
     → (r : Root) → Contains (roots_of w) r → Stands s r w new
 
--- a run with a root that stands at its start and after each of its calls but, perhaps, the last
+-- a run with a root that exists at its start and after each of its calls but, perhaps, the last
 abbrev pub RootStands : Settings → World → Root → List (Caller × Request) → List Reply → World → Type 0
 RootStands s w r [] [] new = new ≡ w
 RootStands s w r (call ∷ calls) (reply ∷ replies) new =
@@ -34,7 +34,7 @@ abbrev pub PinsOverRuns : Type 0
 PinsOverRuns = (s : Settings) (w new : World) (r : Root) (calls : List (Caller × Request)) (replies : List Reply)
     → RootStands s w r calls replies new → Stands s r w new
 
--- the root stands wherever the calls of a run have led before one of them
+-- the root exists wherever the calls of a run have led before one of them
 abbrev pub StandsThroughout : Settings → World → Root → List (Caller × Request) → List Reply → Type 0
 StandsThroughout s w r calls replies = (made left : List (Caller × Request)) (next : Caller × Request) (told untold : List Reply) (mid : World)
     → made ++ next ∷ left ≡ calls → told ++ untold ≡ replies → Run s w made told mid → Contains (roots_of mid) r

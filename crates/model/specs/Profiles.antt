@@ -54,7 +54,7 @@ previous p = last_or None (filter (λ n. nat_lt n p.current) (numbers p))
 abbrev pub switched : Profile → ℕ → Profile
 switched p n = record p { current = n }
 
--- a path stands at a number, which becomes current
+-- a path gets a number, which becomes current
 abbrev pub put_at : Profile → ℕ → Path → Profile
 put_at p n target = record { generations = finite.insert p.generations n target; current = n }
 

@@ -78,7 +78,7 @@ pub data Answer : Type 0 where
   runtime_count : ℕ → Answer
   -- how many temporary roots a session had
   temporary_count : ℕ → Answer
-  -- the paths that went, and the sum of the bytes of their archives
+  -- the paths that were deleted, and the sum of the bytes of their archives
   freed : List Path → ℕ → Answer
   -- of the live, the dead and all paths
   usage : Usage → Usage → Usage → Answer

@@ -3,7 +3,7 @@ use Rattle.std.specs.Prelude.{ℕ, Bool, List, Option}
 use Rattle.paths.specs.ContentAddress.{ContentAddress}
 use Rattle.model.specs.World.{Path, Pair}
 
--- an object that is handed in with its path: the digest that its archive is said to have, the references, the deriver
+-- an object that is passed with its path: the digest that its archive is said to have, the references, the deriver
 -- and the content address if they are given, and the archive
 pub record Imported : Type 0 where
   pub path : Path

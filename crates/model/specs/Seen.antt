@@ -17,7 +17,7 @@ is_hidden runtime = true
 is_hidden temporary = true
 is_hidden _ = false
 
--- what stands in place of a hidden label
+-- what replaces a hidden label
 abbrev pub hidden_label : List ℕ
 hidden_label = codes "{censored}"
 

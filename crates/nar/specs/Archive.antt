@@ -1,10 +1,10 @@
--- The archive of a tree: its strings in order, each with the place where it stands.
+-- The archive of a tree: its strings in order, each with the place where it is.
 use Rattle.std.specs.Prelude.{◌≡◌, ℕ, ◌+◌, ◌≤◌, List, [], ◌∷◌, ◌++◌, length, Bool, true, false, ⊤, codes}
 use Rattle.std.specs.List.{flat_map, AllByRecursion}
 use Rattle.nar.specs.String.{string}
 use Rattle.nar.specs.Tree.{Tree, regular, symlink, directory, Entries, no_entries, entry, IsLegal}
 
--- A string, by the place where it stands: the name of an entry, the word `node` before a node that is the
+-- A string, by the place where it is: the name of an entry, the word `node` before a node that is the
 -- given one inside one another, or any other.
 pub data Part : Type 0 where
   name : List ℕ → Part
@@ -50,7 +50,7 @@ archive t = other (codes "nix-archive-1") ∷ bracketed (kind_parts 1 t)
 abbrev pub spelling : List Part → List ℕ
 spelling parts = flat_map (λ p. string (spelled p)) parts
 
--- at most 256 nodes stand inside one another
+-- at most 256 nodes are nested in one another
 abbrev pub IsShallow : Part → Type 0
 IsShallow (name s) = ⊤
 IsShallow (node depth) = depth ≤ 256

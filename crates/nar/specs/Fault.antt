@@ -1,4 +1,4 @@
--- What is wrong with bytes that are no archive: the first test that fails behind the longest good front.
+-- What is wrong with bytes that are no archive: the first test that fails after the longest good prefix.
 use Rattle.std.specs.Prelude.{◌≡◌, ◌≢◌, ℕ, ◌-◌, ◌<◌, ◌≤◌, List, [], ◌∷◌, ◌++◌, length, IsTrue, MatchResult, codes, ◌⊎◌}
 use Rattle.std.specs.List.{AllByRecursion}
 use Rattle.nar.specs.declared.error.NarError.{NarError}
@@ -35,20 +35,20 @@ Refuses parts s Trailing = ⊥
 Refuses parts s TooLarge = ⊥
 Refuses parts s Memory = ⊥
 
--- What is wrong behind the parts: more bytes after an archive, or the first test that the next string fails.
+-- What is wrong after the parts: more bytes after an archive, or the first test that the next string fails.
 abbrev pub Fails : List Part → List ℕ → NarError → Type 0
 Fails parts rest fault =
     (IsWhole parts × (rest ≢ []) × (fault ≡ Trailing))
     ⊎ ((IsWhole parts → ⊥) × MatchResult (string_at (limit - length (spelling parts)) rest) (λ next. Refuses parts next.0 fault) (λ early. fault ≡ early))
 
--- A good front of the input: whole strings within the limits that begin an archive. The rest follows.
+-- A good prefix of the input: whole strings within the limits that begin an archive. The rest follows.
 pub record IsGoodFront (input : List ℕ) (parts : List Part) (rest : List ℕ) : Type 0 where
   pub front : input ≡ spelling parts ++ rest
   pub begins : Begins parts
   pub shallow : AllByRecursion IsShallow parts
   pub fits : length (spelling parts) ≤ limit
 
--- The input has this fault: it comes behind the longest good front.
+-- The input has this fault: it comes after the longest good prefix.
 pub record IsFault (input : List ℕ) (fault : NarError) : Type 0 where
   pub parts : List Part
   pub rest : List ℕ

@@ -8,11 +8,11 @@ use Rattle.nar.specs.Tree.{Tree, regular, symlink, directory, Entries, no_entrie
 abbrev pub are_bytes : List ℕ → Bool
 are_bytes s = list_all (λ b. nat_lt b 256) s
 
--- what so many bytes leave of the room
+-- what a number of bytes leaves of the room
 abbrev pub less : ℕ → ℕ → Option ℕ
 less room size = if nat_lt room size then None else Some (room - size)
 
--- the bytes of a regular file beside its contents
+-- the bytes of a regular file besides its contents
 abbrev pub file_size : Bool → ℕ
 file_size true = 112
 file_size false = 80

@@ -7,7 +7,7 @@ use Rattle.nar.specs.Tree.{Tree, regular, symlink, directory, Entries, no_entrie
 abbrev pub hex_digit : ℕ → ℕ
 hex_digit n = if nat_lt n 10 then 48 + n else 87 + n
 
--- a byte outside 33 to 126, and a backslash, in hexadecimal behind a backslash and an x
+-- a byte outside 33 to 126, and a backslash, in hexadecimal after a backslash and an x
 abbrev pub escape : ℕ → List ℕ
 escape b = if nat_lt b 33 || nat_lt 126 b || b == 92 then 92 ∷ 120 ∷ hex_digit (b / 16) ∷ hex_digit (b % 16) ∷ [] else b ∷ []
 
@@ -20,7 +20,7 @@ abbrev pub letter : Bool → List ℕ
 letter true = codes "x "
 letter false = codes "r "
 
--- the lines of a tree that stands at this path, and of a directory's entries, the directory being at this path
+-- the lines of a tree that is at this path, and of a directory's entries, the directory being at this path
 abbrev mutual
   pub listing : List ℕ → Tree → List ℕ
   listing path (regular executable contents) = letter executable ++ decimal (length contents) ++ codes " " ++ path ++ codes "\n"

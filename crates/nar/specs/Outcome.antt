@@ -28,7 +28,7 @@ parts_from (suc steps) (x ∷ κ) room bytes =
 abbrev pub at : ℕ → List Part → List ℕ
 at i ps = slice_index_or (map spelled ps) i []
 
--- the tree whose parts these are, from the word of its kind on, and what stands behind the bracket that closes it
+-- the tree whose parts these are, from the word of its kind on, and what follows the bracket that closes it
 abbrev mutual
   pub kind_from : ℕ → List Part → Tree × List Part
   kind_from zero ps = (symlink [], [])

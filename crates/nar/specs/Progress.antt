@@ -8,7 +8,7 @@ use Rattle.nar.specs.Feeding.{StandsBy}
 abbrev pub Stands : Progress → List ℕ → Type 0
 Stands p bytes = StandsBy p.count p.nest p.room p.held.items bytes
 
--- The bytes were taken up to the rest.
+-- The bytes were consumed up to the rest.
 pub record StandsBefore (p : Progress) (rest all : List ℕ) : Type 0 where
   pub taken : List ℕ
   pub is : all ≡ taken ++ rest

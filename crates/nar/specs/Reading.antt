@@ -1,4 +1,4 @@
--- What a step of reading took from the front, and what it found wrong.
+-- What a step of reading took from the beginning, and what it found wrong.
 use Rattle.std.specs.Prelude.{◌≡◌, ℕ, ◌+◌, List, [], ◌∷◌, ◌++◌, length, Option, Ok, codes, IsTrue}
 use Rattle.std.specs.List.{AllByRecursion}
 use Rattle.nar.specs.declared.error.NarError.{NarError}
@@ -8,14 +8,14 @@ use Rattle.nar.specs.Archive.{Part, name, node, other, mark, bracketed, kind_par
 use Rattle.nar.specs.Answer.{IfFault}
 use Rattle.nar.specs.Steps.{Symbol, AreBytes, FaultAt}
 
--- the string stood at the front
+-- the bytes begin with the string
 pub record ReadsString (room : ℕ) (bytes s : List ℕ) (left : ℕ) (rest : List ℕ) : Type 0 where
   pub is : string_at room bytes ≡ Ok (s, rest)
   pub parts : bytes ≡ string s ++ rest
   pub text_bytes : IsBytes s
   pub size : size_of (length s) + left ≡ room
 
--- the parts stood at the front
+-- the bytes begin with the parts
 pub record Reads (room : ℕ) (bytes : List ℕ) (parts : List Part) (left : ℕ) (rest : List ℕ) : Type 0 where
   pub spells : bytes ≡ spelling parts ++ rest
   pub shallow : AllByRecursion IsShallow parts
@@ -26,7 +26,7 @@ pub record Reads (room : ℕ) (bytes : List ℕ) (parts : List Part) (left : ℕ
 abbrev pub FaultOf : List Symbol → ℕ → List ℕ → NarError → Type 0
 FaultOf σ room bytes e = IfFault e (λ f. (κ : List Symbol) → FaultAt (σ ++ κ) room bytes f)
 
--- the word of a kind, and what stands behind it up to the bracket that closes the node
+-- the word of a kind, and what follows it up to the bracket that closes the node
 abbrev pub kind_word : Tree → List ℕ
 kind_word (regular executable contents) = codes "regular"
 kind_word (symlink target) = codes "symlink"
@@ -37,28 +37,28 @@ kind_rest depth (regular executable contents) = mark executable ++ other (codes 
 kind_rest depth (symlink target) = other (codes "target") ∷ other target ∷ other (codes ")") ∷ []
 kind_rest depth (directory es) = entries_parts depth es ++ other (codes ")") ∷ []
 
--- Behind the word of its kind the tree stood, up to the bracket that closes the node.
+-- After the word of its kind came the tree, up to the bracket that closes the node.
 pub record ReadsKind (word : List ℕ) (depth : ℕ) (room : ℕ) (bytes : List ℕ) (t : Tree) (left : ℕ) (rest : List ℕ) : Type 0 where
   pub is_kind : kind_word t ≡ word
   pub named : IsLegal t
   pub parts : Reads room bytes (kind_rest depth t) left rest
 
--- A name stood at the front that may come behind the last one.
+-- The bytes begin with a name that may come after the last one.
 pub record ReadsName (last : Option (List ℕ)) (room : ℕ) (bytes n : List ℕ) (left : ℕ) (rest : List ℕ) : Type 0 where
   pub legal : IsTrue (is_name n)
   pub above : IsTrue (rises last n)
   pub parts : Reads room bytes (name n ∷ []) left rest
 
--- A node stood at the front.
+-- The bytes begin with a node.
 pub record ReadsNode (depth : ℕ) (room : ℕ) (bytes : List ℕ) (t : Tree) (left : ℕ) (rest : List ℕ) : Type 0 where
   pub named : IsLegal t
   pub parts : Reads room bytes (bracketed (kind_parts depth t)) left rest
 
--- what stands behind the word `entry`
+-- what follows the word `entry`
 abbrev pub entry_rest : ℕ → List ℕ × Tree → List Part
 entry_rest depth e = other (codes "(") ∷ other (codes "name") ∷ name e.0 ∷ node (depth + 1) ∷ (bracketed (kind_parts (depth + 1) e.1) ++ other (codes ")") ∷ [])
 
--- An entry stood at the front, behind its first word, that may come behind the last name.
+-- The bytes begin with an entry, after its first word, that may come after the last name.
 pub record ReadsEntry (last : Option (List ℕ)) (depth : ℕ) (room : ℕ) (bytes : List ℕ) (e : List ℕ × Tree) (left : ℕ) (rest : List ℕ) : Type 0 where
   pub legal : IsTrue (is_name e.0)
   pub above : IsTrue (rises last e.0)

@@ -27,7 +27,7 @@ pub data Symbol : Type 0 where
 
 -- ---- what the next part leaves to come
 
--- behind the word of a kind
+-- after the word of a kind
 abbrev pub kind_next : ℕ → List ℕ → Option (List Symbol)
 kind_next d s =
     cond (bytes_eq s (codes "regular")) (Some (file ∷ []))
@@ -35,25 +35,25 @@ kind_next d s =
     (cond (bytes_eq s (codes "directory")) (Some (entries d None ∷ []))
     None))
 
--- behind the first word of a file's rest
+-- after the first word of a file's rest
 abbrev pub file_next : List ℕ → Option (List Symbol)
 file_next s =
     cond (bytes_eq s (codes "executable")) (Some (word [] ∷ word (codes "contents") ∷ any ∷ word (codes ")") ∷ []))
     (cond (bytes_eq s (codes "contents")) (Some (any ∷ word (codes ")") ∷ []))
     None)
 
--- behind the first word of a directory's rest
+-- after the first word of a directory's rest
 abbrev pub entries_next : ℕ → Option (List ℕ) → List ℕ → Option (List Symbol)
 entries_next d last s =
     cond (bytes_eq s (codes ")")) (Some [])
     (cond (bytes_eq s (codes "entry")) (Some (word (codes "(") ∷ word (codes "name") ∷ entry_name d last ∷ []))
     None)
 
--- behind the name of an entry
+-- after the name of an entry
 abbrev pub after_name : ℕ → List ℕ → List Symbol
 after_name d n = node_word (d + 1) ∷ word (codes "(") ∷ word (codes "type") ∷ kind (d + 1) ∷ word (codes ")") ∷ entries d (Some n) ∷ []
 
--- behind this part, where the symbol stands; none where the part may not stand there
+-- after this part, where the symbol is; none where the part isn't allowed there
 abbrev pub taken : Symbol → Part → Option (List Symbol)
 taken (word w) (other s) = cond (bytes_eq s w) (Some []) None
 taken any (other s) = Some []
@@ -64,7 +64,7 @@ taken (entry_name d last) (name n) = cond (is_name n && rises last n) (Some (aft
 taken (node_word d) (node e) = cond (eqb e d) (Some []) None
 taken _ _ = None
 
--- behind these parts
+-- after these parts
 abbrev pub run : List Symbol → List Part → Option (List Symbol)
 run σ [] = Some σ
 run [] (p ∷ ps) = None
@@ -76,7 +76,7 @@ start = word (codes "nix-archive-1") ∷ word (codes "(") ∷ word (codes "type"
 
 -- ---- strings
 
--- the part that the string is where the symbol stands, or why it may not stand there
+-- the part that the string is where the symbol is, or why it isn't allowed there
 abbrev pub check : Symbol → List ℕ → Result Part NarError
 check (entry_name d last) s = cond (is_name s) (cond (rises last s) (Ok (name s)) (Err NotSorted)) (Err BadName)
 check (node_word d) s = cond (bytes_eq s (codes "node")) (cond (nat_lt 256 d) (Err TooDeep) (Ok (node d))) (Err BadTag)
@@ -84,7 +84,7 @@ check x s = cond (is_some (taken x (other s))) (Ok (other s)) (Err BadTag)
 
 -- ---- bytes
 
--- the fault of the bytes where these symbols are to come, and so many bytes may be taken
+-- the fault of the bytes where these symbols are to come, and this number of bytes may be taken
 pub data FaultAt : List Symbol → ℕ → List ℕ → NarError → Type 0 where
   trails : {room : ℕ} {bytes : List ℕ} → bytes ≢ [] → FaultAt [] room bytes Trailing
   stops : {x : Symbol} {κ : List Symbol} {room : ℕ} {bytes : List ℕ} {e : NarError} → string_at room bytes ≡ Err e → FaultAt (x ∷ κ) room bytes e

@@ -21,7 +21,7 @@ size_of n = 8 + padded n
 abbrev pub length_at : List ℕ → ℕ
 length_at bytes = from_le_bytes w64 (take 8 bytes)
 
--- The string of length n at the front of the bytes, where it may take so many of them, and the bytes after
+-- The string of length n at the beginning of the bytes, where it may take this number of them, and the bytes after
 -- it; or the first of four tests that fails.
 unfoldable pub string_of_length : ℕ → ℕ → List ℕ → Result (List ℕ × List ℕ) NarError
 string_of_length n room bytes =
@@ -32,6 +32,6 @@ string_of_length n room bytes =
     then Ok (take n (drop 8 bytes), drop (size_of n) bytes)
     else Err BadPadding)))
 
--- the string at the front of the bytes
+-- the string at the beginning of the bytes
 abbrev pub string_at : ℕ → List ℕ → Result (List ℕ × List ℕ) NarError
 string_at room bytes = string_of_length (length_at bytes) room bytes

@@ -6,7 +6,7 @@ use Rattle.nar.specs.declared.node.Node.TheOpen.{Node-F, Regular, Symlink, Direc
 use Rattle.nar.specs.declared.node.Node.TheFolds.{fold-Node, fold-Entry}
 use Rattle.nar.specs.Tree.{Tree, regular, symlink, directory, Entries, no_entries, entry}
 
--- the entries, one behind the other
+-- the entries, one after the other
 abbrev pub as_entries : List (List ℕ × Tree) → Entries
 as_entries [] = no_entries
 as_entries (e ∷ es) = entry e.0 e.1 (as_entries es)

@@ -13,7 +13,7 @@ use std::alloc::Global;
 
 /// Checks an archive that comes in pieces, however they are cut.
 ///
-/// It holds no contents: a file's bytes, a target's and those of an overlong string are counted. So its memory
+/// A checker holds no contents: a file's bytes, a target's and those of an overlong string are counted. So its memory
 /// is bounded by the longest name and the depth.
 #[derive(Drop)]
 pub struct Checker {
@@ -36,7 +36,7 @@ impl Checker {
         }
     }
 
-    /// Takes the next piece, and tells the fault of the pieces so far, unless they only want more. After an
+    /// Takes the next piece, and returns the fault of the pieces so far, unless they only want more. After an
     /// error it repeats that error.
     pub fn feed(&mut self, piece: &[u8]) -> Result<(), NarError>
         ensures fed { (all : List ℕ) → HasBeenFed self.old all → HasBeenFed self.new (all ++ piece.now) }

@@ -6,16 +6,16 @@ ghost use Rattle.nar.specs.declared.error.NarError.TheVariants.{Memory as memory
 use std::alloc::{AllocError, AllocFailed};
 use thiserror::Error;
 
-/// The first fault of the bytes, from the front, or want of memory.
+/// The first fault of the bytes, in their order, or out of memory.
 #[derive(Clone, Copy, Debug, PartialEq, Eq, Error)]
 pub enum NarError {
     /// The input ends before the next string does.
     #[error("truncated")]
     Truncated,
-    /// A string that isn't one of those that may stand there.
+    /// A string that isn't one of those that are allowed there.
     #[error("bad-tag")]
     BadTag,
-    /// A byte that isn't zero behind a string, where only zeros fill it up to a multiple of 8.
+    /// A byte that isn't zero after a string, where only zeros fill it up to a multiple of 8.
     #[error("bad-padding")]
     BadPadding,
     /// A name that is empty, `.` or `..`, or holds a `/` or a zero byte.

@@ -78,7 +78,7 @@ fn room_after_node(node: &Node<'_>, depth: usize, room: usize) -> Option<usize>
 }
 
 /// Whether the tree has an archive: its names keep the rule of names and rise strictly in each directory, at most
-/// 256 of its nodes stand inside one another, and its archive has at most 16,777,216 bytes. It takes no memory.
+/// 256 of its nodes are nested in one another, and its archive has at most 16,777,216 bytes. It takes no memory.
 pub fn is_writable(node: &Node<'_>) -> bool
     ensures { IsTrue result ↔ IsWritable (tree_of node.now) }
 {

@@ -30,7 +30,7 @@ pub fn the_outcome_is_exact()
     ensures fault { (input : List ℕ) (e : Fault) → IsBytes input → (outcome_of input ≡ Err e) ↔ IsFault input e }
 {}
 
-/// The archive of a regular file that isn't executable has 112 bytes beside its padded contents. It is read as
+/// The archive of a regular file that isn't executable has 112 bytes besides its padded contents. It is read as
 /// that file, and is too large exactly where these pass the limit.
 pub fn the_archive_of_a_file()
     ensures size { (contents : List ℕ) → length (spelling (archive (regular false contents))) ≡ 112 + padded (length contents) }

@@ -1,4 +1,4 @@
-//! Where in an archive a checker stands.
+//! Where in an archive a checker is.
 
 ghost use Rattle.std.specs.Prelude.{◌≡◌, ◌≢◌, ◌+◌, ℕ, List, [], length, cond, codes, nat_lt, Ok, Err, OnOk, IfErr, Option, IsTrue, ◌↔◌};
 ghost use Rattle.std.specs.Str.{bytes_eq};

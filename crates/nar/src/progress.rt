@@ -27,7 +27,7 @@ fn want_of_more(e: NarError) -> Result<(), NarError>
     }
 }
 
-/// Takes the strings that are whole, and gives the place behind them.
+/// Takes the strings that are whole, and returns the place after them.
 fn strings_of<'a>(
     alloc: Global,
     nest: &mut Nest,
@@ -60,7 +60,7 @@ fn strings_of<'a>(
     }
 }
 
-/// The count of the string that has begun at the front, where its bytes are counted and not held.
+/// The count of the string that has begun, where its bytes are counted and not held.
 fn count_of(nest: &Nest, place: Place<'_>) -> Option<Count>
     ensures counts { IfSome result (λ k. Counts k place.entry.room place.entry.rest.now) }
     ensures early { IfSome result (λ k. length place.entry.rest.now < k.size) }
@@ -138,7 +138,7 @@ impl Progress {
         self.nest.is_done()
     }
 
-    /// Takes the whole strings at the front, and gives what is to be held of the one that has begun.
+    /// Takes the whole strings at the beginning, and returns what is to be held of the one that has begun.
     fn look<'a>(&mut self, bytes: &'a [u8]) -> Result<&'a [u8], NarError>
         ensures ok { IfOk result (λ rest. (all : List ℕ) → Fed (symbols_of self.old.nest) self.old.room bytes.now all
             → StandsBy self.new.count self.new.nest self.new.room rest.now all) }
@@ -213,7 +213,7 @@ impl Progress {
         Ok(())
     }
 
-    /// Takes bytes from the front of a piece, one at least, and gives the rest of it.
+    /// Takes bytes from the beginning of a piece, one at least, and returns the rest of it.
     pub fn step<'a>(&mut self, piece: &'a [u8]) -> Result<&'a [u8], NarError>
         requires { 0 < length piece.now }
         ensures ok { IfOk result (λ rest. (all : List ℕ) → IsBytes all → StandsBefore self.old piece.now all → StandsBefore self.new rest.now all) }

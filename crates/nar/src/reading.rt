@@ -1,4 +1,4 @@
-//! Reading, by recursion over what stands at the front.
+//! Reading, by recursion over the bytes that are left.
 
 ghost use Rattle.std.specs.Prelude.{◌≡◌, ◌<◌, ◌≤◌, ◌+◌, ◌-◌, ℕ, [], ◌∷◌, length, Ok, Err, IfOk, IfErr, codes};
 ghost use Rattle.std.specs.Option.{option_copied};
@@ -71,7 +71,7 @@ fn symlink_of(at: Place<'_>) -> Result<(Node<'_>, Place<'_>), NarError>
     Ok((Node::Symlink { target }, end))
 }
 
-/// A name that may stand in a directory behind the last one.
+/// A name that a directory may have after the last one.
 fn name_of<'a>(at: Place<'a>, last: Option<&[u8]>) -> Result<(&'a [u8], Place<'a>), NarError>
     ensures ok { IfOk result (λ x. ReadsName (option_copied last.entry) at.entry.room at.entry.rest.now x.0.now x.1.room x.1.rest.now) }
     ensures err { IfErr result (λ e. (depth : ℕ) → FaultOf (entry_name depth (option_copied last.entry) ∷ []) at.entry.room at.entry.rest.now e) }

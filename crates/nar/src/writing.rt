@@ -116,7 +116,7 @@ fn put_archive(out: &mut Vec<u8>, node: &Node<'_>) -> Result<(), AllocError>
 
 /// Appends the archive of the tree: its one spelling, of at most 16,777,216 bytes.
 ///
-/// The tree's names keep the rule of names and rise strictly in each directory, at most 256 of its nodes stand
+/// The tree's names keep the rule of names and rise strictly in each directory, at most 256 of its nodes are nested
 /// inside one another, and its archive isn't too large: `is_writable` is the test. Where memory is refused the
 /// buffer's bytes stay as they were.
 pub fn write(node: &Node<'_>, out: &mut Vec<u8>) -> Result<(), AllocError>

@@ -25,7 +25,7 @@ abbrev pub address_front : Method → List ℕ
 address_front Text = codes "text:sha256:"
 address_front Source = codes "fixed:r:sha256:"
 
--- the text of an address: its front, and the digest in base 32
+-- the text of an address: its prefix, and the digest in base 32
 abbrev pub address_text : ContentAddress → List ℕ
 address_text ca = address_front ca.method ++ base32 ca.digest
 

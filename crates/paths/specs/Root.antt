@@ -20,7 +20,7 @@ set_of R items = finite.from_entries (map (λ k. (k, tt)) items)
 
 -- ---- roots
 
--- which table a root stands in
+-- which table a root is in
 pub data Kind : Type 0 where
   permanent : Kind
   user : Kind

@@ -145,7 +145,7 @@ impl Ca {
         self.method
     }
 
-    /// Its text, which is read as this address.
+    /// The text of the address, which is read as this address.
     ///
     /// # Errors
     ///
@@ -188,7 +188,7 @@ impl Ca {
         }
     }
 
-    /// The same test as `verify`, by what is told of the archive. For the address of a source that need not say anything
+    /// Tests as `verify` does, by what was found of the archive. For the address of a source that need not say anything
     /// of its contents.
     ///
     /// # Errors

@@ -1,4 +1,4 @@
-//! What is told of an archive whose bytes have gone by.
+//! What is found of an archive whose bytes have passed.
 
 /// What the tests of an object ask of its archive: so nothing looks at its bytes again.
 #[derive(Clone, Copy, PartialEq, Eq, Debug)]

@@ -1,5 +1,5 @@
 //! Laws of the definitions, each the contract of a function that does nothing: the functions of `specs/` are the
-//! relations beside them.
+//! relations next to them.
 ghost use Rattle.paths.specs.Laws.{OneSpelling, OnePathOrder, OnePath, TextPathsAreBaseNames, SourcePathsAreBaseNames, OneAddressText, VerifyingIsExact, TextAddressesVerify, SourceAddressesVerify};
 
 /// Bytes are spelled by one text in base 32.

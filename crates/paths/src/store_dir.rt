@@ -81,7 +81,7 @@ impl StoreDir {
         }
     }
 
-    /// Its text.
+    /// The text of the directory.
     pub fn as_str(&self) -> &str
         ensures value { result.now ≡ self.now }
         ensures valid { is_store_dir self.now ≡ true }

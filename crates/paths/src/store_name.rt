@@ -91,7 +91,7 @@ impl Name {
         }
     }
 
-    /// Its text.
+    /// The text of the name.
     pub fn as_str(&self) -> &str
         ensures value { result.now ≡ self.now }
         ensures valid { is_store_name self.now ≡ true }

@@ -123,7 +123,7 @@ impl StorePath {
         self.base.as_str()
     }
 
-    /// The name, which stands behind the digits and the `-`.
+    /// The name, which follows the digits and the `-`.
     pub fn name(&self) -> &str
         ensures value { result.now ≡ name_of self.now }
         ensures valid { is_store_name result.now ≡ true }

@@ -2,7 +2,7 @@
 use Rattle.std.specs.Prelude.{ℕ, Bool, true, ◌&&◌, List, Option, Some, None}
 use Rattle.paths.specs.Names.{is_plain_name}
 
--- a caller: the name and, where one is known, the primary group that were handed in
+-- a caller: the name and, where one is known, the primary group that were passed
 pub record Caller : Type 0 where
   pub name : List ℕ
   pub group : Option (List ℕ)

@@ -1,4 +1,4 @@
--- How a proof tells values of the settings apart: `impl Model` asks for it, and nothing else does.
+-- How a proof distinguishes values of the settings: `impl Model` asks for it, and nothing else does.
 use Rattle.std.specs.Prelude.{◌≡◌, ◌⊎◌, ℕ, Bool, List, refl}
 use Rattle.std.proofs.Common.{inl, inr}
 use Rattle.std.specs.Coded.{Coded, code_by, coded×, coded⊎, coded_ℕ, coded_bool, coded_list}

@@ -128,7 +128,7 @@ document_of text = if nat_le (length text) 1048576 && is_utf8 text then parse_do
 abbrev pub config_of : List ℕ → Result Settings KeyWord
 config_of text = need Syntax (document_of text) settings_of
 
--- what an error says of a text: its key word is the first that applies; want of memory says nothing
+-- what an error says of a text: its key word is the first that applies; running out of memory says nothing
 abbrev pub Explains : ConfigError → Result Settings KeyWord → Type 0
 Explains (Bad word) outcome = outcome ≡ Err word
 Explains Memory outcome = Unit {0}

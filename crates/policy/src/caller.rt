@@ -1,4 +1,4 @@
-//! Callers: who asks, as a front hands it in.
+//! Callers: who asks, as a reverse proxy or the command line says.
 ghost use Rattle.std.specs.Prelude.{◌≡◌, ◌↔◌, IfOk, option_map, string_bytes, true, false};
 ghost use Rattle.policy.specs.Caller.{Caller as Asker, caller_of, is_caller};
 

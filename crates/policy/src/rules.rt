@@ -53,7 +53,7 @@ fn forbidden_to_allowed(caller: &Caller, op: &Op<'_>) -> Option<Rule>
     }
 }
 
-/// The first rule that forbids what a trusted caller asks, who may drop what is another's.
+/// The first rule that forbids what a trusted caller asks, who may drop what others own.
 fn forbidden_to_trusted(caller: &Caller, op: &Op<'_>) -> Option<Rule>
     ensures { result ≡ first_broken trusted caller.now (operation_of op.now) }
 {

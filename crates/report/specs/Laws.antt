@@ -71,7 +71,7 @@ refusals =
 abbrev pub RefusalsDiffer : Type 0
 RefusalsDiffer = (a b : Refusal) → refusal_line a ≡ refusal_line b → a ≡ b
 
--- Every refusal of a step stands in the table: none is for want of memory.
+-- Every refusal of a step is in the table: none is out of memory.
 abbrev pub RefusalsAreInTheTable : Type 0
 RefusalsAreInTheTable = (s : Settings) (w : World) (c : Caller) (q : Request) (r : Refused) (new : World)
     → IsWellFormed q → Step s w c q (refused r) new → IsTrue (is_some (entry r))
@@ -82,7 +82,7 @@ RefusalsAreInTheTable = (s : Settings) (w : World) (c : Caller) (q : Request) (r
 abbrev pub lacks : ℕ → List ℕ → Bool
 lacks byte text = list_all (λ b. not (b == byte)) text
 
--- a line: a line feed (10) ends it, and none stands before
+-- a line: a line feed (10) ends it, and none comes before
 pub record IsLine (text : List ℕ) : Type 0 where
   pub front : List ℕ
   pub ends : text ≡ front ++ codes "\n"

@@ -19,7 +19,7 @@ line_if word (Some value) = line word value
 abbrev pub digest_text : List ℕ → List ℕ
 digest_text digest = codes "sha256:" ++ base32 digest
 
--- The text; a space stands between references. Nothing is compressed, so the file is the archive.
+-- The text; a space is between references. Nothing is compressed, so the file is the archive.
 abbrev pub narinfo : List ℕ → Info → List ℕ
 narinfo dir i =
     line (codes "StorePath") (full_path dir i.path)

@@ -3,7 +3,7 @@ use Rattle.std.specs.Prelude.{◌≡◌, ◌⊎◌, ℕ, List, Option, codes}
 use Rattle.std.specs.Io.KnownBytes.{Appends, Keeps}
 use Rattle.streams.specs.Sends.{AppendsFront}
 
--- a text went to the writer whole, with this status; or the writer failed: a front of it went there, with status 1
+-- a text was written whole, with this status; or the writer failed: it got a prefix, with status 1
 abbrev pub Prints : List ℕ → ℕ → Option (List ℕ) → Option (List ℕ) → ℕ → Type 0
 Prints text done old new status = ((status ≡ done) × Appends old new text) ⊎ ((status ≡ 1) × AppendsFront old new text)
 
@@ -13,7 +13,7 @@ pub record Gives (text : List ℕ) (out out' err err' : Option (List ℕ)) (stat
   pub printed : Appends out out' text
   pub silent : Keeps err err'
 
--- the first writer failed: it holds a front of the text, and the second is told so
+-- the first writer failed: it holds a prefix of the text, and the second has a line on that
 pub record GivesOut (text : List ℕ) (out out' err err' : Option (List ℕ)) (status : ℕ) : Type 0 where
   pub front : AppendsFront out out' text
   pub told : Prints (codes "failed: output\n") 1 err err' status ⊎ Prints (codes "failed: memory\n") 1 err err' status
@@ -22,6 +22,6 @@ pub record GivesOut (text : List ℕ) (out out' err err' : Option (List ℕ)) (s
 abbrev pub Offers : List ℕ → Option (List ℕ) → Option (List ℕ) → Option (List ℕ) → Option (List ℕ) → ℕ → Type 0
 Offers text out out' err err' status = Gives text out out' err err' status ⊎ GivesOut text out out' err err' status
 
--- there was no memory for a text, and the second writer was told so
+-- there was no memory for a text, and the second writer has a line on that
 abbrev pub LacksMemory : Option (List ℕ) → Option (List ℕ) → Option (List ℕ) → Option (List ℕ) → ℕ → Type 0
 LacksMemory out out' err err' status = Keeps out out' × Prints (codes "failed: memory\n") 1 err err' status

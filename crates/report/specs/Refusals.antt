@@ -55,7 +55,7 @@ number r = (number_and_name r).0
 abbrev pub name : Refusal → List ℕ
 name r = (number_and_name r).1
 
--- what a refusal says beside its name: of a configuration the key word
+-- what a refusal says besides its name: of a configuration the key word
 abbrev pub detail : Refusal → List ℕ
 detail (BadConfig word) = codes " " ++ key_word word
 detail _ = []

@@ -24,7 +24,7 @@ root_line dir root = root_text dir root ++ codes "\n"
 abbrev pub roots_text : List ℕ → List Pair → List ℕ
 roots_text dir rs = flat_map (root_line dir) rs
 
--- the text of an answer, in a store directory; archives and listings stand as they are
+-- the text of an answer, in a store directory; archives and listings are as they are
 abbrev pub answer_text : List ℕ → Answer → List ℕ
 answer_text dir (path p) = path_line dir p
 answer_text dir (record_of i) = narinfo dir i

@@ -20,7 +20,7 @@ use Rattle.report.specs.Refusals.{refusal_line}
 abbrev pub root_text : List ℕ → Pair → List ℕ
 root_text dir root = root.0 ++ codes " " ++ full_path dir root.1
 
--- what stands behind the word of the rule: the root that is shown, if one is
+-- what follows the word of the rule: the root that is shown, if one is
 abbrev pub shown_text : List ℕ → Option Pair → List ℕ
 shown_text dir None = []
 shown_text dir (Some root) = codes " " ++ root_text dir root
@@ -42,7 +42,7 @@ failure_text f = codes "failed: " ++ failure_word f ++ codes "\n"
 
 -- ---- refusals
 
--- where a fault of an archive stands in the table; want of memory is no fault of an archive
+-- the row of the table of a fault of an archive; running out of memory is no fault of an archive
 abbrev pub archive_entry : NarError → Option Refusal
 archive_entry Truncated = Some table.Truncated
 archive_entry BadTag = Some table.BadTag
@@ -60,7 +60,7 @@ derivation_entry text.BadDerivation = Some table.BadDerivation
 derivation_entry text.DoubleOutput = Some table.DoubleOutput
 derivation_entry text.Memory = None
 
--- where the refusal of a reply stands in the table
+-- the row of the table of the refusal of a reply
 abbrev pub entry : Refused → Option Refusal
 entry (archive e) = archive_entry e
 entry (derivation e) = derivation_entry e
@@ -80,6 +80,6 @@ entry bad_root_name = Some table.BadRootName
 entry bad_label = Some table.BadLabel
 entry bad_session = Some table.BadSession
 
--- The line of the refusal of a reply. What isn't in the table is want of memory, and has its line.
+-- The line of the refusal of a reply. What isn't in the table is out of memory, and has its line.
 abbrev pub refused_text : Refused → List ℕ
 refused_text r = option_map_or refusal_line (entry r) (failure_text memory)

@@ -75,7 +75,7 @@ pub record HasWorkedAnswers : Type 0 where
   pub nothing : reply_text dir (done (freed [] 0)) ≡ codes "freed 0 paths 0 bytes\n"
   pub freed : reply_text dir (done (freed (p ∷ x ∷ []) 224)) ≡ codes "/nix/store/00000000000000000000000000000000-p\n/nix/store/11111111111111111111111111111111-x\nfreed 2 paths 224 bytes\n"
 
--- a live path of 112 bytes beside a dead one of 208; numbers wider than their columns
+-- a live path of 112 bytes next to a dead one of 208; numbers wider than their columns
 pub record HasWorkedUsage : Type 0 where
   pub two : reply_text dir (done (usage (record { paths = 1; bytes = 112 }) (record { paths = 1; bytes = 208 }) (record { paths = 2; bytes = 320 })))
       ≡ codes "class       paths            bytes\nlive            1              112\ndead            1              208\ntotal           2              320\n"

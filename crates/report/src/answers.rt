@@ -43,7 +43,7 @@ fn usage_text(alloc: Global, live: Usage, dead: Usage, total: Usage) -> Result<S
     crate::usage::usage_text(alloc, live, dead, (total.paths, total.bytes))
 }
 
-/// The paths that went, a line each, and how many they were and their bytes.
+/// The paths that were deleted, a line each, their number and their bytes.
 fn freed_text(
     alloc: Global,
     dir: &StoreDir,
@@ -58,7 +58,7 @@ fn freed_text(
     Ok(text)
 }
 
-/// The text of an answer, as it stands on a writer or in a body. An archive isn't copied.
+/// The text of an answer, as on standard output or in a body. An archive isn't copied.
 ///
 /// # Errors
 ///

@@ -8,7 +8,7 @@ use paths::{StoreDir, StorePath};
 use policy::Rule;
 use std::alloc::{AllocError, Global};
 
-/// Appends what stands behind the word of the rule: a root, if one is shown.
+/// Appends what follows the word of the rule: a root, if one is shown.
 fn push_shown(
     text: &mut String,
     dir: &StoreDir,

@@ -31,7 +31,7 @@ pub fn refusals_differ()
     ensures own { RefusalsDiffer }
 {}
 
-/// Each refusal of a step stands in the table.
+/// Each refusal of a step is in the table.
 pub fn refusals_are_in_the_table()
     ensures { RefusalsAreInTheTable }
 {}

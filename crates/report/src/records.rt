@@ -15,17 +15,17 @@ use std::fmt::Write;
 /// The record of an object.
 #[derive(Clone, Copy)]
 pub struct Info<'a> {
-    /// Its path.
+    /// The path of the object.
     pub path: &'a StorePath,
     /// The SHA-256 digest of its archive.
     pub hash: &'a [u8; 32],
     /// The number of bytes of its archive.
     pub size: usize,
-    /// Its references, in order.
+    /// The references of the object, in order.
     pub references: &'a [StorePath],
-    /// Its deriver, if it is recorded.
+    /// The deriver of the object, if it is recorded.
     pub deriver: Option<&'a StorePath>,
-    /// Its content address, if it is recorded.
+    /// The content address of the object, if it is recorded.
     pub ca: Option<Ca>,
 }
 
@@ -86,7 +86,7 @@ fn push_size(text: &mut String, word: &str, size: usize) -> Result<(), AllocErro
     write!(text, "{word}: {size}\n")
 }
 
-/// Each path behind a space.
+/// Each path after a space.
 fn push_further(text: &mut String, paths: &[StorePath]) -> Result<(), AllocError>
     ensures { OnOk result (string_bytes text.new ≡ string_bytes text.old ++ flat_map (λ p. 32 ∷ p) paths.now) }
 {

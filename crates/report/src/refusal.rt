@@ -9,15 +9,15 @@ use policy::KeyWord;
 pub enum Refusal {
     /// An archive ends before its next string does.
     Truncated,
-    /// A string of an archive isn't one of those that may stand there.
+    /// A string of an archive isn't one of those that are allowed there.
     BadTag,
-    /// A byte behind a string of an archive isn't zero, where only zeros fill it up to a multiple of 8.
+    /// A byte after a string of an archive isn't zero, where only zeros fill it up to a multiple of 8.
     BadPadding,
     /// A name in an archive is empty, `.` or `..`, or holds a `/` or a zero byte.
     BadName,
     /// A name in an archive isn't above the one before it in its directory, by bytes.
     NotSorted,
-    /// More than 256 nodes of an archive stand inside one another.
+    /// More than 256 nodes of an archive are nested in one another.
     TooDeep,
     /// More bytes follow the end of an archive.
     Trailing,
@@ -79,7 +79,7 @@ pub enum Refusal {
     BadLabel,
     /// What was sent begins with no request head.
     BadHead,
-    /// The length of a message's body is malformed, stands twice or is coded otherwise, or the body ends before it.
+    /// The length of a message's body is malformed, is given twice or is coded otherwise, or the body ends before it.
     BadBodyLength,
     /// A message's body would have more than 20,971,520 bytes.
     BodyTooLarge,

@@ -10,7 +10,7 @@ use nar::NarError;
 use store_types::Refusal;
 use tables_sql::failure::Failure;
 
-/// Where a fault of an archive stands in the table; want of memory is no fault of an archive.
+/// The row of the table of a fault of an archive; running out of memory is no fault of an archive.
 fn archive_entry(fault: NarError) -> Option<Entry>
     ensures { result ≡ spec.archive_entry fault }
 {
@@ -27,7 +27,7 @@ fn archive_entry(fault: NarError) -> Option<Entry>
     }
 }
 
-/// The same of a fault of a derivation text.
+/// The row of the table of a fault of a derivation text.
 fn derivation_entry(fault: DrvError) -> Option<Entry>
     ensures { result ≡ spec.derivation_entry fault }
 {
@@ -38,7 +38,7 @@ fn derivation_entry(fault: DrvError) -> Option<Entry>
     }
 }
 
-/// Where a refusal of a store stands in the table; nowhere, where it is want of memory.
+/// The row of the table of a refusal of a store; none, where it is out of memory.
 pub fn refusal_entry(refusal: Refusal) -> Option<Entry>
     ensures { result ≡ spec.entry (refusal_view refusal) }
 {
@@ -63,7 +63,7 @@ pub fn refusal_entry(refusal: Refusal) -> Option<Entry>
     }
 }
 
-/// The line of a refusal of a store, with its line feed; that of want of memory, where it is that.
+/// The line of a refusal of a store, with its line feed; that of running out of memory, where it is that.
 pub fn refusal_line(refusal: Refusal) -> &'static str
     ensures { result.now ≡ refused_text (refusal_view refusal) }
 {

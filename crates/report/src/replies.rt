@@ -18,7 +18,7 @@ fn line(alloc: Global, text: &str) -> Result<Pieces, AllocError>
     in_pieces(alloc, text.as_bytes())
 }
 
-/// The text of a reply, as it stands on a writer or in a body. An archive isn't copied.
+/// The text of a reply, as on standard output or in a body. An archive isn't copied.
 ///
 /// # Errors
 ///

@@ -18,7 +18,7 @@ module _ {S : Type 0} (g : Ghosts S) where
   -- a caller's request had this reply
   pub record Calls (c : Caller) (q : Request) (reply : Reply) (old new : Standing S) : Type 0 where
     pub settings : new.settings ≡ old.settings
-    -- of each world that the tables told, a step to one that they tell now; an answer from the disk is right if that is clean
+    -- of each world of the tables before, a step to one of the tables now; an answer from the disk is right if that is clean
     pub step : (w : World) → Tells g old.tables w → (next : World) × StepOver (HasCleanDisk (state g new.tables.connection)) old.settings w c q reply next × Tells g new.tables next
     -- a denial or a refusal leaves the store as it was
     pub still : IsStill reply → new ≡ old

@@ -60,14 +60,14 @@ impl<S: Alter> Store<S> {
         }
     }
 
-    /// Its settings.
+    /// The settings of the store.
     pub fn config(&self) -> &Config
         ensures { result.now ≡ self.now.settings }
     {
         &self.config
     }
 
-    /// Its tables, given up.
+    /// The tables of the store, which is given up.
     pub fn release(self) -> Tables<S>
         ensures { result ≡ self.tables }
     {
@@ -88,7 +88,7 @@ impl<S: Alter> Store<S> {
         Vec::with_capacity(self.alloc, count)
     }
 
-    /// The reply to a request that a rule forbids, the first that does, or of which memory was refused to tell so. None where
+    /// The reply to a request that a rule forbids, the first that does, or for whose denial memory was refused. None where
     /// no rule forbids it.
     fn forbidden(&self, caller: &Caller, request: &Request) -> Option<Reply>
         ensures { (w : World) → Tells S.Store self.now.tables w → IsForbidden self.now.settings w caller.now (request_view request.now) (option_map reply_view result) }

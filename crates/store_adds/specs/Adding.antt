@@ -16,7 +16,7 @@ use Rattle.store_steps.specs.Lasting.{Lasts}
 use Rattle.store_steps.specs.Meets.{IsAnswered, IsRefused}
 
 module _ {S : Type 0} (g : Ghosts S) where
-  -- its path is answered, and the tables tell a world with it; or the call failed, and they tell what they told
+  -- its path is answered, and the tables have a world with it; or the call failed, and they have the worlds that they had
   abbrev pub Adds : Added → Result Answer Stop → World → Kept S → Type 0
   Adds a (Ok x) w new = (answer_view x ≡ path a.path) × Tells g new (with_object w a)
   Adds a (Err (Failed f)) w new = Tells g new w

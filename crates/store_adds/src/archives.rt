@@ -43,9 +43,9 @@ pub(crate) fn has_archive(contents: &[u8]) -> Result<(), Stop>
 /// The archive of a text, with the digests that were taken as it was made.
 #[derive(Drop)]
 pub(crate) struct TextArchive {
-    /// Its bytes.
+    /// The bytes of the archive.
     pub(crate) pieces: Pieces,
-    /// Their SHA-256 digest.
+    /// The SHA-256 digest of the bytes.
     pub(crate) hash: [u8; 32],
     /// The SHA-256 digest of the contents.
     pub(crate) contents_hash: [u8; 32],

@@ -1,4 +1,4 @@
-//! Tests of what is handed in with an object.
+//! Tests of what is passed with an object.
 
 ghost use Rattle.std.specs.Prelude.{◌≡◌, ◌||◌, Some, None, IfOk, IfErr, IsTrue, not, is_none};
 ghost use Rattle.sha2.specs.Sha256.{sha256};
@@ -32,7 +32,7 @@ fn is_same(a: &[u8], b: &[u8]) -> bool
     a == b
 }
 
-/// An object that is handed in with its path, whose archive has come.
+/// An object that is passed with its path, whose archive has come.
 #[derive(Drop)]
 pub(crate) struct Delivered {
     pub(crate) path: StorePath,
@@ -43,7 +43,7 @@ pub(crate) struct Delivered {
     pub(crate) nar: Arrived,
 }
 
-/// What is handed in, once its archive has come. Where memory was refused as that came, the call fails.
+/// What is passed, once its archive has come. Where memory was refused as that came, the call fails.
 pub(crate) fn at_end(import: Imported) -> Result<Delivered, Stop>
     ensures same { IfOk result (λ d. delivered_view d ≡ import_view import) }
     ensures told { IfOk result (λ d. IsTold d.nar) }
@@ -72,7 +72,7 @@ pub(crate) fn at_end(import: Imported) -> Result<Delivered, Stop>
 }
 
 impl Delivered {
-    /// Its path and its deriver are base names.
+    /// The path and the deriver of the object are base names.
     pub(crate) fn has_base_names(&self)
         ensures path { IsTrue (is_base_name (delivered_view self.now).path) }
         ensures deriver { (d : PathOf) → (delivered_view self.now).deriver ≡ Some d → IsTrue (is_base_name d) }

@@ -81,7 +81,7 @@ fn outputs_from(
     }
 }
 
-/// The same of an archive in pieces, which is joined.
+/// The outputs of an archive in pieces, which is joined.
 fn outputs_joined(
     alloc: Global,
     dir: &StoreDir,

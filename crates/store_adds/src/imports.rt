@@ -35,7 +35,7 @@ use store_types::{Answer, Imported, Stop};
 use tables::Tables;
 use tables_outline::Index;
 
-/// Tests an object that is handed in with its path; gives the outputs that it records.
+/// Tests an object that is passed with its path; returns the outputs that it records.
 fn examine_import(
     alloc: Global,
     dir: &StoreDir,

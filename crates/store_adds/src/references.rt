@@ -1,4 +1,4 @@
-//! References of objects that are handed in.
+//! References of objects that are passed.
 
 ghost use Rattle.std.specs.Prelude.{◌≡◌, ◌||◌, not, length, nat_le};
 ghost use Rattle.std.specs.FinMap as finite;
@@ -17,7 +17,7 @@ use paths::StorePath;
 use store_types::{Refusal, Stop};
 use tables_outline::Index;
 
-/// The most references that are handed in with an object.
+/// The most references that an object may be passed with.
 const MOST_REFERENCES: usize = 4096;
 
 /// Tests that there aren't too many references, repeats counted.

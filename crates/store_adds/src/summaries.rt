@@ -1,4 +1,4 @@
-//! Objects that are handed in, without their archives.
+//! Objects that are passed, without their archives.
 
 ghost use Rattle.std.specs.Prelude.{◌≡◌, IfOk, IsTrue, length, map, string_bytes};
 ghost use Rattle.std.specs.List.{zip};
@@ -14,7 +14,7 @@ use std::collections::BTreeMap;
 use streams::Pieces;
 use tables_outline::Summary;
 
-/// An object that is handed in: its path, its archive, and all else.
+/// An object that is passed: its path, its archive, and all else.
 #[derive(Drop)]
 pub struct Added {
     /// The path.
@@ -25,7 +25,7 @@ pub struct Added {
     pub object: Summary,
 }
 
-/// The names of outputs in their order, and beside each the path at the same place.
+/// The names of outputs in their order, and for each the path at the same place.
 fn parted(
     alloc: Global,
     outputs: BTreeMap<String, StorePath>,

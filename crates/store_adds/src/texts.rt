@@ -1,4 +1,4 @@
-//! Texts that are handed in.
+//! Texts that are passed.
 
 ghost use Rattle.std.specs.Prelude.{◌≡◌, IfOk, OnOk, length};
 ghost use Rattle.sha2.specs.Sha256.{sha256};

@@ -86,7 +86,7 @@ fn limited_paths(
 }
 
 /// The paths that a collection removes, in order: all that are dead; with a limit, of them as many as it takes, one group after
-/// another, until the archives that went have so many bytes.
+/// another, until the archives that were deleted have that many bytes.
 pub fn collected_paths(
     alloc: Global,
     config: &Config,

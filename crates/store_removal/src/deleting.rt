@@ -76,7 +76,7 @@ fn referring(alloc: Global, rows: &[Row], places: &[usize]) -> Result<Vec<StoreP
     paths_at(alloc, rows, &going)
 }
 
-/// Those of the named paths that are valid and all that reach one by references, named or not, in order.
+/// The named paths that are valid and all that reach one by references, named or not, in order.
 pub fn deleted_paths(
     alloc: Global,
     index: &Index,

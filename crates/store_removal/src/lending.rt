@@ -38,7 +38,7 @@ pub(crate) fn lent<'a>(alloc: Global, roots: &'a [Root]) -> Result<Vec<live::Roo
     Ok(given)
 }
 
-/// Those of the roots whose targets are valid.
+/// The roots whose targets are valid.
 pub(crate) fn of_valid<'a>(
     alloc: Global,
     index: &Index,

@@ -50,7 +50,7 @@ pub(crate) fn marks(
     mark(alloc, &graph, &aims, keep)
 }
 
-/// Of each row whether it lives.
+/// For each row whether it lives.
 fn flags(alloc: Global, count: usize, marks: &Marks) -> Result<Vec<bool>, AllocError>
     requires { length marks.now.first ≡ count }
     ensures { IfOk result (λ v. v.items ≡ map (λ i. is_some (first_of marks.now i)) (range_with_len 0 count)) }
@@ -62,7 +62,7 @@ fn flags(alloc: Global, count: usize, marks: &Marks) -> Result<Vec<bool>, AllocE
     Ok(flags)
 }
 
-/// Of each valid path whether it lives, in the order of paths.
+/// For each valid path whether it lives, in the order of paths.
 fn lives(
     alloc: Global,
     config: &Config,

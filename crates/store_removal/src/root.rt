@@ -9,7 +9,7 @@ use paths::StorePath;
 use std::alloc::AllocError;
 use std::collections::BTreeSet;
 
-/// Which table a root stands in, in the order of roots.
+/// Which table a root is in, in the order of roots.
 #[derive(Clone, Copy, PartialEq, Eq, PartialOrd, Ord)]
 pub(crate) enum Kind {
     Permanent,

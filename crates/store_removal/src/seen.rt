@@ -53,7 +53,7 @@ pub(crate) fn seen_root(
     Ok((label, target))
 }
 
-/// Notes that a pair is told, and tells whether that is the first time. Trusted callers are told each pair as often as it comes.
+/// Notes that a pair is listed, and returns whether that is the first time. For trusted callers each pair is listed as often as it comes.
 fn note(
     class: Class,
     told: &mut BTreeSet<(String, StorePath)>,

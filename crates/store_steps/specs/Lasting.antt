@@ -8,7 +8,7 @@ use Rattle.model.specs.World.{World}
 use Rattle.tables.specs.Kept.{Kept, Tells}
 
 module _ {S : Type 0} (g : Ghosts S) where
-  -- nothing was done: each world that was told is told still; and while the connection is open, the database is the one that it was, and a crash leaves no more of it than before
+  -- nothing was done: each world of the tables before is one of them now; and while the connection is open, the database is the one that it was, and a crash leaves no more of it than before
   pub record IsUntouched (old new : Kept S) : Type 0 where
     pub told : (w : World) → Tells g old w → Tells g new w
     pub same : IsTrue (state g new.connection).is_open → (state g new.connection).now ≡ (state g old.connection).now

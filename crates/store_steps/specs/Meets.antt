@@ -44,7 +44,7 @@ module _ {S : Type 0} (g : Ghosts S) where
   -- a request over tables
   pub record IsMet (s : Settings) (c : Caller) (q : Request) (r : Result Answer Stop) (old new : Kept S) : Type 0 where
     pub dir : new.dir ≡ old.dir
-    -- of each world that they told, what becomes of it is told now
+    -- of each world of the tables before, what becomes of it is a world of them now
     pub world : (w : World) → Tells g old w → (next : World) × MeetsOver (HasCleanDisk (state g new.connection)) s w c q r next × Tells g new next
     -- a refusal leaves them as they were
     pub still : IsRefused r → new ≡ old
@@ -54,7 +54,7 @@ module _ {S : Type 0} (g : Ghosts S) where
     pub survives : (w : World) → Tells g old w → Survives (state g old.connection) (state g new.connection)
         (λ db. LeavesPassed old.dir (state g old.connection).now db s w q)
 
-  -- something is read of the disk: the tables tell what they told
+  -- something is read of the disk: the worlds of the tables are as before
   pub record OnlyReads (old new : Kept S) : Type 0 where
     pub dir : new.dir ≡ old.dir
     pub told : (w : World) → Tells g old w → Tells g new w

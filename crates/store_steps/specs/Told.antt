@@ -1,4 +1,4 @@
--- What is told of an object without its archive.
+-- What is known of an object without its archive.
 use Rattle.std.specs.FinMap as finite
 use Rattle.model.specs.World.{Path}
 use Rattle.tables_outline.specs.Outline.{Outlined}

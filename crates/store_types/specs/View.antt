@@ -19,7 +19,7 @@ use Rattle.store_types.specs.declared.replies.Refusal.TheVariants.{Archive as Ba
 use Rattle.store_types.specs.declared.replies.Reply.{Reply}
 use Rattle.store_types.specs.declared.replies.Reply.TheVariants.{Done, Denied, Refused, Failed}
 
--- what is handed in with its path; no bytes, where memory was refused as its archive came
+-- what is passed with its path; no bytes, where memory was refused as its archive came
 abbrev pub import_view : Imported → asked.Imported
 import_view i = record { path = i.path; nar_hash = i.nar_hash; refs = i.refs.items; deriver = i.deriver; ca = i.ca; nar = bytes_in i.nar }
 

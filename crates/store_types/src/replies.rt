@@ -15,17 +15,17 @@ use tables_sql::failure::Failure;
 /// The record of an object.
 #[derive(Drop)]
 pub struct Info {
-    /// Its path.
+    /// The path of the object.
     pub path: StorePath,
     /// The SHA-256 digest of its archive.
     pub hash: [u8; 32],
     /// The number of bytes of its archive.
     pub size: usize,
-    /// Its references, in order.
+    /// The references of the object, in order.
     pub references: Vec<StorePath>,
-    /// Its deriver, if it is recorded.
+    /// The deriver of the object, if it is recorded.
     pub deriver: Option<StorePath>,
-    /// Its content address, if it is recorded.
+    /// The content address of the object, if it is recorded.
     pub ca: Option<Ca>,
 }
 
@@ -61,9 +61,9 @@ pub enum Answer {
     RuntimeCount(usize),
     /// The number of temporary roots that a session had.
     TemporaryCount(usize),
-    /// The paths that went, and the sum of the bytes of their archives.
+    /// The paths that were deleted, and the sum of the bytes of their archives.
     Freed(Vec<StorePath>, u128),
-    /// Of the live, the dead and all paths.
+    /// The numbers of the live, the dead and all paths.
     Usage(Usage, Usage, Usage),
 }
 

@@ -3,7 +3,7 @@
 use intake::Intake;
 use paths::{Ca, Name, StorePath};
 
-/// An object that is handed in with its path.
+/// An object that is passed with its path.
 #[derive(Drop)]
 pub struct Imported {
     /// The path.

@@ -28,7 +28,7 @@ impl Model for Pieces {
     ghost invariant = { λ p. AreCut (map (λ v. v.items) p.whole.items) p.last.items };
 }
 
-/// Puts the next piece behind the last one, which is full and becomes one of the whole ones.
+/// Puts the next piece after the last one, which is full and becomes one of the whole ones.
 fn put_behind(whole: &mut Vec<Vec<u8>>, last: &mut Vec<u8>, next: Vec<u8>) -> Result<(), AllocError>
     requires cut { AreCut (map (λ v. v.items) whole.old.items) last.old.items }
     requires full { 65536 ≤ length last.old.items }
@@ -49,7 +49,7 @@ fn put_behind(whole: &mut Vec<Vec<u8>>, last: &mut Vec<u8>, next: Vec<u8>) -> Re
     }
 }
 
-/// Tells how much room the last piece has. Where it is full the next begins.
+/// Returns how much room the last piece has. Where it is full the next begins.
 fn make_room(
     alloc: Global,
     whole: &mut Vec<Vec<u8>>,
@@ -171,7 +171,7 @@ impl Pieces {
         Ok(rest)
     }
 
-    /// Keeps so many of the first bytes.
+    /// Keeps the first `length` bytes.
     fn truncate(&mut self, len: usize)
         requires { len ≤ length self.old }
         ensures { self.new ≡ take len self.old }

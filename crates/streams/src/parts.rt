@@ -8,7 +8,7 @@ use std::alloc::{AllocError, Global};
 use std::io;
 use std::io::Write;
 
-/// These bytes in pieces.
+/// The bytes in pieces.
 ///
 /// # Errors
 ///
@@ -21,7 +21,7 @@ pub fn in_pieces(alloc: Global, bytes: &[u8]) -> Result<Pieces, AllocError>
     Ok(pieces)
 }
 
-/// Writes all bytes that are held in pieces, one piece after another; a front of them, and not all, where the writer
+/// Writes all bytes that are held in pieces, one piece after another; a prefix of them, and not all, where the writer
 /// fails.
 ///
 /// # Errors

@@ -1,4 +1,4 @@
-//! An input, handed on piece by piece as it arrives.
+//! An input, passed on piece by piece as it arrives.
 ghost use Rattle.std.specs.Prelude.{◌<◌, length};
 ghost use Rattle.streams.specs.Reads.{ReadsOn, Receives};
 
@@ -9,7 +9,7 @@ use std::io::{Error, ErrorKind, Read};
 /// How many bytes one read asks for at most.
 const PIECE: usize = 65_536;
 
-/// One read into a window, whose bytes are handed on: how many came, or that the input is at its end.
+/// One read into a window, whose bytes are passed on: how many came, or that the input is at its end.
 fn read_on<R: Read, S: Sink>(
     input: &mut R,
     window: &mut [u8],
@@ -26,7 +26,7 @@ fn read_on<R: Read, S: Sink>(
     Ok(Some(count))
 }
 
-/// Reads an input to its end, but no more than `most` bytes, hands each piece on as it arrives, and tells how many
+/// Reads an input to its end, but no more than `most` bytes, passes each piece on as it arrives, and returns how many
 /// bytes came.
 ///
 /// # Errors

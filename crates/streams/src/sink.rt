@@ -1,4 +1,4 @@
-//! What bytes are handed on to.
+//! What bytes are passed on to.
 ghost use Rattle.std.specs.Prelude.{◌≡◌, ◌++◌, ℕ, List, OnOk};
 
 use std::alloc::AllocError;

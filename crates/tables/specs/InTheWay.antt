@@ -1,4 +1,4 @@
--- When somebody else's tables stand in the way of ours: then a database isn't taken up, though our tables may be there soundly, or nothing of ours.
+-- When tables of other programs are in the way of the store's: then a database isn't opened, though the store's tables may be there soundly, or none of them.
 use Rattle.std.specs.Prelude.{Bool, not, ◌||◌, ◌&&◌, is_some}
 use Rattle.std.specs.List.{list_any}
 use Rattle.sqlite_schema.specs.declared.schema.Schema.{Schema}
@@ -9,7 +9,7 @@ use Rattle.tables_schema.specs.Forms.{all_tables}
 use Rattle.tables_schema.specs.Standing.{tree_named, is_unreferred, is_alone, is_unguarded}
 use Rattle.tables_schema.specs.Finding.{is_unawaited}
 
--- a table has the name of this one of ours
+-- a table has the name of this one of the store's
 abbrev pub is_there : Schema → Table → Bool
 is_there s t = is_some (table_named s t.name)
 
@@ -17,7 +17,7 @@ is_there s t = is_some (table_named s t.name)
 abbrev pub is_taken : Schema → Table → Bool
 is_taken s t = is_there s t || (is_some (index_named s t.name) || is_some (view_named s t.name))
 
--- something of ours is there: one of our eleven names is taken
+-- some of the store's tables are there: one of the eleven names is taken
 abbrev pub has_ours : Schema → Bool
 has_ours s = list_any (is_taken s) all_tables
 
@@ -33,6 +33,6 @@ is_awaited s t = not (is_there s t) && not (is_unawaited s t.name)
 abbrev pub is_kept_out : Schema → Table → Bool
 is_kept_out s t = not (is_there s t) && lacks_sequence s
 
--- one of these of one of our tables: somebody else's tables stand in the way
+-- one of these of one of the store's tables: tables of other programs are in the way
 abbrev pub are_others_in_the_way : Schema → Bool
 are_others_in_the_way s = list_any (λ t. is_acted_on s t || (is_awaited s t || is_kept_out s t)) all_tables

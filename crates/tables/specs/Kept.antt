@@ -37,7 +37,7 @@ module _ {S : Type 0} (g : Ghosts S) where
     pub alone : k.connection.in_transaction ≡ false
     pub rows : HasCleanDisk (state g k.connection) → IsTrue (state g k.connection).is_open → AreOutlined (state g k.connection) k.dir k.outline
 
-  -- A world that the tables tell: the one of the rows; or, once a fault has shut the connection, any with the outline.
+  -- A world of the tables: the one of the rows; or, once a fault has shut the connection, any with the outline.
   pub record Tells (k : Kept S) (w : World) : Type 0 where
     pub outline : outline_of w ≡ k.outline
     pub rows : HasCleanDisk (state g k.connection) → IsTrue (state g k.connection).is_open → world_in (contents_of (state g k.connection).now) ≡ w
@@ -45,7 +45,7 @@ module _ {S : Type 0} (g : Ghosts S) where
 
 -- ---- what a write does to the connection
 
--- The change was committed: all of our tables stand and hold what it makes, the others hold the rows that they had, and the connection is ready again.
+-- The change was committed: all of the store's tables are there and hold what it makes, the others hold the rows that they had, and the connection is ready again.
 pub record IsWritten (old new : State) (change : Contents → Contents) : Type 0 where
   pub was_open : IsTrue old.is_open
   pub is_open : IsTrue new.is_open
@@ -55,7 +55,7 @@ pub record IsWritten (old new : State) (change : Contents → Contents) : Type 0
   pub whole : IsWhole new.now
   pub ready : IsReady new
 
--- What a crash may leave of a write: sound rows that tell this world, and what is others' as it was.
+-- What a crash may leave of a write: sound rows of this world, and what other programs have as it was.
 pub record LeavesWorld (dir : List ℕ) (old : Database) (left : Remains) (w : World) : Type 0 where
   pub sound : IsSoundContents dir (contents_of (after_crash old left))
   pub world : world_in (contents_of (after_crash old left)) ≡ w

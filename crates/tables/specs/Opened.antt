@@ -19,7 +19,7 @@ use Rattle.tables.specs.declared.refusing.Unopened.TheVariants.{File, Store}
 use Rattle.tables.specs.Taken.{TakesUp, LeavesTaken, IsCause}
 
 module _ {D : Type 0} {g : disk.Ghosts D} where
-  -- The files held this, a connection opened over them, and it was taken up as the store of a directory.
+  -- The files held this, a connection opened over them, and it was opened as the store of a directory.
   pub record Opens (held : Image) (dir : List ℕ) (t : Kept (FileStore D g)) : Type 0 where
     pub was : Held (FileStore D g)
     pub conn : Held (FileStore D g)
@@ -30,7 +30,7 @@ module _ {D : Type 0} {g : disk.Ghosts D} where
     pub survives : Survives (file_state conn) (file_state t.connection) (LeavesTaken dir (file_state conn).now)
 
 module _ {S : Type 0} {c : calls.Ghosts Host} {start : Ghosts S} {g : disk.Ghosts (Modelled Host S c start)} where
-  -- Why files that held this aren't taken up: no connection is taken up over them, or one is and the store isn't.
+  -- Why files that held this aren't opened as a store: no connection is opened over them, or one is and the store isn't.
   abbrev pub IsUnopened : Image → List ℕ → Unopened (FileStore (Modelled Host S c start) g) (Modelled Host S c start) g → Type 0
   IsUnopened held dir (File e) = FailsToOpenFile held e
   IsUnopened held dir (Store e) = (was : Held (FileStore (Modelled Host S c start) g)) × (conn : Held (FileStore (Modelled Host S c start) g)) × IsAsOpened held was conn × (HasCleanDisk (file_state e.conn) → IsCause dir (file_state conn).now e.cause)

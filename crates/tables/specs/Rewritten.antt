@@ -63,7 +63,7 @@ without_objects ps c = record c {
   pieces = finite.retain_keys c.pieces (λ k. not (holds ps k.0));
 }
 
--- What rows have beside those of objects, an outline tells of: each reference, output or further piece is an object's that has this
+-- What rows have besides those of objects, an outline lists: each reference, output or further piece is an object's that has this
 -- reference, this output, or more bytes of its archive than its row holds.
 pub record Covers (outline : Outline) (c : Contents) : Type 0 where
   pub references : (p r : Path) → IsTrue (finite.contains_key c.refs (p, r)) → (x : Outlined) × (finite.get outline.objects p ≡ Some x) × IsTrue (finite.contains_key x.references r)

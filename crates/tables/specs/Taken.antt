@@ -1,4 +1,4 @@
--- What taking up a database says of it.
+-- What opening a database says of it.
 use Rattle.std.specs.Prelude.{◌≡◌, ◌≢◌, ◌⊎◌, ◌↔◌, ℕ, false, List, None, IsTrue, IsFalse, ⊤}
 use Rattle.std.specs.List.{AllByRecursion}
 use Rattle.std.specs.FinMap as finite
@@ -31,7 +31,7 @@ use Rattle.tables.specs.declared.refusing.Cause.TheVariants.{BadSchema, OtherSto
 abbrev pub unlimited : State → State
 unlimited s = record s { step_limit = None }
 
--- each further table that a schema has stands, and one that it hasn't holds nothing
+-- each further table that a schema has is there, and one that it hasn't holds nothing
 pub record HasFurtherOf (schema : Schema) (db : Database) : Type 0 where
   pub pieces : IsTrue (has_pieces schema) → HasFurther db piece
   pub no_pieces : IsFalse (has_pieces schema) → (contents_of db).pieces ≡ finite.empty
@@ -44,7 +44,7 @@ HasTablesOf one s = HasFirst s
 HasTablesOf two s = HasSecond s
 HasTablesOf three s = HasThird s
 
--- the tables of a schema stand, and of no other, and their texts can be read; the further ones too, as the schema has them
+-- the tables of a schema are there, and of no other, and their texts can be read; the further ones too, as the schema has them
 pub record IsFoundBy (schema : Schema) (db : Database) : Type 0 where
   pub tables : HasTablesOf schema db.schema
   pub only : (other : Schema) → HasTablesOf other db.schema → other ≡ schema
@@ -52,7 +52,7 @@ pub record IsFoundBy (schema : Schema) (db : Database) : Type 0 where
   pub readable : AreReadable (contents_of db)
   pub further : HasFurtherOf schema db
 
--- the tables of a schema stand, their texts can be read, and their rows are those of a database of this store directory
+-- the tables of a schema are there, their texts can be read, and their rows are those of a database of this store directory
 pub record HoldsBy (schema : Schema) (dir : List ℕ) (db : Database) : Type 0 where
   pub tables : HasTablesOf schema db.schema
   pub readable : AreReadable (contents_of db)
@@ -67,21 +67,21 @@ abbrev pub AreRead : Schema → List ℕ → Database → Outline → Type 0
 AreRead schema dir db outline = IsSoundBy schema dir (contents_of db) × (outline_of (world_in (contents_of db)) ≡ outline)
 
 module _ {S : Type 0} (g : Ghosts S) where
-  -- A store of the third schema was there: nothing changed, the connection is open, and the tables tell the world of its rows.
+  -- A store of the third schema was there: nothing changed, the connection is open, and the tables have the world of its rows.
   pub record TakesOver (dir : List ℕ) (db : Database) (t : Kept S) : Type 0 where
     pub holds : HoldsBy three dir db
     pub is_open : IsTrue (state g t.connection).is_open
     pub same : (state g t.connection).now ≡ db
     pub told : Tells g t (world_in (contents_of db))
 
-  -- None of our tables was there: they were made beside the tables of others, and tell the new world.
+  -- None of the store's tables was there: they were made next to the tables of other programs, and have the new world.
   pub record TakesNew (db : Database) (t : Kept S) : Type 0 where
     pub none : HasNone db.schema
     pub is_open : IsTrue (state g t.connection).is_open
     pub others : KeepsOthers db (state g t.connection).now
     pub told : Tells g t no_world
 
-  -- A store of an earlier schema was there: what it held was brought to the third, beside the tables of others, and the tables tell the world of the rows that it had.
+  -- A store of an earlier schema was there: what it held was brought to the third, next to the tables of other programs, and the tables have the world of the rows that it had.
   pub record TakesMigrated (from : Schema) (dir : List ℕ) (db : Database) (t : Kept S) : Type 0 where
     pub holds : HoldsBy from dir db
     pub is_open : IsTrue (state g t.connection).is_open
@@ -103,11 +103,11 @@ LeavesNew dir db left = HasNone db.schema × LeavesMade dir db left
 abbrev pub LeavesBrought : Schema → List ℕ → Database → Remains → Type 0
 LeavesBrought from dir db left = HoldsBy from dir db × LeavesMigrated from dir db left
 
--- What a crash may leave of taking up a database, beside what it could leave before: the new tables, or those that were brought to the third schema.
+-- What a crash may leave of opening a database, besides what it could leave before: the new tables, or those that were brought to the third schema.
 abbrev pub LeavesTaken : List ℕ → Database → Remains → Type 0
 LeavesTaken dir db left = LeavesNew dir db left ⊎ (LeavesBrought one dir db left ⊎ LeavesBrought two dir db left)
 
--- a table of ours is there in exactly its form, whatever stands beside it
+-- a table of the store's is there in exactly its form, whatever is next to it
 abbrev pub HasItsForm : Shown → Table → Type 0
 HasItsForm s t = (at : ℕ) × IsKnown s t.name at (record t { tree = tree_named s t.name })
 
@@ -117,7 +117,7 @@ HasFormsOf one s = AllByRecursion (HasItsForm s) our_tables × (is_taken s piece
 HasFormsOf two s = AllByRecursion (HasItsForm s) our_tables × HasItsForm s piece × (is_taken s temp_root ≡ false)
 HasFormsOf three s = AllByRecursion (HasItsForm s) our_tables × HasItsForm s piece × HasItsForm s temp_root
 
--- our tables are there by a schema, their texts can be read, and their rows are those of a database of this store directory, whatever stands beside them
+-- the store's tables are there by a schema, their texts can be read, and their rows are those of a database of this store directory, whatever is next to them
 pub record IsThereBy (schema : Schema) (dir : List ℕ) (db : Database) : Type 0 where
   pub forms : HasFormsOf schema db.schema
   pub readable : AreReadable (contents_of db)
@@ -127,16 +127,16 @@ pub record IsThereBy (schema : Schema) (dir : List ℕ) (db : Database) : Type 0
 abbrev pub IsThere : List ℕ → Database → Type 0
 IsThere dir db = (schema : Schema) × IsThereBy schema dir db
 
--- Why a database isn't taken up: our tables are there soundly by no schema and for no directory, though something of ours is there; or somebody else's stand in their way; or the store of another directory is there.
+-- Why a database isn't opened: the store's tables are there soundly by no schema and for no directory, though some of them are there; or tables of other programs are in their way; or the store of another directory is there.
 abbrev pub IsCause : List ℕ → Database → Cause → Type 0
 IsCause dir db BadSchema = (IsTrue (has_ours db.schema) × ((d : List ℕ) → ¬ IsThere d db)) ⊎ IsTrue (are_others_in_the_way db.schema)
 IsCause dir db OtherStoreDir = (d : List ℕ) × HoldsStore d db × (d ≢ dir)
 IsCause dir db (Failed f) = ⊤
 
--- neither is nothing of ours there, with nothing waiting for it, nor the store of some directory
+-- neither is there none of the store's tables, with nothing waiting for one, nor the store of some directory
 abbrev pub IsNoStore : Database → Type 0
 IsNoStore db = ¬ HasNone db.schema × ((d : List ℕ) → ¬ HoldsStore d db)
 
--- By the definitions, a database is refused as no store exactly where it is neither taken up as the store of some directory nor given new tables.
+-- By the definitions, a database is refused as no store exactly where it is neither opened as the store of some directory nor given new tables.
 abbrev pub RefusesTheRest : Type 0
 RefusesTheRest = (dir : List ℕ) (db : Database) → IsCause dir db BadSchema ↔ IsNoStore db

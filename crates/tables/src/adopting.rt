@@ -1,4 +1,4 @@
-//! Taking up a connection.
+//! Opening a store over a connection.
 
 ghost use Rattle.std.specs.Prelude.{◌≡◌, false, IsTrue, IfOk, IfErr, MatchResult};
 ghost use Rattle.sqlite.specs.State.{HasCleanDisk, Survives};
@@ -19,7 +19,7 @@ use tables_open::file::{Opened, Untold};
 use tables_schema::recognising::Recognised;
 use tables_world::Schema;
 
-/// Takes up a connection of which it was found what it holds of ours.
+/// Opens a store over a connection of which is known what its database has of the store's tables.
 pub(crate) fn take<S: Alter>(
     alloc: Global,
     conn: Connection<S>,
@@ -48,7 +48,7 @@ pub(crate) fn take<S: Alter>(
     }
 }
 
-/// Takes up a connection that has no limit on steps.
+/// Opens a store over a connection that has no limit on steps.
 fn take_unlimited<S: Alter>(
     alloc: Global,
     conn: Connection<S>,
@@ -76,15 +76,15 @@ fn take_unlimited<S: Alter>(
     }
 }
 
-/// Takes up a connection as the store of a directory. All of its rows are read and tested; where none of our tables is there, they
-/// are made, and those of an earlier schema are brought to the third. At an error the connection is handed back, with our tables as they
+/// Opens a connection as the store of a directory. All of its rows are read and tested; where it has none of the store's tables, they
+/// are made, and those of an earlier schema are brought to the third. At an error the connection is returned, with the tables as they
 /// were. A limit on steps is cleared in either case.
 ///
 /// # Errors
 ///
-/// `BadSchema` where something of ours is there that isn't a store, or somebody else's tables stand in the way of ours: they act on one
+/// `BadSchema` where some of the store's tables are there that make no store, or tables of other programs are in their way: they act on one
 /// that is there, wait for one that isn't, or keep one from being made. Then `OtherStoreDir` where it is the store of another
-/// directory; a failure of the database, or want of memory.
+/// directory; a failure of the database, or out of memory.
 pub fn adopt<S: Alter>(
     alloc: Global,
     mut conn: Connection<S>,

@@ -1,4 +1,4 @@
-//! The rows that an object has beside its own go: its references, its outputs and the further pieces of its archive. Nothing is asked of
+//! Deleting the rows that belong to an object's own: its references, its outputs and the further pieces of its archive. Nothing is asked of
 //! the disk where the index says that it has none.
 
 ghost use Rattle.std.specs.Prelude.{◌≡◌, ◌<◌, ℕ, ℤ, List, IsTrue, OnOk, OnErr, not};

@@ -1,4 +1,4 @@
-//! Taking up tables of an earlier schema: they are brought to the third.
+//! Opening tables of an earlier schema: they are brought to the third.
 
 ghost use Rattle.std.specs.Prelude.{◌≡◌, List, ℕ, false, IsTrue, IfOk, IfErr, OnOk, OnErr, MatchResult};
 ghost use Rattle.sqlite.specs.State.{HasCleanDisk, Survives};
@@ -62,7 +62,7 @@ fn read_and_bring<S: Alter>(
     }
 }
 
-/// Takes up a connection that holds the tables of a schema, brought to the third.
+/// Opens a connection that holds the tables of a schema, brought to the third.
 pub(crate) fn take_earlier<S: Alter>(
     alloc: Global,
     mut conn: Connection<S>,

@@ -1,4 +1,4 @@
-//! Taking up a file.
+//! Opening a file.
 
 ghost use Rattle.std.specs.Prelude.{◌≡◌, IfOk, IfErr};
 ghost use Rattle.sqlite_wal.specs.Files.{image_at};
@@ -18,7 +18,7 @@ use tables_open::file::Opened;
 ///
 /// # Errors
 ///
-/// `sqlite` didn't open the file, what it holds can't be told, or it isn't taken up.
+/// `sqlite` didn't open the file, what it holds can't be read, or it isn't opened as a store.
 pub fn open<S: Start>(
     rt: &HostRuntime,
     path: &str,

@@ -1,5 +1,5 @@
 //! Profiles are set, switched and lose generations, one transaction a call. That the world is sound then is the caller's condition. A
-//! call fails for want of memory, for a row too large, or for a fault of the disk, and then nothing has changed.
+//! call fails when it runs out of memory, for a row too large, or for a fault of the disk, and then nothing has changed.
 
 ghost use Rattle.std.specs.Prelude.{◌≡◌, IsTrue, None, OnOk, OnErr};
 ghost use Rattle.std.specs.FinMap as finite;

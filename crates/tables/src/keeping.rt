@@ -1,4 +1,4 @@
-//! The tables: a connection, and the outline of what its rows tell.
+//! The tables: a connection, and the outline of what its rows say.
 
 ghost use Rattle.std.specs.Prelude.{◌≡◌, false, IsTrue, None, OnOk, OnErr, length};
 ghost use Rattle.std.specs.FinMap as finite;
@@ -44,7 +44,7 @@ impl<S: Alter> Model for Tables<S> {
 }
 
 impl<S: Alter> Tables<S> {
-    /// What is kept in memory: all that the tables tell but the bytes of archives, lent.
+    /// What is kept in memory: all that the tables hold but the bytes of archives, lent.
     pub fn index(&self) -> &Index
         ensures { result.now ≡ self.now.outline }
     {

@@ -2,7 +2,7 @@
 
 ghost use Rattle.tables.specs.Taken.{RefusesTheRest};
 
-/// A database is refused as no store exactly where it is neither taken up as the store of some directory nor given new tables.
+/// A database is refused as no store exactly where it is neither opened as the store of some directory nor given new tables.
 pub fn no_store_is_the_rest()
     ensures { RefusesTheRest }
 {}

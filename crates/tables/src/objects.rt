@@ -41,7 +41,7 @@ pub(crate) fn put_references<S: Alter>(
     Ok(())
 }
 
-/// Adds rows for the outputs of one path that has none: each name beside the path at the same place, in the order of names.
+/// Adds rows for the outputs of one path that has none: for each name the path at the same place, in the order of names.
 pub(crate) fn put_outputs<S: Alter>(
     tx: &mut Transaction<'_, S>,
     base: &str,

@@ -28,7 +28,7 @@ impl<'a> Change for PutPermanent<'a> {
     }
 }
 
-/// A permanent root goes, if it is there.
+/// Deletes a permanent root, if it is there.
 #[derive(Drop)]
 pub(crate) struct DropPermanent<'a> {
     pub(crate) name: &'a str,

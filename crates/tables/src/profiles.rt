@@ -50,7 +50,7 @@ impl<'a> Change for Switch<'a> {
     }
 }
 
-/// A generation goes, if it is there.
+/// Deletes a generation, if it is there.
 #[derive(Drop)]
 pub(crate) struct DropGeneration<'a> {
     pub(crate) owner: &'a str,

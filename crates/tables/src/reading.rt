@@ -38,7 +38,7 @@ fn joined(alloc: Global, row: Vec<u8>, further: Vec<Piece>) -> Result<Pieces, Al
 }
 
 /// The archive of a path, if it has an object: what the object's row holds, and its further pieces, which are asked for
-/// where there are some. It has so many bytes.
+/// where there are some. It has `length` bytes.
 pub(crate) fn read_archive<S: Alter>(
     alloc: Global,
     conn: &mut Connection<S>,

@@ -18,7 +18,7 @@ use tables_outline::Index;
 use tables_rows::objects;
 use tables_sql::failure::Failure;
 
-/// Removes the rows of one object, if it is there: its own, and those beside it that the index tells of.
+/// Removes the rows of one object, if it is there: its own, and those that belong to it by the index.
 fn delete_object<S: Alter>(
     tx: &mut Transaction<'_, S>,
     index: &Index,

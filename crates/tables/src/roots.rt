@@ -1,4 +1,4 @@
-//! Roots are put and dropped, one transaction a call. That the world is sound then is the caller's condition. A call fails for want
+//! Roots are put and dropped, one transaction a call. That the world is sound then is the caller's condition. A call fails when it runs out
 //! of memory, for a row too large, or for a fault of the disk, and then nothing has changed.
 
 ghost use Rattle.std.specs.Prelude.{◌≡◌, IsTrue, OnOk, OnErr};

@@ -1,4 +1,4 @@
-//! Sessions keep paths, and end, one transaction a call. That the world is sound then is the caller's condition. A call fails for want
+//! Sessions keep paths, and end, one transaction a call. That the world is sound then is the caller's condition. A call fails when it runs out
 //! of memory, for a row too large, or for a fault of the disk, and then nothing has changed.
 
 ghost use Rattle.std.specs.Prelude.{◌≡◌, IsTrue, IfOk, OnOk, OnErr};
@@ -50,7 +50,7 @@ impl<S: Alter> Tables<S> {
         }
     }
 
-    /// Ends a session of an owner: what it kept goes. The answer is how many paths those were, 0 too.
+    /// Ends a session of an owner, and deletes what it kept. The answer is how many paths those were, 0 too.
     pub fn end_session(&mut self, owner: &str, session: u32) -> Result<usize, Failure>
         requires sound { (w : World) → Tells S.Store self.old w → IsSound self.old.dir (record w { temporary = without_session owner.now session w.temporary }) }
         ensures dir { self.new.dir ≡ self.old.dir }

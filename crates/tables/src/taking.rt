@@ -1,4 +1,4 @@
-//! Taking up what was found: our tables, or none of them.
+//! Opening what was found: the store's tables, or none of them.
 
 ghost use Rattle.std.specs.Prelude.{◌≡◌, false, IfOk, IfErr, MatchResult};
 ghost use Rattle.sqlite.specs.State.{HasCleanDisk, Survives};
@@ -20,7 +20,7 @@ use tables_outline::Index;
 use tables_sql::failure::Failure;
 use tables_world::Schema;
 
-/// Takes up a connection that holds all eleven of our tables.
+/// Opens a connection that holds all eleven tables of a store.
 pub(crate) fn take_ours<S: Alter>(
     alloc: Global,
     mut conn: Connection<S>,

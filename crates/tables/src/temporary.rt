@@ -47,7 +47,7 @@ impl<'a> Change for PutTemporary<'a> {
     }
 }
 
-/// A session ends: what it kept goes.
+/// Ends a session, and deletes what it kept.
 #[derive(Drop)]
 pub(crate) struct EndSession<'a> {
     pub(crate) owner: &'a str,

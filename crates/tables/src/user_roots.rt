@@ -40,7 +40,7 @@ impl<'a> Change for PutUserRoot<'a> {
     }
 }
 
-/// A user root goes, if it is there.
+/// Deletes a user root, if it is there.
 #[derive(Drop)]
 pub(crate) struct DropUserRoot<'a> {
     pub(crate) owner: &'a str,

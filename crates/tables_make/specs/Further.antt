@@ -1,4 +1,4 @@
--- What the making of further tables leaves, inside a transaction that goes on: they stand after all that was there, and hold no row.
+-- What the making of further tables leaves, inside a transaction that goes on: they come after all that was there, and hold no row.
 use Rattle.std.specs.Prelude.{◌≡◌, true, List, IsTrue}
 use Rattle.std.specs.List.{AllByRecursion}
 use Rattle.sqlite_schema.specs.declared.schema.Table.{Table}
@@ -9,7 +9,7 @@ use Rattle.tables_sql.specs.Frozen.{SparesFrozen}
 use Rattle.tables_sql.specs.Calls.{IsOurs, HasFurther, KeepsFurther, KeepsTheirs}
 use Rattle.tables_make.specs.Making.{all_created}
 
--- a database with these tables beside what it has
+-- a database with these tables in addition to what it has
 abbrev pub grown : List Table → Database → Database
 grown tables db = record db { schema = all_created db.schema tables }
 

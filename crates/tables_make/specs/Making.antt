@@ -1,4 +1,4 @@
--- What the making of our tables leaves: they stand after all that was there, and hold no row, but `meta` its two settings. And why it fails.
+-- What the making of the store's tables leaves: they come after all that was there, and hold no row, but `meta` its two settings. And why it fails.
 use Rattle.std.specs.Prelude.{◌≡◌, ◌≢◌, ◌⊎◌, ℕ, ◌+◌, ◌*◌, ◌^◌, ◌<◌, Bool, true, false, not, ◌&&◌, List, [], ◌∷◌, ◌++◌, length, None, IsSome, IsTrue, IsUtf8, ⊤, codes}
 use Rattle.std.specs.Fmt.{decimal}
 use Rattle.std.specs.List.{AllByRecursion, list_all, list_any}
@@ -59,7 +59,7 @@ abbrev pub all_created : Schema → List Table → Schema
 all_created s [] = s
 all_created s (t ∷ ts) = all_created (created s t) ts
 
--- where they stand then, each with its tree
+-- where they are then, each with its tree
 abbrev pub placed : Schema → List Table → List Table
 placed s [] = []
 placed s (t ∷ ts) = record t { tree = next_tree s } ∷ placed (created s t) ts
@@ -68,7 +68,7 @@ placed s (t ∷ ts) = record t { tree = next_tree s } ∷ placed (created s t) t
 abbrev pub other_tables : List Table
 other_tables = object ∷ refs ∷ outs ∷ permanent ∷ user_root ∷ profile ∷ generation ∷ runtime ∷ piece ∷ temp_root ∷ []
 
--- all eleven made, and where all but `meta` stand then
+-- all eleven made, and where all but `meta` are then
 unfoldable pub ours_created : Schema → Schema
 ours_created s = all_created s all_tables
 
@@ -95,7 +95,7 @@ first_contents dir = record {
   temp_roots = finite.from_entries [];
 }
 
--- the rows of `meta` say these, and can be told apart; a directory whose bytes are UTF-8 can be read
+-- the rows of `meta` say these, and are distinct; a directory whose bytes are UTF-8 can be read
 pub record AreSettings (dir : Bytes) (rows : List Row) : Type 0 where
   pub keyed : IsKeyed rows
   pub readable : IsUtf8 dir → AreReadableRows meta rows
@@ -121,7 +121,7 @@ pub record IsMade (dir : Bytes) (old new : State) : Type 0 where
   pub readable : AreReadable (contents_of new.now)
   pub ready : IsReady new
 
--- What a crash may leave of the making, if it leaves any of it: all eleven tables stand, hold the settings alone, and can be read, and theirs have the rows that they had.
+-- What a crash may leave of the making, if it leaves any of it: all eleven tables are there, hold the settings alone, and can be read, and those of other programs have the rows that they had.
 pub record LeavesMade (dir : Bytes) (db : Database) (trees : Trees) : Type 0 where
   pub whole : IsWhole (record { schema = ours_created db.schema; trees = trees })
   pub readable : AreReadable (contents_of (record { schema = ours_created db.schema; trees = trees }))
@@ -174,7 +174,7 @@ pub record IsPut (word value : Bytes) (old new : List Row) : Type 0 where
   pub readable : IsUtf8 word → IsUtf8 value → AreReadableRows meta old → AreReadableRows meta new
   pub put : finite.get (map_of texts_cmp is_pair pair_of old) word ≡ None → map_of texts_cmp is_pair pair_of new ≡ finite.insert (map_of texts_cmp is_pair pair_of old) word value
 
--- a transaction is under way over a schema in which `meta` stands by its name
+-- a transaction is under way over a schema in which `meta` is found by its name
 pub record HasMeta (s : State) : Type 0 where
   pub named : IsTrue s.is_open → (at : ℕ) × IsNamed s.now.schema (codes "meta") at (record meta { tree = tree_named s.now.schema (codes "meta") })
   pub mode : s.in_transaction ≡ true

@@ -1,4 +1,4 @@
-//! Our tables are made beside whatever tables there are.
+//! The store's tables are made next to whatever tables there are.
 
 ghost use Rattle.std.specs.Prelude.{◌≡◌, ◌<◌, true, map, length, [], ◌∷◌, ℕ, Ok, OnOk, IfErr};
 ghost use Rattle.sqlite.specs.State.{HasCleanDisk, KeepsCommit, Survives, ExecutesInside};
@@ -80,7 +80,7 @@ pub(crate) fn one<S: Alter>(tx: &mut Transaction<'_, S>, table: OurTable) -> Res
     create(tx, text(table))
 }
 
-/// These tables, one after another.
+/// Makes these tables, one after another.
 pub(crate) fn all<S: Alter>(tx: &mut Transaction<'_, S>, tables: &[OurTable]) -> Result<(), Failure>
     requires some { 0 < length tables.now }
     requires apart { are_apart (map form tables.now) ≡ true }

@@ -1,4 +1,4 @@
-//! Making the further tables beside those that stand, inside a transaction that goes on.
+//! Making the further tables next to those that are there, inside a transaction that goes on.
 
 ghost use Rattle.std.specs.Prelude.{◌≡◌, [], ◌∷◌, OnOk, IfErr, IsTrue};
 ghost use Rattle.sqlite.specs.State.{HasCleanDisk, KeepsCommit, Survives};
@@ -14,7 +14,7 @@ use sqlite::{Alter, Transaction};
 use tables_schema::our_table::OurTable;
 use tables_sql::failure::Failure;
 
-/// Makes the table of pieces and that of temporary roots beside the nine of the first schema, with no row. What the tables hold is as
+/// Makes the table of pieces and that of temporary roots next to the nine of the first schema, with no row. What the tables hold is as
 /// it was, and the transaction goes on.
 pub fn make_both<S: Alter>(tx: &mut Transaction<'_, S>) -> Result<(), Failure>
     requires under { HasCleanDisk (state S.Store tx.old.conn.now) → IsUnderWay (state S.Store tx.old.conn.now) }
@@ -28,7 +28,7 @@ pub fn make_both<S: Alter>(tx: &mut Transaction<'_, S>) -> Result<(), Failure>
     creating::all(tx, &[OurTable::Piece, OurTable::TempRoot])
 }
 
-/// Makes the table of temporary roots beside the ten of the second schema, with no row. What the tables hold is as it was, and the
+/// Makes the table of temporary roots next to the ten of the second schema, with no row. What the tables hold is as it was, and the
 /// transaction goes on.
 pub fn make_temp_root<S: Alter>(tx: &mut Transaction<'_, S>) -> Result<(), Failure>
     requires under { HasCleanDisk (state S.Store tx.old.conn.now) → IsUnderWay (state S.Store tx.old.conn.now) }

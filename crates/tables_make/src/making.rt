@@ -1,4 +1,4 @@
-//! Making our tables, all at once, beside whatever tables there are.
+//! Making the store's tables, all at once, next to whatever tables there are.
 
 ghost use Rattle.std.specs.Prelude.{◌≡◌, [], ◌∷◌, false, codes, IsSome, IfErr, OnOk, OnErr, IsTrue};
 ghost use Rattle.sqlite_value.specs.declared.value.Value.TheVariants.{Text};
@@ -76,7 +76,7 @@ fn make_and_commit<S: Alter>(conn: &mut Connection<S>, store_dir: &str) -> Resul
     Ok(())
 }
 
-/// Makes our eleven tables beside whatever tables there are, `meta` with the settings `schema` = `3` and `store-dir`,
+/// Makes the store's eleven tables next to whatever tables there are, `meta` with the settings `schema` = `3` and `store-dir`,
 /// the others with no row: all at once, or nothing. Then the connection is ready for transactions.
 pub fn make<S: Alter>(conn: &mut Connection<S>, store_dir: &str) -> Result<(), Failure>
     requires alone { conn.old.in_transaction ≡ false }

@@ -1,4 +1,4 @@
--- The rows of one object, and those of all objects that stand in other tables, read.
+-- The rows of one object, and those of all objects that are in other tables, read.
 use Rattle.std.specs.Prelude.{◌≡◌, Option, Some, None, MatchOption, map}
 use Rattle.std.specs.FinMap as finite
 use Rattle.tables_sql.specs.Contents.{Contents}

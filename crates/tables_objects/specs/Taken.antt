@@ -38,7 +38,7 @@ abbrev pub with_objects : Contents → List Path → Objects → Objects
 with_objects c [] m = m
 with_objects c (p ∷ ps) m = with_objects c ps (with_object c p m)
 
--- ---- rows beside the objects
+-- ---- rows compared with the objects
 
 -- a base name, and an object's
 abbrev pub is_object : Objects → Path → Bool
@@ -56,7 +56,7 @@ is_output objects e = is_object objects e.0.0
 abbrev pub is_owned : Objects → Numbered → Bool
 is_owned objects k = is_object objects k.0
 
--- The objects are sound beside their references and outputs; each archive is cut the right way, where there is a table of pieces, and
+-- The objects are sound with their references and outputs; each archive is cut the right way, where there is a table of pieces, and
 -- each piece is one of an object's archive.
 pub record AreSoundInPieces (schema : Schema) (dir : List ℕ) (c : Rows) : Type 0 where
   pub objects : AreSoundObjects dir c

@@ -90,7 +90,7 @@ same_outputs [] (f ∷ fs) = false
 same_outputs (e ∷ es) [] = false
 same_outputs (e ∷ es) (f ∷ fs) = (bytes_eq e.0 f.0 && bytes_eq e.1 f.1) && same_outputs es fs
 
--- names in order, each beside its path, are those of a map
+-- names in order, each with its path, are those of a map
 pub record IsListed (names : List (List ℕ)) (paths : List Path) (m : finite.FinMap bytes_cmp Path) : Type 0 where
   pub in_order : IsTrue (rise names)
   pub as_many : length paths ≡ length names
@@ -110,7 +110,7 @@ pub record IsSoundArchive (dir : List ℕ) (p : Path) (nar hash : List ℕ) (ca 
 
 -- ---- objects
 
--- one object beside what it refers to and its outputs, each list in order
+-- one object with what it refers to and its outputs, each list in order
 pub record IsSoundAt (dir : List ℕ) (p : Path) (o : Stored) (refs : List Path) (outputs : List (List ℕ × Path)) : Type 0 where
   pub path : IsTrue (is_base_name p)
   pub deriver : IsTrue (is_base_if_any o.deriver)

@@ -1,4 +1,4 @@
-//! The content address of an object beside its archive and its references.
+//! The content address of an object compared with its archive and its references.
 
 ghost use Rattle.std.specs.Prelude.{◌≡◌, IfOk};
 ghost use Rattle.std.specs.List.{list_any};

@@ -1,4 +1,4 @@
-//! All rows of references and outputs, and which pieces there are: read once, and tested beside the objects of the index.
+//! All rows of references and outputs, and which pieces there are: read once, and tested against the objects of the index.
 
 ghost use Rattle.std.specs.Prelude.{◌≡◌, ◌&&◌, false, IsTrue, IsFalse, IfOk, map};
 ghost use Rattle.std.specs.List.{list_all};

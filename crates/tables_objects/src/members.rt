@@ -1,4 +1,4 @@
-//! Rows of references, outputs and pieces beside the paths of all objects, which are in order: no path is made of a text to look it up.
+//! Rows of references, outputs and pieces against the paths of all objects, which are in order: no path is made of a text to look it up.
 
 ghost use Rattle.std.specs.Prelude.{◌≡◌, ◌↔◌, true, IfOk, IsTrue, map};
 ghost use Rattle.std.specs.List.{list_all};
@@ -68,7 +68,7 @@ fn is_next_known(paths: &[&StorePath], last: Option<&str>, text: &str) -> bool
     is_known(paths, text)
 }
 
-/// The same of a reference, which leads to one of the paths.
+/// Whether the base and the target of a reference are among the paths.
 fn is_reference(paths: &[&StorePath], last: Option<&str>, row: &Reference) -> bool
     requires rises { Rises (lent paths.now) }
     requires last { ForSome (option_copied last) (λ base. is_known (lent paths.now) base ≡ true) }

@@ -1,4 +1,4 @@
-//! The rows of an object's outputs beside what its archive records.
+//! The rows of an object's outputs compared with what its archive records.
 
 ghost use Rattle.std.specs.Prelude.{◌≡◌, ◌&&◌, Ok, IfOk, MatchOption, map, string_bytes};
 ghost use Rattle.std.specs.FinMap as finite;
@@ -14,7 +14,7 @@ use std::collections::BTreeMap;
 use streams::Pieces;
 use tables_sql::outputs::Output;
 
-/// Outputs in the order of their names, each name beside the path at the same place.
+/// Outputs in the order of their names, each name with the path at the same place.
 #[derive(Drop)]
 pub(crate) struct Listed {
     pub(crate) names: Vec<String>,

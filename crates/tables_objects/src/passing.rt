@@ -23,7 +23,7 @@ fn gathered(alloc: Global, row: Vec<u8>, pieces: Vec<Piece>) -> Result<Pieces, A
     Ok(all)
 }
 
-/// The archive of a row and its pieces, and what is told of it.
+/// The archive of a row and its pieces, and what is found of it.
 pub(crate) fn archive_of(
     alloc: Global,
     row: Vec<u8>,

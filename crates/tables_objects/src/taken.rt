@@ -1,4 +1,4 @@
-//! All objects of the rows, tested and put into the index, and what is tested beside them.
+//! All objects of the rows, tested and put into the index, and what is tested with them.
 
 ghost use Rattle.std.specs.Prelude.{◌≡◌, ◌↔◌, false, IsTrue, IsFalse, IfOk, OnOk};
 ghost use Rattle.std.specs.FinMap as finite;
@@ -22,7 +22,7 @@ use tables_outline::Index;
 use tables_sql::failure::Failure;
 use tables_world::Schema;
 
-/// Whether the objects of the rows are sound in a store directory, by their schema: each archive cut the right way, each object beside
+/// Whether the objects of the rows are sound in a store directory, by their schema: each archive cut the right way, each object with
 /// its whole archive, its references and its outputs, each reference one of an object to an object, and each output and each piece one
 /// of an object. If so, they are put into the index, which has no objects before. Archives are read one after another. The first
 /// schema has no table of pieces.

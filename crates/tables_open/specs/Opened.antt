@@ -1,4 +1,4 @@
--- What taking up a connection says of it, and why a file isn't taken up.
+-- What opening a connection says of it, and why a file isn't opened.
 use Rattle.std.specs.Prelude.{◌≡◌, ◌↔◌, ◌⊎◌, ⊤, true, false, ℤ, List, map, Option, Some, None, IsTrue}
 use Rattle.std.specs.List.{AllByRecursion, IsDistinct}
 use Rattle.std.specs.Ordering.{eq_by_cmp, int_cmp}
@@ -37,7 +37,7 @@ use Rattle.tables_sql.specs.Texts.{AreReadable}
 use Rattle.tables_sql.specs.Calls.{IsKeyed, IsWhole, HasFurther, IsReady, KeepsShown}
 use Rattle.tables_sql.specs.Failures.{opening_failure, FailsToTest}
 
--- by which schema our tables stand, if they do
+-- by which schema the store's tables are there, if they are
 pub record IsRecognised (r : Recognised) (s : Schema) : Type 0 where
   pub nothing : r ≡ Nothing ↔ HasNone s
   pub first : r ≡ First ↔ HasFirst s
@@ -51,7 +51,7 @@ pub record IsBySchema (r : Recognised) (db : Database) : Type 0 where
   pub second : r ≡ Second ↔ HasSecond db.schema × AreReadable (contents_of db)
   pub third : r ≡ Third ↔ HasThird db.schema × AreReadable (contents_of db)
 
--- where our tables stand by a schema the connection is ready, and the further tables of that schema can be read and written too
+-- where the store's tables are there by a schema the connection is ready, and the further tables of that schema can be read and written too
 abbrev pub IsReadyBy : Recognised → State → Type 0
 IsReadyBy Nothing s = ⊤
 IsReadyBy First s = IsReady s
@@ -59,7 +59,7 @@ IsReadyBy Second s = IsReady s × HasFurther s.now piece
 IsReadyBy Third s = IsReady s × IsWhole s.now
 IsReadyBy Other s = ⊤
 
--- this is what the database holds of ours; and if it holds the tables of a schema, it is ready
+-- this is what the database has of the store's tables; and if it holds the tables of a schema, it is ready
 pub record IsFound (r : Recognised) (s : State) : Type 0 where
   pub by_schema : IsBySchema r s.now
   pub ready : IsReadyBy r s
@@ -69,7 +69,7 @@ pub record IsFound (r : Recognised) (s : State) : Type 0 where
 abbrev pub ShowIds : List Row → Type 0
 ShowIds rows = (ids : List ℤ) × (map (λ row. column row 0) rows ≡ map Int ids) × IsDistinct (eq_by_cmp int_cmp) ids
 
--- our tables stand by one of the schemas, and in one of those that stand two rows share a rowid or a rowid is no integer
+-- the store's tables are there by one of the schemas, and in one of those that are there two rows share a rowid or a rowid is no integer
 abbrev pub HasUnkeyed : Database → Type 0
 HasUnkeyed db =
     (HasFirst db.schema ⊎ (HasSecond db.schema ⊎ HasThird db.schema)) × ¬ AllByRecursion (λ t. Stands db.schema t → IsKeyed (rows_named db t.name)) all_tables
@@ -101,7 +101,7 @@ module _ {S : Type 0} {c : calls.Ghosts Host} {start : Ghosts S} {g : disk.Ghost
   Refuses e (Some left) =
       IsTrue (is_open_error e) × ((files : _) × IsFresh true files.log × IsFresh false files.db × (IsCleanLeft left → FailsToOpenFiles files left e × LeavesFiles files left))
 
-  -- Why files that held this weren't taken up: `sqlite` refused them for an error, of which this is the failure; or it opened them, and what they hold of ours can't be told.
+  -- Why files that held this weren't opened: `sqlite` refused them for an error, of which this is the failure; or it opened them, and what they hold of the store's tables can't be read.
   abbrev pub FailsToOpenFile : Image → Unopened (FileStore (Modelled Host S c start) g) (Modelled Host S c start) g → Type 0
   FailsToOpenFile held (Refused failure left) = (e : Error) × (failure ≡ opening_failure e) × Refuses e left
   FailsToOpenFile held (Untold it) = (was : _) × IsAsOpened held was it.conn × (HasCleanDisk (file_state it.conn) → FailsToOpen (file_state was) (file_state it.conn) it.failure)

@@ -1,7 +1,7 @@
 -- How many pages of a file are kept in memory.
 use Rattle.std.specs.Prelude.{ℕ, ◌+◌, ◌/◌, nat_le, cond, max}
 
--- all pages of a database whose file has this length, which has so many by its log, and whose pages have so many bytes; and 256 more
+-- all pages of a database whose file has this length, which has this number by its log, and whose pages have this number of bytes; and 256 more
 abbrev pub all_pages : ℕ → ℕ → ℕ → ℕ
 all_pages len logged page = max (len / page) logged + 256
 

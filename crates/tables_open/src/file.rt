@@ -1,4 +1,4 @@
-//! Opening a file: a database with what it holds of ours, or why it isn't taken up.
+//! Opening a file: a database with what it has of the store's tables, or why it isn't opened.
 
 ghost use Rattle.std.specs.Prelude.{◌≡◌, false, None, IsTrue, IsErrAnd, IfOk, IfErr, MatchResult, codes};
 ghost use Rattle.sqlite.specs.State.{HasCleanDisk, IsUnchanged, Survives};
@@ -23,19 +23,19 @@ use tables_sql::failure::Failure;
 pub struct Opened<S: Alter> {
     /// The connection, outside a transaction.
     pub conn: Connection<S>,
-    /// What the database holds of ours.
+    /// What the database has of the store's tables.
     pub found: Recognised,
 }
 
-/// A database that was opened, but what it holds of ours can't be told.
+/// A database that was opened, but what it has of the store's tables can't be read.
 pub struct Untold<S: Alter> {
     /// The connection, as it was, outside a transaction.
     pub conn: Connection<S>,
-    /// Why it can't be told.
+    /// Why it can't be read.
     pub failure: Failure,
 }
 
-/// Why a file wasn't taken up. `S` is the store of a connection, over files `D`.
+/// Why a file wasn't opened. `S` is the store of a connection, over files `D`.
 pub enum Unopened<S: Alter, D: Disk> {
     /// `sqlite` didn't open it.
     Refused {
@@ -44,7 +44,7 @@ pub enum Unopened<S: Alter, D: Disk> {
         /// What is left of the files, once they were opened.
         left: Option<Leftover<D>>,
     },
-    /// It was opened, but what it holds of ours can't be told.
+    /// The database was opened, but what it has of the store's tables can't be read.
     Untold(Untold<S>),
 }
 
@@ -62,8 +62,8 @@ fn opening_failure(error: Error) -> Option<Failure>
     }
 }
 
-/// Takes up a connection: finds what its database holds of ours. Nothing changes, and where it can't be told, the connection is
-/// handed back beside the failure.
+/// Opens a connection: finds what its database has of the store's tables. Nothing changes, and where it can't be read, the connection is
+/// returned with the failure.
 pub fn take_up<S: Alter>(alloc: Global, mut conn: Connection<S>) -> Result<Opened<S>, Untold<S>>
     requires alone { conn.in_transaction ≡ false }
     ensures alone { MatchResult result (λ it. it.conn.in_transaction ≡ false) (λ e. e.conn.in_transaction ≡ false) }
@@ -79,9 +79,9 @@ pub fn take_up<S: Alter>(alloc: Global, mut conn: Connection<S>) -> Result<Opene
     }
 }
 
-/// Opens the file at a path, or makes an empty database there, and takes it up. `start` stands for what the file held, which no
+/// Opens the file at a path, or makes an empty database there. `start` stands for what the file held, which no
 /// code reads: a theorem is stated over any, and a program passes `Unknown`, or `Wary` where a torn write may leave any bytes.
-/// Want of memory, and something else than a database with nothing left, need no cause: `sqlite` gives none for memory, for a path
+/// Out of memory, and anything but a database with nothing left, need no cause: `sqlite` gives none for memory, for a path
 /// that can't be opened, or for a file that another connection has open.
 pub fn open<S: Start>(
     rt: &HostRuntime,

@@ -1,4 +1,4 @@
-//! How many pages the database at a path has, as the headers of its file and of its log tell.
+//! How many pages the database at a path has, by the headers of its file and of its log.
 //!
 //! The file isn't open yet, and none of what is read here is trusted: only how many pages are kept hangs on it. To close a file lets go
 //! of its locks, so this is done before it is opened. A pipe would wait for a writer: only regular files are opened.
@@ -16,7 +16,7 @@ const NEW_PAGE: u64 = 4096;
 /// The bytes of a log's header.
 const LOG_HEADER: u64 = 32;
 
-/// The bytes that stand before each page in the log.
+/// The bytes before each page in the log.
 const FRAME_HEADER: u64 = 24;
 
 /// What was measured of a database.
@@ -24,7 +24,7 @@ const FRAME_HEADER: u64 = 24;
 pub struct Measured {
     /// The length of its file.
     pub len: u64,
-    /// How many pages it has by its log, 0 where that tells none.
+    /// How many pages it has by its log, 0 where the log doesn't say.
     pub logged: u32,
     /// The bytes of a page.
     pub page: u64,
@@ -37,7 +37,7 @@ fn stated_page(file: &mut File) -> io::Result<u64> {
     Ok(u64::from(u16::from_be_bytes([head[16], head[17]])))
 }
 
-/// The length of the file at a path, and the bytes of a page. Where they can't be told, as of a file that isn't there yet, no bytes in
+/// The length of the file at a path, and the bytes of a page. Where they can't be read, as of a file that isn't there yet, no bytes in
 /// pages of a new file.
 fn measure_file(rt: &HostRuntime, path: &str) -> io::Result<(u64, u64)> {
     let found = fs::metadata(rt, path)?;
@@ -58,8 +58,8 @@ fn page_of(stated: u64) -> u64
     }
 }
 
-/// How many pages the last commit in a log left, which has room for so many frames; 0 where it holds none. The frames that were written
-/// since the log was last copied into the file have the salts of its header, and stand in front of older ones.
+/// How many pages the last commit in a log left, which has room for `frames` frames; 0 where it has none. The frames that were written
+/// since the log was last copied into the file have the salts of its header, and come before older ones.
 fn pages_in(log: &File, frames: u32, page: u64) -> io::Result<u32>
     requires { page ≤ 65536 }
 {
@@ -83,7 +83,7 @@ fn pages_in(log: &File, frames: u32, page: u64) -> io::Result<u32>
     Ok(pages)
 }
 
-/// How many pages the file at a path has by its log, which lies beside the file that a link leads to.
+/// How many pages the file at a path has by its log, which lies next to the file that a link leads to.
 fn measure_log(rt: &HostRuntime, path: &str, page: u64) -> io::Result<u32>
     requires { page ≤ 65536 }
 {

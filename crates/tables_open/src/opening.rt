@@ -1,4 +1,4 @@
-//! Taking up a connection: by which schema its database has our tables, and that their rows can be told apart and their texts read.
+//! Opening a connection: by which schema its database has the store's tables, and that their rows are distinct and their texts read.
 
 ghost use Rattle.std.specs.Prelude.{◌≡◌, ◌≢◌, ◌↔◌, ◌<◌, length, false, IsTrue, IfOk, IfErr, OnOk};
 ghost use Rattle.sqlite.specs.Effect.{IsDatabase};
@@ -19,7 +19,7 @@ use tables_schema::recognising;
 use tables_schema::recognising::Recognised;
 use tables_sql::failure::Failure;
 
-/// The schema, whose tables stand, or `Other` where a text in one of them isn't UTF-8. Fails with `Disk` if two rows of a table share a
+/// The schema, whose tables are there, or `Other` where a text in one of them isn't UTF-8. Fails with `Disk` if two rows of a table share a
 /// rowid, or a rowid is no integer. Nothing changes.
 fn taken_up<S: Alter>(
     alloc: Global,
@@ -71,9 +71,9 @@ pub fn recognise<S: Alter>(conn: &Connection<S>) -> Recognised
     recognising::recognise(conn.schema())
 }
 
-/// What the connection's database holds of ours: `First`, `Second` or `Third` if the tables of that schema stand and each text in them
-/// is UTF-8. Then the connection is ready for transactions. Nothing changes. It fails for want of memory, for a fault of the disk, where
-/// an earlier one has shut the connection, where a limit on steps stops it, and if two rows of a table of ours share a rowid or a rowid is no integer.
+/// What the connection's database has of the store's tables: `First`, `Second` or `Third` if the tables of that schema are there and each text in them
+/// is UTF-8. Then the connection is ready for transactions. Nothing changes. It fails when it runs out of memory, for a fault of the disk, where
+/// an earlier one has shut the connection, where a limit on steps stops it, and if two rows of a store's table share a rowid or a rowid is no integer.
 pub fn open<S: Alter>(alloc: Global, conn: &mut Connection<S>) -> Result<Recognised, Failure>
     requires alone { conn.old.in_transaction ≡ false }
     ensures alone { conn.new.in_transaction ≡ false }

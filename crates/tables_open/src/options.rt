@@ -30,7 +30,7 @@ const SPILL_PAGES: usize = 1000;
 /// How many pages the log holds before it is copied into the file.
 const CHECKPOINT_FRAMES: usize = 1000;
 
-/// How many pages of a database are kept: all of them where that is within the bounds. Behind a large transaction its log tells of
+/// How many pages of a database are kept: all of them where that is within the bounds. After a large transaction its log has
 /// more than its file has.
 fn kept_pages(found: &Measured) -> usize
     requires { 512 ≤ found.now.page }

@@ -1,4 +1,4 @@
-//! That each row of our tables has a rowid of its own, an integer: deletes rest on it.
+//! Whether each row of the store's tables has a rowid of its own, an integer: deletes rest on it.
 
 ghost use Rattle.std.specs.Prelude.{◌≡◌, ◌↔◌, ◌⊎◌, [], IfOk, IfErr, OnOk, IsTrue, true, false, length, map, List, ℤ};
 ghost use Rattle.std.specs.List.{AllAdjacentBelow, IsDistinct};
@@ -20,7 +20,7 @@ use std::alloc::Global;
 use tables_sql::failure::Failure;
 use tables_sql::reading::{Sink, read_into};
 
-/// An error that is no want of memory is `Disk`, whatever it is.
+/// An error other than out of memory is `Disk`, whatever it is.
 fn read_id(row: &Row) -> Result<i64, Failure>
     ensures shown { IfOk result (λ id. column row.now 0 ≡ Int id) }
     ensures cause { IfErr result (λ f. (f ≡ Memory) ⊎ ((f ≡ Disk) × ¬ IsInt (column row.now 0))) }

@@ -36,7 +36,7 @@ fn one<S: Alter>(alloc: Global, conn: &mut Connection<S>, table: OurTable) -> Re
     texts::check(conn, queries::texts(table))
 }
 
-/// The same of some tables, one after another.
+/// Tests some tables, one after another.
 pub(crate) fn all<S: Alter>(
     alloc: Global,
     conn: &mut Connection<S>,

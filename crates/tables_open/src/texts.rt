@@ -1,4 +1,4 @@
-//! That the texts of our tables are UTF-8.
+//! Whether the texts of the store's tables are UTF-8.
 
 ghost use Rattle.std.specs.Prelude.{◌≡◌, ◌↔◌, ◌⊎◌, [], List, IfOk, IfErr, IsTrue, true, false};
 ghost use Rattle.std.specs.List.{AllByRecursion};

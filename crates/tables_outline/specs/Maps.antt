@@ -31,7 +31,7 @@ abbrev pub put_all : {K X : Type 0} {R : K → K → Ordering} → List (K × X)
 put_all [] m = m
 put_all (e ∷ es) m = put_all es (finite.insert m e.0 e.1)
 
--- a map in which a key gets back the value that it had, or goes where it had none
+-- a map in which a key gets back the value that it had, or is removed where it had none
 abbrev pub unput : {K X : Type 0} {R : K → K → Ordering} → finite.FinMap R X → K → Option X → finite.FinMap R X
 unput m k None = finite.remove m k
 unput m k (Some x) = finite.insert m k x

@@ -17,7 +17,7 @@ of_session owner session kept = finite.retain_keys kept (is_of_session owner ses
 abbrev pub without_session : List ℕ → ℕ → Set temporary_cmp → Set temporary_cmp
 without_session owner session kept = finite.retain_keys kept (λ t. not (is_of_session owner session t))
 
--- what is kept, where a path that was put stays if it was kept before, and else goes
+-- what is kept, where a path that was put stays if it was kept before, and else is removed
 abbrev pub unkept : Set temporary_cmp → Temporary → Bool → Set temporary_cmp
 unkept kept t true = kept
 unkept kept t false = finite.remove kept t

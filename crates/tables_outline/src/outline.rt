@@ -11,7 +11,7 @@ use std::alloc::Global;
 use std::collections::{BTreeMap, BTreeSet};
 use std::marker::Model;
 
-/// All that the tables tell of a world but the bytes of archives.
+/// All that the tables hold of a world but the bytes of archives.
 #[derive(Drop)]
 pub struct Index {
     pub(crate) objects: BTreeMap<StorePath, Summary>,
@@ -35,7 +35,7 @@ impl Model for Index {
 }
 
 impl Index {
-    /// That of a world without anything.
+    /// The outline of a world without anything.
     pub fn new(alloc: Global) -> Index
         ensures { result ≡ outline_of no_world }
     {

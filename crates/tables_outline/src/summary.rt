@@ -38,7 +38,7 @@ impl Model for Summary {
 
 impl Summary {
     /// The summary of an object: the size in bytes and the SHA-256 of its archive, its references in order, its deriver
-    /// and its content address, and its outputs, each name beside the path at the same place, in the order of names.
+    /// and its content address, and its outputs, each name with the path at the same place, in the order of names.
     pub fn new(
         size: usize,
         hash: [u8; 32],

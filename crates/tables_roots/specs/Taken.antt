@@ -14,7 +14,7 @@ use Rattle.tables_world.specs.Told.{world_in}
 use Rattle.tables_outline.specs.Outline.{Outlined, Outline}
 use Rattle.tables_outline.specs.Filling.{has_currents}
 
--- each row passes beside the outline with all rows before it
+-- each row passes with the outline with all rows before it
 abbrev pub all_pass : {X : Type 0} → (X → Outline → Bool) → (X → Outline → Outline) → List X → Outline → Bool
 all_pass passes put [] o = true
 all_pass passes put (x ∷ xs) o = passes x o && all_pass passes put xs (put x o)
@@ -85,7 +85,7 @@ are_profiles objects c =
 
 -- ---- all roots
 
--- the permanent roots are sound beside these objects, and the user roots
+-- the permanent roots are sound with these objects, and the user roots
 abbrev pub are_fixed : Objects → Contents → Bool
 are_fixed objects c = list_all (is_permanent_root objects) (finite.entries c.permanent) && list_all (is_user_root objects) (finite.entries c.user_roots)
 
@@ -93,11 +93,11 @@ are_fixed objects c = list_all (is_permanent_root objects) (finite.entries c.per
 abbrev pub are_moving : Objects → Contents → Bool
 are_moving objects c = are_profiles objects c && list_all (is_runtime_root objects) (finite.entries c.runtime)
 
--- all roots but the temporary ones are sound beside these objects
+-- all roots but the temporary ones are sound with these objects
 abbrev pub are_roots : Objects → Contents → Bool
 are_roots objects c = are_fixed objects c && are_moving objects c
 
--- what sessions keep is sound beside these objects
+-- what sessions keep is sound with these objects
 abbrev pub are_temporary : Objects → Contents → Bool
 are_temporary objects c = list_all (is_temporary_root objects) (finite.entries c.temp_roots)
 

@@ -49,7 +49,7 @@ impl Taken for Generation {
     }
 }
 
-/// Whether the generations of the rows are sound beside the objects and the profiles of the index. If so, they are put into the index.
+/// Whether the generations of the rows are sound with the objects and the profiles of the index. If so, they are put into the index.
 pub(crate) fn read<S: Alter>(
     alloc: Global,
     conn: &mut Connection<S>,

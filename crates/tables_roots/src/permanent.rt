@@ -43,7 +43,7 @@ impl Taken for PermanentRoot {
     }
 }
 
-/// Whether the permanent roots of the rows are sound beside the objects of the index. If so, they are put into the index.
+/// Whether the permanent roots of the rows are sound with the objects of the index. If so, they are put into the index.
 pub fn read<S: Alter>(
     alloc: Global,
     conn: &mut Connection<S>,

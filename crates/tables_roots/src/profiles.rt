@@ -48,7 +48,7 @@ impl Taken for Profile {
     }
 }
 
-/// Whether the rows of profiles are sound beside nothing else. If so, they are put into the index, without generations.
+/// Whether the rows of profiles are sound by themselves. If so, they are put into the index, without generations.
 fn read_bare<S: Alter>(
     alloc: Global,
     conn: &mut Connection<S>,
@@ -69,7 +69,7 @@ fn read_bare<S: Alter>(
     Ok(taking::take_all(alloc, index, profiles)?)
 }
 
-/// Whether the profiles of the rows are sound, and their generations beside the objects of the index, and each profile has a
+/// Whether the profiles of the rows are sound, and their generations with the objects of the index, and each profile has a
 /// generation of its current number. If so, they are put into the index.
 pub fn read<S: Alter>(
     alloc: Global,

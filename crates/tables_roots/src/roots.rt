@@ -94,7 +94,7 @@ fn take_lasting<S: Alter>(
     take_moving(alloc, conn, index)
 }
 
-/// Whether all roots of the rows are sound beside the objects of the index, which are those of the rows. If so, they are put into the
+/// Whether all roots of the rows are sound with the objects of the index, which are those of the rows. If so, they are put into the
 /// index. Temporary roots are read by the third schema alone, since no other has a table of them.
 ///
 /// # Errors

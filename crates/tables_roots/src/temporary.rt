@@ -52,7 +52,7 @@ impl Taken for TempRoot {
     }
 }
 
-/// Whether what the sessions of the rows keep is sound beside the objects of the index. If so, it is put into the index.
+/// Whether what the sessions of the rows keep is sound with the objects of the index. If so, it is put into the index.
 pub fn read<S: Alter>(
     alloc: Global,
     conn: &mut Connection<S>,

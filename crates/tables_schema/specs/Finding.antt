@@ -1,4 +1,4 @@
--- What a schema may hold of ours: the nine tables that each schema has, nothing at all, or anything else.
+-- What a schema may have of the store's tables: the nine that each schema has, nothing at all, or anything else.
 use Rattle.std.specs.Prelude.{◌≡◌, ℕ, ◌==◌, ◌^◌, nat_le, not, Bool, true, false, List, find, Some, None}
 use Rattle.std.specs.List.{list_all, AllByRecursion}
 use Rattle.sqlite_schema.specs.declared.schema.Schema.{Schema}

@@ -1,4 +1,4 @@
--- Our tables in a schema that may hold somebody else's, before them, after them or between them.
+-- The store's tables in a schema that may hold those of other programs, before them, after them or between them.
 use Rattle.std.specs.Prelude.{◌≡◌, ℕ, ◌==◌, ◌^◌, nat_le, not, ◌||◌, ◌&&◌, Bool, true, false, List, find, slice_get, Some, option_map, option_and_then, unwrap_or, bytes_eq}
 use Rattle.std.specs.List.{list_all, AllByRecursion}
 use Rattle.sqlite_schema.specs.declared.schema.Schema.{Schema}
@@ -37,7 +37,7 @@ is_unguarded s tree key = list_all (λ i. not (i.is_unique && (i.table == tree))
 abbrev pub tree_named : Schema → List ℕ → ℕ
 tree_named s name = unwrap_or (option_map (λ t. t.tree) (option_and_then (slice_get s.tables) (table_named s name))) 0
 
--- a table of ours stands somewhere in the schema in exactly its form, and nothing else acts on it
+-- a table of the store's is somewhere in the schema in exactly its form, and nothing else acts on it
 pub record Stands (s : Schema) (table : Table) : Type 0 where
   pub at : ℕ
   pub known : IsKnown s table.name at (record table { tree = tree_named s table.name })
@@ -45,6 +45,6 @@ pub record Stands (s : Schema) (table : Table) : Type 0 where
   pub alone : is_alone s table.name (tree_named s table.name) ≡ true
   pub unguarded : is_unguarded s (tree_named s table.name) table.primary ≡ true
 
--- all nine stand
+-- all nine are there
 abbrev pub HasTables : Schema → Type 0
 HasTables s = AllByRecursion (Stands s) our_tables

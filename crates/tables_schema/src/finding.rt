@@ -1,4 +1,4 @@
-//! What a schema holds of ours: the nine tables that each schema has, nothing at all, or anything else.
+//! What a schema has of the store's tables: the nine that each schema has, nothing at all, or anything else.
 
 ghost use Rattle.std.specs.Prelude.{◌≡◌, ◌↔◌, not, IsTrue, codes};
 ghost use Rattle.std.specs.List.{list_all, list_any, AllByRecursion};
@@ -16,18 +16,18 @@ use crate::nine::{
 use sqlite_schema::names::same_name;
 use sqlite_schema::schema::{Reference, Schema, Table};
 
-/// What a schema holds of ours. Tables of other names may stand beside ours, wherever they are.
+/// What a schema has of the store's tables. Tables of other names may be next to them, wherever they are.
 #[derive(Clone, Copy, Debug, PartialEq, Eq)]
 pub enum Finding {
     /// None of our names is taken, no foreign key refers to one of them, and a table that counts its rowids has its counter.
     Nothing,
-    /// All nine tables, each exactly of its form, and nothing of somebody else's acts on them.
+    /// All nine tables, each exactly of its form, and nothing of other programs acts on them.
     Ours,
     /// Anything else.
     Other,
 }
 
-/// What the schema holds of ours.
+/// What the schema has of the store's tables.
 pub fn find(schema: &Schema) -> Finding
     ensures ours { result ≡ Ours ↔ HasTables schema.now }
     ensures nothing { result ≡ Nothing ↔ HasNone schema.now }

@@ -1,4 +1,4 @@
-//! Whether a table of a schema has exactly the form of one of ours.
+//! Whether a table of a schema has exactly the form of one of the store's.
 
 ghost use Rattle.std.specs.Prelude.{◌≡◌, ◌↔◌, [], ◌∷◌, map, IsTrue, bytes_eq};
 ghost use Rattle.sqlite_value.specs.Keys.{plain};

@@ -1,4 +1,4 @@
-//! That each of the two further tables stands in a schema, by its own columns.
+//! Whether each of the two further tables is in a schema, by its own columns.
 
 ghost use Rattle.std.specs.Prelude.{◌↔◌, IsTrue};
 ghost use Rattle.tables_schema.specs.Standing.{Stands};

@@ -1,4 +1,4 @@
-//! That each of our tables stands in a schema, by its own columns.
+//! Whether each of the nine tables is in a schema, by its own columns.
 
 ghost use Rattle.std.specs.Prelude.{◌↔◌, IsTrue};
 ghost use Rattle.tables_schema.specs.Standing.{Stands};

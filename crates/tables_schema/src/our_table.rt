@@ -5,7 +5,7 @@ ghost use Rattle.tables_schema.specs.OurTables.{schema_tables};
 
 use crate::recognising::Recognised;
 
-/// A table of ours, by its name.
+/// A table of the store, by its name.
 #[derive(Clone, Copy)]
 pub enum OurTable {
     Meta,

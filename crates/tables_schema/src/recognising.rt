@@ -11,7 +11,7 @@ use crate::finding::{has_none, has_tables, is_free, lacks_sequence};
 use crate::further::{piece_stands, temp_root_stands};
 use sqlite_schema::schema::Schema;
 
-/// By which schema the tables of a database are ours. Tables of other names may stand beside them, wherever they are. Where tables are
+/// By which schema the tables of a database are the store's. Tables of other names may be next to them, wherever they are. Where tables are
 /// missing that can be made, each table that counts its rowids has its counter.
 #[derive(Clone, Copy, Debug, PartialEq, Eq)]
 pub enum Recognised {
@@ -27,7 +27,7 @@ pub enum Recognised {
     Other,
 }
 
-/// The schema of nine tables that stand, by the further ones.
+/// The schema of nine tables that are there, by the further ones.
 fn by_further(schema: &Schema) -> Recognised
     ensures first { result ≡ First ↔ IsFree schema.now piece.name × IsFree schema.now temp_root.name × (lacks_sequence schema.now ≡ false) }
     ensures second { result ≡ Second ↔ Stands schema.now piece × IsFree schema.now temp_root.name × (lacks_sequence schema.now ≡ false) }

@@ -1,4 +1,4 @@
-//! Whether a table stands in a schema, whatever tables of somebody else's stand beside it.
+//! Whether a table is in a schema, whatever tables of other programs are next to it.
 
 ghost use Rattle.std.specs.Prelude.{◌≡◌, ◌↔◌, ◌==◌, ◌^◌, ◌||◌, ◌&&◌, true, false, not, nat_le, map, find, Some, IsTrue, bytes_eq};
 ghost use Rattle.std.specs.List.{list_all};

@@ -23,31 +23,31 @@ Remains = Trees
 abbrev pub after_crash : Database → Remains → Database
 after_crash old left = record old { trees = left }
 
--- each row has a rowid of its own, an integer: the list of rowids has no value twice, so no row stands there twice
+-- each row has a rowid of its own, an integer: the list of rowids has no value twice, so no row is there twice
 pub record IsKeyed (rows : List Row) : Type 0 where
   pub ints : (a : Row) → Has rows a → IsTrue (is_int (rowid a))
   pub apart : IsDistinct (eq_by_cmp value_cmp) (map rowid rows)
 
--- all nine tables stand in the schema, each row obeys it, rowids are apart, and each text is UTF-8
+-- all nine tables are in the schema, each row obeys it, rowids are apart, and each text is UTF-8
 pub record IsOurs (db : Database) : Type 0 where
   pub sound : IsDatabase db
   pub has : HasTables db.schema
   pub keyed : AllByRecursion (λ t. IsKeyed (rows_named db t.name)) our_tables
   pub readable : HasReadableRows db
 
--- a further table stands too, with the same of its rows
+-- a further table is there too, with the same of its rows
 pub record HasFurther (db : Database) (t : Table) : Type 0 where
   pub stands : Stands db.schema t
   pub keyed : IsKeyed (rows_named db t.name)
   pub readable : AreReadableRows t (rows_named db t.name)
 
--- all eleven tables stand, with the same of the rows of each
+-- all eleven tables are there, with the same of the rows of each
 pub record IsWhole (db : Database) : Type 0 where
   pub ours : IsOurs db
   pub pieces : HasFurther db piece
   pub temp_roots : HasFurther db temp_root
 
--- each further table that stood so does still
+-- each further table that was there so still is
 unfoldable pub KeepsFurther : Database → Database → Type 0
 KeepsFurther old new = AllByRecursion (λ t. HasFurther old t → HasFurther new t) further_tables
 
@@ -61,7 +61,7 @@ pub record IsUnderWay (s : State) : Type 0 where
   pub ours : IsTrue s.is_open → IsOurs s.now
   pub mode : s.in_transaction ≡ true
 
--- each table with a name that is none of ours has the rows that it had
+-- each table with a name that is none of the store's has the rows that it had
 abbrev pub KeepsTheirs : Database → Database → Type 0
 KeepsTheirs old new = AllByRecursion (λ t. is_our_name t.name ≡ false → new.trees t.tree ≡ old.trees t.tree) old.schema.tables
 
@@ -85,7 +85,7 @@ pub record Changes (old new : State) (change : Contents → Contents) : Type 0 w
   pub mode : new.in_transaction ≡ true
   pub marks : new.marks ≡ old.marks
 
--- All nine tables stand and nothing is uncommitted, unless a fault has shut the connection. Rowids and texts aren't tested yet.
+-- All nine tables are there and nothing is uncommitted, unless a fault has shut the connection. Rowids and texts aren't tested yet.
 pub record HasSettledTables (s : State) : Type 0 where
   pub has : IsTrue s.is_open → HasTables s.now.schema
   pub settled : IsTrue s.is_open → s.now ≡ s.committed

@@ -54,14 +54,14 @@ PairSet = finite.FinMap pair_cmp (Unit {0})
 
 -- ---- the eleven maps
 
--- what an object's row holds beside its path
+-- what an object's row holds besides its path
 pub record Stored : Type 0 where
   pub nar : Bytes
   pub hash : Bytes
   pub deriver : Option Bytes
   pub ca : Option Bytes
 
--- what it holds beside its path and its archive
+-- what it holds besides its path and its archive
 pub record Described : Type 0 where
   pub hash : Bytes
   pub deriver : Option Bytes

@@ -22,7 +22,7 @@ use Rattle.tables_sql.specs.declared.pieces.PieceKey.{PieceKey}
 use Rattle.tables_sql.specs.declared.temp_roots.TempRoot.{TempRoot}
 use Rattle.tables_sql.specs.Reading.{IsLegible}
 
--- what is stored of an object that is handed in
+-- what is stored of an object that is passed
 abbrev pub stored : List ℕ → List ℕ → Option (String Global) → Option (String Global) → Stored
 stored nar hash deriver ca = record { nar = nar; hash = hash; deriver = option_map string_bytes deriver; ca = option_map string_bytes ca }
 

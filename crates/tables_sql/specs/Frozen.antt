@@ -1,4 +1,4 @@
--- What a schema doesn't show: the tables that SQL here doesn't understand, which stand in the file and in the list of objects.
+-- What a schema doesn't show: the tables that SQL here doesn't understand, which are in the file and in the list of objects.
 use Rattle.std.specs.Prelude.{◌≡◌, ◌≢◌, ℕ, false, IsSome}
 use Rattle.std.specs.List.{AllByRecursion}
 use Rattle.sqlite_trees.specs.Tree.{Trees}

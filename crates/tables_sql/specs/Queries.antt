@@ -15,7 +15,7 @@ parsed names start end tail select = record { statement = written.Select select;
 abbrev pub IsSelect : List ℕ → Type 0
 IsSelect text = (names : List Name) × (start : ℕ) × (end : ℕ) × (tail : ℕ) × (select : Select) × (first text ≡ Ok (parsed names start end tail select))
 
--- The answer begins with these rows, and nothing changed: so far a query went that was then given up.
+-- The answer begins with these rows, and nothing changed: so far came a query that was then given up.
 abbrev pub HasBegunWith : List ℕ → Row → State → State → List Row → Type 0
 HasBegunWith text params old new rows = Begins text params old rows × IsUnchanged old new
 

@@ -3,7 +3,7 @@
 use sqlite::{Error, ErrorCode};
 use std::alloc::{AllocError, AllocFailed};
 
-/// Why a call failed. It has committed nothing, but that what a commit was writing when the disk failed may stand when the
+/// Why a call failed. It has committed nothing, but that what a commit was writing when the disk failed may be there when the
 /// database is opened again.
 #[derive(Clone, Copy, Debug, PartialEq, Eq)]
 pub enum Failure {

@@ -84,7 +84,7 @@ fn ask<S: Alter>(tx: &mut Transaction<'_, S>) -> Result<(), Failure>
     Ok(())
 }
 
-/// Runs an insert. A size is told only if the connection was open: a shut one may name it too.
+/// Runs an insert. A size is reported only if the connection was open: a shut one may name it too.
 pub fn add<S: Alter>(
     tx: &mut Transaction<'_, S>,
     text: &str,

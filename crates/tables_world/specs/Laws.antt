@@ -1,4 +1,4 @@
--- Laws of objects and of rows: which outputs are recorded, how archives are cut, what rows tell, and that a migration keeps it.
+-- Laws of objects and of rows: which outputs are recorded, how archives are cut, what world rows have, and that a migration keeps it.
 use Rattle.std.specs.Prelude.{◌≡◌, ◌↔◌, ℕ, ℤ, pos, Bool, List, ◌++◌, Some, None, IsTrue, IsFalse, Contains}
 use Rattle.std.specs.FinMap as finite
 use Rattle.nar.specs.Tree.{regular}
@@ -14,7 +14,7 @@ use Rattle.tables_world.specs.Rows.{Schema, three, Rows, pieces_in, world_of, Is
 use Rattle.tables_world.specs.Told.{rows_of, world_in}
 
 -- Each archive can be cut the right way, and in one way alone: a row and pieces that are cut right are those of the archive that
--- they tell.
+-- they have.
 pub record CutsOneWay (nar : List ℕ) : Type 0 where
   pub size : piece_size ≡ 65536
   pub right : IsCut (row_part nar) (further_pieces nar)
@@ -37,7 +37,7 @@ pub record TellsProfile (c : Rows) (owner name : List ℕ) (x : Profile) : Type 
   pub generation : (n : ℕ) → finite.get x.generations n ≡ finite.get c.generations (owner, name, pos n)
   pub current : finite.get c.profiles (owner, name) ≡ Some (pos x.current)
 
--- what sound rows tell, entry by entry
+-- the world of sound rows, entry by entry
 pub record TellsWorld (c : Rows) (w : World) : Type 0 where
   pub no_object : (p : Path) → finite.get c.objects p ≡ None → finite.get w.objects p ≡ None
   pub object : (p : Path) (o : Stored) → finite.get c.objects p ≡ Some o → (x : Object) × (finite.get w.objects p ≡ Some x) × TellsObject c p o x
@@ -52,7 +52,7 @@ pub record TellsWorld (c : Rows) (w : World) : Type 0 where
 abbrev pub RowsTellTheWorld : Type 0
 RowsTellTheWorld = (schema : Schema) (dir : List ℕ) (c : Rows) → IsSoundRows schema dir c → TellsWorld c (world_of c)
 
--- What our tables hold is the rows, each table its own, and they tell the world of these.
+-- What the store's tables hold is the rows, each table its own, and they have the world of these.
 pub record AreRowsOf (c : Contents) (r : Rows) : Type 0 where
   pub meta : r.meta ≡ c.meta
   pub objects : r.objects ≡ c.objects
@@ -70,7 +70,7 @@ pub record AreRowsOf (c : Contents) (r : Rows) : Type 0 where
 abbrev pub TablesAreRows : Type 0
 TablesAreRows = (c : Contents) → AreRowsOf c (rows_of c)
 
--- rows that are sound by a schema are sound by the third once they are migrated, and tell the same world
+-- rows that are sound by a schema are sound by the third once they are migrated, and have the same world
 abbrev pub MigratesSoundly : Type 0
 MigratesSoundly = (schema : Schema) (dir : List ℕ) (c : Rows) → IsSoundRows schema dir c
     → IsSoundRows three dir (migrated schema dir c) × (world_of (migrated schema dir c) ≡ world_of c)

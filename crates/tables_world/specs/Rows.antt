@@ -1,4 +1,4 @@
--- What the rows of the tables tell, by each of the three schemas, and when they are sound.
+-- The world that the rows of the tables have, by each of the three schemas, and when they are sound.
 use Rattle.std.specs.Prelude.{◌≡◌, ℕ, ℤ, pos, negsuc, Bool, true, false, ◌&&◌, List, ◌++◌, map, codes, Option, Some, None, IsTrue, IsFalse, IsSome}
 use Rattle.std.specs.List.{filter, flat_map}
 use Rattle.std.specs.declared.cmp.Ordering.{Ordering}
@@ -86,7 +86,7 @@ new_rows schema dir = record {
   temp_roots = finite.empty;
 }
 
--- ---- the world that they tell
+-- ---- the world that they have
 
 -- the paths that a path refers to
 abbrev pub references_in : Rows → Path → Set bytes_cmp
@@ -131,7 +131,7 @@ profile_in c owned current = record { generations = generations_in c owned; curr
 abbrev pub temporary_in : Kept → Temporary
 temporary_in k = record { owner = k.0; session = number_in k.1; path = k.2 }
 
--- what the rows tell: each row of an object with its pieces, references and outputs, each row of a profile with its generations
+-- the world of the rows: each row of an object with its pieces, references and outputs, each row of a profile with its generations
 abbrev pub world_of : Rows → World
 world_of c = record {
   objects = finite.from_entries (map (λ e. (e.0, object_in c e.0 e.1)) (finite.entries c.objects));
@@ -165,7 +165,7 @@ pub record IsSoundRows (schema : Schema) (dir : List ℕ) (c : Rows) : Type 0 wh
   pub numbers : (owner name : List ℕ) (n : ℤ) → IsTrue (finite.contains_key c.generations (owner, name, n)) → (m : ℕ) × (n ≡ pos m)
   pub current : (owned : Pair) (n : ℤ) → finite.get c.profiles owned ≡ Some n → (m : ℕ) × (n ≡ pos m)
   pub sessions : (k : Kept) → IsTrue (finite.contains_key c.temp_roots k) → (m : ℕ) × (k.1 ≡ pos m)
-  -- the world that they tell is sound
+  -- the world that they have is sound
   pub world : IsSound dir (world_of c)
 
 -- ---- migration

@@ -1,4 +1,4 @@
--- The world that the contents of our tables tell, and when they are sound.
+-- The world that the contents of the store's tables have, and when they are sound.
 use Rattle.std.specs.Prelude.{List, ℕ}
 use Rattle.tables_sql.specs.Contents.{Contents}
 use Rattle.model.specs.World.{World}
@@ -20,7 +20,7 @@ rows_of c = record {
   temp_roots = c.temp_roots;
 }
 
--- the world that they tell
+-- the world that they have
 abbrev pub world_in : Contents → World
 world_in c = world_of (rows_of c)
 

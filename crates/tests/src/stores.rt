@@ -17,10 +17,10 @@ const SETTINGS: &[u8] = b"allowed-users = [\"bob\"]\ntrusted-users = [\"ann\"]\n
 /// The path of the text that is added first.
 const TEXT: &str = "a0d1zlpv81nsfbam8ay3i7snrc0sgsvr-myfile";
 
-/// The line that tells it.
+/// The line that reports it.
 const TEXT_PATH: &str = "/nix/store/a0d1zlpv81nsfbam8ay3i7snrc0sgsvr-myfile\n";
 
-/// What the calls are told, in turn.
+/// What the calls answer, in turn.
 const TOLD: &str = "/nix/store/a0d1zlpv81nsfbam8ay3i7snrc0sgsvr-myfile
 /nix/store/jpzwwkzwcap53421pll8gza0knik4xzf-other
 done
@@ -85,7 +85,7 @@ fn push_root(alloc: Global, calls: &mut Vec<(Caller, Request)>) -> Result<(), Fa
     Ok(())
 }
 
-/// A stranger sets a root of another: that he may not connect is told first.
+/// A stranger sets a root of others: that they may not connect is reported first.
 fn push_strange_root(alloc: Global, calls: &mut Vec<(Caller, Request)>) -> Result<(), Fail> {
     let caller = Caller::new(alloc, "eve", None)?;
     let owner = String::from_str(alloc, "bob")?;

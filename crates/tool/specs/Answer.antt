@@ -97,7 +97,7 @@ AsksHelp Memory = ⊥
 abbrev pub Helps : Option (List ℕ) → Option (List ℕ) → Option (List ℕ) → Option (List ℕ) → ℕ → Type 0
 Helps out out' err err' status = (text : List ℕ) × Answers (Ok text) out out' err err' status
 
--- what is said of words that stand for no command line, by their fault: help, a usage fault, or want of memory
+-- what is said of words that are no command line, by their fault: help, a usage fault, or out of memory
 abbrev pub Explains : CommandError → Option (List ℕ) → Option (List ℕ) → Option (List ℕ) → Option (List ℕ) → ℕ → Type 0
 Explains (Usage fault) out out' err err' status = Answers (Err (Failed NoMemory)) out out' err err' status
     ⊎ ((AsksHelp (Usage fault) → Helps out out' err err' status) × (¬ AsksHelp (Usage fault) → RefusesWords out out' err err' status))

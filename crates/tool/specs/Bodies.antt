@@ -14,7 +14,7 @@ use Rattle.tool_pure.specs.declared.stops.Failure.TheVariants.{Memory}
 use Rattle.tool_pure.specs.declared.stops.Stop.{Stop}
 use Rattle.tool_pure.specs.declared.stops.Stop.TheVariants.{Refused, Failed}
 
--- a body hands in this object
+-- a body passes this object
 abbrev pub IsImported : List ℕ → List ℕ → Request → Type 0
 IsImported dir body q = (head : ImportHead) × (nar : List ℕ) × IsImportBody dir body head nar × (q ≡ request.import_object (imported head nar))
 

@@ -13,7 +13,7 @@ use Rattle.tool.specs.Calls.{AnswersIn, AnswersStep}
 use Rattle.tool.specs.Requests.{Ask, caller_by}
 use Rattle.tool_pure.specs.Stream.{Answers}
 
--- what a caller is answered, by what he asks and the bytes of the input
+-- what a caller is answered, by what they ask and the bytes of the input
 abbrev pub Answering : Type 1
 Answering = Settings → Caller → Ask → Option (List ℕ)
     → Option (List ℕ) → Option (List ℕ) → Option (List ℕ) → Option (List ℕ) → ℕ → Type 0

@@ -18,7 +18,7 @@ use Rattle.tool_pure.specs.Stream.{Answers, GivesUp}
 
 -- ---- by what is asked for the bytes of the input, where each request is answered so
 
--- a request is answered, or its refusal is told
+-- a request is answered, or its refusal is reported
 abbrev pub AnswersRequest : (Request → Type 0) → Result Request Refusal → Option (List ℕ) → Option (List ℕ) → Option (List ℕ) → Option (List ℕ) → ℕ → Type 0
 AnswersRequest answered (Ok q) out out' err err' status = answered q
 AnswersRequest answered (Err refusal) out out' err err' status = Answers (Err (Refused refusal)) out out' err err' status
@@ -27,7 +27,7 @@ AnswersRequest answered (Err refusal) out out' err err' status = Answers (Err (R
 abbrev pub AnswersWanted : (Request → Type 0) → (Result Request Refusal → Type 0) → Option (List ℕ) → Option (List ℕ) → Option (List ℕ) → Option (List ℕ) → ℕ → Type 0
 AnswersWanted answered asks out out' err err' status = (wanted : Result Request Refusal) × asks wanted × AnswersRequest answered wanted out out' err err' status
 
--- the same by the input, whose bytes are some, where it doesn't tell them
+-- the same by the input, whose bytes are some, where it doesn't say them
 abbrev pub AnswersOver : (Request → Type 0) → (List ℕ → Result Request Refusal → Type 0) → Option (List ℕ)
     → Option (List ℕ) → Option (List ℕ) → Option (List ℕ) → Option (List ℕ) → ℕ → Type 0
 AnswersOver answered ask None out out' err err' status = (bytes : List ℕ) × AnswersWanted answered (ask bytes) out out' err err' status
@@ -41,11 +41,11 @@ AnswersIn answered ask dir c known out out' err err' status =
 
 -- ---- how a request is answered
 
--- it may have a reply in this world, and that reply is told
+-- it may have a reply in this world, and that reply is written
 abbrev pub AnswersStep : Settings → World → Caller → Option (List ℕ) → Option (List ℕ) → Option (List ℕ) → Option (List ℕ) → ℕ → Request → Type 0
 AnswersStep s w c out out' err err' status q = (reply : Reply) × (next : World) × Step s w c q reply next × IsTold s.store_dir reply out out' err err' status
 
--- It is served over tables, and the reply is told: of each world that they told, a step to one that the tables tell then. What is
+-- It is served over tables, and the reply is written: of each world of the tables before, a step to one of the tables then. What is
 -- served may be another request whose every step is one of this request.
 pub record Serves {S : Type 0} (g : Ghosts S) (s : Settings) (t : Kept S) (c : Caller) (out out' err err' : Option (List ℕ)) (status : ℕ) (q : Request) : Type 0 where
   pub made : Request

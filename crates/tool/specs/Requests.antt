@@ -63,7 +63,7 @@ drop_root unrooted.Permanent c name = request.drop_permanent name
 drop_root (unrooted.User owner) c name = request.drop_user_root (owner_of c (optional_text owner)) name
 
 -- what happens to a profile: a path becomes its current generation, where the text is one; it is rolled back; or a generation of it
--- becomes current, or goes
+-- becomes current, or is deleted
 abbrev pub change_profile : List ℕ → List ℕ → Text → OnProfile → Result Request Refusal
 change_profile dir owner name (asked.set text) = on_path dir text (request.set_profile owner name)
 change_profile dir owner name asked.rollback = Ok (request.rollback owner name)
@@ -144,8 +144,8 @@ StepsAs made wanted = (s : Settings) (w : World) (c : Caller) (reply : Reply) (n
 abbrev pub Gives : Result Request Refusal → Result Request Refusal → Type 0
 Gives said wanted = said ≡ wanted
 
--- A request was made of what is asked, or its refusal is told; memory may have given out, and the input where it is read. Of contents that
--- are too long a front is enough, for which they are refused.
+-- A request was made of what is asked, or its refusal is reported; memory may have run out, and the input where it is read. Of contents that
+-- are too long a prefix is enough, for which they are refused.
 abbrev pub IsAsked : Bool → (Result Request Refusal → Type 0) → Result Made Stop → Type 0
 IsAsked reads asks (Ok q) = (r : Request) × asks (Ok r) × StepsAs (request_view q) r
 IsAsked reads asks (Err (Refused r)) = asks (Err r)
@@ -154,7 +154,7 @@ IsAsked reads asks (Err (Failed Input)) = reads ≡ true
 IsAsked reads asks (Err (Failed File)) = ⊥
 IsAsked reads asks (Err (Failed Output)) = ⊥
 
--- the same by the bytes of the input: some bytes, where it doesn't tell them
+-- the same by the bytes of the input: some bytes, where it doesn't say them
 abbrev pub IsAskedOver : Bool → (List ℕ → Result Request Refusal → Type 0) → Option (List ℕ) → Result Made Stop → Type 0
 IsAskedOver reads ask None made = (bytes : List ℕ) × IsAsked reads (ask bytes) made
 IsAskedOver reads ask (Some bytes) made = IsAsked reads (ask bytes) made

@@ -23,7 +23,7 @@ use tables_open::file::Untold;
 use tool_pure::{Stop, say, tell};
 use tool_words::Task;
 
-/// Why no connection to a file was taken up, which is given up: what isn't a database is no store.
+/// Why no connection to a file was opened as a store; it is given up: what isn't a database is no store.
 fn file_cause<S: Alter + Drop, D: Disk + Drop>(unopened: file::Unopened<S, D>) -> Cause
     ensures { result ≡ spec.file_cause unopened }
 {
@@ -45,7 +45,7 @@ fn file_cause<S: Alter + Drop, D: Disk + Drop>(unopened: file::Unopened<S, D>) -
     }
 }
 
-/// Why a file isn't taken up, which is given up.
+/// Why a file isn't opened as a store; it is given up.
 pub(crate) fn cause_of<S: Alter + Drop, D: Disk + Drop>(unopened: Unopened<S, D>) -> Cause
     ensures { result ≡ spec.cause_of unopened }
 {
@@ -55,7 +55,7 @@ pub(crate) fn cause_of<S: Alter + Drop, D: Disk + Drop>(unopened: Unopened<S, D>
     }
 }
 
-/// Says why a file isn't taken up, and gives the exit status.
+/// Says why a file isn't opened as a store, and returns the exit status.
 pub(crate) fn refuse_file<W: Write, E: Write>(
     alloc: Global,
     dir: &StoreDir,

@@ -33,7 +33,7 @@ fn stop_by(fault: BodyError) -> Stop
     }
 }
 
-/// The object that a body hands in, at its path.
+/// The object that a body passes, at its path.
 fn parse_import(alloc: Global, dir: &StoreDir, body: Body) -> Result<Request, Stop>
     ensures { IsAsked false (spec.Imports dir.now body) result }
 {

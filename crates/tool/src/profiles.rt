@@ -77,7 +77,7 @@ fn switch(
     })
 }
 
-/// The generation of a number goes.
+/// Deletes the generation of a number.
 fn delete(
     alloc: Global,
     caller: &Caller,

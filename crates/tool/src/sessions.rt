@@ -31,7 +31,7 @@ fn add(
     })
 }
 
-/// They all go.
+/// The request that ends a session.
 fn end(alloc: Global, caller: &Caller, session: &TempArguments<'_>) -> Result<Request, AllocError>
     ensures { IfOk result (λ q. request_view q ≡ asked.end_session (owner_of caller.now (optional_text session.now.owner)) session.now.session) }
 {

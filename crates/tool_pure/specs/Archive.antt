@@ -14,7 +14,7 @@ use Rattle.tool_pure.specs.declared.stops.Stop.TheVariants.{Refused, Failed}
 abbrev pub max_front : ℕ
 max_front = 16777224
 
--- what a fault of an archive ends a command with: its refusal, where it stands in the table; else memory gave out
+-- what a fault of an archive ends a command with: its refusal, where it is in the table; else out of memory
 abbrev pub archive_stop : NarError → Stop
 archive_stop fault = option_map_or Refused (archive_entry fault) (Failed Memory)
 

@@ -15,7 +15,7 @@ use Rattle.tool_pure.specs.Archive.{by_outcome}
 abbrev pub is_path_text : List ℕ → List ℕ → Bool
 is_path_text dir text = is_base_name (base_of dir text)
 
--- how many references an object may be handed in with
+-- how many references an object may be passed with
 abbrev pub max_references : ℕ
 max_references = 4096
 

@@ -35,7 +35,7 @@ result_text (Ok text) = Ok (string_bytes text)
 result_text (Err stop) = Err stop
 
 -- The answer to an input was given: a fault that is there before it is read, or what its bytes say. Those are some bytes,
--- where the input doesn't tell them.
+-- where the input doesn't say them.
 abbrev pub AnswersBy : Option Refusal → (List ℕ → Result (List ℕ) Stop) → Option (List ℕ)
     → Option (List ℕ) → Option (List ℕ) → Option (List ℕ) → Option (List ℕ) → ℕ → Type 0
 AnswersBy (Some fault) answer known out out' err err' status = Answers (Err (Refused fault)) out out' err err' status
@@ -47,7 +47,7 @@ abbrev pub AnswersTo : Option Refusal → (List ℕ → Result (List ℕ) Stop) 
     → Option (List ℕ) → Option (List ℕ) → Option (List ℕ) → Option (List ℕ) → ℕ → Type 0
 AnswersTo fault answer known out out' err err' status = GivesUp (is_none fault) out out' err err' status ⊎ AnswersBy fault answer known out out' err err' status
 
--- a result for want of memory, or of the input, where that is read
+-- a failed result: out of memory, or of the input, where that is read
 abbrev pub IsFailure : Bool → Result (List ℕ) Stop → Type 0
 IsFailure reads (Err (Failed Memory)) = ⊤
 IsFailure reads (Err (Failed Input)) = reads ≡ true
@@ -56,13 +56,13 @@ IsFailure reads (Err (Failed Output)) = ⊥
 IsFailure reads (Err (Refused refusal)) = ⊥
 IsFailure reads (Ok text) = ⊥
 
--- a result by the fault that is there before the input is read, or by what its bytes say: some, where it doesn't tell them
+-- a result by the fault that is there before the input is read, or by what its bytes say: some, where it doesn't say them
 abbrev pub IsResultOf : Option Refusal → (List ℕ → Result (List ℕ) Stop) → Option (List ℕ) → Result (List ℕ) Stop → Type 0
 IsResultOf (Some fault) answer known result = result ≡ Err (Refused fault)
 IsResultOf None answer None result = (bytes : List ℕ) × (result ≡ answer bytes)
 IsResultOf None answer (Some bytes) result = result ≡ answer bytes
 
--- why arguments are refused: want of memory, or the fault
+-- why arguments are refused: out of memory, or the fault
 abbrev pub IsStopBy : Option Refusal → Stop → Type 0
 IsStopBy fault stop = (stop ≡ Failed Memory) ⊎ (option_map Refused fault ≡ Some stop)
 

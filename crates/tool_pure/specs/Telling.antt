@@ -1,4 +1,4 @@
--- How a reply is told.
+-- How a reply is written.
 use Rattle.std.specs.Prelude.{◌⊎◌, ℕ, List, Option}
 use Rattle.std.specs.Io.KnownBytes.{Keeps}
 use Rattle.model.specs.Reply.{Reply, done, denied, refused, failed}
@@ -19,6 +19,6 @@ Tells dir (denied rule root) out out' err err' status = Keeps out out' × Prints
 Tells dir (refused r) out out' err err' status = Keeps out out' × Prints (reply_text dir (refused r)) (status_of (refused r)) err err' status
 Tells dir (failed f) out out' err err' status = Keeps out out' × Prints (reply_text dir (failed f)) (status_of (failed f)) err err' status
 
--- a reply was told; or there was no memory for its text
+-- a reply was written; or there was no memory for its text
 abbrev pub IsTold : List ℕ → Reply → Option (List ℕ) → Option (List ℕ) → Option (List ℕ) → Option (List ℕ) → ℕ → Type 0
 IsTold dir reply out out' err err' status = Tells dir reply out out' err err' status ⊎ LacksMemory out out' err err' status

@@ -18,7 +18,7 @@ use Rattle.tool_pure.specs.Stop.{stop_text, stop_status}
 use Rattle.report.specs.Outputs.{Prints}
 use Rattle.tool_pure.specs.Stream.{Says}
 
--- the class of a caller, with the first rule that a plain request of his breaks
+-- the class of a caller, with the first rule that a plain request of theirs breaks
 abbrev pub verdict_on : Settings → Caller → Verdict
 verdict_on s c = record { class = class_of s c; denial = first_broken (class_of s c) c plain }
 
@@ -64,10 +64,10 @@ who_status (Err stop) = stop_status stop
 abbrev pub AnswersWho : Result Verdict Stop → Option (List ℕ) → Option (List ℕ) → ℕ → Type 0
 AnswersWho answer old new status = Prints (who_text answer) (who_status answer) old new status ⊎ Says (Failed Memory) old new status
 
--- why no verdict was found: want of memory, or what the definition says
+-- why no verdict was found: out of memory, or what the definition says
 abbrev pub StopsWho : Result Verdict Stop → Stop → Type 0
 StopsWho answer stop = (stop ≡ Failed Memory) ⊎ (answer ≡ Err stop)
 
--- why a configuration gives no settings: want of memory, or its first key word
+-- why a configuration gives no settings: out of memory, or its first key word
 abbrev pub StopsFor : Result Settings KeyWord → Stop → Type 0
 StopsFor outcome stop = (stop ≡ Failed Memory) ⊎ ((word : KeyWord) × (outcome ≡ Err word) × (stop ≡ Refused (BadConfig word)))

@@ -45,7 +45,7 @@ pub fn receive_archive<R: Read>(alloc: Global, input: &mut R) -> Result<Intake, 
 /// More bytes than memory holds.
 const UNBOUNDED: usize = usize::MAX;
 
-/// All of standard input, handed on piece by piece as it arrives, however long it is.
+/// All of standard input, passed on piece by piece as it arrives, however long it is.
 ///
 /// # Errors
 ///

@@ -1,4 +1,4 @@
-//! The name of a store object and its references, as they stand on the command line.
+//! The name of a store object and its references, as on the command line.
 ghost use Rattle.std.specs.Prelude.{◌≡◌, ◌⊎◌, IfOk, IfErr, IfSome, None, map, take, string_bytes, true, false};
 ghost use Rattle.std.specs.List.{list_all};
 ghost use Rattle.paths.specs.Names.{is_store_name};
@@ -15,7 +15,7 @@ use std::alloc::{AllocError, Global};
 use std::convert::AsStr;
 use std::io::Read;
 
-/// The most references that an object may be handed in with.
+/// The most references that an object may be passed with.
 const MAX_REFERENCES: usize = 4_096;
 
 /// The name of a store object.

@@ -12,10 +12,10 @@ use std::io::Write;
 use store::Store;
 use store_types::Request;
 
-/// Does what a caller asks of a store, tells the reply on the two writers, and gives the exit status: 0 done, 1 failed, 3
+/// Does what a caller asks of a store, writes the reply on the two writers, and returns the exit status: 0 done, 1 failed, 3
 /// refused, 4 denied.
 ///
-/// What was done stands, also where a writer fails afterwards or memory for the text is refused.
+/// What was done stays done, also where a writer fails afterwards or memory for the text is refused.
 pub fn serve<S: Alter, W: Write, E: Write>(
     alloc: Global,
     store: &mut Store<S>,

@@ -40,7 +40,7 @@ fn output_line(fault: &io::Error) -> &'static str
     }
 }
 
-/// Gives a text to the first writer; where it fails, the second is told so.
+/// Writes a text to the first writer; where it fails, the second gets a line on that.
 fn offer<W: Write, E: Write>(text: &Pieces, output: &mut W, errors: &mut E) -> u8
     ensures { Offers text.now (W.contents output.old) (W.contents output.new) (E.contents errors.old) (E.contents errors.new) result }
 {
@@ -50,7 +50,7 @@ fn offer<W: Write, E: Write>(text: &Pieces, output: &mut W, errors: &mut E) -> u
     }
 }
 
-/// Tells the answer to a request that is done.
+/// Writes the answer to a request that is done.
 fn tell_answer<W: Write, E: Write>(
     alloc: Global,
     dir: &StoreDir,
@@ -67,7 +67,7 @@ fn tell_answer<W: Write, E: Write>(
     }
 }
 
-/// Tells a denial.
+/// Writes a denial.
 fn tell_denial<E: Write>(
     alloc: Global,
     dir: &StoreDir,
@@ -84,7 +84,7 @@ fn tell_denial<E: Write>(
     }
 }
 
-/// Tells a reply, and gives the exit status: 0 done, 1 failed, 3 refused, 4 denied.
+/// Writes a reply, and returns the exit status: 0 done, 1 failed, 3 refused, 4 denied.
 ///
 /// The answer to a request that is done goes to `output`; the line of any other reply goes to `errors`. Where `output` fails, `errors`
 /// is given `failed: output`, or `failed: memory` where it says that memory ran out; where memory for the text is

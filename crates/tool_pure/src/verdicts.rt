@@ -10,12 +10,12 @@ use report::Refusal;
 use std::alloc::{AllocError, Global};
 use std::io::Write;
 
-/// What a caller is told of himself.
+/// What `who` prints of a caller.
 #[derive(Clone, Copy, PartialEq, Eq, Debug)]
 pub struct Verdict {
-    /// His class.
+    /// The caller's class.
     pub class: Class,
-    /// The first rule that forbids him a plain request, if one does.
+    /// The first rule that forbids the caller a plain request, if one does.
     pub denial: Option<Rule>,
 }
 
@@ -56,7 +56,7 @@ fn push_denial(denial: Option<Rule>, text: &mut String) -> Result<(), AllocError
     }
 }
 
-/// The class of a caller, and the first rule that forbids him a plain request.
+/// The class of a caller, and the first rule that forbids them a plain request.
 ///
 /// # Errors
 ///
@@ -88,11 +88,11 @@ pub fn judge(
     Ok(Verdict { class, denial })
 }
 
-/// Prints the class of a caller and whether he may connect, and gives the exit status.
+/// Prints the class of a caller and whether they may connect, and returns the exit status.
 ///
 /// Everything goes to the one writer: the two lines with status 0 or 4, or the one line of a bad
 /// configuration or caller with status 3, or of refused memory with status 1. Where the writer
-/// fails, the status is 1 and nothing more is written: it holds a front of these lines.
+/// fails, the status is 1 and nothing more is written: it holds a prefix of these lines.
 pub fn who<W: Write>(
     alloc: Global,
     config: &[u8],

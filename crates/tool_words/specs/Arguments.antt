@@ -1,4 +1,4 @@
--- The arguments of the command line as `clap` is told of them.
+-- The arguments of the command line as `clap` gets them.
 use Rattle.std.specs.Prelude.{ℕ, pos, codes, Some, true}
 use Rattle.clap.specs.Lexer.{usize_max}
 use Rattle.clap.specs.Walk.{Rule, Text}
@@ -18,11 +18,11 @@ number_option name most = record (option_named name) { parser = Some (Signed (po
 abbrev pub flag_named : Text → Rule
 flag_named name = record (new_rule name) { long = Some name; action = Some SetTrue }
 
--- a value that has to stand
+-- a value that is required
 abbrev pub required_argument : Text → Rule
 required_argument id = record (new_rule id) { required = true; value_names = 1 }
 
--- a value that may stand
+-- a value that is optional
 abbrev pub optional_argument : Text → Rule
 optional_argument id = record (new_rule id) { value_names = 1 }
 

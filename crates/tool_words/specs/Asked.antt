@@ -62,7 +62,7 @@ pub data Asked : Type 0 where
   delete : Bool → List Text → Asked
   serve : ServeArguments → Asked
 
--- a text that may stand
+-- a text that is optional
 abbrev pub optional_text : Option (Bor Text) → Option Text
 optional_text = option_map (λ s. s.now)
 

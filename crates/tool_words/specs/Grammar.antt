@@ -1,4 +1,4 @@
--- The subcommands and the whole command line as `clap` is told of them.
+-- The subcommands and the whole command line as `clap` gets them.
 use Rattle.std.specs.Prelude.{codes, [], ◌∷◌, fold}
 use Rattle.clap.specs.Simple.{App, new_app, with_rule, with_subcommand}
 use Rattle.tool_words.specs.declared.verb.Verb.{Verb}
@@ -50,7 +50,7 @@ delete_app = with_rule (with_rule (plain_app Delete) (flag_named (codes "ignore-
 abbrev pub serve_app : App
 serve_app = with_rule (with_rule (plain_app Serve) (number_option (codes "port") 65535)) (number_option (codes "connections") 1000000)
 
--- `nixkeep`, and the options that stand before the subcommand: `[--db FILE] [--config FILE] [--user USER] [--group GROUP]`
+-- `nixkeep`, and the options that come before the subcommand: `[--db FILE] [--config FILE] [--user USER] [--group GROUP]`
 abbrev pub options_app : App
 options_app = with_rule (with_rule (with_rule (with_rule (new_app (codes "nixkeep"))
     (option_named (codes "db"))) (option_named (codes "config"))) (option_named (codes "user"))) (option_named (codes "group"))

@@ -101,7 +101,7 @@ pub record IsLine (words : List Text) (line : Line) : Type 0 where
   pub no_fault : faults_of words ≡ []
   pub stands : line_of words ≡ Ok line
 
--- nothing was found, for a fault or for want of memory
+-- nothing was found, for a fault or out of memory
 abbrev pub Misses : {A : Type 0} → Result A UsageFault → CommandError → Type 0
 Misses found (error.Usage fault) = ⊥
 Misses found (error.Misuse fault) = found ≡ Err fault

@@ -12,7 +12,7 @@ use Rattle.clap.specs.declared.parser.matches.ArgMatches.{ArgMatches}
 abbrev pub rows : ArgMatches → List Row
 rows m = rows_of (found_of m)
 
--- the value of an argument that has to stand: `clap` finds a fault where it doesn't
+-- the value of a required argument: `clap` finds a fault where it is missing
 abbrev pub required : Text → List Row → Text
 required id rs = unwrap_or (first_of id rs) []
 

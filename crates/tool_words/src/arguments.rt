@@ -1,4 +1,4 @@
-//! The arguments of the command line as `clap` is told of them.
+//! The arguments of the command line as `clap` gets them.
 ghost use Rattle.std.specs.Prelude.{◌≡◌, codes, false};
 ghost use Rattle.clap.specs.Walk.{rule_of};
 ghost use Rattle.tool_words.specs.Arguments.{option_named, number_option, flag_named, required_argument, optional_argument, references_argument, paths_argument};
@@ -56,7 +56,7 @@ pub(crate) fn flag<'a>(alloc: Global, name: &'a str, help: &'a str) -> Arg<'a>
         .help(help)
 }
 
-/// A value that has to stand.
+/// A value that is required.
 pub(crate) fn required<'a>(alloc: Global, id: &'a str, value: &'a str, help: &'a str) -> Arg<'a>
     ensures rule { rule_of result ≡ required_argument id.now }
     ensures local { result.global ≡ false }
@@ -67,7 +67,7 @@ pub(crate) fn required<'a>(alloc: Global, id: &'a str, value: &'a str, help: &'a
         .help(help)
 }
 
-/// A value that may stand.
+/// A value that is optional.
 pub(crate) fn optional<'a>(alloc: Global, id: &'a str, value: &'a str, help: &'a str) -> Arg<'a>
     ensures rule { rule_of result ≡ optional_argument id.now }
     ensures local { result.global ≡ false }

@@ -15,16 +15,16 @@ pub enum UsageFault {
     MissingValue,
     /// An ACTION that takes no value has one.
     ExtraValue,
-    /// `--owner` stands beside `--permanent`.
+    /// `--owner` is given with `--permanent`.
     OwnerOfPermanent,
     /// The number of `--max-freed` isn't one below 2^64 in decimal digits without a leading zero.
     BadLimit,
-    /// `--connections` stands without `--port`.
+    /// `--connections` is given without `--port`.
     ConnectionsWithoutPort,
 }
 
 impl UsageFault {
-    /// A line that tells a person what is wrong, without its line feed.
+    /// A line that says to a person what is wrong, without its line feed.
     pub fn text(self) -> &'static str {
         match self {
             UsageFault::NoSubcommand => "no subcommand is named",

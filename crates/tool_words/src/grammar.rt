@@ -1,4 +1,4 @@
-//! The whole command line as `clap` is told of it.
+//! The whole command line as `clap` gets it.
 ghost use Rattle.std.specs.Prelude.{◌≡◌, IfOk, IsOkAnd, false};
 ghost use Rattle.clap.specs.Simple.{app_of};
 ghost use Rattle.clap.specs.declared.builder.command.Command.TheViews.{out-Command};
@@ -10,7 +10,7 @@ use crate::verb::Verb;
 use clap::Command;
 use std::alloc::{AllocError, Global};
 
-/// `nixkeep` with the options that stand before the subcommand.
+/// `nixkeep` with the options that come before the subcommand.
 fn options<'a>(alloc: Global) -> Result<Command<'a>, AllocError>
     ensures { IfOk result (λ c. app_of c ≡ options_app) }
 {

@@ -1,6 +1,6 @@
-//! What a command line asks for. Names, paths and labels stand as they are written: none is tested yet.
+//! What a command line asks for. Names, paths and labels are as they were written: none is tested yet.
 
-/// The options that stand before the subcommand, and the subcommand.
+/// The options that come before the subcommand, and the subcommand.
 #[derive(Debug, Drop)]
 pub struct CommandLine<'a> {
     /// The file of the database. Without one it is in memory, for this run.
@@ -66,7 +66,7 @@ pub enum Task<'a> {
     Serve(ServeArguments),
 }
 
-/// What is said of a store object beside its contents or its archive.
+/// What is said of a store object besides its contents or its archive.
 #[derive(Debug, Drop)]
 pub struct ObjectArguments<'a> {
     /// The name of the store object.
@@ -87,9 +87,9 @@ pub enum RootKind {
 /// A root that is set.
 #[derive(Debug, Drop)]
 pub struct RootArguments<'a> {
-    /// Its kind.
+    /// The kind of the root.
     pub kind: RootKind,
-    /// Its name.
+    /// The name of the root.
     pub name: &'a str,
     /// The path that it keeps alive.
     pub path: &'a str,
@@ -100,7 +100,7 @@ pub struct RootArguments<'a> {
 pub enum Unrooted<'a> {
     /// Nobody's: a permanent root.
     Permanent,
-    /// That of the user who is named, else the caller's.
+    /// A root of the user who is named, else of the caller.
     User(Option<&'a str>),
 }
 
@@ -109,7 +109,7 @@ pub enum Unrooted<'a> {
 pub struct UnrootArguments<'a> {
     /// Whose it is.
     pub root: Unrooted<'a>,
-    /// Its name.
+    /// The name of the root.
     pub name: &'a str,
 }
 
@@ -122,7 +122,7 @@ pub enum ProfileAction<'a> {
     Rollback,
     /// The generation of this number becomes current.
     Switch(u32),
-    /// The generation of this number goes.
+    /// Delete the generation of this number.
     Delete(u32),
 }
 
@@ -131,7 +131,7 @@ pub enum ProfileAction<'a> {
 pub struct ProfileArguments<'a> {
     /// Whose it is: the caller's, where nobody is named.
     pub owner: Option<&'a str>,
-    /// Its name.
+    /// The name of the profile.
     pub name: &'a str,
     /// What happens to it.
     pub action: ProfileAction<'a>,
@@ -140,9 +140,9 @@ pub struct ProfileArguments<'a> {
 /// What happens to a session's temporary roots.
 #[derive(Debug, Drop)]
 pub enum TempAction<'a> {
-    /// This path becomes one of them.
+    /// The path becomes a temporary root of the session.
     Add(&'a str),
-    /// They all go.
+    /// All temporary roots of the session are deleted.
     End,
 }
 
@@ -151,7 +151,7 @@ pub enum TempAction<'a> {
 pub struct TempArguments<'a> {
     /// Whose it is: the caller's, where nobody is named.
     pub owner: Option<&'a str>,
-    /// Its number, 1 to 4,194,304; 0 stands for a text that is no such number.
+    /// The number of the session, 1 to 4,194,304; 0 stands for a text that is no such number.
     pub session: u64,
     /// What happens to its roots.
     pub action: TempAction<'a>,

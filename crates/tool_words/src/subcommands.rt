@@ -1,4 +1,4 @@
-//! The subcommands as `clap` is told of them.
+//! The subcommands as `clap` gets them.
 ghost use Rattle.std.specs.Prelude.{◌≡◌, IfOk, false};
 ghost use Rattle.clap.specs.Simple.{app_of};
 ghost use Rattle.clap.specs.declared.builder.command.Command.TheViews.{out-Command};

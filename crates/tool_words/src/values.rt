@@ -7,14 +7,14 @@ ghost use Rattle.tool_words.specs.Values.{rows, all_values};
 use clap::ArgMatches;
 use std::alloc::{AllocError, Global};
 
-/// The value of an argument that may stand.
+/// The value of an optional argument.
 pub(crate) fn optional<'a>(matches: &ArgMatches<'a>, id: &str) -> Option<&'a str>
     ensures { option_map (λ s. s.now) result ≡ first_of id.now (rows matches.now) }
 {
     matches.get_str(id)
 }
 
-/// The value of an argument that has to stand: `clap` finds a fault where it doesn't.
+/// The value of a required argument: `clap` finds a fault where it is missing.
 pub(crate) fn required<'a>(matches: &ArgMatches<'a>, id: &str) -> &'a str
     ensures { result.now ≡ value.required id.now (rows matches.now) }
 {

@@ -58,7 +58,7 @@ const VERBS: [Verb; 23] = [
 ];
 
 impl Verb {
-    /// Its name.
+    /// The name of the subcommand.
     pub(crate) fn name<'a>(self) -> &'a str
         ensures { result.now ≡ verb_name self }
     {

@@ -52,7 +52,7 @@ abbrev pub ByRule : List ℕ → Caller → List ℕ → List ℕ → List ℕ �
 ByRule dir c method target body (Some rule) course = course ≡ replies (denied dir rule)
 ByRule dir c method target body None course = ByRoute dir c method target body (requests_of target) course
 
--- who sends it, and whether he may connect
+-- who sends it, and whether they may connect
 abbrev pub ByCaller : Settings → List ℕ → List ℕ → List ℕ → Option Caller → Course → Type 0
 ByCaller s method target body None course = course ≡ replies (refused BadCaller None)
 ByCaller s method target body (Some c) course = ByRule s.store_dir c method target body (first_broken (class_of s c) c plain) course

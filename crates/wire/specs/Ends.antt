@@ -21,12 +21,12 @@ module _ {S : Type 0} (answers : S → RequestHead → List ℕ → Replied → 
   ServesStreams known out out' err err' old status = LacksMemory out out' err err' status
       ⊎ ((end : End) × (new : S) × Served answers known out out' old new (result_of end) × Says end err err' × (status ≡ failure end))
 
-  -- so many connections of a listener are served
+  -- a number of connections of a listener are served
   abbrev pub ServesListener : ℕ → Option (List (List ℕ)) → Option (List (List ℕ)) → Option (List (List ℕ)) → Option (List (List ℕ)) → Option (List ℕ) → Option (List ℕ) → S → S → ℕ → Type 0
   ServesListener n waiting waiting' closed closed' err err' old new status =
       (result : Result ℕ Error) × (said : Option (List ℕ)) × ServesOn answers n waiting waiting' closed closed' err said old new result × EndsOn result said err' status
 
-  -- so many connections of a port, of which nothing is known; or there was no memory to begin with, or the port couldn't be bound
+  -- a number of connections of a port, of which nothing is known; or there was no memory to begin with, or the port couldn't be bound
   abbrev pub ServesPort : ℕ → Option (List ℕ) → Option (List ℕ) → S → ℕ → Type 0
   ServesPort n err err' old status = Prints (codes "failed: memory\n") 1 err err' status
       ⊎ (Prints (codes "failed: input\n") 1 err err' status ⊎ ((new : S) × ServesListener n None None None None err err' old new status))

@@ -7,15 +7,15 @@ use Rattle.report.specs.Stops.{entry}
 use Rattle.wire_server.specs.Responses as responses
 use Rattle.wire_server.specs.Responses.{Replied}
 
--- 200 for what is done, 403 for a denial, the status of a refusal in the table, 503 for a failure; and for want of memory that
--- was told as a refusal
+-- 200 for what is done, 403 for a denial, the status of a refusal in the table, 503 for a failure; and out of memory that
+-- was reported as a refusal
 abbrev pub status_of : Reply → ℕ
 status_of (done a) = 200
 status_of (denied rule root) = 403
 status_of (refused r) = option_map_or responses.status_of (entry r) 503
 status_of (failed f) = 503
 
--- an archive is told as bytes, all else as text
+-- an archive is sent as bytes, all else as text
 abbrev pub kind_of : Reply → List ℕ
 kind_of (done (archive_of b)) = codes "application/octet-stream"
 kind_of _ = codes "text/plain"

@@ -16,7 +16,7 @@ pub(crate) fn kind_by(route: Requests, method: &[u8]) -> Option<Kind>
     }
 }
 
-/// What takes the body of a message, of so many bytes: an archive is checked and hashed as it arrives.
+/// What takes the body of a message, whose length is given: an archive is checked and hashed as it arrives.
 pub(crate) fn body_for(
     alloc: Global,
     routes: &Routes,

@@ -13,7 +13,7 @@ pub(crate) fn method_of<'b>(held: &'b [u8], head: &Head) -> &'b [u8]
     head.spans.method.of(held)
 }
 
-/// Its target.
+/// The target of the message.
 pub(crate) fn target_of<'b>(held: &'b [u8], head: &Head) -> &'b str
     requires within { IsRequestWithin held.now head.now.fields head.now.spans }
     requires text { IsUtf8 (span_bytes held.now head.now.spans.path) }

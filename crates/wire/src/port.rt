@@ -19,7 +19,7 @@ use std::net::{Net, TcpListener, TcpStream};
 use tables::Tables;
 use wire_server::{Listener, Port, Responder, serve_on};
 
-/// Serves so many connections of a listener, and gives the exit status.
+/// Serves a number of connections of a listener, and returns the exit status.
 fn serve_listener<L: Listener, E: Write, A: Responder>(
     alloc: Global,
     listener: &mut L,
@@ -36,7 +36,7 @@ fn serve_listener<L: Listener, E: Write, A: Responder>(
     }
 }
 
-/// Serves so many connections of a port, where it can be bound, and gives the exit status.
+/// Serves a number of connections of a port, where it can be bound, and returns the exit status.
 fn listen<N: Net<Listener = TcpListener, Stream = TcpStream>, E: Write, A: Responder>(
     net: &N,
     alloc: Global,
@@ -54,7 +54,7 @@ fn listen<N: Net<Listener = TcpListener, Stream = TcpStream>, E: Write, A: Respo
     }
 }
 
-/// Serves the store of these tables on so many connections of a port of 127.0.0.1.
+/// Serves the store of these tables on a number of connections of a port of 127.0.0.1.
 fn serve<N: Net<Listener = TcpListener, Stream = TcpStream>, S: Alter + Drop, E: Write>(
     net: &N,
     alloc: Global,
@@ -77,7 +77,7 @@ fn serve<N: Net<Listener = TcpListener, Stream = TcpStream>, S: Alter + Drop, E:
     }
 }
 
-/// Serves the store of these tables on so many connections of a port of 127.0.0.1, one after another, and gives the exit status: 0
+/// Serves the store of these tables on a number of connections of a port of 127.0.0.1, one after another, and returns the exit status: 0
 /// where each was served to its end, else 1.
 ///
 /// A line on `errors` says why a connection failed: `failed: input`, `failed: output` or `failed: memory`. Where the port can't be

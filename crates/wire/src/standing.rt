@@ -1,4 +1,4 @@
-//! A store that stands ready to be served.
+//! A store that is ready to be served.
 ghost use Rattle.std.specs.Prelude.{◌≡◌, IfSome};
 
 use crate::server::Server;

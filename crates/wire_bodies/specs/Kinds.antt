@@ -19,7 +19,7 @@ abbrev pub digest_of : Result (List ℕ) Base32Error → Option (List ℕ)
 digest_of (Ok bytes) = Some bytes
 digest_of (Err e) = None
 
--- the 32 bytes that 52 digits behind `sha256:` spell
+-- the 32 bytes that 52 digits after `sha256:` spell
 abbrev pub hash_text : List ℕ → Option (List ℕ)
 hash_text text = if begins text (codes "sha256:") then digest_of (unbase32 (drop 7 text) 32) else None
 

@@ -1,9 +1,9 @@
--- The lines of a body, and the payload behind them.
+-- The lines of a body, and the payload after them.
 use Rattle.std.specs.Prelude.{◌≡◌, ◌≢◌, ℕ, ◌<◌, List, [], ◌∷◌, ◌++◌, length, slice_index, map, Option, Some, None, IsUtf8}
 use Rattle.std.specs.Borrow.{Bor}
 use Rattle.wire_bodies.specs.declared.lines.Body.{Body}
 
--- the byte stands nowhere in the text
+-- the byte isn't in the text
 abbrev pub Lacks : ℕ → List ℕ → Type 0
 Lacks byte text = (i : ℕ) → i < length text → slice_index text i ≢ byte
 
@@ -11,7 +11,7 @@ Lacks byte text = (i : ℕ) → i < length text → slice_index text i ≢ byte
 abbrev pub Entry : Type 0
 Entry = List ℕ × List ℕ
 
--- a line as it is written, without its line feed: a colon (58) and a space stand behind the key
+-- a line as it is written, without its line feed: a colon (58) and a space follow the key
 abbrev pub entry_text : Entry → List ℕ
 entry_text e = e.0 ++ 58 ∷ 32 ∷ e.1
 

@@ -10,7 +10,7 @@ use Rattle.wire_bodies.specs.declared.error.BodyError.TheVariants.{BadBodyHead, 
 use Rattle.wire_bodies.specs.declared.entries.Found.{Found}
 use Rattle.wire_bodies.specs.declared.entries.Found.TheVariants as found
 
--- the values behind a key, in their order
+-- the values after a key, in their order
 abbrev pub values : List ℕ → List Entry → List (List ℕ)
 values key [] = []
 values key (e ∷ es) = cond (bytes_eq e.0 key) (e.1 ∷ values key es) (values key es)

@@ -9,7 +9,7 @@ use crate::lines::body_of;
 use paths::StoreDir;
 use std::alloc::Global;
 
-/// The add that a body is, and the contents or the archive behind its empty line, lent and not looked at.
+/// The add that a body is, and the contents or the archive after its empty line, lent and not looked at.
 ///
 /// # Errors
 ///

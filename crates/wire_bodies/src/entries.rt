@@ -13,7 +13,7 @@ pub enum Found<'b> {
     More,
 }
 
-/// Some values and another one behind them.
+/// Some values and another one after them.
 fn with_another<'b>(found: Found<'b>, value: &'b str) -> Found<'b>
     ensures { (vs : List (List ℕ)) → Are vs found.entry → Are (vs ++ value.now ∷ []) result }
 {

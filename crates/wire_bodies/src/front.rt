@@ -1,23 +1,23 @@
-//! The front of a body that comes in pieces.
+//! The lines before the payload of a body that comes in pieces.
 ghost use Rattle.std.specs.Prelude.{◌≡◌, ◌++◌, ◌≤◌, [], IfOk, OnErr, length, take, drop};
 ghost use Rattle.wire_bodies.specs.Front.{next, place_behind, front_from, rest_from, front_of, rest_of};
 
 use std::alloc::{AllocError, Global};
 use std::marker::Model;
 
-/// Where the next byte of a body stands.
+/// Where in a body the next byte is.
 #[derive(Clone, Copy)]
 enum Place {
     /// At the beginning of a line.
     BeginsLine,
     /// In a line that has begun.
     WithinLine,
-    /// Behind the empty line: it is payload.
+    /// After the empty line: it is payload.
     BehindFront,
 }
 
-/// The front of a body that comes in pieces, however they are cut: its lines up to and with the first empty one. What
-/// follows is its payload. Contracts see the bytes of the front that have come.
+/// The beginning of a body that comes in pieces, however they are cut: its lines up to and with the first empty one. What
+/// follows is its payload. Contracts see the bytes of these lines that have come.
 #[derive(Drop)]
 pub struct Front {
     bytes: Vec<u8>,
@@ -35,7 +35,7 @@ impl Model for Front {
     ghost invariant = { λ front. IsFront front.bytes.items front.place };
 }
 
-/// The place behind one more byte.
+/// The place after one more byte.
 fn place_after(place: Place, byte: u8) -> Place
     ensures { result ≡ next place byte }
 {
@@ -58,7 +58,7 @@ fn place_after(place: Place, byte: u8) -> Place
     }
 }
 
-/// How many bytes of a piece, which stands at a place, belong to the front, and the place behind them.
+/// How many bytes of a piece, whose place is given, belong to these lines, and the place after them.
 fn front_in(place: Place, piece: &[u8]) -> (usize, Place)
     ensures within { result.0 ≤ length piece.now }
     ensures front { take result.0 piece.now ≡ front_from place piece.now }
@@ -86,12 +86,12 @@ impl Front {
         }
     }
 
-    /// Takes what of the next piece belongs to the front, and gives back the rest of it, which is payload. It looks at
-    /// no byte behind the front.
+    /// Takes what of the next piece belongs to these lines, and returns the rest of it, which is payload. It looks at
+    /// no byte after them.
     ///
     /// # Errors
     ///
-    /// Memory was refused. The front is then as before.
+    /// Memory was refused. The lines are then as before.
     pub fn take<'a>(&mut self, piece: &'a [u8]) -> Result<&'a [u8], AllocError>
         ensures front { IfOk result (λ rest. self.new ≡ front_of (self.old ++ piece.now)) }
         ensures rest { IfOk result (λ rest. rest.now ≡ rest_of (self.old ++ piece.now)) }
@@ -103,7 +103,7 @@ impl Front {
         Ok(&piece[count..])
     }
 
-    /// The bytes of the front that have come.
+    /// The bytes of the lines that have come.
     pub fn bytes(&self) -> &[u8]
         ensures now { result.now ≡ self.now }
         ensures front { front_of self.now ≡ self.now }

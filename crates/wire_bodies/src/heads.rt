@@ -11,7 +11,7 @@ use crate::values::{each_path, flag_if_any, one_name, one_path};
 use paths::{Name, StoreDir, StorePath};
 use std::alloc::Global;
 
-/// What an add says in front of its contents.
+/// What an add says before its contents.
 #[derive(Drop)]
 pub struct NamedHead {
     pub name: Name,

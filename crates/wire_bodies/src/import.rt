@@ -11,7 +11,7 @@ use crate::values::{ca_if_any, each_path, one_hash, one_path, path_if_any};
 use paths::{Ca, StoreDir, StorePath};
 use std::alloc::Global;
 
-/// What the body of an import says in front of the archive.
+/// What the body of an import says before the archive.
 #[derive(Drop)]
 pub struct ImportHead {
     pub path: StorePath,
@@ -66,7 +66,7 @@ pub fn import_head(
     }
 }
 
-/// The import that a body is, and the archive behind its empty line, lent and not looked at.
+/// The import that a body is, and the archive after its empty line, lent and not looked at.
 ///
 /// # Errors
 ///

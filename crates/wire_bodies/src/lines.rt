@@ -5,7 +5,7 @@ ghost use Rattle.wire_bodies.specs.Lines.{FirstLine, EntryOf, BodyOf, spelled};
 use std::alloc::{AllocError, Global};
 use std::str;
 
-/// The keys and values of a body, and what stands behind its empty line.
+/// The keys and values of a body, and what follows its empty line.
 #[derive(Drop)]
 pub struct Body<'b> {
     pub entries: Vec<(&'b str, &'b str)>,
@@ -64,8 +64,8 @@ fn parts_of<'b>(alloc: Global, text: &'b [u8]) -> Result<Option<Body<'b>>, Alloc
     }
 }
 
-/// The entries and the payload of a body, lent, or none where it has no empty line behind good lines. What follows the
-/// empty line isn't looked at, so the front of a body gives the same entries as soon as its empty line is there.
+/// The entries and the payload of a body, lent, or none where it has no empty line after good lines. What follows the
+/// empty line isn't looked at, so a prefix of a body gives the same entries as soon as its empty line is there.
 pub fn body_of<'b>(alloc: Global, body: &'b [u8]) -> Result<Option<Body<'b>>, AllocError>
     ensures { IfOk result (BodyOf (spelled body.now)) }
 {

@@ -12,7 +12,7 @@ use crate::values::path_of;
 use paths::{StoreDir, StorePath};
 use std::alloc::Global;
 
-/// What stands in front of the first space, and behind it.
+/// What comes before the first space, and after it.
 fn parts_at_space(text: &str) -> (&str, &str)
     ensures label { result.0.now ≡ before_first is_space text.now }
     ensures path { result.1.now ≡ after_first is_space text.now }

@@ -21,7 +21,7 @@ pub fn is_blank(body: &[u8]) -> bool
     body.is_empty() || body == b"\n".as_slice()
 }
 
-/// The entries of a body behind whose empty line nothing follows.
+/// The entries of a body after whose empty line nothing follows.
 fn entries_of<'b>(alloc: Global, body: &'b [u8]) -> Result<Vec<(&'b str, &'b str)>, BodyError>
     ensures ok { IfOk result (λ entries. Reads (spelled body.now) (shown entries.items) []) }
     ensures bad { result ≡ Err BodyError.BadBodyHead → (es : List Entry) → Reads (spelled body.now) es [] → ⊥ }

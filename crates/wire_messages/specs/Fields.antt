@@ -38,7 +38,7 @@ Are _ _ = ⊥
 
 -- ---- the length of a body
 
--- a body has at most so many bytes
+-- the most bytes of a body
 abbrev pub max_body : ℕ
 max_body = 20971520
 

@@ -1,4 +1,4 @@
--- The head of a message at the front of an input.
+-- The head of a message at the beginning of an input.
 use Rattle.std.specs.Prelude.{ℕ, Bool, not, ◌||◌, ◌≤◌, ◌<◌, ◌==◌, ◌++◌, List, length, drop}
 use Rattle.std.specs.List.{list_any}
 use Rattle.httparse.specs.Grammar.{RequestHead, print_request, ReadsRequest, HasNoRequest}
@@ -7,7 +7,7 @@ use Rattle.wire_messages.specs.declared.head.Head.{Head}
 use Rattle.wire_messages.specs.declared.head.Look.{Look}
 use Rattle.wire_messages.specs.declared.head.Look.TheVariants.{Whole, Unfinished, Faulty}
 
--- a head has at most so many bytes, and at most so many fields
+-- the most bytes of a head, and the most fields
 abbrev pub max_head : ℕ
 max_head = 16384
 
@@ -28,13 +28,13 @@ HasNoHead input = (h : RequestHead) (rest : List ℕ) → ¬ (IsHead input h res
 abbrev pub has_begun_in : List ℕ → Bool
 has_begun_in bytes = list_any (λ b. not (b == 13 || b == 10)) bytes
 
--- the parts of the head h stand in a buffer at these places, and a rest follows
+-- the parts of the head h are in a buffer at these places, and a rest follows
 pub record Holds (buf : List ℕ) (head : Head) (h : RequestHead) : Type 0 where
   pub is_head : IsHead buf h (drop head.spans.len buf)
   pub places : IsRequestAt buf head.fields head.spans h
   pub within : IsRequestWithin buf head.fields head.spans
 
--- what a look at the bytes so far tells, whatever follows them
+-- what a look at the bytes so far says, whatever follows them
 abbrev pub Tells : List ℕ → Look → Type 0
 Tells buf (Whole head) = (h : RequestHead) × Holds buf head h
 Tells buf Unfinished = HasNoRequest buf × (length buf < max_head)

@@ -1,4 +1,4 @@
--- How an input divides from the front into messages, and what one read of a message leaves.
+-- How an input divides from its beginning into messages, and what one read of a message leaves.
 use Rattle.std.specs.Prelude.{◌≡◌, ◌⊎◌, ℕ, ◌+◌, ◌<◌, ◌≤◌, List, [], ◌++◌, length, take, drop, Option, Result, Ok, Err, Bool, true, false, IfOk, IfSome, OnOk}
 use Rattle.std.specs.Io.KnownBytes.{Consumes, IsAtEnd}
 use Rattle.httparse.specs.Grammar.{RequestHead}
@@ -47,13 +47,13 @@ Starts held rest NoMore = (held ≡ []) × IsAtEnd rest
 Starts held rest (Begun head) = (0 < length held) × ((h : RequestHead) × Holds held head h)
 Starts held rest NoHead = (0 < length held) × IfSome rest (λ more. HasNoHead (held ++ more))
 
--- the head of a message stands in the front of what is held, and its body of that size behind it
+-- the head of a message begins what is held, and its body of that size follows
 pub record HoldsMessage (held : List ℕ) (head : Head) (size : ℕ) (h : RequestHead) : Type 0 where
   pub holds : Holds held head h
   pub states : body_length (fields_of h) ≡ Ok size
   pub whole : head.spans.len + size ≤ length held
 
--- the head of a message that states this size of its body stands in the front of what is held
+-- the head of a message that states this size of its body begins what is held
 abbrev pub HoldsHead : List ℕ → Head → ℕ → Type 0
 HoldsHead held head size = (h : RequestHead) × Holds held head h × (body_length (fields_of h) ≡ Ok size)
 
@@ -68,7 +68,7 @@ abbrev pub Receives : {A : Type 0} → (List ℕ → Option (List ℕ) → A →
 Receives is old new held held' result =
     ((bs : List ℕ) × Consumes old new bs × OnOk result (held' ≡ held ++ bs)) × IfOk result (is held' new)
 
--- A body of so many bytes was handed on that stands behind a head of `len` bytes: what was held of it, and what was read, which is
+-- A body of this size was passed on that follows a head of `len` bytes: what was held of it, and what was read, which is
 -- nothing beyond it; or the input ended inside it.
 pub record HandsOn (old new : Option (List ℕ)) (held : List ℕ) (len size : ℕ) (taken taken' : List ℕ) (result : Result Bool ReceiveError) : Type 0 where
   pub read : List ℕ

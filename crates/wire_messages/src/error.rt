@@ -1,16 +1,16 @@
-//! Why the front of an input is no message, and why none was received.
+//! Why an input begins with no message, and why none was received.
 use thiserror::Error;
 
-/// What is wrong with the front of an input.
+/// What is wrong with the beginning of an input.
 #[derive(Clone, Copy, Debug, PartialEq, Eq, Error)]
 pub enum Fault {
-    /// It is no request head of at most 16,384 bytes and 64 fields.
+    /// The input begins with no request head of at most 16,384 bytes and 64 fields.
     #[error("bad-head")]
     BadHead,
-    /// The length of its body is malformed, stands twice or is coded otherwise, or the input ends inside the body.
+    /// The length of its body is malformed, is given twice or is coded otherwise, or the input ends inside the body.
     #[error("bad-length")]
     BadLength,
-    /// Its body would have more than 20,971,520 bytes.
+    /// The body would have more than 20,971,520 bytes.
     #[error("too-large")]
     TooLarge,
 }

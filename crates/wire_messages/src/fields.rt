@@ -33,7 +33,7 @@ pub fn values_of<'b>(buf: &'b [u8], head: &Head, name: &[u8]) -> Values<'b>
     found
 }
 
-/// Some values and another one behind them.
+/// Some values and another one after them.
 fn with_another<'b>(found: Values<'b>, value: &'b [u8]) -> Values<'b>
     ensures { (vs : List (List ℕ)) → Are vs found.entry → Are (vs ++ value.now ∷ []) result }
 {
@@ -93,7 +93,7 @@ fn has_value(buf: &[u8], head: &Head, name: &[u8], value: &[u8]) -> bool
     found
 }
 
-/// Whether the connection is closed behind a message.
+/// Whether the connection is closed after a message.
 pub fn closes(buf: &[u8], head: &Head) -> bool
     requires { IsRequestWithin buf.now head.now.fields head.now.spans }
     ensures { result ≡ ((head.now.spans.version == 0) || list_any (λ v. str_eq_ignore_ascii_case v (codes "close")) (values (codes "connection") (fields_at buf.now head.now))) }

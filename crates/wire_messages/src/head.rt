@@ -1,4 +1,4 @@
-//! The head of a message at the front of a buffer.
+//! The head of a message at the beginning of a buffer.
 ghost use Rattle.std.specs.Prelude.{◌≡◌, ◌≤◌, ◌<◌, take, length};
 ghost use Rattle.httparse.specs.Grammar.{HasNoRequest};
 ghost use Rattle.wire_messages.specs.Heads.{Tells, has_begun_in};
@@ -9,7 +9,7 @@ use httparse::spans::{EMPTY_HEADER_SPAN, HeaderSpan, RequestSpans, parse_request
 /// How many bytes a head has at most.
 pub const MAX_HEAD: usize = 16_384;
 
-/// Where the parts of a head stand in a buffer that begins with it.
+/// Where the parts of a head are in a buffer that begins with it.
 #[derive(Clone, Copy)]
 pub struct Head {
     pub spans: RequestSpans,
@@ -17,10 +17,10 @@ pub struct Head {
     pub fields: [HeaderSpan; 64],
 }
 
-/// What the bytes tell that have come so far.
+/// What the bytes that have come so far say.
 #[derive(Clone, Copy)]
 pub enum Look {
-    /// They begin with a head.
+    /// The bytes begin with a head.
     Whole(Head),
     /// There is no head yet.
     Unfinished,
@@ -28,7 +28,7 @@ pub enum Look {
     Faulty,
 }
 
-/// Looks for a head at the front of a buffer, whose first `seen` bytes were found to have none.
+/// Looks for a head at the beginning of a buffer, whose first `seen` bytes were found to have none.
 pub fn look_for_head(buf: &[u8], seen: usize) -> Look
     requires within { seen ≤ length buf.now }
     requires none { HasNoRequest (take seen buf.now) }
@@ -58,7 +58,7 @@ fn is_begun(bytes: &[u8]) -> bool
     bytes.iter().any(|b| !(*b == b'\r' || *b == b'\n'))
 }
 
-/// The same, where it is known for the first `seen`.
+/// Whether a byte other than those of line ends is among the bytes, where it is known for the first `seen`.
 pub(crate) fn has_begun(buf: &[u8], seen: usize, before: bool) -> bool
     requires within { seen ≤ length buf.now }
     requires before { before ≡ has_begun_in (take seen buf.now) }
@@ -82,7 +82,7 @@ pub(crate) fn look_again(buf: &[u8], seen: usize, has_begun: bool) -> Look
     }
 }
 
-/// What bytes tell that begin with no head: more of them can't where they are too many.
+/// What bytes say that begin with no head: more of them can't where they are too many.
 fn without_head(buf: &[u8]) -> Look
     requires { HasNoRequest buf.now }
     ensures { Tells buf.now result }

@@ -22,7 +22,7 @@ pub enum Start {
 pub enum Received {
     /// Nothing is left of it.
     End,
-    /// A head, and a body of so many bytes that is to follow it.
+    /// A head, and the length of the body that is to follow it.
     Message(Head, usize),
     Faulty(Fault),
 }
@@ -93,7 +93,7 @@ pub fn receive_start<R: Read>(
 }
 
 /// Reads until the buffer begins with a whole head that states the size of its body, or can't, or nothing is left. Some of the
-/// body may be held behind the head then.
+/// body may be held after the head then.
 pub fn receive_head<R: Read>(
     input: &mut R,
     window: &mut [u8],
@@ -114,7 +114,7 @@ pub fn receive_head<R: Read>(
     }
 }
 
-/// Hands on the body of so many bytes that follows a head: what of it is held, and the rest as it arrives. Whether it came
+/// Passes on the body, of a given length, that follows a head: what of it is held, and the rest as it arrives. Whether it came
 /// whole. Nothing is read beyond it.
 ///
 /// # Errors

@@ -46,7 +46,7 @@ by_target kinds.Dead target = Some list_dead
 by_target kinds.Report target = Some report
 by_target kind target = by_names kind target
 
--- a base name behind the second slash of the target, and nothing in the body
+-- a base name after the second slash of the target, and nothing in the body
 abbrev pub OnPath : List ℕ → List ℕ → (Path → Request) → Request → Type 0
 OnPath target body on q = (is_base_name (part 2 target) ≡ true) × (is_blank body ≡ true) × (q ≡ on (part 2 target))
 

@@ -5,11 +5,11 @@ use Rattle.std.specs.List.{before_first, after_first}
 abbrev pub is_slash : ℕ → Bool
 is_slash b = b == 47
 
--- what stands behind the first so many slashes, or nothing where there are fewer
+-- what follows the first slashes, of a given number, or nothing where there are fewer
 abbrev pub behind_slashes : ℕ → List ℕ → List ℕ
 behind_slashes zero text = text
 behind_slashes (suc n) text = after_first is_slash (behind_slashes n text)
 
--- the part behind so many slashes, up to the next: part 2 of `/info/x` is `x`
+-- the part after a number of slashes, up to the next: part 2 of `/info/x` is `x`
 abbrev pub part : ℕ → List ℕ → List ℕ
 part n text = before_first is_slash (behind_slashes n text)

@@ -22,7 +22,7 @@ abbrev pub pattern_of : Result Scan InsertError → List ℕ
 pattern_of (Ok s) = s.pattern
 pattern_of (Err e) = []
 
--- one more route behind those of a table
+-- one more route after those of a table
 abbrev pub AddsRow : List ℕ → Requests → RowsOf (RouteOf Requests) → RowsOf (RouteOf Requests) → Type 0
 AddsRow text requests old new =
     (table : List (List ℕ × Requests)) → AreRows old table → AreRows new (table ++ (pattern_of (parse_route text), requests) ∷ [])

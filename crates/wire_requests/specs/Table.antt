@@ -5,7 +5,7 @@ use Rattle.wire_requests.specs.declared.requests.Requests.{Requests}
 use Rattle.wire_requests.specs.declared.requests.Requests.TheVariants.{Get, Post, Delete, PostOrDelete}
 use Rattle.wire_requests.specs.Patterns.{parameter, fits}
 
--- so many parameters, each behind a slash
+-- a number of parameters, each after a slash
 abbrev pub one : List ℕ
 one = codes "/" ++ parameter ∷ []
 

@@ -3,7 +3,7 @@ use Rattle.std.specs.Prelude.{ℕ, Bool, false, List, Option, unwrap_or}
 use Rattle.model.specs.Request as asked
 use Rattle.wire_bodies.specs.declared.import.ImportHead.{ImportHead}
 
--- an import, with the archive behind the empty line
+-- an import, with the archive after the empty line
 abbrev pub imported : ImportHead → List ℕ → asked.Imported
 imported head nar = record { path = head.path; nar_hash = head.nar_hash; refs = head.references.items; deriver = head.deriver; ca = head.ca; nar = nar }
 

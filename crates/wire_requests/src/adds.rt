@@ -1,4 +1,4 @@
-//! Requests that hand in an object.
+//! Requests that add an object.
 ghost use Rattle.std.specs.Prelude.{◌≡◌, IfOk, Err, List, ℕ};
 ghost use Rattle.wire_requests.specs.declared.kind.Kind.TheVariants as kinds;
 ghost use Rattle.wire_bodies.specs.Bodies.{IsNamedBody, IsImportBody};
@@ -48,7 +48,7 @@ pub(crate) fn add_text(alloc: Global, dir: &StoreDir, body: &[u8]) -> Result<Req
     }
 }
 
-/// The add that a body is, read of its front.
+/// The add that a body is, read of its lines before the payload.
 fn named_front(alloc: Global, dir: &StoreDir, body: &Parted) -> Result<NamedHead, BodyError>
     ensures ok { IfOk result (λ head. IsNamedBody dir.now body.now head (rest_of body.now)) }
     ensures bad { result ≡ Err BodyError.BadBodyHead → (head : NamedOf) (nar : List ℕ) → IsNamedBody dir.now body.now head nar → ⊥ }
@@ -60,7 +60,7 @@ fn named_front(alloc: Global, dir: &StoreDir, body: &Parted) -> Result<NamedHead
     }
 }
 
-/// The import that a body is, read of its front.
+/// The import that a body is, read of its lines before the archive.
 fn import_front(alloc: Global, dir: &StoreDir, body: &Parted) -> Result<ImportHead, BodyError>
     ensures ok { IfOk result (λ head. IsImportBody dir.now body.now head (rest_of body.now)) }
     ensures bad { result ≡ Err BodyError.BadBodyHead → (head : ImportOf) (nar : List ℕ) → IsImportBody dir.now body.now head nar → ⊥ }

@@ -13,7 +13,7 @@ use streams::{Held, Sink};
 enum Kept {
     /// In one buffer.
     Whole(Held),
-    /// Its payload apart, in an intake.
+    /// The payload apart, in an intake.
     Parted(Parted),
 }
 

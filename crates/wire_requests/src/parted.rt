@@ -9,7 +9,7 @@ use std::marker::Model;
 use std::str;
 use wire_bodies::Front;
 
-/// The front of a body, and the archive behind it, which is checked and hashed as it comes. Contracts see all bytes.
+/// The lines of a body, and the archive after them, which is checked and hashed as it comes. Contracts see all bytes.
 #[derive(Drop)]
 pub(crate) struct Parted {
     front: Front,
@@ -29,7 +29,7 @@ impl Model for Parted {
     ghost invariant = { λ parted. front_of (parted.front ++ bytes_in parted.archive) ≡ parted.front };
 }
 
-/// Whether a front names the address of a text, which asks for the contents of the archive. No answer hangs on it: where
+/// Whether the lines name the address of a text, which asks for the contents of the archive. No answer hangs on it: where
 /// it isn't seen here, they are hashed once that address is tested.
 fn names_text_address(front: &[u8]) -> bool {
     match str::from_utf8(front) {
@@ -74,7 +74,7 @@ impl Parted {
         Ok(())
     }
 
-    /// Its lines up to and with the first empty one.
+    /// The lines up to and with the first empty one.
     pub(crate) fn front(&self) -> &[u8]
         ensures { result.now ≡ front_of self.now }
     {

@@ -3,7 +3,7 @@ ghost use Rattle.std.specs.Prelude.{◌≡◌};
 ghost use Rattle.std.specs.List.{before_first, after_first};
 ghost use Rattle.wire_requests.specs.Parts.{is_slash, part, behind_slashes};
 
-/// What stands in front of the first slash.
+/// What comes before the first slash.
 fn before_slash(text: &str) -> &str
     ensures { result.now ≡ before_first is_slash text.now }
 {
@@ -13,7 +13,7 @@ fn before_slash(text: &str) -> &str
     }
 }
 
-/// What stands behind the first slash.
+/// What comes after the first slash.
 fn after_slash(text: &str) -> &str
     ensures { result.now ≡ after_first is_slash text.now }
 {
@@ -23,7 +23,7 @@ fn after_slash(text: &str) -> &str
     }
 }
 
-/// The part of a target behind so many slashes, up to the next: a parameter of its route.
+/// The part of a target after a number of slashes, up to the next: a parameter of its route.
 pub fn part(target: &str, slashes: usize) -> &str
     ensures { result.now ≡ part slashes target.now }
 {

@@ -10,7 +10,7 @@ use std::alloc::Global;
 use store_types::Request;
 use wire_bodies::is_blank;
 
-/// The path that a target names behind its second slash, where nothing is wanted of the body.
+/// The path that a target names after its second slash, where nothing is wanted of the body.
 fn path_alone(alloc: Global, target: &str, body: &[u8]) -> Result<StorePath, AskError>
     ensures { ReadsPath target.now body.now result }
 {
@@ -39,7 +39,7 @@ pub(crate) fn info(alloc: Global, target: &str, body: &[u8]) -> Result<Request, 
     }
 }
 
-/// Its archive.
+/// The archive of a path.
 pub(crate) fn archive(alloc: Global, target: &str, body: &[u8]) -> Result<Request, AskError>
     ensures { (dir : List ℕ) → Reads dir kinds.Nar target.now body.now result }
 {
@@ -51,7 +51,7 @@ pub(crate) fn archive(alloc: Global, target: &str, body: &[u8]) -> Result<Reques
     }
 }
 
-/// Its listing.
+/// The listing of a path.
 pub(crate) fn listing(alloc: Global, target: &str, body: &[u8]) -> Result<Request, AskError>
     ensures { (dir : List ℕ) → Reads dir kinds.Ls target.now body.now result }
 {

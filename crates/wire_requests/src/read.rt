@@ -15,7 +15,7 @@ use paths::StoreDir;
 use std::alloc::Global;
 use store_types::Request;
 
-/// The same of a kind without an archive, whose body is in one buffer.
+/// Reads a request of a kind without an archive, whose body is in one buffer.
 fn read_whole(
     alloc: Global,
     dir: &StoreDir,
@@ -43,7 +43,7 @@ fn read_whole(
 }
 
 /// What a message asks: by the kind that its route and its method stand for, its whole target and its whole body. An
-/// archive goes from the body into the request without a copy where the body keeps it apart.
+/// archive passes from the body into the request without a copy where the body keeps it apart.
 ///
 /// # Errors
 ///

@@ -107,7 +107,7 @@ impl Model for Routes {
 }
 
 impl Routes {
-    /// The routes of the table, and nothing but want of memory.
+    /// The routes of the table; it fails only when it runs out of memory.
     pub fn new(alloc: Global) -> Result<Routes, AllocError> {
         Ok(Routes {
             router: make_router(alloc)?,

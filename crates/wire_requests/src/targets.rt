@@ -13,7 +13,7 @@ use std::alloc::{AllocError, Global};
 use store_types::Request;
 use wire_bodies::is_blank;
 
-/// A part of a target and the one behind it: an owner and a name.
+/// A part of a target and the one after it: an owner and a name.
 pub(crate) fn two_parts(
     alloc: Global,
     target: &str,
@@ -98,7 +98,7 @@ fn by_target(alloc: Global, kind: Kind, target: &str) -> Result<Option<Request>,
     }
 }
 
-/// The same, where the body is blank.
+/// The request of a kind that says all by itself, or by names in the target, where the body is blank.
 pub(crate) fn bare(
     alloc: Global,
     kind: Kind,

@@ -6,7 +6,7 @@ use Rattle.wire_messages.specs.declared.head.Head.{Head}
 use Rattle.wire_server.specs.declared.response.Response.{Response}
 use Rattle.wire_server.specs.Responses.{Replied, replied}
 
--- the body behind a head that is held
+-- the body after a head that is held
 abbrev pub body_in : List ℕ → Head → ℕ → List ℕ
 body_in held head size = take size (drop head.spans.len held)
 

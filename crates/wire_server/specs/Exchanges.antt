@@ -21,7 +21,7 @@ Refuses fault (Ok (Some x)) = IsRefusal fault x
 Refuses fault (Ok None) = ⊥
 Refuses fault (Err e) = ⊤
 
--- All the bytes, and what may follow them, begin with no message, and the fault is told.
+-- All the bytes, and what may follow them, begin with no message, and the fault is reported.
 abbrev pub HasFault : List ℕ → Option (List ℕ) → Exchange → Type 0
 HasFault all rest x = (fault : Fault) × (0 < length all) × IfSome rest (λ more. IsFault (all ++ more) fault) × IsRefusal fault x
 
@@ -34,7 +34,7 @@ module _ {S : Type 0} (answers : S → RequestHead → List ℕ → Replied → 
     pub holds : HoldsMessage all head size h
     pub answered : answers s h (body_in all head size) r s'
 
-  -- That is the response, behind which the rest is held.
+  -- That is the response, after which the rest is held.
   abbrev pub IsAnswered : List ℕ → List ℕ → S → Exchange → S → Type 0
   IsAnswered all held' s x s' =
       (a : Answers all s (replied x.response) s') × (x.close ≡ closes a.h) × (held' ≡ drop (a.head.spans.len + a.size) all)

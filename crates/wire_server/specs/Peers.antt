@@ -1,4 +1,4 @@
--- The peers of a listener that tells of them: what they send, and what was written to them.
+-- The peers of a listener that shows them: what they send, and what was written to them.
 use Rattle.std.specs.Prelude.{◌≡◌, ⊤, ℕ, List, [], ◌++◌, map, Option, Some, None}
 
 -- the next peers were taken, of whom this is known of what they send

@@ -18,7 +18,7 @@ pub record Replied : Type 0 where
 abbrev pub replied : Response → Replied
 replied r = record { status = r.status; kind = r.kind.now; allow = option_map (λ methods. methods.now) r.allow; text = r.text }
 
--- its bytes: a head, which tells whether the connection is closed and how many bytes the text has, and the text
+-- its bytes: a head, which says whether the connection is closed and how many bytes the text has, and the text
 abbrev pub reply_bytes : Bool → Replied → List ℕ
 reply_bytes close r = reply_head r.status r.kind r.allow close (length r.text) ++ r.text
 
@@ -38,6 +38,6 @@ status_of _ = 400
 abbrev pub plain : ℕ → List ℕ → Replied
 plain status text = record { status = status; kind = codes "text/plain"; allow = None; text = text }
 
--- a refusal; with one of a method the methods of the route stand
+-- a refusal; with one of a method the methods of the route are listed
 abbrev pub refused : Refusal → Option (List ℕ) → Replied
 refused r allow = record { status = status_of r; kind = codes "text/plain"; allow = allow; text = refusal_line r }

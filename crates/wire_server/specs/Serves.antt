@@ -18,17 +18,17 @@ refusal_of BadHead = refusals.BadHead
 refusal_of BadLength = refusals.BadBodyLength
 refusal_of TooLarge = refusals.BodyTooLarge
 
--- its reply, behind which the connection is closed
+-- its reply, after which the connection is closed
 abbrev pub fault_reply : Fault → List ℕ
 fault_reply fault = reply_bytes true (refused (refusal_of fault) None)
 
--- The input begins with these items; behind the last of them anything may follow that nobody looked at.
+-- The input begins with these items; after the last of them anything may follow that nobody looked at.
 abbrev pub Begins : List ℕ → List Item → Type 0
 Begins input [] = ⊤
 Begins input (message h body ∷ items) = (rest : List ℕ) × IsMessage input h body rest × cond (closes h) (items ≡ []) (Begins rest items)
 Begins input (faulty fault ∷ items) = (0 < length input) × IsFault input fault × (items ≡ [])
 
--- the same of an input that may tell its bytes, whole or not
+-- the same of an input that may show its bytes, whole or not
 abbrev pub DividesAll : Option (List ℕ) → List Item → Type 0
 DividesAll None items = ⊤
 DividesAll (Some all) items = Divides all items
@@ -41,7 +41,7 @@ BeginsWith (Some all) items = Begins all items
 abbrev pub joined : List (List ℕ) → List ℕ
 joined replies = flat_map (λ reply. reply) replies
 
--- What was written is all of the replies; or all but the last, and a front of that one.
+-- What was written is all of the replies; or all but the last, and a prefix of that one.
 abbrev pub IsWritten : List (List ℕ) → List ℕ → Type 0
 IsWritten replies bytes =
     (bytes ≡ joined replies)
@@ -57,7 +57,7 @@ module _ {S : Type 0} (answers : S → RequestHead → List ℕ → Replied → 
   Replies s [] (reply ∷ replies) new = ⊥
   Replies s (item ∷ items) [] new = ⊥
 
-  -- The input divides into so many items, and what was written is all of their replies. (After 2^64 - 1 of them the connection is
+  -- The input divides into this number of items, and what was written is all of their replies. (After 2^64 - 1 of them the connection is
   -- left, whatever follows.)
   pub record Serves (input output output' : Option (List ℕ)) (old new : S) (count : ℕ) : Type 0 where
     pub items : List Item
@@ -68,7 +68,7 @@ module _ {S : Type 0} (answers : S → RequestHead → List ℕ → Replied → 
     pub answered : Replies old items replies new
     pub written : Appends output output' (joined replies)
 
-  -- The connection was broken off behind items that the input begins with: all but the last reply were written whole.
+  -- The connection was broken off after items that the input begins with: all but the last reply were written whole.
   pub record Stops (input output output' : Option (List ℕ)) (old new : S) : Type 0 where
     pub items : List Item
     pub replies : List (List ℕ)

@@ -9,7 +9,7 @@ use Rattle.wire_server.specs.Peers.{IsFresh, Leaves, Takes}
 use Rattle.wire_server.specs.Sessions.{Says, failure, result_of}
 use Rattle.wire_server.specs.declared.sessions.End.{End}
 
--- a connection: what its peer sent, what was written to him, and how it ended
+-- a connection: what its peer sent, what was written to it, and how it ended
 pub record Session : Type 0 where
   pub input : Option (List ℕ)
   pub output : Option (List ℕ)
@@ -34,7 +34,7 @@ module _ {S : Type 0} (answers : S → RequestHead → List ℕ → Replied → 
     pub left : Leaves closed closed' (map (λ session. session.output) sessions)
     pub followed : Follow old err sessions new err'
 
-  -- So many connections were served, and those that failed are counted; or fewer were, and then an accept failed.
+  -- This number of connections was served, and those that failed are counted; or fewer were, and then an accept failed.
   abbrev pub ServesOn : ℕ → Option (List (List ℕ)) → Option (List (List ℕ)) → Option (List (List ℕ)) → Option (List (List ℕ)) → Option (List ℕ) → Option (List ℕ) → S → S
       → Result ℕ Error → Type 0
   ServesOn n waiting waiting' closed closed' err err' old new (Ok failed) =

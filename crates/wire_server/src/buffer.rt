@@ -1,7 +1,7 @@
 //! What was read and isn't answered yet.
 ghost use Rattle.std.specs.Prelude.{◌≡◌, drop};
 
-/// Takes so many bytes off the front of a buffer, or all where it has fewer.
+/// Removes a number of bytes from the beginning of a buffer, or all where it has fewer.
 pub(crate) fn take_front(buffer: &mut Vec<u8>, n: usize)
     ensures { buffer.new.items ≡ drop n buffer.old.items }
 {

@@ -8,7 +8,7 @@ use std::alloc::Global;
 use std::io;
 use std::io::Write;
 
-/// Serves so many connections, one after another, and tells how many failed. Of each of these a line on `errors` says why; the next
+/// Serves a number of connections, one after another, and returns how many failed. For each of these a line on `errors` says why; the next
 /// is served all the same.
 ///
 /// # Errors

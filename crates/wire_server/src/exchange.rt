@@ -12,7 +12,7 @@ use std::alloc::Global;
 use std::io::Read;
 use wire_messages::{Fault, Head, ReceiveError, Received, closes, receive_body, receive_head};
 
-/// A response, and whether the connection is closed behind it.
+/// A response, and whether the connection is closed after it.
 #[derive(Drop)]
 pub(crate) struct Exchange {
     pub response: Response,
@@ -27,7 +27,7 @@ fn broken(fault: ReceiveError) -> WireError {
     }
 }
 
-/// The response to an input that begins with no message, behind which the connection is closed.
+/// The response to an input that begins with no message, after which the connection is closed.
 fn refused(alloc: Global, fault: Fault) -> Result<Option<Exchange>, WireError>
     ensures { Refuses fault result }
 {

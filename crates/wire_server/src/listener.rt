@@ -13,10 +13,10 @@ pub trait Listener {
     /// What a peer is sent.
     type Output: Write + Drop;
 
-    /// What each of the peers that wait is going to send, where the listener tells.
+    /// What each of the peers that wait is going to send, where the listener says.
     ghost waiting: { Self → Option (List (List ℕ)) };
 
-    /// What was written to each peer whose connection was closed, where it tells.
+    /// What was written to each peer whose connection was closed, where it says.
     ghost closed: { Self → Option (List (List ℕ)) };
 
     /// The connection of the next peer, on which nothing was read or written yet.

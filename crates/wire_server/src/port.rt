@@ -7,7 +7,7 @@ use std::io::Read;
 use std::net::{Ipv4Addr, Net, Shutdown, TcpListener, TcpStream};
 use std::time::Duration;
 
-/// How many seconds a peer may be silent before a connection is closed that he hasn't closed.
+/// How many seconds a peer may be silent before a connection is closed that the peer hasn't closed.
 const PATIENCE: u64 = 1;
 
 /// How many reads a peer is granted who goes on sending, each of at most 65,536 bytes: what is left of any body that is refused.
@@ -22,7 +22,7 @@ impl Port {
     ///
     /// # Errors
     ///
-    /// That of the system, as where the port is taken.
+    /// The error of the system, as where the port is taken.
     pub fn bind<N: Net<Listener = TcpListener, Stream = TcpStream>>(
         net: &N,
         port: u16,
@@ -31,7 +31,7 @@ impl Port {
     }
 }
 
-/// Reads what a peer still sends, until he closes the connection, is silent, or has sent enough.
+/// Reads what a peer still sends, until it closes the connection, is silent, or has sent enough.
 fn read_out(input: &mut TcpStream) -> io::Result<()> {
     input.set_read_timeout(Some(Duration::from_secs(PATIENCE)))?;
     let mut window = [0; 65_536];

@@ -5,7 +5,7 @@ ghost use Rattle.wire_server.specs.ReplyHead.{reply_head, front_lines, allow_fie
 use http::StatusCode;
 use std::alloc::AllocError;
 
-/// What a reply says in front of its text.
+/// What a reply says before its text.
 #[derive(Clone, Copy)]
 pub struct ReplyHead<'a> {
     pub status: StatusCode,
@@ -38,7 +38,7 @@ fn write_allow(out: &mut String, allow: Option<&str>) -> Result<(), AllocError>
     }
 }
 
-/// That the connection is closed, where it is.
+/// The field by which the connection is closed, where it is.
 #[tactic(auto, unfolding(crate::specs::ReplyHead::close_field))]
 fn write_close(out: &mut String, close: bool) -> Result<(), AllocError>
     ensures { OnOk result (string_bytes out.new ≡ string_bytes out.old ++ close_field close) }
@@ -59,7 +59,7 @@ fn write_last(out: &mut String, size: usize) -> Result<(), AllocError>
 }
 
 /// Appends the head of a reply: a status line of HTTP/1.1, the fields, and an empty line, each with CR LF. Where memory is refused
-/// a front of it may have been appended.
+/// a prefix of it may have been appended.
 pub fn write_reply_head(out: &mut String, head: &ReplyHead) -> Result<(), AllocError>
     ensures { OnOk result (string_bytes out.new ≡ string_bytes out.old
         ++ reply_head head.now.status head.now.kind.now (option_map (λ methods. methods.now) head.now.allow) head.now.close head.now.size) }

@@ -18,7 +18,7 @@ pub trait Responder {
     /// What a head and a body may be answered with, and the responder afterwards.
     ghost answers: { Self → RequestHead → List ℕ → Replied → Self → Type 0 };
 
-    /// What takes the body, of so many bytes, of a message whose head is held in front of some bytes. Nothing of it has come yet.
+    /// What takes the body, of a given length, of a message whose head is held before some bytes. Nothing of it has come yet.
     fn begin(&self, held: &[u8], head: &Head, size: usize) -> Self::Body
         requires { (h : RequestHead) × Holds held.now head.now h }
         ensures { Self.Body.taken result ≡ [] };

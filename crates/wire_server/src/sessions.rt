@@ -13,11 +13,11 @@ use streams::send_bytes;
 /// How a connection ended.
 #[derive(Clone, Copy, PartialEq, Eq, Debug)]
 pub enum End {
-    /// It was served to its end: so many messages were answered.
+    /// The connection was served to its end: this number of messages was answered.
     Served(u64),
-    /// It failed, and a line says why.
+    /// The connection failed, and a line says why.
     Told(WireError),
-    /// It failed, and the line that says why couldn't be written whole.
+    /// The connection failed, and the line that says why couldn't be written whole.
     Untold(WireError),
 }
 

@@ -10,13 +10,13 @@ use std::time::Instant;
 pub enum Work {
     /// The bytes are copied into memory that is new.
     Copy,
-    /// They are read.
+    /// Archives are read.
     Read,
-    /// Their tree is written.
+    /// The tree of archives is written.
     Write,
-    /// Their tree is listed.
+    /// The tree of archives is listed.
     List,
-    /// A checker is fed them in pieces of so many bytes.
+    /// A checker gets them in pieces of a given number of bytes.
     Check(usize),
 }
 

@@ -31,7 +31,7 @@ pub fn show(rt: &HostRuntime, bytes: &[u8]) -> io::Result<()> {
     }
 }
 
-/// Reads the tree, and prints the most memory held while it stands.
+/// Reads the tree, and prints the most memory held while the tree exists.
 pub fn hold(rt: &HostRuntime, bytes: &[u8]) -> io::Result<()> {
     let read = read(rt.alloc(), bytes);
     match &read {

@@ -1,4 +1,4 @@
-//! Rounds of pushing one archive, each beside one digest of the same bytes.
+//! Rounds of pushing one archive, each next to one digest of the same bytes.
 
 use intake::{Arrived, Intake};
 use paths::Facts;
@@ -8,7 +8,7 @@ use std::io;
 use std::rt::Clock;
 use std::time::Instant;
 
-/// What is told of an archive that is pushed in pieces of such a size, whose contents are asked for or not.
+/// What is found of an archive that is pushed in pieces of a given size, whose contents are asked for or not.
 pub fn pushed(
     alloc: Global,
     bytes: &[u8],
@@ -25,7 +25,7 @@ pub fn pushed(
     intake.finish()
 }
 
-/// The nanoseconds of pushing the bytes, and what is told of them, which is in that time where it is asked for.
+/// The nanoseconds of pushing the bytes, and what is found of them, which is in that time where it is asked for.
 fn timed(
     rt: &(impl Clock + AllocGlobal),
     size: usize,
@@ -44,8 +44,8 @@ fn timed(
     }
 }
 
-/// Prints the nanoseconds of one digest, of pushing the bytes in pieces of such a size, and of pushing them where what is
-/// told of their contents is asked for too; a line for each round.
+/// Prints the nanoseconds of one digest, of pushing the bytes in pieces of a given size, and of pushing them where what is
+/// found of their contents is asked for too; a line for each round.
 pub fn run(
     rt: &(impl Print + Clock + AllocGlobal),
     size: usize,

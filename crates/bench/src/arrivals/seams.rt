@@ -1,4 +1,4 @@
-//! Archives that end where a piece of 65,536 bytes does, or 8 bytes behind it, cut in two, byte by byte and otherwise.
+//! Archives that end where a piece of 65,536 bytes does, or 8 bytes after it, cut in two, byte by byte and otherwise.
 
 use super::rounds::pushed;
 use intake::{Arrived, Intake};
@@ -10,7 +10,7 @@ use std::io;
 
 const SEAM: usize = 65_536;
 
-/// An archive, and what has to be told of it.
+/// An archive, and what has to be found of it.
 #[derive(Drop)]
 struct Expected {
     archive: Vec<u8>,
@@ -26,7 +26,7 @@ fn facts(archive: &[u8], plain: Option<[u8; 32]>) -> Facts {
     }
 }
 
-/// The archive of a text of so many bytes, which has 112 more, and is too large or not.
+/// The archive of a text of `length` bytes, which has 112 more, and is too large or not.
 fn text(alloc: Global, len: usize, fault: Option<NarError>) -> Result<Expected, AllocError> {
     let contents = vec![in alloc; b'a'; len]?;
     let made = Intake::of_text(alloc, &contents)?.finish()?;
@@ -42,7 +42,7 @@ fn text(alloc: Global, len: usize, fault: Option<NarError>) -> Result<Expected, 
     })
 }
 
-/// The same with a last byte that isn't 0, as what fills up a string has to be.
+/// The archive of such a text whose last byte isn't 0, as padding has to be.
 fn broken(alloc: Global, len: usize) -> Result<Expected, AllocError> {
     let Expected { mut archive, .. } = text(alloc, len, None)?;
     archive.pop();
@@ -91,7 +91,7 @@ fn differing(
     Ok(None)
 }
 
-/// Says whether an archive comes out as it has to: cut at each of so many places from its beginning on, and from as
+/// Says whether an archive comes out as it has to: cut at each of a number of places from its beginning on, and from as
 /// many before the seam on up to its end, and byte by byte.
 fn show(rt: &(impl Print + AllocGlobal), expected: &Expected, near: usize) -> io::Result<()> {
     let alloc = rt.alloc();
@@ -108,7 +108,7 @@ fn show(rt: &(impl Print + AllocGlobal), expected: &Expected, near: usize) -> io
     }
 }
 
-/// Says whether an archive that comes in pieces of so many bytes comes out as it has to.
+/// Says whether an archive that comes in pieces of a given number of bytes comes out as it has to.
 fn show_pieces(
     rt: &(impl Print + AllocGlobal),
     expected: &Expected,
@@ -124,7 +124,7 @@ fn show_pieces(
     println!(rt; "{len} bytes in pieces of {size}: {told}")
 }
 
-/// The same of pieces of a byte, and of a byte less than those that are kept.
+/// Says it of pieces of a byte, and of a byte less than those that are kept.
 fn show_large(rt: &(impl Print + AllocGlobal), expected: &Expected) -> io::Result<()> {
     show_pieces(rt, expected, 1)?;
     show_pieces(rt, expected, SEAM - 1)

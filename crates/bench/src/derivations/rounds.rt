@@ -5,7 +5,7 @@ use std::io;
 use std::rt::Clock;
 use std::time::Instant;
 
-/// Prints the nanoseconds of each round of `drv::outputs`, a line for each; or the fault of the text behind them.
+/// Prints the nanoseconds of each round of `drv::outputs`, a line for each; or the fault of the text after them.
 pub fn run(rt: &(impl Print + Clock + AllocGlobal), count: usize, text: &[u8]) -> io::Result<()> {
     for _ in 0..count {
         let start = Instant::now(rt)?;

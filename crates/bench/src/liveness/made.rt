@@ -45,7 +45,7 @@ pub fn targets(alloc: Global, number: u32, count: u32) -> Result<Vec<u32>, Alloc
     Ok(targets)
 }
 
-/// So many objects.
+/// A number of objects.
 pub fn objects(alloc: Global, count: u32) -> Result<Vec<Object>, AllocError> {
     let mut objects = Vec::new(alloc);
     for number in 0..count {
@@ -75,7 +75,7 @@ pub fn rows(alloc: Global, objects: &[Object]) -> Result<Vec<Row<'_>>, AllocErro
     Ok(rows)
 }
 
-/// Roots of the last objects, so many at most.
+/// Roots of the last objects, at most a given number.
 pub fn roots(alloc: Global, objects: &[Object], count: usize) -> Result<Vec<Root<'_>>, AllocError> {
     let mut roots = Vec::new(alloc);
     for object in objects.iter().skip(objects.len().saturating_sub(count)) {

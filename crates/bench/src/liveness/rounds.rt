@@ -82,7 +82,7 @@ fn round(
     backward(rt, &graph, &roots)
 }
 
-/// Prints so many rounds, where rows rise and each root keeps one of them.
+/// Prints a number of rounds, where rows rise and each root keeps one of them.
 fn rounds(
     rt: &(impl Print + Clock + AllocGlobal),
     rows: &[Row],
@@ -98,7 +98,7 @@ fn rounds(
     Ok(())
 }
 
-/// Makes a graph, and prints so many rounds.
+/// Makes a graph, and prints a number of rounds.
 pub fn run(
     rt: &(impl Print + Clock + AllocGlobal),
     paths: u32,

@@ -1,4 +1,4 @@
-//! Guesses where paths stand among rows, made for all paths before the first text is compared: the searches and the
+//! Guesses of the places of paths among rows, made for all paths before the first text is compared: the searches and the
 //! comparisons each wait for memory, and apart from one another they wait less. No clause speaks of a guess, since whoever
 //! takes one compares the texts: a wrong guess costs time alone.
 
@@ -13,7 +13,7 @@ const SLOTS: usize = 4;
 /// An odd number without pattern.
 const SCATTER: u64 = 0x9e37_79b9_7f4a_7c15;
 
-/// The slot of a head, of so many, below 2 ^ 32. Heads scatter over the slots.
+/// The slot of a head, among `slots`, below 2 ^ 32. Heads scatter over the slots.
 fn slot_of(head: u64, slots: usize) -> usize {
     ((head.wrapping_mul(SCATTER) >> 32).wrapping_mul(slots as u64) >> 32) as usize
 }
@@ -33,7 +33,7 @@ fn hints_of(alloc: Global, heads: &[u64]) -> Result<Vec<u32>, AllocError> {
     Ok(hints)
 }
 
-/// Where a path may stand: at the hint, if its head stands there, or else where a search by heads ends.
+/// Where a path may be: at the hint, if its head is there, or else where a search by heads ends.
 fn guess(heads: &[u64], hints: &[u32], path: &StorePath) -> usize {
     let head = head_of(path);
     let slot = slot_of(head, hints.len());

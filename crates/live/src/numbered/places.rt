@@ -14,7 +14,7 @@ use paths::StorePath;
 use std::alloc::AllocError;
 use std::cmp::Ordering;
 
-/// The place of a path, if it is a row's, where it can stand only from one place on and before another.
+/// The place of a path, if it is a row's, where it can only be from one place on and before another.
 fn place_between(rows: &[Row], path: &StorePath, from: usize, to: usize) -> Option<usize>
     requires rise { Rise (paths_of (rows_view rows.now)) }
     requires searched { IsSearched rows.now path.now from to }
@@ -41,7 +41,7 @@ pub(crate) fn place_of(rows: &[Row], path: &StorePath) -> Option<usize>
     place_between(rows, path, 0, rows.len())
 }
 
-/// The same, by the heads of the rows' paths: paths are compared only where heads are the same.
+/// The place of a path, by the heads of the rows' paths: paths are compared only where heads are the same.
 fn place_by_head(rows: &[Row], heads: &[u64], path: &StorePath) -> Option<usize>
     requires rise { Rise (paths_of (rows_view rows.now)) }
     requires heads { AreHeads (paths_of (rows_view rows.now)) heads.now }
@@ -65,7 +65,7 @@ fn place_by_head(rows: &[Row], heads: &[u64], path: &StorePath) -> Option<usize>
     place_between(rows, path, low, high)
 }
 
-/// The same, looked for first at a place where it may stand.
+/// The place of a path, if it is a row's, looked for first at a place where it may be.
 fn place_guessed(
     rows: &[Row],
     heads: &[u64],

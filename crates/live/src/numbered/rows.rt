@@ -1,7 +1,7 @@
-//! Objects and roots as they are handed in.
+//! Objects and roots as a caller passes them.
 use paths::StorePath;
 
-/// An object as it is handed in: its path, and what it points to, lent from whoever holds it.
+/// An object as a caller passes it: its path, and what it points to, lent from whoever holds it.
 #[derive(Clone, Copy)]
 pub struct Row<'a> {
     /// The path.
@@ -14,7 +14,7 @@ pub struct Row<'a> {
     pub deriver: Option<&'a StorePath>,
 }
 
-/// Which table a root stands in, in the order of roots.
+/// Which table a root is in, in the order of roots.
 #[derive(Clone, Copy)]
 pub enum Kind {
     Permanent,
@@ -24,7 +24,7 @@ pub enum Kind {
     Temporary,
 }
 
-/// A root as it is handed in.
+/// A root as a caller passes it.
 #[derive(Clone, Copy)]
 pub struct Root<'a> {
     /// The table.

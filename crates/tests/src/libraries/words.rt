@@ -1,4 +1,4 @@
-//! The texts of faults that the program tells in words of its own.
+//! The texts of faults that the program reports in words of its own.
 use drv::DrvError;
 use policy::{CallerError, ConfigError, KeyWord};
 use std::test::Fail;

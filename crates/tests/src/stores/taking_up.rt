@@ -1,4 +1,4 @@
-//! A connection in memory, taken up.
+//! A connection in memory, opened as a store.
 
 ghost use Rattle.std.specs.Prelude.{◌≡◌, false, IfOk};
 
@@ -12,12 +12,12 @@ use store::Store;
 use store_types::Request;
 use tables::{Cause, Unadopted, adopt};
 
-/// What is told where a text is added and then listed.
+/// What is answered where a text is added and then listed.
 const ADDED: &str = "/nix/store/a0d1zlpv81nsfbam8ay3i7snrc0sgsvr-myfile
 /nix/store/a0d1zlpv81nsfbam8ay3i7snrc0sgsvr-myfile
 ";
 
-/// The connection is taken up, serves some calls, and is given up; with it comes what they were told.
+/// The connection is opened, serves some calls, and is given up; with it comes what they answered.
 fn served(
     alloc: Global,
     conn: Connection<MemStore>,
@@ -39,7 +39,7 @@ fn served(
     Ok((conn, told))
 }
 
-/// Why the connection isn't taken up as the store of a directory; it is handed back.
+/// Why the connection isn't opened as the store of a directory; it is returned.
 fn refused(
     alloc: Global,
     conn: Connection<MemStore>,
@@ -58,7 +58,7 @@ fn refused(
     }
 }
 
-/// A table of ours stands alone in the database.
+/// One of a store's tables is alone in the database.
 fn with_a_table_of_ours(
     alloc: Global,
     mut conn: Connection<MemStore>,
