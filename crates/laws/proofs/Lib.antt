@@ -5,6 +5,7 @@ pub mod Answered
 pub mod Censored
 pub mod Changed
 pub mod Collecting
+pub mod Cycles
 pub mod Deleted
 pub mod Failing
 pub mod Faults
@@ -19,12 +20,12 @@ pub mod Kept
 pub mod LabelsAndOrder
 pub mod LabelsDiffer
 pub mod Leave
-pub mod ObjectListings
 pub mod Mirror
 pub mod MirrorRuns
 pub mod NamedLive
 pub mod NotTold
 pub mod Numbers
+pub mod ObjectListings
 pub mod OneByOne
 pub mod Others
 pub mod Planting
@@ -37,12 +38,13 @@ pub mod RelistedSessions
 pub mod RootChanges
 pub mod RootsBeside
 pub mod RootsTold
-pub mod StepByStep
 pub mod Schemas
 pub mod SeenInOrder
 pub mod Sights
 pub mod SoundSteps
 pub mod Sources
+pub mod StepByStep
+pub mod Steps
 pub mod Tellings
 pub mod Unique
 pub mod Unseen

@@ -1,17 +1,18 @@
 -- Laws of steps and runs.
-use Rattle.std.specs.Prelude.{◌≡◌, ◌⊎◌, ℕ, ◌+◌, ◌++◌, false, List, [], ◌∷◌, Some, None, IsTrue}
+use Rattle.std.specs.Prelude.{◌≡◌, ◌⊎◌, ℕ, ◌+◌, ◌++◌, false, List, [], ◌∷◌, Option, Some, None, IsTrue}
 use Rattle.paths.specs.Root.{Root}
 use Rattle.live.specs.Live.{IsFirstRoot}
-use Rattle.model.specs.World.{Path, World, roots_of}
+use Rattle.model.specs.World.{Path, Pair, World, roots_of}
 use Rattle.policy.specs.Settings.{Settings}
 use Rattle.policy.specs.Caller.{Caller}
 use Rattle.policy.specs.Class.{class_of}
 use Rattle.model.specs.Request.{Request}
-use Rattle.model.specs.Reply.{failed}
+use Rattle.model.specs.Reply.{denied, failed}
 use Rattle.model.specs.Liveness.{graph_of, keep_of, lives}
 use Rattle.model.specs.Seen.{seen_root}
 use Rattle.model.specs.Step.{Step, Run}
 use Rattle.model.specs.Verdict.{named_in, verdict, shown}
+use Rattle.policy.specs.declared.kinds.Rule.{Rule}
 use Rattle.policy.specs.declared.kinds.Rule.TheVariants.{Live}
 use Rattle.std.specs.List.{list_any}
 use Rattle.model.specs.Reply.{Failure, HasFailed, IsDone, Reply, Usage}
@@ -25,6 +26,16 @@ LeavesUnlessDone = (s : Settings) (w : World) (c : Caller) (q : Request) (reply 
 abbrev pub FailsPastTheRules : Type 0
 FailsPastTheRules = (s : Settings) (w : World) (c : Caller) (q : Request) (f : Failure) (new : World)
     → Step s w c q (failed f) new → (verdict s w c q ≡ None) ⊎ (verdict s w c q ≡ Some Live)
+
+-- a call may fail for any cause where no rule denies it, or `Live` alone
+abbrev pub MayFail : Type 0
+MayFail = (s : Settings) (w : World) (c : Caller) (q : Request) (f : Failure)
+    → (verdict s w c q ≡ None) ⊎ (verdict s w c q ≡ Some Live) → Step s w c q (failed f) w
+
+-- a denial by a rule other than `Live` shows no root
+abbrev pub OthersShowNoRoot : Type 0
+OthersShowNoRoot = (s : Settings) (w : World) (c : Caller) (q : Request) (rule : Rule) (root : Option Pair) (new : World)
+    → Step s w c q (denied rule root) new → (rule ≡ Live → ⊥) → root ≡ None
 
 -- two replies that aren't failures are one, with one world after them
 abbrev pub IsFunctional : Type 0

@@ -2,6 +2,7 @@ pub mod AddFaults
 pub mod AddOrder
 pub mod Changes
 pub mod CutArchives
+pub mod Cycles
 pub mod Faults
 pub mod FaultyPieces
 pub mod FaultyRoots
@@ -23,4 +24,5 @@ pub mod RootsTold
 pub mod Runs
 pub mod Schemas
 pub mod Sights
+pub mod Steps
 pub mod Tellings

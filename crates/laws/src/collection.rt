@@ -9,6 +9,7 @@ ghost use Rattle.laws.specs.Changes.{FreesAsTold};
 ghost use Rattle.model.specs.Collection.{CollectsByBytes};
 ghost use Rattle.laws.specs.Kept.{EdgesAsSet, LivingKeep};
 ghost use Rattle.laws.specs.OneByOne.{ReferrersGoFirst};
+ghost use Rattle.laws.specs.Cycles.{CyclesGoByTheLeast};
 
 /// A collection keeps exactly what lives, and a second one frees nothing; with a limit some dead paths go, and no reference that is
 /// left points at one of them.
@@ -28,9 +29,11 @@ pub fn limits_count_bytes()
     ensures { CollectsByBytes }
 {}
 
-/// Where no references make a cycle, a collection up to a limit takes one path after another, each after all that refer to it.
+/// Where no references make a cycle, a collection up to a limit takes one path after another, each after all that refer to it. Where
+/// they make one, it takes the least dead path left with all that reach it by references.
 pub fn referrers_go_first()
-    ensures { ReferrersGoFirst }
+    ensures alone { ReferrersGoFirst }
+    ensures cycles { CyclesGoByTheLeast }
 {}
 
 /// An object keeps its references; its outputs, if outputs are to be kept; and its deriver, if derivations are. What a live path

@@ -6,6 +6,7 @@ pub mod collection;
 pub mod deletion;
 pub mod faulty_rows;
 pub mod listings;
+pub mod marks;
 pub mod privacy;
 pub mod profiles;
 pub mod refusals;

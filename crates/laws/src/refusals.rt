@@ -1,18 +1,20 @@
 //! Laws of denials, refusals and failures.
 
-ghost use Rattle.laws.specs.Laws.{DenialsNameTheLiving, FailsPastTheRules, LeavesUnlessDone};
+ghost use Rattle.laws.specs.Laws.{DenialsNameTheLiving, FailsPastTheRules, LeavesUnlessDone, MayFail, OthersShowNoRoot};
 ghost use Rattle.laws.specs.Faults.{NamedAreThere, NamesComeFirst, PathsComeBeforeNumbers, ProfilesComeNext, SessionFaultsAreTold};
 ghost use Rattle.laws.specs.Reasons.{DenialsAreForTheFirst, RefusalsHaveReasons, ToldAreValid};
 
 /// A denial for a live path is for the first path that is live of the named, in the order given, and shows its
-/// first root, as the caller sees it.
+/// first root, as the caller sees it. A denial by another rule shows no root.
 pub fn denials_name_the_living()
-    ensures { DenialsNameTheLiving }
+    ensures live { DenialsNameTheLiving }
+    ensures others { OthersShowNoRoot }
 {}
 
-/// A call fails only where no rule denies it, or the one on live paths alone.
+/// A call fails only where no rule denies it, or the one on live paths alone; there it may fail for any cause.
 pub fn failures_come_after_the_rules()
-    ensures { FailsPastTheRules }
+    ensures only { FailsPastTheRules }
+    ensures may { MayFail }
 {}
 
 /// A call that isn't done leaves the world.

@@ -62,7 +62,7 @@ put_at p n target = record { generations = finite.insert p.generations n target;
 abbrev pub set_to : Profile → Path → Profile
 set_to p target = if is_highest p target
     then switched p (highest p)
-    else record { generations = finite.insert p.generations (highest p + 1) target; current = highest p + 1 }
+    else put_at p (highest p + 1) target
 
 -- the greatest generation below the current one becomes current
 abbrev pub rolled_back : Profile → Profile
