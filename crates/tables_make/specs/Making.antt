@@ -155,7 +155,7 @@ pub record Makes (tables : List Table) (old new : State) : Type 0 where
   pub committed : new.committed ≡ old.committed
   pub mode : new.in_transaction ≡ true
 
--- The same of `meta` with its settings.
+-- `meta` is made with its settings, inside a transaction that goes on; all else is kept.
 pub record MakesMeta (dir : Bytes) (old new : State) : Type 0 where
   pub was_open : IsTrue old.is_open
   pub is_open : IsTrue new.is_open
