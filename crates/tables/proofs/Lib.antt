@@ -32,3 +32,4 @@ pub mod SessionRows
 pub mod SetProfiles
 pub mod Transactions
 pub mod Unlimited
+pub mod Worlds

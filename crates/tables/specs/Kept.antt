@@ -43,6 +43,10 @@ module _ {S : Type 0} (g : Ghosts S) where
     pub rows : HasCleanDisk (state g k.connection) → IsTrue (state g k.connection).is_open → world_in (contents_of (state g k.connection).now) ≡ w
     pub sound : IsSound k.dir w
 
+  -- Tables that are open over a clean disk have a world.
+  abbrev pub HaveAWorld : Type 0
+  HaveAWorld = (k : Kept S) → Agrees k → HasCleanDisk (state g k.connection) → IsTrue (state g k.connection).is_open → (w : World) × Tells k w
+
 -- ---- what a write does to the connection
 
 -- The change was committed: all of the store's tables are there and hold what it makes, the others hold the rows that they had, and the connection is ready again.

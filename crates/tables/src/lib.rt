@@ -30,5 +30,5 @@ mod user_roots;
 pub use adopting::adopt;
 pub use files::open;
 pub use keeping::Tables;
-pub use laws::no_store_is_the_rest;
+pub use laws::{no_store_is_the_rest, open_tables_have_a_world};
 pub use refusing::{Cause, Unadopted, Unopened};

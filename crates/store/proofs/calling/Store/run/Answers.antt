@@ -7,6 +7,8 @@ use Rattle.model.specs.Reply.{Reply}
 use Rattle.tables.proofs.Kept.{clean_before}
 use Rattle.store_steps.specs.Disk.{StepOver}
 use Rattle.store_types.specs.View.{call_view, request_view, reply_view}
+use Rattle.model.proofs.Pins.{pins_throughout}
+use Rattle.store.proofs.Clean.{run_clean}
 use Rattle.store.proofs.Runs.{HasRun, begun, one_more, ended}
 use Rattle.store.proofs.calling.Store.run.Goals as goal
 
@@ -78,3 +80,14 @@ returns-clause-runs g c w t =
     let rest = c.loop-asked.asked-iterator.rest in
     let none = nil_from_length rest.items (omega (arith, c.in-None.ensures.steps.0, rest.ok.0)) in
     (m.0, ended c.args.self.now.settings (map call_view c.args.calls.items) _ w m.0 (map call_view rest.items) (map reply_view c.loop-asked.replies.items) (ap (map call_view) none) m.1, m.2)
+
+pub returns-clause-pins : goal.returns-clause-pins
+returns-clause-pins g c clean w t r throughout =
+    let m = c.loop-asked.invariant.so_far w t in
+    let rest = c.loop-asked.asked-iterator.rest in
+    let none = nil_from_length rest.items (omega (arith, c.in-None.ensures.steps.0, rest.ok.0)) in
+    let s = c.args.self.now.settings in
+    let calls = map call_view c.args.calls.items in
+    let replies = map reply_view c.loop-asked.replies.items in
+    let run = ended s calls _ w m.0 (map call_view rest.items) replies (ap (map call_view) none) m.1 in
+    (m.0, m.2, pins_throughout s w m.0 r calls replies (run_clean _ s w calls replies m.0 clean run) throughout)
