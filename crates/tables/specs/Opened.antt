@@ -1,5 +1,5 @@
 -- What opening a file says of it.
-use Rattle.std.specs.Prelude.{ℕ, List, IsTrue}
+use Rattle.std.specs.Prelude.{◌≡◌, ℕ, false, List, IsTrue}
 use Rattle.sqlite_disk.specs.declared.Disk as disk
 use Rattle.sqlite_disk.specs.declared.calls.Calls as calls
 use Rattle.sqlite_disk.specs.declared.modelled.Modelled.{Modelled}
@@ -11,9 +11,10 @@ use Rattle.sqlite.specs.State.{HasCleanDisk, Survives}
 use Rattle.sqlite.specs.Held.{Held}
 use Rattle.sqlite.specs.Start.{FindsIn}
 use Rattle.sqlite.specs.Files.{over_files, file_state}
-use Rattle.tables_sql.specs.Calls.{IsDurable}
+use Rattle.tables_sql.specs.Calls.{IsDurable, KeepsShown}
 use Rattle.tables_open.specs.Opened.{IsAsOpened, FailsToOpenFile}
 use Rattle.tables.specs.Kept.{Kept}
+use Rattle.tables.specs.declared.refusing.Cause.{Cause}
 use Rattle.tables.specs.declared.refusing.Unopened.{Unopened}
 use Rattle.tables.specs.declared.refusing.Unopened.TheVariants.{File, Store}
 use Rattle.tables.specs.Taken.{TakesUp, LeavesTaken, IsCause}
@@ -29,8 +30,20 @@ module _ {D : Type 0} {g : disk.Ghosts D} where
     pub durable : IsTrue (file_state t.connection).is_open → IsDurable (file_state t.connection)
     pub survives : Survives (file_state conn) (file_state t.connection) (LeavesTaken dir (file_state conn).now)
 
+  -- The files held this, a connection opened over them, and it isn't opened as the store of a directory, for this cause: it shows what it showed.
+  pub record IsRefused (held : Image) (dir : List ℕ) (left : Held (FileStore D g)) (cause : Cause) : Type 0 where
+    pub was : Held (FileStore D g)
+    pub conn : Held (FileStore D g)
+    pub opened : IsAsOpened held was conn
+    pub found : HasCleanDisk (file_state left) → FindsIn held (file_state conn)
+    pub because : HasCleanDisk (file_state left) → IsCause dir (file_state conn).now cause
+    pub alone : left.in_transaction ≡ false
+    pub same : HasCleanDisk (file_state left) → KeepsShown (file_state conn) (file_state left)
+    pub durable : IsTrue (file_state left).is_open → IsDurable (file_state left)
+    pub survives : Survives (file_state conn) (file_state left) (LeavesTaken dir (file_state conn).now)
+
 module _ {S : Type 0} {c : calls.Ghosts Host} {start : Ghosts S} {g : disk.Ghosts (Modelled Host S c start)} where
   -- Why files that held this aren't opened as a store: no connection is opened over them, or one is and the store isn't.
   abbrev pub IsUnopened : Image → List ℕ → Unopened (FileStore (Modelled Host S c start) g) (Modelled Host S c start) g → Type 0
   IsUnopened held dir (File e) = FailsToOpenFile held e
-  IsUnopened held dir (Store e) = (was : Held (FileStore (Modelled Host S c start) g)) × (conn : Held (FileStore (Modelled Host S c start) g)) × IsAsOpened held was conn × (HasCleanDisk (file_state e.conn) → IsCause dir (file_state conn).now e.cause)
+  IsUnopened held dir (Store e) = IsRefused held dir e.conn e.cause

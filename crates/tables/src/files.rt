@@ -18,7 +18,7 @@ use tables_open::file::Opened;
 ///
 /// # Errors
 ///
-/// `sqlite` didn't open the file, what it holds can't be read, or it isn't opened as a store.
+/// `sqlite` didn't open the file, what it holds can't be read, or it isn't opened as a store. Then the database is as it was.
 pub fn open<S: Start>(
     rt: &HostRuntime,
     path: &str,
