@@ -1,0 +1,28 @@
+"""Numbers of what the repository still has of something, which may only be lowered: a file of tests/gate/ has them."""
+import re
+
+from tests.lib import program
+
+
+class Lowered:
+    """The numbers of a file, by name: lines `NAME: NUMBER`."""
+
+    def __init__(self, name):
+        self.name, self.path = f"tests/gate/{name}", f"{program.HERE}/tests/gate/{name}"
+        with open(self.path, encoding="utf-8") as file:
+            self.text = file.read()
+        self.most = {name: float(number) for name, number in re.findall(r"^([\w ]+): ([\d.]+)$", self.text, re.M)}
+
+    def lower(self, found):
+        """Writes the numbers that are found where they are lower."""
+        for name, number in found.items():
+            self.text = re.sub(rf"^{name}: .*$", f"{name}: {min(self.most[name], number):g}", self.text, flags=re.M)
+        with open(self.path, "w", encoding="utf-8") as file:
+            file.write(self.text)
+
+    def check(self, name, number):
+        """Whether a number is kept, and what to print."""
+        most = self.most[name]
+        if number > most:
+            return False, [f"{self.name}: {name}: {number:g}, and at most {most:g} are allowed"]
+        return True, [f"{self.name}: {name}: {number:g} of {most:g}; --lower writes that"] * (number < most)
