@@ -25,10 +25,14 @@ def options_of(file, given):
 
 
 class Ran:
-    """A run of a script: its status, how much passed and failed, what it printed and how long it took."""
+    """A run of a script: its status, how much passed and failed, what it printed, its minutes and those of
+    processors."""
 
-    def __init__(self, status, counts, output, seconds):
-        self.status, (self.passed, self.failed), self.output, self.seconds = status, counts, output, seconds
+    def __init__(self, words, status, counts, output, seconds, used):
+        file = words[0].removeprefix(f"{program.HERE}/").removeprefix("tests/")
+        self.name, self.status, self.output = file if "/" in words[0] else " ".join(words), status, output
+        self.passed, self.failed = counts
+        self.minutes, self.work = seconds / 60, (used.ru_utime + used.ru_stime) / 60
 
     def is_good(self):
         return self.status == 0
@@ -36,44 +40,47 @@ class Ran:
 
 def run(words, is_shown=True, each_second=lambda pid: None):
     """Runs a script, in the folder above tests/. What it prints is shown line by line, or kept."""
-    since, kept, counts = time.monotonic(), [], None
-    how = {
-        "cwd": program.HERE,
-        "stdin": subprocess.DEVNULL,
-        "stdout": subprocess.PIPE,
-        "text": True,
-        "errors": "replace",
-    }
-    ran = subprocess.Popen(words, stderr=None if is_shown else subprocess.STDOUT, **how)
-    watching = threading.Thread(target=watch, args=(ran, each_second), daemon=True)
-    watching.start()
+    since, kept, counts, ended = time.monotonic(), [], None, threading.Event()
+    how = {"cwd": program.HERE, "stdin": subprocess.DEVNULL, "stdout": subprocess.PIPE}
+    ran = subprocess.Popen(words, stderr=None if is_shown else subprocess.STDOUT, text=True, errors="replace", **how)
+
+    def watch():
+        while not ended.is_set():
+            each_second(ran.pid)
+            ended.wait(1)
+
+    threading.Thread(target=watch, daemon=True).start()
     for line in ran.stdout:
         counted = re.fullmatch(r"(\d+) passed, (\d+) failed\n", line)
         counts = tuple(map(int, counted.groups())) if counted else counts
         kept.append(line)
         if is_shown:
             print(line, end="", flush=True)
-    status = ran.wait()
+    _, status, used = os.wait4(ran.pid, 0)
+    ended.set()
+    ran.returncode = status = os.waitstatus_to_exitcode(status)
     # (one that says nothing of what passed, or ends badly, has failed once at least)
     passed, failed = counts or (0, 0)
     failed = max(failed, 1) if status or counts is None else failed
-    return Ran(status or (counts is None), (passed, failed), "".join(kept), time.monotonic() - since)
+    return Ran(words, status or counts is None, (passed, failed), "".join(kept), time.monotonic() - since, used)
 
 
-def watch(ran, each_second):
-    while ran.poll() is None:
-        each_second(ran.pid)
-        time.sleep(1)
-
-
-def told(words, ran):
+def told(ran):
     """Prints what a script printed that wasn't shown, and how long it took."""
-    name = os.path.relpath(words[0], program.HERE)
-    report.tell(f"\n{name}: {ran.seconds:.0f} s\n{ran.output}".rstrip("\n"))
+    report.tell(f"\n{ran.name}: {60 * ran.minutes:.0f} s\n{ran.output}".rstrip("\n"))
 
 
-def together(found):
-    """Prints how much passed and failed in all of the runs; returns the status."""
-    passed, failed = sum(it.passed for it in found), sum(it.failed for it in found)
+def show_parts(found):
+    """A table of the runs, those first that took most of the processors."""
+    report.tell(f"\n{'minutes of parts':30}{'processor':>10}{'clock':>8}")
+    for it in sorted(found, key=lambda it: -it.work):
+        report.tell(f"{it.name:30}{it.work:10.1f}{it.minutes:8.1f}")
+
+
+def together(found, more_failed=0):
+    """Prints what each run took where there are several, and how much passed and failed in all; returns the status."""
+    if len(found) > 1:
+        show_parts(found)
+    passed, failed = sum(it.passed for it in found), sum(it.failed for it in found) + more_failed
     report.tell(f"{passed} passed, {failed} failed")
     return 1 if failed else 0
