@@ -54,12 +54,12 @@ def put(what, value, unit, limit, more, is_least=False):
     note(f"{what}: {shown(value, unit)}{peer} ({verdict})")
 
 
-def beside(what, theirs, ours, most=None, peer="C SQLite", of=min):
-    """The time of nixkeep next to that of a peer, in seconds, round by round: the least of each, since what else the
-    machine does only adds to it, or what else is asked for."""
+def beside(what, theirs, ours, most=None, peer="C SQLite", of=min, unit="s"):
+    """The figure of nixkeep next to that of a peer, in seconds if not otherwise said, round by round: the least of
+    each, since what else the machine does only adds to it, or what else is asked for."""
     theirs, ours = [theirs] if isinstance(theirs, float) else theirs, [ours] if isinstance(ours, float) else ours
     more = {"peer": peer, "theirs": of(theirs), "ratio": of(ours) / of(theirs), "spread": spread(ours)}
-    put(what, of(ours), "s", most, more)
+    put(what, of(ours), unit, most, more)
 
 
 def limit(what, found, most, unit="s", is_least=False, of=min):

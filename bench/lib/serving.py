@@ -7,6 +7,7 @@ import sys
 import time
 
 from bench.lib.figures import MIB
+from bench.lib.load import on
 from tests.lib.http import free_port
 from tests.lib.pieces import unread
 
@@ -59,6 +60,7 @@ class Serving:
     """A program that listens on a port meanwhile, and a client of it."""
 
     def __init__(self, port, *words, folder=None):
+        self.port = port
         self.started = subprocess.Popen(words, cwd=folder, stdout=subprocess.DEVNULL, stderr=subprocess.DEVNULL)
         for _ in range(600):
             with contextlib.suppress(OSError):
@@ -116,8 +118,12 @@ class Handed(Serving):
                 time.sleep(0)
 
 
-def served(run, path=None):
-    port = free_port()
-    return Serving(
-        port, run.file, *(["--db", path] if path else []), "serve", "--port", str(port), "--connections", "1"
-    )
+def served(run, path=None, processor=None):
+    """A server of one connection; or on a processor for many connections, where the first one isn't kept."""
+    port, store = free_port(), ["--db", path] if path else []
+    words = [run.file, *store, "serve", "--port", str(port)]
+    if processor is None:
+        return Serving(port, *words)
+    serving = Serving(port, *on(processor, *words, "--connections", "1000000"))
+    serving.client.close()
+    return serving

@@ -40,16 +40,18 @@ def refer(conn, name, targets):
     conn.executemany("INSERT INTO refs (base, target) VALUES (?1, ?2)", [(name, base(it)) for it in targets])
 
 
-def filled(run, path, objects, size, references, roots=0):
-    """A store of N objects of a size in bytes, each with references to those after it, the first of them with roots."""
+def filled(run, path, objects, size, references, roots=(), is_ring=True):
+    """A store of N objects of a size in bytes, each with references to those after it, the last ones to the first
+    where they are a ring, and roots at those with these numbers."""
     run(path, "list")
     with opened(path) as conn:
         conn.execute("BEGIN")
         for number in range(objects):
             nar = archive(number.to_bytes(8, "little") * (size // 8))
             insert(conn, base(number), nar, hashlib.sha256(nar).digest())
-            refer(conn, base(number), {(number + near + 1) % objects for near in range(references)})
-        conn.executemany("INSERT INTO permanent VALUES (?1, ?2)", [(f"root{at}", base(at)) for at in range(roots)])
+            targets = {(number + near + 1) % objects for near in range(references)}
+            refer(conn, base(number), [it for it in targets if is_ring or it > number])
+        conn.executemany("INSERT INTO permanent VALUES (?1, ?2)", [(f"root{at}", base(at)) for at in roots])
         conn.execute("COMMIT")
         conn.execute("PRAGMA wal_checkpoint(TRUNCATE)")
     return path

@@ -1,0 +1,33 @@
+"""Requests by wrk on a processor of its own, so that the client isn't what is measured."""
+import os
+import re
+import subprocess
+import sys
+
+# A server, a proxy in front of it and wrk each have a processor where there are three.
+PROCESSORS = sorted(os.sched_getaffinity(0))
+SERVER, PROXY, CLIENT = (PROCESSORS[-at % len(PROCESSORS)] for at in (3, 2, 1))
+SECONDS = {"us": 1e-6, "ms": 1e-3, "s": 1, "m": 60, "h": 3600}
+
+
+def on(processor, *words):
+    """A command that runs on one processor."""
+    return ["taskset", "-c", str(processor), *words]
+
+
+class Load:
+    """A run of wrk: requests a second, percentiles of the time of a reply in seconds, and replies that weren't 200
+    or didn't come."""
+
+    def __init__(self, port, target, clients=1, seconds=3):
+        words = ["wrk", "-t1", f"-c{clients}", f"-d{seconds}s", "--latency", "--timeout", "10s"]
+        words += ["-H", "store-user: root", f"http://127.0.0.1:{port}{target}"]
+        ran = subprocess.run(on(CLIENT, *words), capture_output=True, text=True)
+        if ran.returncode:
+            sys.exit(f"wrk: {ran.stdout}{ran.stderr}")
+        self.rate = float(re.search(r"Requests/sec: +([\d.]+)", ran.stdout)[1])
+        found = re.findall(r"^ +(50|99)% +([\d.]+)(us|ms|s|m|h)$", ran.stdout, re.M)
+        self.percentiles = {int(part): float(number) * SECONDS[unit] for part, number, unit in found}
+        wrong = re.findall(r"Non-2xx or 3xx responses: (\d+)|(?:connect|read|write|timeout) (\d+)", ran.stdout)
+        self.wrong = sum(int(one or other) for one, other in wrong)
+        self.each = 1 / self.rate if self.rate else float("inf")
