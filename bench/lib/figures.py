@@ -39,19 +39,27 @@ def spread(found):
     return max(found) / min(found) - 1 if len(found) > 1 and min(found) else None
 
 
+def line_of(it):
+    """A figure that is kept, next to its peer's and its limit, as it is printed."""
+    if "skipped" in it:
+        return f"skipped: {it['skipped']}"
+    if "text" in it:
+        return f"{it['what']}: {it['text']}"
+    ratio, unit = it.get("ratio"), it["unit"]
+    peer = "" if ratio is None else f", {it['peer']} {shown(it['theirs'], unit)}: {ratio:.2f} times"
+    verdict = f"limit: {it['limit']}; {'ok' if it['is_met'] else 'MISSED'}" if it["limit"] else "no limit"
+    return f"{it['what']}: {shown(it['value'], unit)}{peer} ({verdict})"
+
+
 def put(what, value, unit, limit, more, is_least=False):
     """Keeps a figure and prints it: its value, or its ratio to a peer's, next to its limit."""
     ratio = more.get("ratio")
     measured = value if ratio is None else ratio
     is_met = None if limit is None else measured >= limit if is_least else measured <= limit
-    word = "at least" if is_least else "at most"
-    wanted = None if limit is None else f"{word} {limit:g}{' times' if ratio is not None else ' ' + unit}"
-    records.append(
-        {"section": section, "what": what, "value": value, "unit": unit, "limit": wanted, "is_met": is_met, **more}
-    )
-    peer = f", {more['peer']} {shown(more['theirs'], unit)}: {ratio:.2f} times" if ratio is not None else ""
-    verdict = "no limit" if limit is None else f"limit: {wanted}; {'ok' if is_met else 'MISSED'}"
-    note(f"{what}: {shown(value, unit)}{peer} ({verdict})")
+    wanted = limit and f"{'at least' if is_least else 'at most'} {limit:g} {unit if ratio is None else 'times'}"
+    kept = {"section": section, "what": what, "value": value, "unit": unit, "limit": wanted, "is_met": is_met, **more}
+    records.append(kept)
+    note(line_of(kept))
 
 
 def beside(what, theirs, ours, most=None, peer="C SQLite", of=min, unit="s"):
@@ -147,12 +155,26 @@ def memory_of(words):
     )
 
 
-def main(doc, run, parts=(), more=lambda asked: None):
-    """Runs a benchmark, or some of its parts, and ends with 1 where a figure misses its limit."""
+def options(doc):
+    """What each benchmark takes on its command line."""
     asked = argparse.ArgumentParser(description=doc, formatter_class=argparse.RawDescriptionHelpFormatter)
+    asked.add_argument("--records", metavar="FILE", help="writes the figures, for bench/run")
+    return asked
+
+
+def ended(words):
+    """Writes the figures where that is asked for, and ends with 1 where one misses its limit."""
+    if words.records:
+        with open(words.records, "w") as out:
+            json.dump(records, out)
+    sys.exit(1 if any(it.get("is_met") is False for it in records) else 0)
+
+
+def main(doc, run, parts=(), more=lambda asked: None):
+    """Runs a benchmark of the program, or some of its parts."""
+    asked = options(doc)
     asked.add_argument("--program", metavar="FILE", help="the program; else the one that bin/nixkeep proves and builds")
     asked.add_argument("--quick", action="store_true", help="a tenth of the objects")
-    asked.add_argument("--records", metavar="FILE", help="writes the figures, for bench/run")
     asked.add_argument("parts", nargs="*", metavar="PART", help=f"{', '.join(parts)}; else all" if parts else "none")
     more(asked)
     words = asked.parse_args()
@@ -163,8 +185,4 @@ def main(doc, run, parts=(), more=lambda asked: None):
         run(words)
     except report.Failed as why:
         sys.exit(str(why))
-    if words.records:
-        with open(words.records, "w") as out:
-            json.dump(records, out)
-    missed = [it for it in records if it.get("is_met") is False]
-    sys.exit(1 if missed else 0)
+    ended(words)
