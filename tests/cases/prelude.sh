@@ -43,5 +43,12 @@ ask() {
 }
 none() { ask "$@" </dev/null; }
 
-# A server over a store in memory, which gets its input in many ways; of each reply the status and the text.
-serve() { in-pieces nixkeep serve | tr -d '\r' | sed '/^content-/d; /^$/d'; }
+# `heads`: replies, each head as one line, in which `\r\n` stands for the end of a line of it.
+heads() { awk '/\r$/ { sub(/\r$/, "\\r\\n"); printf "%s%s", $0, $0 == "\\r\\n" ? "\n" : ""; next } 1'; }
+
+# `serve [COUNT]`: a server over a store in memory, which gets its input in many ways; its replies but the first COUNT,
+# each of which has a head and one line of text. Its status is that of the server.
+serve() {
+  in-pieces nixkeep serve | heads | tail -n +$((2 * ${1:-0} + 1))
+  return "${PIPESTATUS[0]}"
+}
