@@ -16,6 +16,7 @@ from . import cache_records, cache_waiting, overview, overview_source, paths
 from .cache_names import Names
 from .cache_records import Bad
 from .cache_server import Caller, Server, Unreachable
+from .cache_stored import Stored
 from .cache_waiting import Full, Waiting
 
 try:
@@ -57,6 +58,7 @@ class Cache:
 
     def __init__(self, server, waiting, fixed, settings, idle, every):
         self.server, self.waiting, self.fixed, self.idle = server, waiting, fixed, idle
+        self.stored = Stored(f"{waiting.folder}/stored")
         self.store, *self.keeps = settings
         self.names, self.large = Names(server, every), asyncio.Semaphore(MANY)
         self.pages, self.records = asyncio.Lock(), overview_source.Records(server, self.keeps[0])
@@ -114,9 +116,9 @@ class Cache:
         if archive and request.method == "HEAD":
             return await self.archive_head(caller, archive[1])
         if archive:
-            return await self.archive(request, caller, target)
+            return await self.archive(request, caller, archive[1])
         if file:
-            return reply(200 if file[1] in self.waiting.files else 404, b"", "application/octet-stream")
+            return await self.file(request, caller, file[1])
         if target.partition("?")[0] == "/overview":
             return await self.page(caller, target)
         return await self.other(request, caller, target)
@@ -152,19 +154,34 @@ class Cache:
         head = {"content-type": "application/octet-stream", "cache-control": FOREVER, "content-length": size}
         return web.Response(status=200, headers=head)
 
-    async def archive(self, request, caller, target):
-        """An archive. It is read whole from the server first, so that a slow client keeps no other waiting."""
+    async def file(self, request, caller, name):
+        """An uploaded file. By HEAD a client asks whether it has to send it. By GET one asks that has kept the record
+        of its own upload, and gets the archive of the object that the file became."""
+        base = self.stored.base(name)
+        if request.method == "HEAD":
+            return reply(200 if name in self.waiting.files else 404, b"", "application/octet-stream")
+        if not base:
+            return reply(404, b"", "application/octet-stream")
+        return await self.archive(request, caller, base, name)
+
+    async def archive(self, request, caller, base, name=""):
+        """An archive, compressed as a file of that name. It is read whole from the server first, so that a slow client
+        keeps no other waiting."""
         async with self.large:
-            answer = await self.server.ask(caller, "GET", target)
+            answer = await self.server.ask(caller, "GET", f"/nar/{base}")
+            if answer.status == 404:
+                self.stored.forget(name)
             if answer.status != 200:
                 return passed(answer)
+            text = answer.text
+            if name:
+                text = await asyncio.get_running_loop().run_in_executor(None, cache_records.packed, name, text)
             head = {
                 "content-type": "application/octet-stream",
                 "cache-control": FOREVER,
-                "content-length": str(len(answer.text)),
+                "content-length": str(len(text)),
             }
-            response = web.StreamResponse(headers=head)
-            text = memoryview(answer.text)
+            response, text = web.StreamResponse(headers=head), memoryview(text)
             try:
                 await response.prepare(request)
                 for at in range(0, len(text), PIECE):
@@ -221,6 +238,7 @@ class Cache:
             answer = await self.server.ask(caller, "POST", "/import", head + archive)
         if answer.status == 200:
             self.waiting.use(name)
+            self.stored.add(name, answer.text.decode().strip().rpartition("/")[2])
             self.names.added(answer.text)
         return passed(answer)
 

@@ -104,3 +104,12 @@ def unpacked(name, data):
     if len(data) > nar.LIMIT:
         raise Bad(f"nar/{name}: an archive has at most {nar.LIMIT} bytes")
     return data
+
+
+def packed(name, archive):
+    """The archive as a file of this name has it: compressed, by its suffix. Raises Bad for a compression that isn't
+    there."""
+    file_named(name)
+    if name.endswith(".xz"):
+        return lzma.compress(archive, preset=0)
+    return zstandard.ZstdCompressor(level=1).compress(archive) if name.endswith(".zst") else archive

@@ -1,0 +1,39 @@
+"""Uploaded files whose archives are in the store now.
+
+A client that uploads a path keeps the record that it sent, for a month, and asks for the file that this record names.
+"""
+import contextlib
+import os
+
+from . import cache_records
+
+# The files that are known at most; the oldest are forgotten first.
+MOST = 100_000
+
+
+class Stored:
+    """Links in a folder, each from the name of an uploaded file to the base name of its object."""
+
+    def __init__(self, folder):
+        self.folder, self.found = folder, {}
+        os.makedirs(folder, mode=0o700, exist_ok=True)
+        names = [it for it in os.listdir(folder) if cache_records.FILE.fullmatch(it)]
+        for name in sorted(names, key=lambda it: os.lstat(f"{folder}/{it}").st_mtime):
+            self.found[name] = os.readlink(f"{folder}/{name}")
+
+    def base(self, name):
+        """The base name of the object that a file became, or None."""
+        return self.found.get(name)
+
+    def forget(self, name):
+        if self.found.pop(name, None):
+            with contextlib.suppress(FileNotFoundError):
+                os.unlink(f"{self.folder}/{name}")
+
+    def add(self, name, base):
+        """Says of a file that its archive is that of an object."""
+        self.forget(name)
+        while len(self.found) >= MOST:
+            self.forget(next(iter(self.found)))
+        self.found[name] = base
+        os.symlink(base, f"{self.folder}/{name}")
