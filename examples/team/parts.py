@@ -260,7 +260,7 @@ class Nix:
 def curl(*words, given=None):
     """The status and the text of a reply; the status is 0 where none came."""
     ran = subprocess.run(
-        ["curl", "-s", "--max-time", "120", "-w", "\n%{http_code}", "-H", "expect:", *words],
+        ["curl", "-s", "--max-time", "330", "-w", "\n%{http_code}", "-H", "expect:", *words],
         input=given,
         capture_output=True,
     )
