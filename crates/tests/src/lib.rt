@@ -2,6 +2,8 @@
 #![tactic(auto)]
 
 #[cfg(test)]
+mod faces;
+#[cfg(test)]
 mod fakes;
 #[cfg(test)]
 mod libraries;
