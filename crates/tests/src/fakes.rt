@@ -2,7 +2,7 @@
 use std::io;
 use std::io::{ErrorKind, Read, Write};
 
-/// A reader that gives at most so many bytes a call, and has this fault once `calls` are used up.
+/// A reader that gives at most `most` bytes a call, and has this fault once `calls` are used up.
 #[derive(Drop)]
 pub struct Drip<'a> {
     pub rest: &'a [u8],
@@ -25,7 +25,7 @@ impl Read for Drip<'_> {
     }
 }
 
-/// A writer that takes at most so many bytes a call. The call after `calls` of them has this fault, or takes no byte.
+/// A writer that takes at most `most` bytes a call. The call after `calls` of them has this fault, or takes no byte.
 #[derive(Drop)]
 pub struct Narrow {
     pub taken: Vec<u8>,

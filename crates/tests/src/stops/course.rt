@@ -19,13 +19,13 @@ use tables::{Cause, Tables, Unadopted, adopt};
 pub struct Run {
     /// How many of them were answered, and the opening before them.
     pub made: usize,
-    /// What was told.
+    /// The replies as text.
     pub told: Vec<u8>,
     /// The files, given up.
     pub files: Disks,
 }
 
-/// Takes up a connection. Where that fails its files are handed back, with the failure.
+/// Makes a connection a store. Where that fails its files are returned, with the failure.
 fn take_up(
     alloc: Global,
     conn: Connection<DiskStore>,
@@ -48,7 +48,7 @@ fn take_up(
     }
 }
 
-/// Opens files as a store. Where that fails they are handed back, with the failure.
+/// Opens files as a store. Where that fails they are returned, with the failure.
 pub fn open(
     alloc: Global,
     files: Disks,

@@ -26,7 +26,7 @@ fn disk_of(alloc: Global, bytes: &[u8]) -> Result<Memory, Fail> {
     Ok(disk)
 }
 
-/// Files that hold these bytes, and stop after so many calls.
+/// Files that hold these bytes, and stop after this many calls.
 pub fn files_of(
     alloc: Global,
     log: &[u8],
@@ -66,7 +66,7 @@ pub fn is_stopped(files: &mut Disks) -> bool {
     is_blown(&mut files.log) || is_blown(&mut files.db)
 }
 
-/// Opens the files. Where that fails they are handed back, with the failure.
+/// Opens the files. Where that fails they are returned, with the failure.
 pub fn connect(alloc: Global, files: Disks) -> Result<Connection<DiskStore>, (Disks, Failure)> {
     if !files.may_be_used() {
         return Err((files, Failure::Disk));

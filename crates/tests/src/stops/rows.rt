@@ -39,7 +39,7 @@ done
 freed 0 paths 0 bytes
 ";
 
-/// Where derivers aren't kept, the derivation goes.
+/// Where derivers aren't kept, the derivation is deleted.
 const FREED: &[Step] = &[
     Step::Import(DERIVATION, TEXT),
     Step::ImportOf(EMPTY, OUTPUT, TEXT),
@@ -58,7 +58,7 @@ const A: &str = "00000000000000000000000000000000-a";
 
 const B: &str = "11111111111111111111111111111111-b";
 
-/// A profile goes from A to B, back, and to B again; then its generations are deleted.
+/// A profile is set to A, to B, back, and to B again; then its generations are deleted.
 const SWITCHED: &[Step] = &[
     Step::Import(EMPTY, A),
     Step::Import(EMPTY, B),

@@ -1,4 +1,4 @@
-//! What stands after a stop.
+//! What is left after a stop.
 use crate::libraries::archives::front;
 use crate::stops::course::{Run, open, run};
 use crate::stops::disks::{Contents, connect, contents, crash, files_of};
@@ -13,13 +13,13 @@ use std::test::Fail;
 pub struct Case {
     /// What the files hold.
     pub start: Contents,
-    /// Queries that tell their rows before they are opened as a store.
+    /// Queries for their rows before they are opened as a store.
     pub queries: &'static [&'static str],
-    /// The rows that these tell.
+    /// What these give.
     pub earlier: Vec<u8>,
     pub settings: &'static [u8],
     pub steps: &'static [Step],
-    /// What the calls are told.
+    /// The replies as text.
     pub told: &'static str,
     /// All rows before the opening, as an opening leaves them; after it; and after each call.
     pub worlds: Vec<Vec<u8>>,
@@ -98,7 +98,7 @@ fn is_world(case: &Case, place: usize, rows: &[u8]) -> bool {
     }
 }
 
-/// Whether calls before the stop were told what they are told without one, and then that the disk failed.
+/// Whether the replies before the stop are those without one, and the last says that the disk failed.
 fn is_told(case: &Case, run: &Run) -> bool {
     let told = run.told.as_slice();
     let all = case.told.as_bytes();
@@ -137,7 +137,7 @@ fn held_of(alloc: Global, log: &[u8], db: &[u8]) -> Result<Contents, Fail> {
     })
 }
 
-/// What was answered before a stop stands in the files, whether or not each of them loses what it hadn't synced.
+/// What was answered before a stop is in the files, whether or not each of them loses what it hadn't synced.
 pub fn stands(alloc: Global, case: &Case, mut run: Run) -> Result<(), Fail> {
     if !is_told(case, &run) {
         return Err(Fail::new("another answer before a stop"));
