@@ -13,5 +13,4 @@ mod running;
 
 pub use calling::Store;
 pub use intake::Intake;
-pub use store_types::{Answer, Info, Refusal, Reply, Request, Usage};
-pub use tables_sql::failure::Failure;
+pub use store_types::{Answer, Failed, Info, Refusal, Reply, Request, Usage};
