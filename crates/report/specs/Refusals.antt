@@ -1,5 +1,5 @@
 -- The one table of refusals: the number and the name of each, and its line.
-use Rattle.std.specs.Prelude.{ℕ, List, [], ◌++◌, codes, decimal}
+use Rattle.std.specs.Prelude.{ℕ, ◌==◌, List, [], ◌++◌, codes, cond, decimal}
 use Rattle.policy.specs.Words.{key_word}
 use Rattle.report.specs.declared.refusal.Refusal.{Refusal}
 use Rattle.report.specs.declared.refusal.Refusal.TheVariants.{Truncated, BadTag, BadPadding, BadName, NotSorted, TooDeep, Trailing, TooLarge, BadDigit, BadLength, Overflow, BadStoreName, BadStoreDir, BadStorePath, BadCa, CaMismatch, BadDerivation, DoubleOutput, BadConfig, BadCaller, BadSchema, OtherStoreDir, NotValid, MissingReference, NarHashMismatch, SelfReference, NoRoot, NoProfile, NoGeneration, CurrentGeneration, NoOlderGeneration, GenerationLimit, TooManyReferences, BadRootName, BadLabel, BadHead, BadBodyLength, BodyTooLarge, NoRoute, BadMethod, BadBodyHead, BadSession}
@@ -63,3 +63,7 @@ detail _ = []
 -- the line of a refusal
 abbrev pub refusal_line : Refusal → List ℕ
 refusal_line r = codes "refused: " ++ decimal (number r) ++ codes " " ++ name r ++ detail r ++ codes "\n"
+
+-- What the number of a refusal tells of its line: all of it, or of a configuration what stands before its key word.
+abbrev pub known_text : Refusal → List ℕ
+known_text r = cond (number r == 19) (codes "refused: " ++ decimal (number r) ++ codes " " ++ name r) (refusal_line r)

@@ -12,13 +12,6 @@ use std::fmt::Write;
 use store_types::{Answer, Info, Usage};
 use streams::{Pieces, in_pieces};
 
-/// A text in pieces.
-fn text_in_pieces(alloc: Global, text: String) -> Result<Pieces, AllocError>
-    ensures { IfOk result (λ pieces. pieces ≡ string_bytes text) }
-{
-    in_pieces(alloc, text.as_str().as_bytes())
-}
-
 /// The record of an object.
 fn record_text(alloc: Global, dir: &StoreDir, info: &Info) -> Result<String, AllocError>
     ensures { IfOk result (λ text. string_bytes text ≡ records.narinfo dir.now (info_view info.now)) }
@@ -58,28 +51,29 @@ fn freed_text(
     Ok(text)
 }
 
-/// The text of an answer, as on standard output or in a body. An archive isn't copied.
-///
-/// # Errors
-///
-/// Memory was refused.
-pub fn answer_text(alloc: Global, dir: &StoreDir, answer: Answer) -> Result<Pieces, AllocError>
-    ensures { IfOk result (λ text. text ≡ spec.answer_text dir.now (answer_view answer)) }
+/// The bytes of the text of an answer, as a writer or a body has it.
+pub(crate) fn answer_bytes(
+    alloc: Global,
+    dir: &StoreDir,
+    answer: &Answer,
+) -> Result<Vec<u8>, AllocError>
+    ensures { IfOk result (λ text. text.items ≡ spec.answer_text dir.now (answer_view answer.now)) }
 {
     let text = match answer {
-        Answer::Archive(nar) => return Ok(nar),
-        Answer::Listing(text) => text,
-        Answer::Path(path) => crate::lists::path_line(alloc, dir, &path)?,
-        Answer::Record(info) => record_text(alloc, dir, &info)?,
-        Answer::Paths(paths) => crate::lists::paths_text(alloc, dir, &paths)?,
-        Answer::Roots(roots) => crate::lists::roots_text(alloc, dir, &roots)?,
+        Answer::Archive(nar) => return nar.joined(),
+        Answer::Listing(text) => String::from_str(alloc, text.as_str())?,
+        Answer::Path(path) => crate::lists::path_line(alloc, dir, path)?,
+        Answer::Record(info) => record_text(alloc, dir, info)?,
+        Answer::Paths(paths) => crate::lists::paths_text(alloc, dir, paths)?,
+        Answer::Roots(roots) => crate::lists::roots_text(alloc, dir, roots)?,
         Answer::Changed => String::from_str(alloc, "done\n")?,
         Answer::Generation(number) => format!(in alloc; "generation {number}\n")?,
         Answer::RuntimeCount(count) => format!(in alloc; "runtime roots {count}\n")?,
         Answer::TemporaryCount(count) => format!(in alloc; "temporary roots {count}\n")?,
-        Answer::Freed(paths, bytes) => freed_text(alloc, dir, &paths, bytes)?,
-        Answer::Usage(live, dead, total) => usage_text(alloc, live, dead, total)?,
+        Answer::Freed(paths, bytes) => freed_text(alloc, dir, paths, *bytes)?,
+        Answer::Usage(live, dead, total) => usage_text(alloc, *live, *dead, *total)?,
     };
-    let pieces = text_in_pieces(alloc, text)?;
-    Ok(pieces)
+    Ok(text.into_bytes())
 }
+
+/// The text of an answer in pieces, as a writer or a body has it. An archive isn't copied.

@@ -12,17 +12,33 @@ use std::alloc::{AllocError, Global};
 fn push_shown(
     text: &mut String,
     dir: &StoreDir,
-    root: Option<(String, StorePath)>,
+    root: &Option<(String, StorePath)>,
 ) -> Result<(), AllocError>
-    ensures { OnOk result (string_bytes text.new ≡ string_bytes text.old ++ shown_text dir.now (option_map labelled_bytes root)) }
+    ensures { OnOk result (string_bytes text.new ≡ string_bytes text.old ++ shown_text dir.now (option_map labelled_bytes root.now)) }
 {
     match root {
         Some((label, target)) => {
             text.push_str(" ")?;
-            push_root(text, dir, label.as_str(), &target)
+            push_root(text, dir, label.as_str(), target)
         }
         None => Ok(()),
     }
+}
+
+/// The line of a denial, with the root that is shown, if one is.
+pub(crate) fn denied_line(
+    alloc: Global,
+    dir: &StoreDir,
+    rule: Rule,
+    root: &Option<(String, StorePath)>,
+) -> Result<String, AllocError>
+    ensures { IfOk result (λ text. string_bytes text ≡ denial_text dir.now rule (option_map labelled_bytes root.now)) }
+{
+    let mut text = String::from_str(alloc, "denied: ")?;
+    text.push_str(rule.as_str())?;
+    push_shown(&mut text, dir, root)?;
+    text.push_str("\n")?;
+    Ok(text)
 }
 
 /// The line of a denial, with its line feed: the word of the rule, and the root that is shown, if one is.
@@ -38,9 +54,5 @@ pub fn denial_line(
 ) -> Result<String, AllocError>
     ensures { IfOk result (λ text. string_bytes text ≡ denial_text dir.now rule (option_map labelled_bytes root)) }
 {
-    let mut text = String::from_str(alloc, "denied: ")?;
-    text.push_str(rule.as_str())?;
-    push_shown(&mut text, dir, root)?;
-    text.push_str("\n")?;
-    Ok(text)
+    denied_line(alloc, dir, rule, &root)
 }

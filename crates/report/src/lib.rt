@@ -5,6 +5,7 @@ mod answers;
 mod denials;
 mod laws;
 mod lists;
+mod numbers;
 mod records;
 mod refusal;
 mod refusals;
@@ -19,8 +20,9 @@ pub use laws::{
     worked_usage,
 };
 pub use lists::{path_line, paths_text, roots_text};
+pub use numbers::refusal_text;
 pub use records::{Info, narinfo};
 pub use refusal::Refusal;
-pub use refusals::{failure_line, refusal_entry, refusal_line};
-pub use replies::reply_text;
+pub use refusals::{archive_entry, failure_line, refusal_entry, refusal_line};
+pub use replies::{reply_pieces, reply_text};
 pub use usage::usage_text;

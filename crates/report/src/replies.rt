@@ -1,35 +1,42 @@
 //! The text of each reply.
-ghost use Rattle.std.specs.Prelude.{◌≡◌, IfOk};
+ghost use Rattle.std.specs.Prelude.{◌≡◌, ◌++◌, IfOk, OnErr, OnOk};
 ghost use Rattle.report.specs.Replies as spec;
 ghost use Rattle.store_types.specs.View.{reply_view};
 
-use crate::answers::answer_text;
-use crate::denials::denial_line;
+use crate::answers::{answer_bytes, answer_text};
+use crate::denials::denied_line;
 use crate::refusals::{failure_line, refusal_line};
 use paths::StoreDir;
 use std::alloc::{AllocError, Global};
 use store_types::Reply;
 use streams::{Pieces, in_pieces};
 
-/// The bytes of a line.
-fn line(alloc: Global, text: &str) -> Result<Pieces, AllocError>
-    ensures { IfOk result (λ line. line ≡ text.now) }
-{
-    in_pieces(alloc, text.as_bytes())
-}
-
-/// The text of a reply, as on standard output or in a body. An archive isn't copied.
+/// Appends the whole text of a reply, as a writer or a body has it.
 ///
 /// # Errors
 ///
-/// Memory was refused.
-pub fn reply_text(alloc: Global, dir: &StoreDir, reply: Reply) -> Result<Pieces, AllocError>
-    ensures { IfOk result (λ text. text ≡ spec.reply_text dir.now (reply_view reply)) }
+/// Memory was refused. Nothing is appended.
+pub fn reply_text(
+    alloc: Global,
+    dir: &StoreDir,
+    reply: &Reply,
+    text: &mut Vec<u8>,
+) -> Result<(), AllocError>
+    ensures ok { OnOk result (text.new.items ≡ text.old.items ++ spec.reply_text dir.now (reply_view reply.now)) }
+    ensures err { OnErr result (text.new.items ≡ text.old.items) }
 {
     match reply {
-        Reply::Done(answer) => answer_text(alloc, dir, answer),
-        Reply::Denied(rule, root) => line(alloc, denial_line(alloc, dir, rule, root)?.as_str()),
-        Reply::Refused(refusal) => line(alloc, refusal_line(refusal)),
-        Reply::Failed(failure) => line(alloc, failure_line(failure)),
+        Reply::Done(answer) => {
+            let bytes = answer_bytes(alloc, dir, answer)?;
+            text.extend_from_slice(&bytes)
+        }
+        Reply::Denied(rule, root) => {
+            let line = denied_line(alloc, dir, *rule, root)?;
+            text.extend_from_slice(line.as_str().as_bytes())
+        }
+        Reply::Refused(refusal) => text.extend_from_slice(refusal_line(*refusal).as_bytes()),
+        Reply::Failed(failure) => text.extend_from_slice(failure_line(*failure).as_bytes()),
     }
 }
+
+/// The text of a reply in pieces. An archive isn't copied.

@@ -7,7 +7,7 @@ ghost use Rattle.wire.specs.Replies.{response_to};
 
 use http::StatusCode;
 use paths::StoreDir;
-use report::{refusal_entry, reply_text};
+use report::{refusal_entry, reply_pieces};
 use std::alloc::{AllocError, Global};
 use store_types::{Answer, Reply};
 use wire_server::{Response, refusal_status};
@@ -47,6 +47,6 @@ pub(crate) fn respond(alloc: Global, dir: &StoreDir, reply: Reply) -> Result<Res
         status,
         kind,
         allow: None,
-        text: reply_text(alloc, dir, reply)?,
+        text: reply_pieces(alloc, dir, reply)?,
     })
 }
