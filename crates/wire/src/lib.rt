@@ -15,4 +15,5 @@ mod stream;
 pub use port::serve_port;
 pub use server::Server;
 pub use stream::serve_streams;
+pub use wire_requests::{import_body, runtime_body};
 pub use wire_server::WireError;

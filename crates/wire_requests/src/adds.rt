@@ -18,7 +18,8 @@ use intake::Intake;
 use paths::StoreDir;
 use std::alloc::{AllocError, Global};
 use store_types::Request;
-use wire_bodies::{BodyError, ImportHead, NamedHead, import_body, named_body};
+use streams::Sink;
+use wire_bodies::{BodyError, ImportHead, NamedHead, named_body};
 
 /// Bytes of their own.
 fn copied(alloc: Global, bytes: &[u8]) -> Result<Vec<u8>, AllocError>
@@ -65,7 +66,7 @@ fn import_front(alloc: Global, dir: &StoreDir, body: &Parted) -> Result<ImportHe
     ensures ok { IfOk result (λ head. IsImportBody dir.now body.now head (rest_of body.now)) }
     ensures bad { result ≡ Err BodyError.BadBodyHead → (head : ImportOf) (nar : List ℕ) → IsImportBody dir.now body.now head nar → ⊥ }
 {
-    match import_body(alloc, dir, body.front()) {
+    match wire_bodies::import_body(alloc, dir, body.front()) {
         Ok((head, _)) => Ok(head),
         Err(BodyError::BadBodyHead) => Err(BodyError::BadBodyHead),
         Err(BodyError::Memory) => Err(BodyError::Memory),
@@ -130,6 +131,22 @@ pub fn read_import(alloc: Global, dir: &StoreDir, body: Body) -> Result<Request,
         Ok(head) => Ok(imported(head, body.into_archive())),
         Err(BodyError::BadBodyHead) => Err(BodyError::BadBodyHead),
         Err(BodyError::Memory) => Err(BodyError::Memory),
+    }
+}
+
+/// The import that the whole body of `POST /import` asks for: its head, and the archive behind its empty line.
+///
+/// # Errors
+///
+/// `BadBodyHead` exactly where the body is no import, and `Memory`.
+pub fn import_body(alloc: Global, dir: &StoreDir, body: &[u8]) -> Result<Request, BodyError>
+    ensures ok { IfOk result (λ q. (head : ImportOf) × (nar : List ℕ) × IsImportBody dir.now body.now head nar × (request_view q ≡ import_object (given.imported head nar))) }
+    ensures bad { result ≡ Err BodyError.BadBodyHead → (head : ImportOf) (nar : List ℕ) → IsImportBody dir.now body.now head nar → ⊥ }
+{
+    let mut parted = Body::parted(alloc);
+    match parted.take(body) {
+        Ok(()) => read_import(alloc, dir, parted),
+        Err(_) => Err(BodyError::Memory),
     }
 }
 

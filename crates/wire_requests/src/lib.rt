@@ -16,7 +16,7 @@ mod router;
 mod sweeps;
 mod targets;
 
-pub use adds::read_import;
+pub use adds::{import_body, read_import};
 pub use body::{Body, is_archive};
 pub use error::AskError;
 pub use kind::Kind;
@@ -25,3 +25,4 @@ pub use parts::part;
 pub use read::read_request;
 pub use requests::Requests;
 pub use router::Routes;
+pub use sweeps::runtime_body;

@@ -1,5 +1,9 @@
 //! Requests that a body says whole.
-ghost use Rattle.std.specs.Prelude.{List, ℕ};
+ghost use Rattle.std.specs.Prelude.{◌≡◌, IfOk, Err, List, ℕ};
+ghost use Rattle.wire_bodies.specs.Bodies.{Says, IsRuntime};
+ghost use Rattle.model.specs.World.{Pair};
+ghost use Rattle.model.specs.Request.{replace_runtime as asked};
+ghost use Rattle.store_types.specs.View.{request_view};
 ghost use Rattle.wire_requests.specs.declared.kind.Kind.TheVariants as kinds;
 ghost use Rattle.wire_requests.specs.Reads.{Reads};
 
@@ -7,7 +11,22 @@ use crate::error::AskError;
 use paths::StoreDir;
 use std::alloc::Global;
 use store_types::Request;
-use wire_bodies::{BodyError, DeleteHead, collect_body, delete_body, runtime_body};
+use wire_bodies::{BodyError, DeleteHead, collect_body, delete_body};
+
+/// The runtime roots that the whole body of `POST /runtime` asks for, in place of all others.
+///
+/// # Errors
+///
+/// `BadBodyHead` exactly where the body isn't such roots, and `Memory`.
+pub fn runtime_body(alloc: Global, dir: &StoreDir, body: &[u8]) -> Result<Request, BodyError>
+    ensures ok { IfOk result (λ q. (named : List Pair) × Says (IsRuntime dir.now) body.now named × (request_view q ≡ asked named)) }
+    ensures bad { result ≡ Err BodyError.BadBodyHead → (named : List Pair) → Says (IsRuntime dir.now) body.now named → ⊥ }
+{
+    match wire_bodies::runtime_body(alloc, dir, body) {
+        Ok(roots) => Ok(Request::ReplaceRuntime(roots)),
+        Err(fault) => Err(fault),
+    }
+}
 
 /// Runtime roots in place of all others.
 pub(crate) fn replace_runtime(
@@ -18,7 +37,7 @@ pub(crate) fn replace_runtime(
     ensures { (target : List ℕ) → Reads dir.now kinds.ReplaceRuntime target body.now result }
 {
     match runtime_body(alloc, dir, body) {
-        Ok(roots) => Ok(Request::ReplaceRuntime(roots)),
+        Ok(request) => Ok(request),
         Err(BodyError::BadBodyHead) => Err(AskError::BadBodyHead),
         Err(BodyError::Memory) => Err(AskError::Memory),
     }
