@@ -21,7 +21,8 @@ pub(crate) fn number_of(value: i64) -> Option<u32>
 
 /// The number of a session that a row has, if it is one.
 pub(crate) fn session_of(value: i64) -> Option<u32>
-    ensures { MatchOption result (is_session_number value ≡ false) (λ n. (value ≡ pos n) × (is_session_number value ≡ true)) }
+    ensures { MatchOption result
+        (is_session_number value ≡ false) (λ n. (value ≡ pos n) × (is_session_number value ≡ true)) }
 {
     match u32::try_from(value) {
         Ok(number) => {

@@ -1,14 +1,14 @@
 //! Profiles, and their generations.
 
-ghost use Rattle.std.specs.Prelude.{◌≡◌, false, IsTrue, IfOk, OnOk};
+ghost use Rattle.std.specs.Prelude.{◌≡◌, IsTrue, IfOk, OnOk};
 ghost use Rattle.std.specs.List.{list_all};
 ghost use Rattle.std.specs.FinMap as finite;
-ghost use Rattle.sqlite.specs.State.{HasCleanDisk, IsUnchanged, Survives};
+ghost use Rattle.sqlite.specs.State.{HasCleanDisk, IsUnchanged};
 ghost use Rattle.sqlite.specs.Held.{state};
 ghost use Rattle.tables_sql.specs.Contents.{contents_of};
-ghost use Rattle.tables_sql.specs.Calls.{IsReady, KeepsShown};
 ghost use Rattle.tables_world.specs.Told.{world_in};
 ghost use Rattle.tables_roots.specs.Taken.{is_profile, bare_profiles, are_profiles};
+ghost use Rattle.tables_rows.specs.Frames.{MayRead, LeftAsItWas};
 
 use crate::numbers::number_of;
 use crate::taking::Taken;
@@ -54,44 +54,20 @@ fn read_bare<S: Alter>(
     conn: &mut Connection<S>,
     index: &mut Index,
 ) -> Result<bool, Failure>
-    requires alone { conn.old.in_transaction ≡ false }
-    requires ready { HasCleanDisk (state S.Store conn.old) → IsTrue (state S.Store conn.old).is_open → IsReady (state S.Store conn.old) }
+    requires frame { MayRead S.Store conn.old }
     requires empty { HasCleanDisk (state S.Store conn.old) → index.old.profiles ≡ finite.empty }
-    ensures alone { conn.new.in_transaction ≡ false }
-    ensures told { HasCleanDisk (state S.Store conn.new) → IfOk result (λ ok. ok ≡ list_all is_profile (finite.entries (contents_of (state S.Store conn.old).now).profiles)) }
-    ensures taken { HasCleanDisk (state S.Store conn.new) → IfOk result (λ ok. IsTrue ok → index.new ≡ record index.old { profiles = bare_profiles (contents_of (state S.Store conn.old).now).profiles }) }
-    ensures unchanged { HasCleanDisk (state S.Store conn.new) → OnOk result (IsUnchanged (state S.Store conn.old) (state S.Store conn.new)) }
-    ensures same { HasCleanDisk (state S.Store conn.new) → KeepsShown (state S.Store conn.old) (state S.Store conn.new) }
-    ensures ready { HasCleanDisk (state S.Store conn.new) → IsTrue (state S.Store conn.new).is_open → IsReady (state S.Store conn.new) }
-    ensures survives { Survives (state S.Store conn.old) (state S.Store conn.new) (λ _. ⊥) }
+    ensures frame { LeftAsItWas S.Store conn.old conn.new }
+    ensures told { HasCleanDisk (state S.Store conn.new) → IfOk result
+        (λ ok. ok ≡ list_all is_profile (finite.entries (contents_of (state S.Store conn.old).now).profiles)) }
+    ensures taken { HasCleanDisk (state S.Store conn.new) → IfOk result
+        (λ ok. IsTrue ok → index.new
+        ≡ record index.old { profiles = bare_profiles (contents_of (state S.Store conn.old).now).profiles }) }
+    ensures unchanged { HasCleanDisk (state S.Store conn.new) → OnOk result
+        (IsUnchanged (state S.Store conn.old) (state S.Store conn.new)) }
 {
     let profiles = stored::all(alloc, conn)?;
     Ok(taking::take_all(alloc, index, profiles)?)
 }
 
-/// Whether the profiles of the rows are sound, and their generations with the objects of the index, and each profile has a
-/// generation of its current number. If so, they are put into the index.
-pub fn read<S: Alter>(
-    alloc: Global,
-    conn: &mut Connection<S>,
-    index: &mut Index,
-) -> Result<bool, Failure>
-    requires alone { conn.old.in_transaction ≡ false }
-    requires ready { HasCleanDisk (state S.Store conn.old) → IsTrue (state S.Store conn.old).is_open → IsReady (state S.Store conn.old) }
-    requires empty { HasCleanDisk (state S.Store conn.old) → index.old.profiles ≡ finite.empty }
-    ensures alone { conn.new.in_transaction ≡ false }
-    ensures told { HasCleanDisk (state S.Store conn.new) → IfOk result (λ ok. ok ≡ are_profiles index.old.objects (contents_of (state S.Store conn.old).now)) }
-    ensures taken { HasCleanDisk (state S.Store conn.new) → IfOk result (λ ok. IsTrue ok → index.new ≡ record index.old { profiles = (world_in (contents_of (state S.Store conn.old).now)).profiles }) }
-    ensures unchanged { HasCleanDisk (state S.Store conn.new) → OnOk result (IsUnchanged (state S.Store conn.old) (state S.Store conn.new)) }
-    ensures same { HasCleanDisk (state S.Store conn.new) → KeepsShown (state S.Store conn.old) (state S.Store conn.new) }
-    ensures ready { HasCleanDisk (state S.Store conn.new) → IsTrue (state S.Store conn.new).is_open → IsReady (state S.Store conn.new) }
-    ensures survives { Survives (state S.Store conn.old) (state S.Store conn.new) (λ _. ⊥) }
-{
-    if !read_bare(alloc, conn, index)? {
-        return Ok(false);
-    }
-    if !generations::read(alloc, conn, index)? {
-        return Ok(false);
-    }
-    Ok(index.has_currents())
-}
+/// Whether the profiles of the rows are sound, and their generations with the objects of the index, and each
+/// profile has a

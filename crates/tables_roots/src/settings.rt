@@ -1,15 +1,15 @@
 //! The settings.
 
-ghost use Rattle.std.specs.Prelude.{◌≡◌, List, ℕ, false, IsTrue, IfOk, OnOk, MatchOption, map};
-ghost use Rattle.sqlite.specs.State.{HasCleanDisk, IsUnchanged, Survives};
+ghost use Rattle.std.specs.Prelude.{◌≡◌, List, ℕ, IsTrue, IfOk, OnOk, MatchOption, map};
+ghost use Rattle.sqlite.specs.State.{HasCleanDisk, IsUnchanged};
 ghost use Rattle.sqlite.specs.Held.{state};
 ghost use Rattle.tables_sql.specs.Contents.{contents_of};
-ghost use Rattle.tables_sql.specs.Calls.{IsReady, KeepsShown};
 ghost use Rattle.tables_sql.specs.Entries.{setting_of};
 ghost use Rattle.paths.specs.Names.{is_store_dir};
 ghost use Rattle.tables_world.specs.Rows.{settings};
 ghost use Rattle.tables_world.specs.View.{schema_view};
 ghost use Rattle.tables_roots.specs.Settings.{two_settings};
+ghost use Rattle.tables_rows.specs.Frames.{MayRead, LeftAsItWas};
 
 use paths::{StoreDir, StoreDirError};
 use sqlite::{Alter, Connection};
@@ -25,8 +25,9 @@ fn directory_of(
     all: &[Setting],
     schema: Schema,
 ) -> Result<Option<StoreDir>, AllocError>
-    ensures { IfOk result (λ o. MatchOption o
-        ((dir : List ℕ) → IsTrue (is_store_dir dir) → ¬ (map setting_of all.now ≡ two_settings (schema_view schema) dir))
+    ensures { IfOk result
+        (λ o. MatchOption o ((dir : List ℕ) → IsTrue (is_store_dir dir) → ¬ (map setting_of all.now
+        ≡ two_settings (schema_view schema) dir))
         (λ d. IsTrue (is_store_dir d) × (map setting_of all.now ≡ two_settings (schema_view schema) d))) }
 {
     let [form, place] = all else {
@@ -51,16 +52,12 @@ pub fn read<S: Alter>(
     conn: &mut Connection<S>,
     schema: Schema,
 ) -> Result<Option<StoreDir>, Failure>
-    requires alone { conn.old.in_transaction ≡ false }
-    requires ready { HasCleanDisk (state S.Store conn.old) → IsTrue (state S.Store conn.old).is_open → IsReady (state S.Store conn.old) }
-    ensures alone { conn.new.in_transaction ≡ false }
-    ensures told { HasCleanDisk (state S.Store conn.new) → IfOk result (λ o. MatchOption o
-        ((dir : List ℕ) → IsTrue (is_store_dir dir) → ¬ ((contents_of (state S.Store conn.old).now).meta ≡ settings (schema_view schema) dir))
-        (λ d. IsTrue (is_store_dir d) × ((contents_of (state S.Store conn.old).now).meta ≡ settings (schema_view schema) d))) }
-    ensures unchanged { HasCleanDisk (state S.Store conn.new) → OnOk result (IsUnchanged (state S.Store conn.old) (state S.Store conn.new)) }
-    ensures same { HasCleanDisk (state S.Store conn.new) → KeepsShown (state S.Store conn.old) (state S.Store conn.new) }
-    ensures ready { HasCleanDisk (state S.Store conn.new) → IsTrue (state S.Store conn.new).is_open → IsReady (state S.Store conn.new) }
-    ensures survives { Survives (state S.Store conn.old) (state S.Store conn.new) (λ _. ⊥) }
+    requires frame { MayRead S.Store conn.old }
+    ensures frame { LeftAsItWas S.Store conn.old conn.new }
+    ensures told { HasCleanDisk (state S.Store conn.new) → IfOk result
+        (λ o. MatchOption o ((dir : List ℕ) → IsTrue (is_store_dir dir) → ¬ ((contents_of (state S.Store conn.old).now).meta ≡ settings (schema_view schema) dir)) (λ d. IsTrue (is_store_dir d) × ((contents_of (state S.Store conn.old).now).meta ≡ settings (schema_view schema) d))) }
+    ensures unchanged { HasCleanDisk (state S.Store conn.new) → OnOk result
+        (IsUnchanged (state S.Store conn.old) (state S.Store conn.new)) }
 {
     let all = stored::all(alloc, conn)?;
     Ok(directory_of(alloc, all.as_slice(), schema)?)

@@ -13,7 +13,9 @@ pub(crate) fn target_of(
     index: &Index,
     text: &str,
 ) -> Result<Option<StorePath>, AllocError>
-    ensures { IfOk result (λ o. MatchOption o (is_target index.now.objects text.now ≡ false) (λ p. (p ≡ text.now) × (is_target index.now.objects text.now ≡ true))) }
+    ensures { IfOk result
+        (λ o. MatchOption o (is_target index.now.objects text.now ≡ false)
+        (λ p. (p ≡ text.now) × (is_target index.now.objects text.now ≡ true))) }
 {
     match StorePath::from_base(alloc, text) {
         Ok(path) => {

@@ -1,14 +1,15 @@
 //! Temporary roots: the paths that sessions keep.
 
-ghost use Rattle.std.specs.Prelude.{◌≡◌, false, IsTrue, IfOk, OnOk};
+ghost use Rattle.std.specs.Prelude.{◌≡◌, IsTrue, IfOk, OnOk};
 ghost use Rattle.std.specs.FinMap as finite;
-ghost use Rattle.sqlite.specs.State.{HasCleanDisk, IsUnchanged, Survives};
+ghost use Rattle.sqlite.specs.State.{HasCleanDisk, IsUnchanged};
 ghost use Rattle.sqlite.specs.Held.{state};
 ghost use Rattle.tables_schema.specs.Forms.{temp_root};
 ghost use Rattle.tables_sql.specs.Contents.{contents_of};
-ghost use Rattle.tables_sql.specs.Calls.{HasFurther, IsReady, KeepsShown};
+ghost use Rattle.tables_sql.specs.Calls.{HasFurther};
 ghost use Rattle.tables_world.specs.Told.{world_in};
 ghost use Rattle.tables_roots.specs.Taken.{are_temporary};
+ghost use Rattle.tables_rows.specs.Frames.{MayRead, LeftAsItWas};
 
 use crate::numbers::session_of;
 use crate::taking;
@@ -52,24 +53,5 @@ impl Taken for TempRoot {
     }
 }
 
-/// Whether what the sessions of the rows keep is sound with the objects of the index. If so, it is put into the index.
-pub fn read<S: Alter>(
-    alloc: Global,
-    conn: &mut Connection<S>,
-    index: &mut Index,
-) -> Result<bool, Failure>
-    requires alone { conn.old.in_transaction ≡ false }
-    requires ready { HasCleanDisk (state S.Store conn.old) → IsTrue (state S.Store conn.old).is_open → IsReady (state S.Store conn.old) }
-    requires stands { HasCleanDisk (state S.Store conn.old) → IsTrue (state S.Store conn.old).is_open → HasFurther (state S.Store conn.old).now temp_root }
-    requires empty { HasCleanDisk (state S.Store conn.old) → index.old.temporary ≡ finite.empty }
-    ensures alone { conn.new.in_transaction ≡ false }
-    ensures told { HasCleanDisk (state S.Store conn.new) → IfOk result (λ ok. ok ≡ are_temporary index.old.objects (contents_of (state S.Store conn.old).now)) }
-    ensures taken { HasCleanDisk (state S.Store conn.new) → IfOk result (λ ok. IsTrue ok → index.new ≡ record index.old { temporary = (world_in (contents_of (state S.Store conn.old).now)).temporary }) }
-    ensures unchanged { HasCleanDisk (state S.Store conn.new) → OnOk result (IsUnchanged (state S.Store conn.old) (state S.Store conn.new)) }
-    ensures same { HasCleanDisk (state S.Store conn.new) → KeepsShown (state S.Store conn.old) (state S.Store conn.new) }
-    ensures ready { HasCleanDisk (state S.Store conn.new) → IsTrue (state S.Store conn.new).is_open → IsReady (state S.Store conn.new) }
-    ensures survives { Survives (state S.Store conn.old) (state S.Store conn.new) (λ _. ⊥) }
-{
-    let roots = stored::all(alloc, conn)?;
-    Ok(taking::take_all(alloc, index, roots)?)
-}
+/// Whether what the sessions of the rows keep is sound with the objects of the index. If so, it is put into the
+/// index.

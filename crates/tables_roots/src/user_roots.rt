@@ -1,13 +1,13 @@
 //! User roots.
 
-ghost use Rattle.std.specs.Prelude.{◌≡◌, false, IsTrue, IfOk, OnOk};
+ghost use Rattle.std.specs.Prelude.{◌≡◌, IsTrue, IfOk, OnOk};
 ghost use Rattle.std.specs.List.{list_all};
 ghost use Rattle.std.specs.FinMap as finite;
-ghost use Rattle.sqlite.specs.State.{HasCleanDisk, IsUnchanged, Survives};
+ghost use Rattle.sqlite.specs.State.{HasCleanDisk, IsUnchanged};
 ghost use Rattle.sqlite.specs.Held.{state};
 ghost use Rattle.tables_sql.specs.Contents.{contents_of};
-ghost use Rattle.tables_sql.specs.Calls.{IsReady, KeepsShown};
 ghost use Rattle.tables_roots.specs.Taken.{is_user_root};
+ghost use Rattle.tables_rows.specs.Frames.{MayRead, LeftAsItWas};
 
 use crate::taking;
 use crate::taking::Taken;
@@ -53,16 +53,17 @@ pub fn read<S: Alter>(
     conn: &mut Connection<S>,
     index: &mut Index,
 ) -> Result<bool, Failure>
-    requires alone { conn.old.in_transaction ≡ false }
-    requires ready { HasCleanDisk (state S.Store conn.old) → IsTrue (state S.Store conn.old).is_open → IsReady (state S.Store conn.old) }
+    requires frame { MayRead S.Store conn.old }
     requires empty { HasCleanDisk (state S.Store conn.old) → index.old.user_roots ≡ finite.empty }
-    ensures alone { conn.new.in_transaction ≡ false }
-    ensures told { HasCleanDisk (state S.Store conn.new) → IfOk result (λ ok. ok ≡ list_all (is_user_root index.old.objects) (finite.entries (contents_of (state S.Store conn.old).now).user_roots)) }
-    ensures taken { HasCleanDisk (state S.Store conn.new) → IfOk result (λ ok. IsTrue ok → index.new ≡ record index.old { user_roots = (contents_of (state S.Store conn.old).now).user_roots }) }
-    ensures unchanged { HasCleanDisk (state S.Store conn.new) → OnOk result (IsUnchanged (state S.Store conn.old) (state S.Store conn.new)) }
-    ensures same { HasCleanDisk (state S.Store conn.new) → KeepsShown (state S.Store conn.old) (state S.Store conn.new) }
-    ensures ready { HasCleanDisk (state S.Store conn.new) → IsTrue (state S.Store conn.new).is_open → IsReady (state S.Store conn.new) }
-    ensures survives { Survives (state S.Store conn.old) (state S.Store conn.new) (λ _. ⊥) }
+    ensures frame { LeftAsItWas S.Store conn.old conn.new }
+    ensures told { HasCleanDisk (state S.Store conn.new) → IfOk result
+        (λ ok. ok
+        ≡ list_all (is_user_root index.old.objects) (finite.entries (contents_of (state S.Store conn.old).now).user_roots)) }
+    ensures taken { HasCleanDisk (state S.Store conn.new) → IfOk result
+        (λ ok. IsTrue ok → index.new
+        ≡ record index.old { user_roots = (contents_of (state S.Store conn.old).now).user_roots }) }
+    ensures unchanged { HasCleanDisk (state S.Store conn.new) → OnOk result
+        (IsUnchanged (state S.Store conn.old) (state S.Store conn.new)) }
 {
     let roots = stored::all(alloc, conn)?;
     Ok(taking::take_all(alloc, index, roots)?)

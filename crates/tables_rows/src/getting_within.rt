@@ -1,15 +1,12 @@
 //! An object inside a transaction.
 #![tactic(auto, using(tables_sql::proofs::ObjectLemmas::of_read))]
 
-ghost use Rattle.std.specs.Prelude.{◌≡◌, IfOk, IfErr, OnErr, map};
+ghost use Rattle.std.specs.Prelude.{◌≡◌, map};
 ghost use Rattle.std.specs.Ordering.{eq_by_cmp};
 ghost use Rattle.std.specs.FinMap as finite;
-ghost use Rattle.sqlite.specs.State.{HasCleanDisk, KeepsCommit, Survives, IsUnchanged};
-ghost use Rattle.sqlite.specs.Held.{state};
-ghost use Rattle.tables_sql.specs.Failures.{FailsFor};
-ghost use Rattle.tables_sql.specs.Calls.{IsUnderWay};
-ghost use Rattle.tables_sql.specs.Contents.{texts_cmp, contents_of};
+ghost use Rattle.tables_sql.specs.Contents.{texts_cmp};
 ghost use Rattle.tables_sql.specs.Entries.{stored_of, IsStored};
+ghost use Rattle.tables_rows.specs.Frames.{IsInside, StaysInside, Reads, FailsAlone};
 
 use crate::within;
 use sqlite::{Alter, Transaction, params};
@@ -23,13 +20,10 @@ pub fn get_within<S: Alter>(
     tx: &mut Transaction<'_, S>,
     base: &str,
 ) -> Result<Option<Object>, Failure>
-    requires { HasCleanDisk (state S.Store tx.old.conn.now) → IsUnderWay (state S.Store tx.old.conn.now) }
-    ensures same_reference { tx.new.conn.ghost_name ≡ tx.old.conn.ghost_name }
-    ensures reads { HasCleanDisk (state S.Store tx.new.conn.now) → IfOk result (λ o. IsUnchanged (state S.Store tx.old.conn.now) (state S.Store tx.new.conn.now)
-        × IsStored (contents_of (state S.Store tx.old.conn.now).now).objects base.now o) }
-    ensures cause { HasCleanDisk (state S.Store tx.new.conn.now) → IfErr result (FailsFor (state S.Store tx.old.conn.now) (state S.Store tx.new.conn.now)) }
-    ensures failed { HasCleanDisk (state S.Store tx.new.conn.now) → OnErr result (KeepsCommit (state S.Store tx.old.conn.now) (state S.Store tx.new.conn.now)) }
-    ensures survives { Survives (state S.Store tx.old.conn.now) (state S.Store tx.new.conn.now) (λ _. ⊥) }
+    requires { IsInside S.Store tx.old.conn }
+    ensures frame { StaysInside S.Store tx.old.conn tx.new.conn result }
+    ensures reads { Reads S.Store tx.old.conn.now tx.new.conn.now result (λ c o. IsStored c.objects base.now o) }
+    ensures cause { FailsAlone S.Store tx.old.conn.now tx.new.conn.now result }
 {
     let mut found = of_within(alloc, tx, base)?;
     Ok(found.pop())
@@ -41,13 +35,11 @@ fn of_within<S: Alter>(
     tx: &mut Transaction<'_, S>,
     base: &str,
 ) -> Result<Vec<Object>, Failure>
-    requires { HasCleanDisk (state S.Store tx.old.conn.now) → IsUnderWay (state S.Store tx.old.conn.now) }
-    ensures same_reference { tx.new.conn.ghost_name ≡ tx.old.conn.ghost_name }
-    ensures reads { HasCleanDisk (state S.Store tx.new.conn.now) → IfOk result (λ all. IsUnchanged (state S.Store tx.old.conn.now) (state S.Store tx.new.conn.now)
-        × (map stored_of all.items ≡ finite.entries (finite.retain_keys (contents_of (state S.Store tx.old.conn.now).now).objects (λ k. eq_by_cmp texts_cmp k base.now)))) }
-    ensures cause { HasCleanDisk (state S.Store tx.new.conn.now) → IfErr result (FailsFor (state S.Store tx.old.conn.now) (state S.Store tx.new.conn.now)) }
-    ensures failed { HasCleanDisk (state S.Store tx.new.conn.now) → OnErr result (KeepsCommit (state S.Store tx.old.conn.now) (state S.Store tx.new.conn.now)) }
-    ensures survives { Survives (state S.Store tx.old.conn.now) (state S.Store tx.new.conn.now) (λ _. ⊥) }
+    requires { IsInside S.Store tx.old.conn }
+    ensures frame { StaysInside S.Store tx.old.conn tx.new.conn result }
+    ensures reads { Reads S.Store tx.old.conn.now tx.new.conn.now result (λ c all. map stored_of all.items
+        ≡ finite.entries (finite.retain_keys c.objects (λ k. eq_by_cmp texts_cmp k base.now))) }
+    ensures cause { FailsAlone S.Store tx.old.conn.now tx.new.conn.now result }
 {
     within::select(
         alloc,

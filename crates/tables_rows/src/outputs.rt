@@ -1,17 +1,15 @@
 //! The outputs of derivations.
 #![tactic(auto, using(tables_sql::proofs::OutputLemmas::all_read, tables_sql::proofs::OutputLemmas::of_read))]
 
-ghost use Rattle.std.specs.Prelude.{IsSome, ◌∷◌, [], ◌≡◌, IfOk, IfErr, OnOk, OnErr, IsTrue, None, map, not, false};
+ghost use Rattle.std.specs.Prelude.{◌∷◌, [], ◌≡◌, map, not};
 ghost use Rattle.sqlite_value.specs.declared.value.Value.TheVariants.{Text};
 ghost use Rattle.tables_schema.specs.Forms.{outs};
 ghost use Rattle.std.specs.Ordering.{eq_by_cmp};
 ghost use Rattle.std.specs.FinMap as finite;
-ghost use Rattle.sqlite.specs.State.{HasCleanDisk, KeepsCommit, Survives, IsUnchanged};
-ghost use Rattle.sqlite.specs.Held.{state};
-ghost use Rattle.tables_sql.specs.Failures.{FailsFor, FailsToInsert};
-ghost use Rattle.tables_sql.specs.Calls.{IsUnderWay, Changes, IsReady, KeepsShown};
-ghost use Rattle.tables_sql.specs.Contents.{texts_cmp, contents_of};
+ghost use Rattle.tables_sql.specs.Contents.{texts_cmp};
 ghost use Rattle.tables_sql.specs.Entries.{output_of};
+ghost use Rattle.tables_rows.specs.Frames.{MayRead, LeftAsItWas, Reads, FailsAlone};
+ghost use Rattle.tables_rows.specs.Frames.{IsInside, StaysInside, Makes, WasFree, FailsToPut};
 
 use crate::reading;
 use sqlite::{Alter, Connection, Transaction, params};
@@ -22,15 +20,10 @@ use tables_sql::statement;
 
 /// All outputs, in order.
 pub fn all<S: Alter>(alloc: Global, conn: &mut Connection<S>) -> Result<Vec<Output>, Failure>
-    requires alone { conn.old.in_transaction ≡ false }
-    requires ready { HasCleanDisk (state S.Store conn.old) → IsTrue (state S.Store conn.old).is_open → IsReady (state S.Store conn.old) }
-    ensures alone { conn.new.in_transaction ≡ false }
-    ensures reads { HasCleanDisk (state S.Store conn.new) → IfOk result (λ all. IsUnchanged (state S.Store conn.old) (state S.Store conn.new)
-        × (map output_of all.items ≡ finite.entries (contents_of (state S.Store conn.old).now).outs)) }
-    ensures cause { HasCleanDisk (state S.Store conn.new) → IfErr result (FailsFor (state S.Store conn.old) (state S.Store conn.new)) }
-    ensures same { HasCleanDisk (state S.Store conn.new) → KeepsShown (state S.Store conn.old) (state S.Store conn.new) }
-    ensures ready { HasCleanDisk (state S.Store conn.new) → IsTrue (state S.Store conn.new).is_open → IsReady (state S.Store conn.new) }
-    ensures survives { Survives (state S.Store conn.old) (state S.Store conn.new) (λ _. ⊥) }
+    requires frame { MayRead S.Store conn.old }
+    ensures frame { LeftAsItWas S.Store conn.old conn.new }
+    ensures reads { Reads S.Store conn.old conn.new result (λ c all. map output_of all.items ≡ finite.entries c.outs) }
+    ensures cause { FailsAlone S.Store conn.old conn.new result }
 {
     reading::select(
         alloc,
@@ -46,15 +39,11 @@ pub fn of<S: Alter>(
     conn: &mut Connection<S>,
     base: &str,
 ) -> Result<Vec<Output>, Failure>
-    requires alone { conn.old.in_transaction ≡ false }
-    requires ready { HasCleanDisk (state S.Store conn.old) → IsTrue (state S.Store conn.old).is_open → IsReady (state S.Store conn.old) }
-    ensures alone { conn.new.in_transaction ≡ false }
-    ensures reads { HasCleanDisk (state S.Store conn.new) → IfOk result (λ all. IsUnchanged (state S.Store conn.old) (state S.Store conn.new)
-        × (map output_of all.items ≡ finite.entries (finite.retain_keys (contents_of (state S.Store conn.old).now).outs (λ k. eq_by_cmp texts_cmp k.0 base.now)))) }
-    ensures cause { HasCleanDisk (state S.Store conn.new) → IfErr result (FailsFor (state S.Store conn.old) (state S.Store conn.new)) }
-    ensures same { HasCleanDisk (state S.Store conn.new) → KeepsShown (state S.Store conn.old) (state S.Store conn.new) }
-    ensures ready { HasCleanDisk (state S.Store conn.new) → IsTrue (state S.Store conn.new).is_open → IsReady (state S.Store conn.new) }
-    ensures survives { Survives (state S.Store conn.old) (state S.Store conn.new) (λ _. ⊥) }
+    requires frame { MayRead S.Store conn.old }
+    ensures frame { LeftAsItWas S.Store conn.old conn.new }
+    ensures reads { Reads S.Store conn.old conn.new result (λ c all. map output_of all.items
+        ≡ finite.entries (finite.retain_keys c.outs (λ k. eq_by_cmp texts_cmp k.0 base.now))) }
+    ensures cause { FailsAlone S.Store conn.old conn.new result }
 {
     reading::select(
         alloc,
@@ -64,21 +53,21 @@ pub fn of<S: Alter>(
     )
 }
 
-/// Adds one output. If its key is there already, the answer is `Disk` and nothing changes, unless the call fails otherwise.
+/// Adds one output. If its key is there already, the answer is `Disk` and nothing changes, unless the call fails
+/// otherwise.
 pub fn insert<S: Alter>(
     tx: &mut Transaction<'_, S>,
     base: &str,
     name: &str,
     target: &str,
 ) -> Result<(), Failure>
-    requires { HasCleanDisk (state S.Store tx.old.conn.now) → IsUnderWay (state S.Store tx.old.conn.now) }
-    ensures same_reference { tx.new.conn.ghost_name ≡ tx.old.conn.ghost_name }
-    ensures done { HasCleanDisk (state S.Store tx.new.conn.now) → OnOk result (Changes (state S.Store tx.old.conn.now) (state S.Store tx.new.conn.now)
-        (λ c. record c { outs = finite.insert c.outs (base.now, name.now) target.now })) }
-    ensures new { HasCleanDisk (state S.Store tx.new.conn.now) → OnOk result (finite.get (contents_of (state S.Store tx.old.conn.now).now).outs (base.now, name.now) ≡ None) }
-    ensures cause { HasCleanDisk (state S.Store tx.new.conn.now) → IfErr result (FailsToInsert outs (Text base.now ∷ Text name.now ∷ Text target.now ∷ []) (IsSome (finite.get (contents_of (state S.Store tx.old.conn.now).now).outs (base.now, name.now))) (state S.Store tx.old.conn.now) (state S.Store tx.new.conn.now)) }
-    ensures failed { HasCleanDisk (state S.Store tx.new.conn.now) → OnErr result (KeepsCommit (state S.Store tx.old.conn.now) (state S.Store tx.new.conn.now)) }
-    ensures survives { Survives (state S.Store tx.old.conn.now) (state S.Store tx.new.conn.now) (λ _. ⊥) }
+    requires { IsInside S.Store tx.old.conn }
+    ensures frame { StaysInside S.Store tx.old.conn tx.new.conn result }
+    ensures done { Makes S.Store tx.old.conn tx.new.conn result
+        (λ c. record c { outs = finite.insert c.outs (base.now, name.now) target.now }) }
+    ensures new { WasFree S.Store tx.old.conn tx.new.conn result (λ c. finite.get c.outs (base.now, name.now)) }
+    ensures cause { FailsToPut S.Store tx.old.conn tx.new.conn result
+        outs (Text base.now ∷ Text name.now ∷ Text target.now ∷ []) (λ c. finite.get c.outs (base.now, name.now)) }
 {
     // A text is UTF-8.
     let _base = base.as_bytes();
@@ -93,13 +82,11 @@ pub fn insert<S: Alter>(
 
 /// Removes the outputs of this base.
 pub fn delete_of<S: Alter>(tx: &mut Transaction<'_, S>, base: &str) -> Result<(), Failure>
-    requires { HasCleanDisk (state S.Store tx.old.conn.now) → IsUnderWay (state S.Store tx.old.conn.now) }
-    ensures same_reference { tx.new.conn.ghost_name ≡ tx.old.conn.ghost_name }
-    ensures done { HasCleanDisk (state S.Store tx.new.conn.now) → OnOk result (Changes (state S.Store tx.old.conn.now) (state S.Store tx.new.conn.now)
-        (λ c. record c { outs = finite.retain_keys c.outs (λ k. not (eq_by_cmp texts_cmp k.0 base.now)) })) }
-    ensures cause { HasCleanDisk (state S.Store tx.new.conn.now) → IfErr result (FailsFor (state S.Store tx.old.conn.now) (state S.Store tx.new.conn.now)) }
-    ensures failed { HasCleanDisk (state S.Store tx.new.conn.now) → OnErr result (KeepsCommit (state S.Store tx.old.conn.now) (state S.Store tx.new.conn.now)) }
-    ensures survives { Survives (state S.Store tx.old.conn.now) (state S.Store tx.new.conn.now) (λ _. ⊥) }
+    requires { IsInside S.Store tx.old.conn }
+    ensures frame { StaysInside S.Store tx.old.conn tx.new.conn result }
+    ensures done { Makes S.Store tx.old.conn tx.new.conn result
+        (λ c. record c { outs = finite.retain_keys c.outs (λ k. not (eq_by_cmp texts_cmp k.0 base.now)) }) }
+    ensures cause { FailsAlone S.Store tx.old.conn.now tx.new.conn.now result }
 {
     statement::remove(tx, "DELETE FROM outs WHERE base = ?1", params![base])
 }

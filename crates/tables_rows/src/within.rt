@@ -1,15 +1,16 @@
 //! Queries inside a transaction: they read what it has written so far.
 
-ghost use Rattle.std.specs.Prelude.{◌≡◌, ◌⊎◌, ◌++◌, true, List, IfOk, IfErr, OnErr, length};
+ghost use Rattle.std.specs.Prelude.{◌≡◌, ◌⊎◌, ◌++◌, true, List, IfOk, IfErr, length};
 ghost use Rattle.std.specs.List.{AllZip, AllAdjacentBelow};
 ghost use Rattle.sqlite_value.specs.Order.{Row as Values};
-ghost use Rattle.sqlite.specs.State.{HasCleanDisk, KeepsCommit, Survives};
+ghost use Rattle.sqlite.specs.State.{HasCleanDisk};
 ghost use Rattle.sqlite.specs.Held.{state};
 ghost use Rattle.sqlite.specs.Values.{bound};
 ghost use Rattle.tables_sql.specs.declared.failure.Failure.TheVariants.{Memory, Disk};
 ghost use Rattle.tables_sql.specs.Reading.{IsAmiss};
 ghost use Rattle.tables_sql.specs.Failures.{IsQueryFailure};
 ghost use Rattle.tables_sql.specs.Queries.{IsSelect, HasBegunWith, IsAnswered};
+ghost use Rattle.tables_rows.specs.Frames.{StaysInside};
 
 use sqlite::types::ValueRef;
 use sqlite::{Alter, Row, Transaction};
@@ -22,7 +23,9 @@ use tables_sql::reading::Sink;
 fn entries<T: Entry>(alloc: Global, rows: &[Row]) -> Result<Vec<T>, Failure>
     ensures shown { IfOk result (λ all. AllZip T.is_shown rows.now all.items) }
     ensures rises { IfOk result (λ all. AllAdjacentBelow (λ x y. true ≡ T.is_below x y) all.items (length all.items)) }
-    ensures cause { IfErr result (λ f. (front : List Values) × (back : List Values) × (rows.now ≡ front ++ back) × ((f ≡ Memory) ⊎ ((f ≡ Disk) × IsAmiss T.is_legible T.is_shown T.is_below front))) }
+    ensures cause { IfErr result
+        (λ f. (front : List Values) × (back : List Values) × (rows.now ≡ front ++ back) × ((f ≡ Memory) ⊎ ((f ≡ Disk)
+        × IsAmiss T.is_legible T.is_shown T.is_below front))) }
 {
     let mut all = Vec::new(alloc);
     'rows: for row in rows {
@@ -31,7 +34,8 @@ fn entries<T: Entry>(alloc: Global, rows: &[Row]) -> Result<Vec<T>, Failure>
     Ok(all)
 }
 
-/// The entries that a query shows, which must rise: an honest disk gives no others. Its rows are held until all are read.
+/// The entries that a query shows, which must rise: an honest disk gives no others. Its rows are held until all are
+/// read.
 pub(crate) fn select<S: Alter, T: Entry>(
     alloc: Global,
     tx: &mut Transaction<'_, S>,
@@ -39,13 +43,17 @@ pub(crate) fn select<S: Alter, T: Entry>(
     params: &[ValueRef<'_>],
 ) -> Result<Vec<T>, Failure>
     requires { IsSelect text.now }
-    ensures same_reference { tx.new.conn.ghost_name ≡ tx.old.conn.ghost_name }
-    ensures shown { HasCleanDisk (state S.Store tx.new.conn.now) → IfOk result (λ all. (rows : List Values) × IsAnswered text.now (bound params.now) (state S.Store tx.old.conn.now) (state S.Store tx.new.conn.now) rows × AllZip T.is_shown rows all.items) }
+    ensures frame { StaysInside S.Store tx.old.conn tx.new.conn result }
+    ensures shown { HasCleanDisk (state S.Store tx.new.conn.now) → IfOk result
+        (λ all. (rows : List Values)
+        × IsAnswered text.now (bound params.now) (state S.Store tx.old.conn.now) (state S.Store tx.new.conn.now) rows
+        × AllZip T.is_shown rows all.items) }
     ensures rises { IfOk result (λ all. AllAdjacentBelow (λ x y. true ≡ T.is_below x y) all.items (length all.items)) }
-    ensures cause { HasCleanDisk (state S.Store tx.new.conn.now) → IfErr result (λ f. IsQueryFailure text.now (bound params.now) (state S.Store tx.old.conn.now) (state S.Store tx.new.conn.now) f
-        ⊎ ((rows : List Values) × HasBegunWith text.now (bound params.now) (state S.Store tx.old.conn.now) (state S.Store tx.new.conn.now) rows × ((f ≡ Memory) ⊎ ((f ≡ Disk) × IsAmiss T.is_legible T.is_shown T.is_below rows)))) }
-    ensures failed { HasCleanDisk (state S.Store tx.new.conn.now) → OnErr result (KeepsCommit (state S.Store tx.old.conn.now) (state S.Store tx.new.conn.now)) }
-    ensures survives { Survives (state S.Store tx.old.conn.now) (state S.Store tx.new.conn.now) (λ _. ⊥) }
+    ensures cause { HasCleanDisk (state S.Store tx.new.conn.now) → IfErr result
+        (λ f. IsQueryFailure text.now (bound params.now) (state S.Store tx.old.conn.now) (state S.Store tx.new.conn.now) f
+        ⊎ ((rows : List Values)
+        × HasBegunWith text.now (bound params.now) (state S.Store tx.old.conn.now) (state S.Store tx.new.conn.now) rows
+        × ((f ≡ Memory) ⊎ ((f ≡ Disk) × IsAmiss T.is_legible T.is_shown T.is_below rows)))) }
 {
     let rows = tx.query_all(text, params)?;
     entries(alloc, rows.as_slice())

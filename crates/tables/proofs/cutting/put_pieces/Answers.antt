@@ -39,9 +39,9 @@ pieces-preserved g c =
     ap (λ ps. change ps was) (next_left n nar more)
     ∙ ap (λ f. change (left_from (n + 1) nar) (record was { pieces = finite.insert was.pieces (base, pos n) f })) (sym c.piece.ensures) in
     record {
-      same_reference = c.in_ok-insert.ensures.same_reference ∙ c.pieces.invariant.same_reference;
-      goes = λ clean. goes_next change (further_pieces nar) first now next (left_from n nar) (left_from (n + 1) nar) _ (c.pieces.invariant.goes (clean_before now next _ c.insert.ensures.survives clean)) (c.in_ok-insert.ensures.done clean) same;
-      survives = survives_both first now next c.pieces.invariant.survives c.insert.ensures.survives;
+      same_reference = c.in_ok-insert.ensures.frame.same_reference ∙ c.pieces.invariant.same_reference;
+      goes = λ clean. goes_next change (further_pieces nar) first now next (left_from n nar) (left_from (n + 1) nar) _ (c.pieces.invariant.goes (clean_before now next _ c.insert.ensures.frame.survives clean)) (c.in_ok-insert.ensures.done clean) same;
+      survives = survives_both first now next c.pieces.invariant.survives c.insert.ensures.frame.survives;
     }
 
 pub insert-requires-clause-stands : goal.insert-requires-clause-stands

@@ -46,13 +46,13 @@ outputs-preserved g c =
     let same : change left was ≡ change rest (record was { outs = finite.insert was.outs (base, c.as_str.result.now) c.as_str-in-outputs.result.now }) =
     ap (λ es. change es was) split ∙ ap (λ m. change rest (record was { outs = m })) written in
     record {
-      same_reference = c.in_ok-insert.ensures.same_reference ∙ c.outputs.invariant.same_reference;
-      goes = λ clean. goes_next change all first now next left rest _ (c.outputs.invariant.goes (clean_before now next _ c.insert.ensures.survives clean)) (c.in_ok-insert.ensures.done clean) same;
+      same_reference = c.in_ok-insert.ensures.frame.same_reference ∙ c.outputs.invariant.same_reference;
+      goes = λ clean. goes_next change all first now next left rest _ (c.outputs.invariant.goes (clean_before now next _ c.insert.ensures.frame.survives clean)) (c.in_ok-insert.ensures.done clean) same;
       free = λ clean.
-          let free = subst (AreFree base was.outs) split (c.outputs.invariant.free (clean_before now next _ c.insert.ensures.survives clean)) in
+          let free = subst (AreFree base was.outs) split (c.outputs.invariant.free (clean_before now next _ c.insert.ensures.frame.survives clean)) in
           let after = free_next base was.outs (name, target) rest free in
           subst (λ (x : Contents). AreFree base x.outs rest) (sym (c.in_ok-insert.ensures.done clean).contents) (subst (λ (m : finite.FinMap pair_cmp Path). AreFree base m rest) written after);
-      survives = survives_both first now next c.outputs.invariant.survives c.insert.ensures.survives;
+      survives = survives_both first now next c.outputs.invariant.survives c.insert.ensures.frame.survives;
     }
 
 pub returns-clause-done : goal.returns-clause-done

@@ -37,7 +37,7 @@ targets-preserved g c =
     ap (λ (xs : List Path). change xs was) split
     ∙ ap (λ t. change rest (record was { refs = finite.insert was.refs (base, t) tt })) (sym c.as_str.ensures.value) in
     record {
-      same_reference = c.in_ok-insert.ensures.same_reference ∙ c.targets.invariant.same_reference;
-      goes = λ clean. goes_next change all first now next left rest _ (c.targets.invariant.goes (clean_before now next _ c.insert.ensures.survives clean)) (c.in_ok-insert.ensures.done clean) same;
-      survives = survives_both first now next c.targets.invariant.survives c.insert.ensures.survives;
+      same_reference = c.in_ok-insert.ensures.frame.same_reference ∙ c.targets.invariant.same_reference;
+      goes = λ clean. goes_next change all first now next left rest _ (c.targets.invariant.goes (clean_before now next _ c.insert.ensures.frame.survives clean)) (c.in_ok-insert.ensures.done clean) same;
+      survives = survives_both first now next c.targets.invariant.survives c.insert.ensures.frame.survives;
     }

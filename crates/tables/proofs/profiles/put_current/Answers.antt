@@ -15,20 +15,20 @@ pub insert-requires : goal.insert-requires
 insert-requires g c clean = under_after (state g.S.Store c.args.tx.now.conn.now) (state g.S.Store c.delete.new.tx.conn.now) _ (c.in_ok-delete.ensures.done clean)
 
 pub returns-clause-same_reference : goal.returns-clause-same_reference
-returns-clause-same_reference g c = c.insert.ensures.same_reference ∙ c.delete.ensures.same_reference
+returns-clause-same_reference g c = c.insert.ensures.frame.same_reference ∙ c.delete.ensures.frame.same_reference
 
 pub returns-clause-done : goal.returns-clause-done
 returns-clause-done g c =
     let owned : List ℕ × List ℕ = (c.args.owner.now, c.args.name.now) in
-    done_both (state g.S.Store c.args.tx.now.conn.now) (state g.S.Store c.delete.new.tx.conn.now) (state g.S.Store c.insert.new.tx.conn.now) _ _ c.in_ok-delete.ensures.done c.insert.ensures.survives
+    done_both (state g.S.Store c.args.tx.now.conn.now) (state g.S.Store c.delete.new.tx.conn.now) (state g.S.Store c.insert.new.tx.conn.now) _ _ c.in_ok-delete.ensures.done c.insert.ensures.frame.survives
     c.insert.result _ (λ (x : Contents). ap (λ m. record x { profiles = m })
     (ap (λ m. finite.insert m owned (pos c.args.current)) (without_pair x.profiles owned.0 owned.1) ∙ put_over pair_total pair_antisymmetric x.profiles owned (pos c.args.current))) c.insert.ensures.done
 
 pub returns-clause-failed : goal.returns-clause-failed
 returns-clause-failed g c =
-    failed_next (state g.S.Store c.args.tx.now.conn.now) (state g.S.Store c.delete.new.tx.conn.now) (state g.S.Store c.insert.new.tx.conn.now) _ (λ x. x) c.in_ok-delete.ensures.done c.insert.ensures.survives
-    c.insert.result c.insert.ensures.failed
+    failed_next (state g.S.Store c.args.tx.now.conn.now) (state g.S.Store c.delete.new.tx.conn.now) (state g.S.Store c.insert.new.tx.conn.now) _ (λ x. x) c.in_ok-delete.ensures.done c.insert.ensures.frame.survives
+    c.insert.result c.insert.ensures.frame.failed
 
 pub returns-clause-survives : goal.returns-clause-survives
 returns-clause-survives g c =
-    survives_both (state g.S.Store c.args.tx.now.conn.now) (state g.S.Store c.delete.new.tx.conn.now) (state g.S.Store c.insert.new.tx.conn.now) c.delete.ensures.survives c.insert.ensures.survives
+    survives_both (state g.S.Store c.args.tx.now.conn.now) (state g.S.Store c.delete.new.tx.conn.now) (state g.S.Store c.insert.new.tx.conn.now) c.delete.ensures.frame.survives c.insert.ensures.frame.survives

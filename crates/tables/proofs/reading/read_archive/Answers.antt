@@ -17,8 +17,8 @@ use Rattle.tables.proofs.reading.read_archive.Goals as goal
 
 pub of-requires-clause-stands : goal.of-requires-clause-stands
 of-requires-clause-stands g c clean is_open =
-    let shown = c.get.ensures.same clean in
-    let early : HasCleanDisk (state g.S.Store c.args.conn.now) = omega (arith, c.get.ensures.survives.clean, clean) in
+    let shown = c.get.ensures.frame.same clean in
+    let early : HasCleanDisk (state g.S.Store c.args.conn.now) = omega (arith, c.get.ensures.frame.survives.clean, clean) in
     subst (λ (d : Database). HasFurther d piece) (sym (shown.now is_open)) (c.requires.stands early (shown.was_open is_open))
 
 pub returns-in_default-clause-reads : goal.returns-in_default-clause-reads
@@ -33,7 +33,7 @@ returns-clause-reads g c clean =
     let s0 = state g.S.Store c.args.conn.now in
     let s1 = state g.S.Store c.get.new.conn in
     let s2 = state g.S.Store c.of.new.conn in
-    let early : HasCleanDisk s1 = omega (arith, c.of.ensures.survives.clean, clean) in
+    let early : HasCleanDisk s1 = omega (arith, c.of.ensures.frame.survives.clean, clean) in
     let first = c.in_ok-found.ensures.reads early in
     let next = c.in_ok-further.ensures.reads clean in
     let stored = subst (IsStored (contents_of s0.now).objects base) c.in-Some.is first.1 in
@@ -48,7 +48,7 @@ returns-then-size-le-PIECE_SIZE-clause-reads g c clean =
     let base = c.args.base.now in
     let s0 = state g.S.Store c.args.conn.now in
     let there = contents_of s0.now in
-    let early : HasCleanDisk s0 = omega (arith, c.get.ensures.survives.clean, clean) in
+    let early : HasCleanDisk s0 = omega (arith, c.get.ensures.frame.survives.clean, clean) in
     let first = c.in_ok-found.ensures.reads clean in
     let stored = subst (IsStored there.objects base) c.in-Some.is first.1 in
     let object = (stored_of c.in-Some.object).1 in (
@@ -59,24 +59,24 @@ returns-then-size-le-PIECE_SIZE-clause-reads g c clean =
 
 pub returns-in_err-further-clause-same : goal.returns-in_err-further-clause-same
 returns-in_err-further-clause-same g c clean =
-    let early : HasCleanDisk (state g.S.Store c.get.new.conn) = omega (arith, c.of.ensures.survives.clean, clean) in
-    shown_then (state g.S.Store c.args.conn.now) (state g.S.Store c.get.new.conn) (state g.S.Store c.of.new.conn) (c.get.ensures.same early) (c.of.ensures.same clean)
+    let early : HasCleanDisk (state g.S.Store c.get.new.conn) = omega (arith, c.of.ensures.frame.survives.clean, clean) in
+    shown_then (state g.S.Store c.args.conn.now) (state g.S.Store c.get.new.conn) (state g.S.Store c.of.new.conn) (c.get.ensures.frame.same early) (c.of.ensures.frame.same clean)
 
 pub returns-in_err-nar-2-clause-same : goal.returns-in_err-nar-2-clause-same
 returns-in_err-nar-2-clause-same g c clean =
-    let early : HasCleanDisk (state g.S.Store c.get.new.conn) = omega (arith, c.of.ensures.survives.clean, clean) in
-    shown_then (state g.S.Store c.args.conn.now) (state g.S.Store c.get.new.conn) (state g.S.Store c.of.new.conn) (c.get.ensures.same early) (c.of.ensures.same clean)
+    let early : HasCleanDisk (state g.S.Store c.get.new.conn) = omega (arith, c.of.ensures.frame.survives.clean, clean) in
+    shown_then (state g.S.Store c.args.conn.now) (state g.S.Store c.get.new.conn) (state g.S.Store c.of.new.conn) (c.get.ensures.frame.same early) (c.of.ensures.frame.same clean)
 
 pub returns-clause-same : goal.returns-clause-same
 returns-clause-same g c clean =
-    let early : HasCleanDisk (state g.S.Store c.get.new.conn) = omega (arith, c.of.ensures.survives.clean, clean) in
-    shown_then (state g.S.Store c.args.conn.now) (state g.S.Store c.get.new.conn) (state g.S.Store c.of.new.conn) (c.get.ensures.same early) (c.of.ensures.same clean)
+    let early : HasCleanDisk (state g.S.Store c.get.new.conn) = omega (arith, c.of.ensures.frame.survives.clean, clean) in
+    shown_then (state g.S.Store c.args.conn.now) (state g.S.Store c.get.new.conn) (state g.S.Store c.of.new.conn) (c.get.ensures.frame.same early) (c.of.ensures.frame.same clean)
 
 pub returns-in_err-further-clause-survives : goal.returns-in_err-further-clause-survives
-returns-in_err-further-clause-survives g c = survives_both (state g.S.Store c.args.conn.now) (state g.S.Store c.get.new.conn) (state g.S.Store c.of.new.conn) c.get.ensures.survives c.of.ensures.survives
+returns-in_err-further-clause-survives g c = survives_both (state g.S.Store c.args.conn.now) (state g.S.Store c.get.new.conn) (state g.S.Store c.of.new.conn) c.get.ensures.frame.survives c.of.ensures.frame.survives
 
 pub returns-in_err-nar-2-clause-survives : goal.returns-in_err-nar-2-clause-survives
-returns-in_err-nar-2-clause-survives g c = survives_both (state g.S.Store c.args.conn.now) (state g.S.Store c.get.new.conn) (state g.S.Store c.of.new.conn) c.get.ensures.survives c.of.ensures.survives
+returns-in_err-nar-2-clause-survives g c = survives_both (state g.S.Store c.args.conn.now) (state g.S.Store c.get.new.conn) (state g.S.Store c.of.new.conn) c.get.ensures.frame.survives c.of.ensures.frame.survives
 
 pub returns-clause-survives : goal.returns-clause-survives
-returns-clause-survives g c = survives_both (state g.S.Store c.args.conn.now) (state g.S.Store c.get.new.conn) (state g.S.Store c.of.new.conn) c.get.ensures.survives c.of.ensures.survives
+returns-clause-survives g c = survives_both (state g.S.Store c.args.conn.now) (state g.S.Store c.get.new.conn) (state g.S.Store c.of.new.conn) c.get.ensures.frame.survives c.of.ensures.frame.survives

@@ -30,11 +30,11 @@ delete_references-requires-clause-told g c clean =
     let a = state g.S.Store c.args.tx.now.conn.now in
     let b = state g.S.Store c.delete.new.tx.conn.now in
     let it = c.in_ok-delete.ensures.done clean in
-    let early : HasCleanDisk a = omega (arith, c.delete.ensures.survives.clean, clean) in
+    let early : HasCleanDisk a = omega (arith, c.delete.ensures.frame.survives.clean, clean) in
     references_told c.args.index.now (contents_of a.now) c.args.path.now c.as_str-base.result.now c.in-Some.object.now (c.requires.covers early it.was_open) c.in-Some.ensures c.as_str-base.ensures.value (contents_of b.now) (ap (λ (x : Contents). x.refs) it.contents)
 
 pub returns-in_err-delete_references-clause-same_reference : goal.returns-in_err-delete_references-clause-same_reference
-returns-in_err-delete_references-clause-same_reference g c = c.delete_references.ensures.same_reference ∙ c.delete.ensures.same_reference
+returns-in_err-delete_references-clause-same_reference g c = c.delete_references.ensures.same_reference ∙ c.delete.ensures.frame.same_reference
 
 pub returns-in_err-delete_references-clause-failed : goal.returns-in_err-delete_references-clause-failed
 returns-in_err-delete_references-clause-failed g c clean =
@@ -48,7 +48,7 @@ returns-in_err-delete_references-clause-survives g c =
     let a = state g.S.Store c.args.tx.now.conn.now in
     let b = state g.S.Store c.delete.new.tx.conn.now in
     let d = state g.S.Store c.delete_references.new.tx.conn.now in
-    survives_both a b d c.delete.ensures.survives c.delete_references.ensures.survives
+    survives_both a b d c.delete.ensures.frame.survives c.delete_references.ensures.survives
 
 -- one that the index hasn't has nothing else
 pub returns-in_default-clause-done : goal.returns-in_default-clause-done
@@ -56,7 +56,7 @@ returns-in_default-clause-done g c clean =
     let a = state g.S.Store c.args.tx.now.conn.now in
     let b = state g.S.Store c.delete.new.tx.conn.now in
     let it = c.in_ok-delete.ensures.done clean in
-    let early : HasCleanDisk a = omega (arith, c.delete.ensures.survives.clean, clean) in
+    let early : HasCleanDisk a = omega (arith, c.delete.ensures.frame.survives.clean, clean) in
     let path = c.args.path.now in
     changes_at a b _ (without_object path) (ap (λ p. record (contents_of a.now) { objects = finite.retain_keys (contents_of a.now).objects (λ k. not (same k p)) }) c.as_str-base.ensures.value ∙ alone_goes c.args.index.now (contents_of a.now) path (c.requires.covers early it.was_open) (sym c.in_default.ensures)) it
 
@@ -80,11 +80,11 @@ delete_outputs-requires-clause-told g c clean =
     let b = state g.S.Store c.delete.new.tx.conn.now in
     let d = state g.S.Store c.delete_references.new.tx.conn.now in
     let it = (steps_both a b d _ _ c.in_ok-delete.ensures.done c.delete_references.ensures.survives c.in_ok-delete_references.ensures.done) clean in
-    let early : HasCleanDisk a = omega (arith, (survives_both a b d c.delete.ensures.survives c.delete_references.ensures.survives).clean, clean) in
+    let early : HasCleanDisk a = omega (arith, (survives_both a b d c.delete.ensures.frame.survives c.delete_references.ensures.survives).clean, clean) in
     outputs_told c.args.index.now (contents_of a.now) c.args.path.now c.as_str-base.result.now c.in-Some.object.now (c.requires.covers early it.was_open) c.in-Some.ensures c.as_str-base.ensures.value (contents_of d.now) (ap (λ (x : Contents). x.outs) it.contents)
 
 pub returns-in_err-delete_outputs-clause-same_reference : goal.returns-in_err-delete_outputs-clause-same_reference
-returns-in_err-delete_outputs-clause-same_reference g c = c.delete_outputs.ensures.same_reference ∙ c.delete_references.ensures.same_reference ∙ c.delete.ensures.same_reference
+returns-in_err-delete_outputs-clause-same_reference g c = c.delete_outputs.ensures.same_reference ∙ c.delete_references.ensures.same_reference ∙ c.delete.ensures.frame.same_reference
 
 pub returns-in_err-delete_outputs-clause-failed : goal.returns-in_err-delete_outputs-clause-failed
 returns-in_err-delete_outputs-clause-failed g c clean =
@@ -100,7 +100,7 @@ returns-in_err-delete_outputs-clause-survives g c =
     let b = state g.S.Store c.delete.new.tx.conn.now in
     let d = state g.S.Store c.delete_references.new.tx.conn.now in
     let e = state g.S.Store c.delete_outputs.new.tx.conn.now in
-    survives_both a d e (survives_both a b d c.delete.ensures.survives c.delete_references.ensures.survives) c.delete_outputs.ensures.survives
+    survives_both a d e (survives_both a b d c.delete.ensures.frame.survives c.delete_references.ensures.survives) c.delete_outputs.ensures.survives
 
 pub delete_pieces-requires-clause-under_way : goal.delete_pieces-requires-clause-under_way
 delete_pieces-requires-clause-under_way g c clean =
@@ -124,7 +124,7 @@ delete_pieces-requires-clause-stands g c clean =
     let b = state g.S.Store c.delete.new.tx.conn.now in
     let d = state g.S.Store c.delete_references.new.tx.conn.now in
     let e = state g.S.Store c.delete_outputs.new.tx.conn.now in
-    pieces_stand a e _ (steps_both a d e _ _ (steps_both a b d _ _ c.in_ok-delete.ensures.done c.delete_references.ensures.survives c.in_ok-delete_references.ensures.done) c.delete_outputs.ensures.survives c.in_ok-delete_outputs.ensures.done) (survives_both a d e (survives_both a b d c.delete.ensures.survives c.delete_references.ensures.survives) c.delete_outputs.ensures.survives) c.requires.stands clean
+    pieces_stand a e _ (steps_both a d e _ _ (steps_both a b d _ _ c.in_ok-delete.ensures.done c.delete_references.ensures.survives c.in_ok-delete_references.ensures.done) c.delete_outputs.ensures.survives c.in_ok-delete_outputs.ensures.done) (survives_both a d e (survives_both a b d c.delete.ensures.frame.survives c.delete_references.ensures.survives) c.delete_outputs.ensures.survives) c.requires.stands clean
 
 pub delete_pieces-requires-clause-told : goal.delete_pieces-requires-clause-told
 delete_pieces-requires-clause-told g c clean =
@@ -133,11 +133,11 @@ delete_pieces-requires-clause-told g c clean =
     let d = state g.S.Store c.delete_references.new.tx.conn.now in
     let e = state g.S.Store c.delete_outputs.new.tx.conn.now in
     let it = (steps_both a d e _ _ (steps_both a b d _ _ c.in_ok-delete.ensures.done c.delete_references.ensures.survives c.in_ok-delete_references.ensures.done) c.delete_outputs.ensures.survives c.in_ok-delete_outputs.ensures.done) clean in
-    let early : HasCleanDisk a = omega (arith, (survives_both a d e (survives_both a b d c.delete.ensures.survives c.delete_references.ensures.survives) c.delete_outputs.ensures.survives).clean, clean) in
+    let early : HasCleanDisk a = omega (arith, (survives_both a d e (survives_both a b d c.delete.ensures.frame.survives c.delete_references.ensures.survives) c.delete_outputs.ensures.survives).clean, clean) in
     pieces_told c.args.index.now (contents_of a.now) c.args.path.now c.as_str-base.result.now c.in-Some.object.now (c.requires.covers early it.was_open) c.in-Some.ensures c.as_str-base.ensures.value (contents_of e.now) (ap (λ (x : Contents). x.pieces) it.contents)
 
 pub returns-clause-same_reference : goal.returns-clause-same_reference
-returns-clause-same_reference g c = c.delete_pieces.ensures.same_reference ∙ c.delete_outputs.ensures.same_reference ∙ c.delete_references.ensures.same_reference ∙ c.delete.ensures.same_reference
+returns-clause-same_reference g c = c.delete_pieces.ensures.same_reference ∙ c.delete_outputs.ensures.same_reference ∙ c.delete_references.ensures.same_reference ∙ c.delete.ensures.frame.same_reference
 
 pub returns-clause-done : goal.returns-clause-done
 returns-clause-done g c =
@@ -164,4 +164,4 @@ returns-clause-survives g c =
     let d = state g.S.Store c.delete_references.new.tx.conn.now in
     let e = state g.S.Store c.delete_outputs.new.tx.conn.now in
     let f = state g.S.Store c.delete_pieces.new.tx.conn.now in
-    survives_both a e f (survives_both a d e (survives_both a b d c.delete.ensures.survives c.delete_references.ensures.survives) c.delete_outputs.ensures.survives) c.delete_pieces.ensures.survives
+    survives_both a e f (survives_both a d e (survives_both a b d c.delete.ensures.frame.survives c.delete_references.ensures.survives) c.delete_outputs.ensures.survives) c.delete_pieces.ensures.survives

@@ -36,59 +36,59 @@ take_roots-requires-clause-runtime g c clean = ap (λ (o : Outline). o.runtime) 
 pub take_objects-requires-clause-stands : goal.take_objects-requires-clause-stands
 take_objects-requires-clause-stands g c clean has is_open =
     let same = (c.in_ok-dir.ensures.unchanged clean).0 in
-    subst (λ (x : Database). HasFurther x piece) (sym same.now_is) ((c.requires.further (omega (arith, c.read.ensures.survives.clean)) same.was_open).pieces has)
+    subst (λ (x : Database). HasFurther x piece) (sym same.now_is) ((c.requires.further (omega (arith, c.read.ensures.frame.survives.clean)) same.was_open).pieces has)
 
 pub take_objects-requires-clause-no_table : goal.take_objects-requires-clause-no_table
 take_objects-requires-clause-no_table g c clean none is_open =
     let same = (c.in_ok-dir.ensures.unchanged clean).0 in
-    ap (λ (x : Database). (contents_of x).pieces) same.now_is ∙ (c.requires.further (omega (arith, c.read.ensures.survives.clean)) same.was_open).no_pieces none
+    ap (λ (x : Database). (contents_of x).pieces) same.now_is ∙ (c.requires.further (omega (arith, c.read.ensures.frame.survives.clean)) same.was_open).no_pieces none
 
 pub take_roots-requires-clause-stands : goal.take_roots-requires-clause-stands
 take_roots-requires-clause-stands g c clean has is_open =
     let early : HasCleanDisk (state g.S.Store c.read.new.conn) = omega (arith, c.take_objects.ensures.survives.clean) in
     let same = (c.in_ok-dir.ensures.unchanged early).0 in
     let still = (c.in_ok-take_objects.ensures.unchanged clean).0 in
-    subst (λ (x : Database). HasFurther x temp_root) (sym (still.now_is ∙ same.now_is)) ((c.requires.further (omega (arith, c.read.ensures.survives.clean)) same.was_open).temporary has)
+    subst (λ (x : Database). HasFurther x temp_root) (sym (still.now_is ∙ same.now_is)) ((c.requires.further (omega (arith, c.read.ensures.frame.survives.clean)) same.was_open).temporary has)
 
 pub take_roots-requires-clause-no_table : goal.take_roots-requires-clause-no_table
 take_roots-requires-clause-no_table g c clean none is_open =
     let early : HasCleanDisk (state g.S.Store c.read.new.conn) = omega (arith, c.take_objects.ensures.survives.clean) in
     let same = (c.in_ok-dir.ensures.unchanged early).0 in
     let still = (c.in_ok-take_objects.ensures.unchanged clean).0 in
-    ap (λ (x : Database). (contents_of x).temp_roots) (still.now_is ∙ same.now_is) ∙ (c.requires.further (omega (arith, c.read.ensures.survives.clean)) same.was_open).no_temporary none
+    ap (λ (x : Database). (contents_of x).temp_roots) (still.now_is ∙ same.now_is) ∙ (c.requires.further (omega (arith, c.read.ensures.frame.survives.clean)) same.was_open).no_temporary none
 
 pub take_roots-requires-clause-temporary : goal.take_roots-requires-clause-temporary
 take_roots-requires-clause-temporary g c clean = ap (λ (o : Outline). o.temporary) (c.in_ok-take_objects.ensures.taken clean c.if-not-branch.false) ∙ ap (λ (o : Outline). o.temporary) c.new-index.ensures
 
 pub returns-in_err-take_objects-clause-same : goal.returns-in_err-take_objects-clause-same
-returns-in_err-take_objects-clause-same g c = both_keep (state g.S.Store c.args.conn.now) (state g.S.Store c.read.new.conn) (state g.S.Store c.take_objects.new.conn) c.read.ensures.same c.take_objects.ensures.same c.take_objects.ensures.survives
+returns-in_err-take_objects-clause-same g c = both_keep (state g.S.Store c.args.conn.now) (state g.S.Store c.read.new.conn) (state g.S.Store c.take_objects.new.conn) c.read.ensures.frame.same c.take_objects.ensures.same c.take_objects.ensures.survives
 
 pub returns-in_err-take_objects-clause-survives : goal.returns-in_err-take_objects-clause-survives
-returns-in_err-take_objects-clause-survives g c = survives_both (state g.S.Store c.args.conn.now) (state g.S.Store c.read.new.conn) (state g.S.Store c.take_objects.new.conn) c.read.ensures.survives c.take_objects.ensures.survives
+returns-in_err-take_objects-clause-survives g c = survives_both (state g.S.Store c.args.conn.now) (state g.S.Store c.read.new.conn) (state g.S.Store c.take_objects.new.conn) c.read.ensures.frame.survives c.take_objects.ensures.survives
 
 pub returns-then-not-branch-clause-same : goal.returns-then-not-branch-clause-same
-returns-then-not-branch-clause-same g c = both_keep (state g.S.Store c.args.conn.now) (state g.S.Store c.read.new.conn) (state g.S.Store c.take_objects.new.conn) c.read.ensures.same c.take_objects.ensures.same c.take_objects.ensures.survives
+returns-then-not-branch-clause-same g c = both_keep (state g.S.Store c.args.conn.now) (state g.S.Store c.read.new.conn) (state g.S.Store c.take_objects.new.conn) c.read.ensures.frame.same c.take_objects.ensures.same c.take_objects.ensures.survives
 
 pub returns-then-not-branch-clause-survives : goal.returns-then-not-branch-clause-survives
-returns-then-not-branch-clause-survives g c = survives_both (state g.S.Store c.args.conn.now) (state g.S.Store c.read.new.conn) (state g.S.Store c.take_objects.new.conn) c.read.ensures.survives c.take_objects.ensures.survives
+returns-then-not-branch-clause-survives g c = survives_both (state g.S.Store c.args.conn.now) (state g.S.Store c.read.new.conn) (state g.S.Store c.take_objects.new.conn) c.read.ensures.frame.survives c.take_objects.ensures.survives
 
 pub returns-in_err-take_roots-clause-same : goal.returns-in_err-take_roots-clause-same
-returns-in_err-take_roots-clause-same g c = both_keep (state g.S.Store c.args.conn.now) (state g.S.Store c.take_objects.new.conn) (state g.S.Store c.take_roots.new.conn) (both_keep (state g.S.Store c.args.conn.now) (state g.S.Store c.read.new.conn) (state g.S.Store c.take_objects.new.conn) c.read.ensures.same c.take_objects.ensures.same c.take_objects.ensures.survives) c.take_roots.ensures.same c.take_roots.ensures.survives
+returns-in_err-take_roots-clause-same g c = both_keep (state g.S.Store c.args.conn.now) (state g.S.Store c.take_objects.new.conn) (state g.S.Store c.take_roots.new.conn) (both_keep (state g.S.Store c.args.conn.now) (state g.S.Store c.read.new.conn) (state g.S.Store c.take_objects.new.conn) c.read.ensures.frame.same c.take_objects.ensures.same c.take_objects.ensures.survives) c.take_roots.ensures.frame.same c.take_roots.ensures.frame.survives
 
 pub returns-in_err-take_roots-clause-survives : goal.returns-in_err-take_roots-clause-survives
-returns-in_err-take_roots-clause-survives g c = survives_both (state g.S.Store c.args.conn.now) (state g.S.Store c.take_objects.new.conn) (state g.S.Store c.take_roots.new.conn) (survives_both (state g.S.Store c.args.conn.now) (state g.S.Store c.read.new.conn) (state g.S.Store c.take_objects.new.conn) c.read.ensures.survives c.take_objects.ensures.survives) c.take_roots.ensures.survives
+returns-in_err-take_roots-clause-survives g c = survives_both (state g.S.Store c.args.conn.now) (state g.S.Store c.take_objects.new.conn) (state g.S.Store c.take_roots.new.conn) (survives_both (state g.S.Store c.args.conn.now) (state g.S.Store c.read.new.conn) (state g.S.Store c.take_objects.new.conn) c.read.ensures.frame.survives c.take_objects.ensures.survives) c.take_roots.ensures.frame.survives
 
 pub returns-then-not-branch-2-clause-same : goal.returns-then-not-branch-2-clause-same
-returns-then-not-branch-2-clause-same g c = both_keep (state g.S.Store c.args.conn.now) (state g.S.Store c.take_objects.new.conn) (state g.S.Store c.take_roots.new.conn) (both_keep (state g.S.Store c.args.conn.now) (state g.S.Store c.read.new.conn) (state g.S.Store c.take_objects.new.conn) c.read.ensures.same c.take_objects.ensures.same c.take_objects.ensures.survives) c.take_roots.ensures.same c.take_roots.ensures.survives
+returns-then-not-branch-2-clause-same g c = both_keep (state g.S.Store c.args.conn.now) (state g.S.Store c.take_objects.new.conn) (state g.S.Store c.take_roots.new.conn) (both_keep (state g.S.Store c.args.conn.now) (state g.S.Store c.read.new.conn) (state g.S.Store c.take_objects.new.conn) c.read.ensures.frame.same c.take_objects.ensures.same c.take_objects.ensures.survives) c.take_roots.ensures.frame.same c.take_roots.ensures.frame.survives
 
 pub returns-then-not-branch-2-clause-survives : goal.returns-then-not-branch-2-clause-survives
-returns-then-not-branch-2-clause-survives g c = survives_both (state g.S.Store c.args.conn.now) (state g.S.Store c.take_objects.new.conn) (state g.S.Store c.take_roots.new.conn) (survives_both (state g.S.Store c.args.conn.now) (state g.S.Store c.read.new.conn) (state g.S.Store c.take_objects.new.conn) c.read.ensures.survives c.take_objects.ensures.survives) c.take_roots.ensures.survives
+returns-then-not-branch-2-clause-survives g c = survives_both (state g.S.Store c.args.conn.now) (state g.S.Store c.take_objects.new.conn) (state g.S.Store c.take_roots.new.conn) (survives_both (state g.S.Store c.args.conn.now) (state g.S.Store c.read.new.conn) (state g.S.Store c.take_objects.new.conn) c.read.ensures.frame.survives c.take_objects.ensures.survives) c.take_roots.ensures.frame.survives
 
 pub returns-clause-same : goal.returns-clause-same
-returns-clause-same g c = both_keep (state g.S.Store c.args.conn.now) (state g.S.Store c.take_objects.new.conn) (state g.S.Store c.take_roots.new.conn) (both_keep (state g.S.Store c.args.conn.now) (state g.S.Store c.read.new.conn) (state g.S.Store c.take_objects.new.conn) c.read.ensures.same c.take_objects.ensures.same c.take_objects.ensures.survives) c.take_roots.ensures.same c.take_roots.ensures.survives
+returns-clause-same g c = both_keep (state g.S.Store c.args.conn.now) (state g.S.Store c.take_objects.new.conn) (state g.S.Store c.take_roots.new.conn) (both_keep (state g.S.Store c.args.conn.now) (state g.S.Store c.read.new.conn) (state g.S.Store c.take_objects.new.conn) c.read.ensures.frame.same c.take_objects.ensures.same c.take_objects.ensures.survives) c.take_roots.ensures.frame.same c.take_roots.ensures.frame.survives
 
 pub returns-clause-survives : goal.returns-clause-survives
-returns-clause-survives g c = survives_both (state g.S.Store c.args.conn.now) (state g.S.Store c.take_objects.new.conn) (state g.S.Store c.take_roots.new.conn) (survives_both (state g.S.Store c.args.conn.now) (state g.S.Store c.read.new.conn) (state g.S.Store c.take_objects.new.conn) c.read.ensures.survives c.take_objects.ensures.survives) c.take_roots.ensures.survives
+returns-clause-survives g c = survives_both (state g.S.Store c.args.conn.now) (state g.S.Store c.take_objects.new.conn) (state g.S.Store c.take_roots.new.conn) (survives_both (state g.S.Store c.args.conn.now) (state g.S.Store c.read.new.conn) (state g.S.Store c.take_objects.new.conn) c.read.ensures.frame.survives c.take_objects.ensures.survives) c.take_roots.ensures.frame.survives
 
 pub returns-then-not-branch-clause-told : goal.returns-then-not-branch-clause-told
 returns-then-not-branch-clause-told g c clean =
@@ -106,7 +106,7 @@ returns-then-not-branch-2-clause-told g c clean =
     let a = state g.S.Store c.args.conn.now in
     let b = state g.S.Store c.read.new.conn in
     let d = state g.S.Store c.take_objects.new.conn in
-    let later : HasCleanDisk d = omega (arith, c.take_roots.ensures.survives.clean) in
+    let later : HasCleanDisk d = omega (arith, c.take_roots.ensures.frame.survives.clean) in
     let early : HasCleanDisk b = omega (arith, c.take_objects.ensures.survives.clean) in
     let same : b.now ≡ a.now = (c.in_ok-dir.ensures.unchanged early).0.now_is in
     let still : d.now ≡ a.now = (c.in_ok-take_objects.ensures.unchanged later).0.now_is ∙ same in
@@ -125,9 +125,9 @@ returns-clause-told g c clean =
     let a = state g.S.Store c.args.conn.now in
     let b = state g.S.Store c.read.new.conn in
     let d = state g.S.Store c.take_objects.new.conn in
-    let later : HasCleanDisk d = omega (arith, c.take_roots.ensures.survives.clean) in
+    let later : HasCleanDisk d = omega (arith, c.take_roots.ensures.frame.survives.clean) in
     let early : HasCleanDisk b = omega (arith, c.take_objects.ensures.survives.clean) in
-    let further = c.requires.further (omega (arith, c.read.ensures.survives.clean)) (c.in_ok-dir.ensures.unchanged early).0.was_open in
+    let further = c.requires.further (omega (arith, c.read.ensures.frame.survives.clean)) (c.in_ok-dir.ensures.unchanged early).0.was_open in
     let same : b.now ≡ a.now = (c.in_ok-dir.ensures.unchanged early).0.now_is in
     let still : d.now ≡ a.now = (c.in_ok-take_objects.ensures.unchanged later).0.now_is ∙ same in
     let named = named_dir (schema_view c.args.schema) (contents_of a.now) c.in_ok-dir.field-0 c.in-Some.dir c.in-Some.is (c.in_ok-dir.ensures.told early) in
@@ -150,7 +150,7 @@ returns-then-not-branch-2-clause-unchanged g c clean =
     let b = state g.S.Store c.read.new.conn in
     let d = state g.S.Store c.take_objects.new.conn in
     let e = state g.S.Store c.take_roots.new.conn in
-    let later : HasCleanDisk d = omega (arith, c.take_roots.ensures.survives.clean) in
+    let later : HasCleanDisk d = omega (arith, c.take_roots.ensures.frame.survives.clean) in
     let early : HasCleanDisk b = omega (arith, c.take_objects.ensures.survives.clean) in
     unchanged_then a d e (unchanged_then a b d (c.in_ok-dir.ensures.unchanged early) (c.in_ok-take_objects.ensures.unchanged later)) (c.in_ok-take_roots.ensures.unchanged clean)
 
@@ -160,6 +160,6 @@ returns-clause-unchanged g c clean =
     let b = state g.S.Store c.read.new.conn in
     let d = state g.S.Store c.take_objects.new.conn in
     let e = state g.S.Store c.take_roots.new.conn in
-    let later : HasCleanDisk d = omega (arith, c.take_roots.ensures.survives.clean) in
+    let later : HasCleanDisk d = omega (arith, c.take_roots.ensures.frame.survives.clean) in
     let early : HasCleanDisk b = omega (arith, c.take_objects.ensures.survives.clean) in
     unchanged_then a d e (unchanged_then a b d (c.in_ok-dir.ensures.unchanged early) (c.in_ok-take_objects.ensures.unchanged later)) (c.in_ok-take_roots.ensures.unchanged clean)

@@ -33,7 +33,7 @@ roots-preserved g c =
     ap (λ ps. change ps was) split
     ∙ ap₂ (λ l t. change rest (record was { runtime = finite.insert was.runtime (l, t) tt })) (sym c.as_str.ensures.value) (sym c.as_str-in-roots.ensures.value) in
     record {
-      same_reference = c.in_ok-insert.ensures.same_reference ∙ c.roots.invariant.same_reference;
-      goes = λ clean. goes_next change (map labelled_bytes c.into_iter-root-iterator.result) first now next left rest _ (c.roots.invariant.goes (clean_before now next _ c.insert.ensures.survives clean)) (c.in_ok-insert.ensures.done clean) same;
-      survives = survives_both first now next c.roots.invariant.survives c.insert.ensures.survives;
+      same_reference = c.in_ok-insert.ensures.frame.same_reference ∙ c.roots.invariant.same_reference;
+      goes = λ clean. goes_next change (map labelled_bytes c.into_iter-root-iterator.result) first now next left rest _ (c.roots.invariant.goes (clean_before now next _ c.insert.ensures.frame.survives clean)) (c.in_ok-insert.ensures.done clean) same;
+      survives = survives_both first now next c.roots.invariant.survives c.insert.ensures.frame.survives;
     }

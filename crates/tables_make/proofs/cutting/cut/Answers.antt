@@ -18,7 +18,7 @@ pub cut_found-requires-clause-under_way : goal.cut_found-requires-clause-under_w
 cut_found-requires-clause-under_way g c clean =
     let a = state g.S.Store c.args.tx.now.conn.now in
     let b = state g.S.Store c.get_within.new.tx.conn.now in
-    let early : HasCleanDisk a = clean_before a b _ c.get_within.ensures.survives clean in
+    let early : HasCleanDisk a = clean_before a b _ c.get_within.ensures.frame.survives clean in
     under_after a b (λ x. x) (changes_nothing a b (c.requires.under_way early) (c.in_ok-found.ensures.reads clean).0)
 
 pub cut_found-requires-clause-is_open : goal.cut_found-requires-clause-is_open
@@ -29,7 +29,7 @@ cut_found-requires-clause-stands g c clean =
     let a = state g.S.Store c.args.tx.now.conn.now in
     let b = state g.S.Store c.get_within.new.tx.conn.now in
     let same = (c.in_ok-found.ensures.reads clean).0.0 in
-    subst (λ (x : Database). HasFurther x piece) (sym same.now_is) (c.requires.stands (clean_before a b _ c.get_within.ensures.survives clean) same.was_open)
+    subst (λ (x : Database). HasFurther x piece) (sym same.now_is) (c.requires.stands (clean_before a b _ c.get_within.ensures.frame.survives clean) same.was_open)
 
 pub cut_found-requires-clause-there : goal.cut_found-requires-clause-there
 cut_found-requires-clause-there g c clean =
@@ -45,7 +45,7 @@ returns-in-Some-clause-done g c clean =
     let early : HasCleanDisk b = clean_before b d _ c.cut_found.ensures.survives clean in
     let there = found_is (contents_of a.now).objects c.args.base.now c.in_ok-found.found c.in-Some.object c.in-Some.is (c.in_ok-found.ensures.reads early).1 in
     done_both a b d (λ x. x) (cut_object (stored_of c.in-Some.object).0)
-    (λ now. changes_nothing a b (c.requires.under_way (clean_before a b _ c.get_within.ensures.survives now)) (c.in_ok-found.ensures.reads now).0) c.cut_found.ensures.survives
+    (λ now. changes_nothing a b (c.requires.under_way (clean_before a b _ c.get_within.ensures.frame.survives now)) (c.in_ok-found.ensures.reads now).0) c.cut_found.ensures.survives
     c.cut_found.result (cut_object c.args.base.now) (λ (x : Contents). ap (λ p. cut_object p x) there.0) c.cut_found.ensures.done clean
 
 pub returns-in-Some-clause-failed : goal.returns-in-Some-clause-failed
@@ -53,12 +53,12 @@ returns-in-Some-clause-failed g c =
     let a = state g.S.Store c.args.tx.now.conn.now in
     let b = state g.S.Store c.get_within.new.tx.conn.now in
     failed_next a b (state g.S.Store c.cut_found.new.tx.conn.now) (λ x. x) (λ x. x)
-    (λ now. changes_nothing a b (c.requires.under_way (clean_before a b _ c.get_within.ensures.survives now)) (c.in_ok-found.ensures.reads now).0) c.cut_found.ensures.survives
+    (λ now. changes_nothing a b (c.requires.under_way (clean_before a b _ c.get_within.ensures.frame.survives now)) (c.in_ok-found.ensures.reads now).0) c.cut_found.ensures.survives
     c.cut_found.result c.cut_found.ensures.failed
 
 pub returns-in-Some-clause-survives : goal.returns-in-Some-clause-survives
 returns-in-Some-clause-survives g c =
-    survives_both (state g.S.Store c.args.tx.now.conn.now) (state g.S.Store c.get_within.new.tx.conn.now) (state g.S.Store c.cut_found.new.tx.conn.now) c.get_within.ensures.survives c.cut_found.ensures.survives
+    survives_both (state g.S.Store c.args.tx.now.conn.now) (state g.S.Store c.get_within.new.tx.conn.now) (state g.S.Store c.cut_found.new.tx.conn.now) c.get_within.ensures.frame.survives c.cut_found.ensures.survives
 
 pub returns-in-None-clause-done : goal.returns-in-None-clause-done
 returns-in-None-clause-done g c clean =
@@ -66,4 +66,4 @@ returns-in-None-clause-done g c clean =
     let b = state g.S.Store c.get_within.new.tx.conn.now in
     let reads = c.in_ok-found.ensures.reads clean in
     changes_at a b (λ x. x) _ (none_cut c.args.base.now (contents_of a.now) (none_is (contents_of a.now).objects c.args.base.now c.in_ok-found.found c.in-None.is reads.1))
-    (changes_nothing a b (c.requires.under_way (clean_before a b _ c.get_within.ensures.survives clean)) reads.0)
+    (changes_nothing a b (c.requires.under_way (clean_before a b _ c.get_within.ensures.frame.survives clean)) reads.0)

@@ -18,28 +18,28 @@ pub insert-requires : goal.insert-requires
 insert-requires g c clean = under_after (state g.S.Store c.args.tx.now.conn.now) (state g.S.Store c.delete.new.tx.conn.now) _ (c.in_ok-delete.ensures.done clean)
 
 pub returns-in_err-insert-clause-same_reference : goal.returns-in_err-insert-clause-same_reference
-returns-in_err-insert-clause-same_reference g c = c.insert.ensures.same_reference ∙ c.delete.ensures.same_reference
+returns-in_err-insert-clause-same_reference g c = c.insert.ensures.frame.same_reference ∙ c.delete.ensures.frame.same_reference
 
 pub returns-in_err-insert-clause-failed : goal.returns-in_err-insert-clause-failed
 returns-in_err-insert-clause-failed g c clean =
     let a = state g.S.Store c.args.tx.now.conn.now in
     let b = state g.S.Store c.delete.new.tx.conn.now in
     let d = state g.S.Store c.insert.new.tx.conn.now in
-    err_kept a b d _ c.from_residual-in_err-insert.result c.in_ok-delete.ensures.done c.insert.ensures.survives (c.in_err-insert.ensures.failed clean) clean
+    err_kept a b d _ c.from_residual-in_err-insert.result c.in_ok-delete.ensures.done c.insert.ensures.frame.survives (c.in_err-insert.ensures.frame.failed clean) clean
 
 pub returns-in_err-insert-clause-survives : goal.returns-in_err-insert-clause-survives
 returns-in_err-insert-clause-survives g c =
     let a = state g.S.Store c.args.tx.now.conn.now in
     let b = state g.S.Store c.delete.new.tx.conn.now in
     let d = state g.S.Store c.insert.new.tx.conn.now in
-    survives_both a b d c.delete.ensures.survives c.insert.ensures.survives
+    survives_both a b d c.delete.ensures.frame.survives c.insert.ensures.frame.survives
 
 pub put_pieces-requires-clause-under_way : goal.put_pieces-requires-clause-under_way
 put_pieces-requires-clause-under_way g c clean =
     let a = state g.S.Store c.args.tx.now.conn.now in
     let b = state g.S.Store c.delete.new.tx.conn.now in
     let d = state g.S.Store c.insert.new.tx.conn.now in
-    under_after a d _ (steps_both a b d _ _ c.in_ok-delete.ensures.done c.insert.ensures.survives c.in_ok-insert.ensures.done clean)
+    under_after a d _ (steps_both a b d _ _ c.in_ok-delete.ensures.done c.insert.ensures.frame.survives c.in_ok-insert.ensures.done clean)
 
 pub put_pieces-requires-clause-is_open : goal.put_pieces-requires-clause-is_open
 put_pieces-requires-clause-is_open g c clean = (c.in_ok-insert.ensures.done clean).is_open
@@ -49,11 +49,11 @@ put_pieces-requires-clause-stands g c clean =
     let a = state g.S.Store c.args.tx.now.conn.now in
     let b = state g.S.Store c.delete.new.tx.conn.now in
     let d = state g.S.Store c.insert.new.tx.conn.now in
-    let early : HasCleanDisk b = clean_before b d _ c.insert.ensures.survives clean in
-    piece_after b d _ (c.in_ok-insert.ensures.done clean) (piece_after a b _ (c.in_ok-delete.ensures.done early) (c.requires.stands (clean_before a b _ c.delete.ensures.survives early)))
+    let early : HasCleanDisk b = clean_before b d _ c.insert.ensures.frame.survives clean in
+    piece_after b d _ (c.in_ok-insert.ensures.done clean) (piece_after a b _ (c.in_ok-delete.ensures.done early) (c.requires.stands (clean_before a b _ c.delete.ensures.frame.survives early)))
 
 pub returns-clause-same_reference : goal.returns-clause-same_reference
-returns-clause-same_reference g c = c.put_pieces.ensures.same_reference ∙ c.insert.ensures.same_reference ∙ c.delete.ensures.same_reference
+returns-clause-same_reference g c = c.put_pieces.ensures.same_reference ∙ c.insert.ensures.frame.same_reference ∙ c.delete.ensures.frame.same_reference
 
 pub returns-clause-done : goal.returns-clause-done
 returns-clause-done g c =
@@ -69,7 +69,7 @@ returns-clause-done g c =
     let digest = c.deref-2.result.now in
     let first : front ≡ row_part nar = c.split_at.ensures.front ∙ ap (take 65536) c.deref.ensures.value ∙ ap (λ k. take k nar) (sym size) in
     let rest : after ≡ drop piece_size nar = c.split_at.ensures.back ∙ ap (drop 65536) c.deref.ensures.value ∙ ap (λ k. drop k nar) (sym size) in
-    done_both a d (state g.S.Store c.put_pieces.new.tx.conn.now) _ _ (steps_both a b d _ _ c.in_ok-delete.ensures.done c.insert.ensures.survives c.in_ok-insert.ensures.done) c.put_pieces.ensures.survives
+    done_both a d (state g.S.Store c.put_pieces.new.tx.conn.now) _ _ (steps_both a b d _ _ c.in_ok-delete.ensures.done c.insert.ensures.frame.survives c.in_ok-insert.ensures.done) c.put_pieces.ensures.survives
     c.put_pieces.result (cut_row (stored_of object).0 (stored_of object).1)
     (λ (x : Contents). written x base (string_bytes object.base) front digest hash after nar object.deriver object.ca c.as_str-base.ensures.value first c.deref-2.ensures.value rest)
     c.put_pieces.ensures.done
@@ -79,7 +79,7 @@ returns-clause-failed g c =
     let a = state g.S.Store c.args.tx.now.conn.now in
     let b = state g.S.Store c.delete.new.tx.conn.now in
     let d = state g.S.Store c.insert.new.tx.conn.now in
-    failed_next a d (state g.S.Store c.put_pieces.new.tx.conn.now) _ (λ x. x) (steps_both a b d _ _ c.in_ok-delete.ensures.done c.insert.ensures.survives c.in_ok-insert.ensures.done) c.put_pieces.ensures.survives
+    failed_next a d (state g.S.Store c.put_pieces.new.tx.conn.now) _ (λ x. x) (steps_both a b d _ _ c.in_ok-delete.ensures.done c.insert.ensures.frame.survives c.in_ok-insert.ensures.done) c.put_pieces.ensures.survives
     c.put_pieces.result c.put_pieces.ensures.failed
 
 pub returns-clause-survives : goal.returns-clause-survives
@@ -87,4 +87,4 @@ returns-clause-survives g c =
     let a = state g.S.Store c.args.tx.now.conn.now in
     let b = state g.S.Store c.delete.new.tx.conn.now in
     let d = state g.S.Store c.insert.new.tx.conn.now in
-    survives_both a d (state g.S.Store c.put_pieces.new.tx.conn.now) (survives_both a b d c.delete.ensures.survives c.insert.ensures.survives) c.put_pieces.ensures.survives
+    survives_both a d (state g.S.Store c.put_pieces.new.tx.conn.now) (survives_both a b d c.delete.ensures.frame.survives c.insert.ensures.frame.survives) c.put_pieces.ensures.survives

@@ -41,11 +41,11 @@ pieces-preserved g c =
     let split : pieces_by bytes n bytes ≡ (pos n, front) ∷ pieces_by after (n + 1) after =
     first_piece bytes n some ∙ ap₂ (λ p (r : List ℕ). (pos n, p) ∷ pieces_by r (n + 1) r) (sym front_is) (sym after_is) in
     record {
-      same_reference = c.in_ok-insert.ensures.same_reference ∙ c.pieces.invariant.same_reference;
+      same_reference = c.in_ok-insert.ensures.frame.same_reference ∙ c.pieces.invariant.same_reference;
       goes = λ clean. goes_next change (pieces_by c.args.bytes.now 1 c.args.bytes.now) first now next (pieces_by bytes n bytes) (pieces_by after (n + 1) after) _
-          (c.pieces.invariant.goes (clean_before now next _ c.insert.ensures.survives clean)) (c.in_ok-insert.ensures.done clean) (ap (λ es. change es was) split);
-      stands = λ clean. piece_after now next _ (c.in_ok-insert.ensures.done clean) (c.pieces.invariant.stands (clean_before now next _ c.insert.ensures.survives clean));
-      survives = survives_both first now next c.pieces.invariant.survives c.insert.ensures.survives;
+          (c.pieces.invariant.goes (clean_before now next _ c.insert.ensures.frame.survives clean)) (c.in_ok-insert.ensures.done clean) (ap (λ es. change es was) split);
+      stands = λ clean. piece_after now next _ (c.in_ok-insert.ensures.done clean) (c.pieces.invariant.stands (clean_before now next _ c.insert.ensures.frame.survives clean));
+      survives = survives_both first now next c.pieces.invariant.survives c.insert.ensures.frame.survives;
     }
 
 pub returns-then-is_empty-clause-same_reference : goal.returns-then-is_empty-clause-same_reference

@@ -28,7 +28,7 @@ commit_first-requires-clause-first g c clean is_open =
     let a = state g.S.Store c.args.conn.now in
     let b = state g.S.Store c.keys.new.conn in
     let same = (c.in_ok-bases.ensures.reads clean).0.0 in
-    subst (λ (x : Database). HasFirst x.schema) (sym same.now_is) (c.requires.first (clean_before a b _ c.keys.ensures.survives clean) same.was_open)
+    subst (λ (x : Database). HasFirst x.schema) (sym same.now_is) (c.requires.first (clean_before a b _ c.keys.ensures.frame.survives clean) same.was_open)
 
 pub returns-clause-done : goal.returns-clause-done
 returns-clause-done g c clean =
@@ -44,7 +44,7 @@ returns-clause-failed g c clean =
     let a = state g.S.Store c.args.conn.now in
     let b = state g.S.Store c.keys.new.conn in
     let d = state g.S.Store c.commit_first.new.conn in
-    shown_err c.commit_first.result a b d (c.keys.ensures.same (clean_before b d _ c.commit_first.ensures.survives clean)) (c.commit_first.ensures.failed clean)
+    shown_err c.commit_first.result a b d (c.keys.ensures.frame.same (clean_before b d _ c.commit_first.ensures.survives clean)) (c.commit_first.ensures.failed clean)
 
 pub returns-clause-survives : goal.returns-clause-survives
 returns-clause-survives g c =
@@ -58,4 +58,4 @@ returns-clause-survives g c =
     let names = ap (map string_bytes) c.deref.ensures.value ∙ reads.1 in
     subst (λ (x : Contents). Leaves (grown (lacking one) a.now) db x) (written a.now b.now (map string_bytes c.deref.result.now) dir reads.0.0.now_is names sound)
     (subst (λ (x : Database). Leaves (grown (lacking one) x) db (renumbered (cut_objects (map string_bytes c.deref.result.now) (contents_of b.now)))) reads.0.0.now_is l))
-    c.keys.ensures.survives c.commit_first.ensures.survives
+    c.keys.ensures.frame.survives c.commit_first.ensures.survives

@@ -19,8 +19,8 @@ keys_of-requires-clause-stands g c clean has is_open =
     let s1 = state g.S.Store c.all.new.conn in
     let s2 = state g.S.Store c.all-2.new.conn in
     further_after s0 s2 (λ d. HasFurther d piece)
-    (unchanged_both s0 s1 s2 (λ early. (c.in_ok-references.ensures.reads early).0) (λ late. (c.in_ok-outputs.ensures.reads late).0) c.all-2.ensures.survives)
-    (survives_both s0 s1 s2 c.all.ensures.survives c.all-2.ensures.survives) (λ was up. c.requires.stands was has up) clean
+    (unchanged_both s0 s1 s2 (λ early. (c.in_ok-references.ensures.reads early).0) (λ late. (c.in_ok-outputs.ensures.reads late).0) c.all-2.ensures.frame.survives)
+    (survives_both s0 s1 s2 c.all.ensures.frame.survives c.all-2.ensures.frame.survives) (λ was up. c.requires.stands was has up) clean
 
 pub keys_of-requires-clause-no_table : goal.keys_of-requires-clause-no_table
 keys_of-requires-clause-no_table g c clean has is_open =
@@ -28,22 +28,22 @@ keys_of-requires-clause-no_table g c clean has is_open =
     let s1 = state g.S.Store c.all.new.conn in
     let s2 = state g.S.Store c.all-2.new.conn in
     further_after s0 s2 (λ d. (contents_of d).pieces ≡ finite.empty)
-    (unchanged_both s0 s1 s2 (λ early. (c.in_ok-references.ensures.reads early).0) (λ late. (c.in_ok-outputs.ensures.reads late).0) c.all-2.ensures.survives)
-    (survives_both s0 s1 s2 c.all.ensures.survives c.all-2.ensures.survives) (λ was up. c.requires.no_table was has up) clean
+    (unchanged_both s0 s1 s2 (λ early. (c.in_ok-references.ensures.reads early).0) (λ late. (c.in_ok-outputs.ensures.reads late).0) c.all-2.ensures.frame.survives)
+    (survives_both s0 s1 s2 c.all.ensures.frame.survives c.all-2.ensures.frame.survives) (λ was up. c.requires.no_table was has up) clean
 
 pub returns-in_err-outputs-clause-same : goal.returns-in_err-outputs-clause-same
 returns-in_err-outputs-clause-same g c clean =
-    both_keep (state g.S.Store c.args.conn.now) (state g.S.Store c.all.new.conn) _ c.all.ensures.same c.all-2.ensures.same c.all-2.ensures.survives clean
+    both_keep (state g.S.Store c.args.conn.now) (state g.S.Store c.all.new.conn) _ c.all.ensures.frame.same c.all-2.ensures.frame.same c.all-2.ensures.frame.survives clean
 
 pub returns-in_err-outputs-clause-survives : goal.returns-in_err-outputs-clause-survives
-returns-in_err-outputs-clause-survives g c = survives_both _ _ _ c.all.ensures.survives c.all-2.ensures.survives
+returns-in_err-outputs-clause-survives g c = survives_both _ _ _ c.all.ensures.frame.survives c.all-2.ensures.frame.survives
 
 pub returns-in_err-pieces-clause-same : goal.returns-in_err-pieces-clause-same
 returns-in_err-pieces-clause-same g c =
-    three_keep (state g.S.Store c.args.conn.now) (state g.S.Store c.all.new.conn) (state g.S.Store c.all-2.new.conn) _ c.all.ensures.same c.all-2.ensures.same c.keys_of.ensures.same c.all-2.ensures.survives c.keys_of.ensures.survives
+    three_keep (state g.S.Store c.args.conn.now) (state g.S.Store c.all.new.conn) (state g.S.Store c.all-2.new.conn) _ c.all.ensures.frame.same c.all-2.ensures.frame.same c.keys_of.ensures.same c.all-2.ensures.frame.survives c.keys_of.ensures.survives
 
 pub returns-in_err-pieces-clause-survives : goal.returns-in_err-pieces-clause-survives
-returns-in_err-pieces-clause-survives g c = survives_three _ _ _ _ c.all.ensures.survives c.all-2.ensures.survives c.keys_of.ensures.survives
+returns-in_err-pieces-clause-survives g c = survives_three _ _ _ _ c.all.ensures.frame.survives c.all-2.ensures.frame.survives c.keys_of.ensures.survives
 
 pub returns-clause-reads : goal.returns-clause-reads
 returns-clause-reads g c clean =
@@ -52,7 +52,7 @@ returns-clause-reads g c clean =
     let s2 = state g.S.Store c.all-2.new.conn in
     let s3 = state g.S.Store c.keys_of.new.conn in
     let clean2 = clean_before s2 s3 (λ _. ⊥) c.keys_of.ensures.survives clean in
-    let clean1 = clean_before s1 s2 (λ _. ⊥) c.all-2.ensures.survives clean2 in
+    let clean1 = clean_before s1 s2 (λ _. ⊥) c.all-2.ensures.frame.survives clean2 in
     let one = c.in_ok-references.ensures.reads clean1 in
     let two = c.in_ok-outputs.ensures.reads clean2 in
     let three = c.in_ok-pieces.ensures.reads clean in
@@ -67,7 +67,7 @@ returns-clause-reads g c clean =
 
 pub returns-clause-same : goal.returns-clause-same
 returns-clause-same g c =
-    three_keep (state g.S.Store c.args.conn.now) (state g.S.Store c.all.new.conn) (state g.S.Store c.all-2.new.conn) _ c.all.ensures.same c.all-2.ensures.same c.keys_of.ensures.same c.all-2.ensures.survives c.keys_of.ensures.survives
+    three_keep (state g.S.Store c.args.conn.now) (state g.S.Store c.all.new.conn) (state g.S.Store c.all-2.new.conn) _ c.all.ensures.frame.same c.all-2.ensures.frame.same c.keys_of.ensures.same c.all-2.ensures.frame.survives c.keys_of.ensures.survives
 
 pub returns-clause-survives : goal.returns-clause-survives
-returns-clause-survives g c = survives_three _ _ _ _ c.all.ensures.survives c.all-2.ensures.survives c.keys_of.ensures.survives
+returns-clause-survives g c = survives_three _ _ _ _ c.all.ensures.frame.survives c.all-2.ensures.frame.survives c.keys_of.ensures.survives

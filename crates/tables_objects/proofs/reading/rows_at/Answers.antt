@@ -18,28 +18,28 @@ pieces_of-requires-clause-stands g c clean has is_open =
     let s0 = state g.S.Store c.args.conn.now in
     let s1 = state g.S.Store c.get.new.conn in
     let one = (c.in_ok-object.ensures.reads clean).0.0 in
-    further_still s0 s1 (λ d. HasFurther d piece) one.now_is (c.requires.stands (clean_before s0 s1 (λ _. ⊥) c.get.ensures.survives clean) has one.was_open)
+    further_still s0 s1 (λ d. HasFurther d piece) one.now_is (c.requires.stands (clean_before s0 s1 (λ _. ⊥) c.get.ensures.frame.survives clean) has one.was_open)
 
 pub pieces_of-requires-clause-no_table : goal.pieces_of-requires-clause-no_table
 pieces_of-requires-clause-no_table g c clean has is_open =
     let s0 = state g.S.Store c.args.conn.now in
     let s1 = state g.S.Store c.get.new.conn in
     let one = (c.in_ok-object.ensures.reads clean).0.0 in
-    further_still s0 s1 (λ d. (contents_of d).pieces ≡ finite.empty) one.now_is (c.requires.no_table (clean_before s0 s1 (λ _. ⊥) c.get.ensures.survives clean) has one.was_open)
+    further_still s0 s1 (λ d. (contents_of d).pieces ≡ finite.empty) one.now_is (c.requires.no_table (clean_before s0 s1 (λ _. ⊥) c.get.ensures.frame.survives clean) has one.was_open)
 
 pub pieces_of-requires-clause-listed : goal.pieces_of-requires-clause-listed
 pieces_of-requires-clause-listed g c clean =
     let s0 = state g.S.Store c.args.conn.now in
     let s1 = state g.S.Store c.get.new.conn in
-    c.requires.listed (clean_before s0 s1 (λ _. ⊥) c.get.ensures.survives clean)
+    c.requires.listed (clean_before s0 s1 (λ _. ⊥) c.get.ensures.frame.survives clean)
     ∙ sym (ap (λ (d : Database). finite.keys (contents_of d).pieces) (c.in_ok-object.ensures.reads clean).0.0.now_is)
 
 pub returns-in_err-pieces-clause-same : goal.returns-in_err-pieces-clause-same
 returns-in_err-pieces-clause-same g c clean =
-    both_keep (state g.S.Store c.args.conn.now) (state g.S.Store c.get.new.conn) _ c.get.ensures.same c.pieces_of.ensures.same c.pieces_of.ensures.survives clean
+    both_keep (state g.S.Store c.args.conn.now) (state g.S.Store c.get.new.conn) _ c.get.ensures.frame.same c.pieces_of.ensures.same c.pieces_of.ensures.survives clean
 
 pub returns-in_err-pieces-clause-survives : goal.returns-in_err-pieces-clause-survives
-returns-in_err-pieces-clause-survives g c = survives_both _ _ _ c.get.ensures.survives c.pieces_of.ensures.survives
+returns-in_err-pieces-clause-survives g c = survives_both _ _ _ c.get.ensures.frame.survives c.pieces_of.ensures.survives
 
 pub returns-clause-reads : goal.returns-clause-reads
 returns-clause-reads g c clean =
@@ -52,7 +52,7 @@ returns-clause-reads g c clean =
 
 pub returns-clause-same : goal.returns-clause-same
 returns-clause-same g c clean =
-    both_keep (state g.S.Store c.args.conn.now) (state g.S.Store c.get.new.conn) _ c.get.ensures.same c.pieces_of.ensures.same c.pieces_of.ensures.survives clean
+    both_keep (state g.S.Store c.args.conn.now) (state g.S.Store c.get.new.conn) _ c.get.ensures.frame.same c.pieces_of.ensures.same c.pieces_of.ensures.survives clean
 
 pub returns-clause-survives : goal.returns-clause-survives
-returns-clause-survives g c = survives_both _ _ _ c.get.ensures.survives c.pieces_of.ensures.survives
+returns-clause-survives g c = survives_both _ _ _ c.get.ensures.frame.survives c.pieces_of.ensures.survives

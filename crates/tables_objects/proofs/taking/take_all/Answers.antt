@@ -22,12 +22,12 @@ take_each-requires g c =
     let s0 = state g.S.Store c.args.conn.now in
     let s1 = state g.S.Store c.keys.new.conn in
     record {
-      alone = c.keys.ensures.alone;
-      ready = c.keys.ensures.ready;
+      alone = c.keys.ensures.frame.alone;
+      ready = c.keys.ensures.frame.ready;
       opened = λ clean. (c.in_ok-bases.ensures.reads clean).0.0.is_open;
-      stands = λ clean has is_open. further_after s0 s1 (λ d. HasFurther d piece) (λ late. (c.in_ok-bases.ensures.reads late).0) c.keys.ensures.survives (λ was up. c.requires.stands was has up) clean;
-      no_table = λ clean has is_open. further_after s0 s1 (λ d. (contents_of d).pieces ≡ finite.empty) (λ late. (c.in_ok-bases.ensures.reads late).0) c.keys.ensures.survives (λ was up. c.requires.no_table was has up) clean;
-      joined = λ clean. joined_still s0 s1 c.args.joined.now (c.in_ok-bases.ensures.reads clean).0.0.now_is (c.requires.joined (clean_before s0 s1 (λ _. ⊥) c.keys.ensures.survives clean));
+      stands = λ clean has is_open. further_after s0 s1 (λ d. HasFurther d piece) (λ late. (c.in_ok-bases.ensures.reads late).0) c.keys.ensures.frame.survives (λ was up. c.requires.stands was has up) clean;
+      no_table = λ clean has is_open. further_after s0 s1 (λ d. (contents_of d).pieces ≡ finite.empty) (λ late. (c.in_ok-bases.ensures.reads late).0) c.keys.ensures.frame.survives (λ was up. c.requires.no_table was has up) clean;
+      joined = λ clean. joined_still s0 s1 c.args.joined.now (c.in_ok-bases.ensures.reads clean).0.0.now_is (c.requires.joined (clean_before s0 s1 (λ _. ⊥) c.keys.ensures.frame.survives clean));
     }
 
 pub returns-clause-told : goal.returns-clause-told
@@ -62,7 +62,7 @@ returns-clause-unchanged g c clean =
 
 pub returns-clause-same : goal.returns-clause-same
 returns-clause-same g c clean =
-    both_keep (state g.S.Store c.args.conn.now) (state g.S.Store c.keys.new.conn) (state g.S.Store c.take_each.new.conn) c.keys.ensures.same c.take_each.ensures.same c.take_each.ensures.survives clean
+    both_keep (state g.S.Store c.args.conn.now) (state g.S.Store c.keys.new.conn) (state g.S.Store c.take_each.new.conn) c.keys.ensures.frame.same c.take_each.ensures.same c.take_each.ensures.survives clean
 
 pub returns-clause-survives : goal.returns-clause-survives
-returns-clause-survives g c = survives_both _ _ _ c.keys.ensures.survives c.take_each.ensures.survives
+returns-clause-survives g c = survives_both _ _ _ c.keys.ensures.frame.survives c.take_each.ensures.survives

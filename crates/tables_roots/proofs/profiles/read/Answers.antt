@@ -6,7 +6,7 @@ use Rattle.sqlite.specs.State.{HasCleanDisk}
 use Rattle.sqlite.specs.Held.{state}
 use Rattle.sqlite.proofs.Callers.{unchanged_then}
 use Rattle.tables_sql.specs.Contents.{contents_of}
-use Rattle.tables_sql.proofs.TestFailures.{both_keep, survives_both}
+use Rattle.tables_roots.proofs.Frames.{left_then}
 use Rattle.tables_world.specs.Told.{world_in}
 use Rattle.tables_outline.specs.Filling.{has_currents}
 use Rattle.tables_outline.specs.Outline.{Outline}
@@ -22,32 +22,26 @@ read-requires-clause-profiles g c clean =
 pub returns-then-not-branch-clause-told : goal.returns-then-not-branch-clause-told
 returns-then-not-branch-clause-told g c clean = first_failed (list_all is_profile (finite.entries (contents_of (state g.S.Store c.args.conn.now).now).profiles)) _ (sym (c.in_ok-read_bare.ensures.told clean) ∙ c.if-not-branch.true)
 
-pub returns-in_err-read-clause-same : goal.returns-in_err-read-clause-same
-returns-in_err-read-clause-same g c = both_keep _ _ _ c.read_bare.ensures.same c.read.ensures.same c.read.ensures.survives
-
-pub returns-in_err-read-clause-survives : goal.returns-in_err-read-clause-survives
-returns-in_err-read-clause-survives g c = survives_both _ _ _ c.read_bare.ensures.survives c.read.ensures.survives
+pub returns-in_err-read-clause-frame : goal.returns-in_err-read-clause-frame
+returns-in_err-read-clause-frame g c = left_then _ _ _ c.read_bare.ensures.frame c.read.ensures.frame
 
 pub returns-then-not-branch-2-clause-told : goal.returns-then-not-branch-2-clause-told
 returns-then-not-branch-2-clause-told g c clean =
-    let middle : HasCleanDisk (state g.S.Store c.read_bare.new.conn) = omega (arith, c.read.ensures.survives.clean) in
+    let middle : HasCleanDisk (state g.S.Store c.read_bare.new.conn) = omega (arith, c.read.ensures.frame.survives.clean) in
     let same = (c.in_ok-read_bare.ensures.unchanged middle).0.now_is in
     let index = c.in_ok-read_bare.ensures.taken middle c.if-not-branch.false in
     second_failed (list_all is_profile (finite.entries (contents_of (state g.S.Store c.args.conn.now).now).profiles)) _ _ (sym (c.in_ok-read_bare.ensures.told middle) ∙ c.if-not-branch.false)
     (sym (λ i. list_all (is_generation (index i).objects (contents_of (same i)).profiles) (finite.entries (contents_of (same i)).generations)) ∙ sym (c.in_ok-read.ensures.told clean) ∙ c.if-not-branch-2.true)
 
 pub returns-then-not-branch-2-clause-unchanged : goal.returns-then-not-branch-2-clause-unchanged
-returns-then-not-branch-2-clause-unchanged g c clean = unchanged_then _ _ _ (c.in_ok-read_bare.ensures.unchanged (omega (arith, clean, c.read.ensures.survives.clean))) (c.in_ok-read.ensures.unchanged clean)
+returns-then-not-branch-2-clause-unchanged g c clean = unchanged_then _ _ _ (c.in_ok-read_bare.ensures.unchanged (omega (arith, clean, c.read.ensures.frame.survives.clean))) (c.in_ok-read.ensures.unchanged clean)
 
-pub returns-then-not-branch-2-clause-same : goal.returns-then-not-branch-2-clause-same
-returns-then-not-branch-2-clause-same g c = both_keep _ _ _ c.read_bare.ensures.same c.read.ensures.same c.read.ensures.survives
-
-pub returns-then-not-branch-2-clause-survives : goal.returns-then-not-branch-2-clause-survives
-returns-then-not-branch-2-clause-survives g c = survives_both _ _ _ c.read_bare.ensures.survives c.read.ensures.survives
+pub returns-then-not-branch-2-clause-frame : goal.returns-then-not-branch-2-clause-frame
+returns-then-not-branch-2-clause-frame g c = left_then _ _ _ c.read_bare.ensures.frame c.read.ensures.frame
 
 pub returns-clause-told : goal.returns-clause-told
 returns-clause-told g c clean =
-    let middle : HasCleanDisk (state g.S.Store c.read_bare.new.conn) = omega (arith, c.read.ensures.survives.clean) in
+    let middle : HasCleanDisk (state g.S.Store c.read_bare.new.conn) = omega (arith, c.read.ensures.frame.survives.clean) in
     let same = (c.in_ok-read_bare.ensures.unchanged middle).0.now_is in
     let index = c.in_ok-read_bare.ensures.taken middle c.if-not-branch.false in
     third_decides (list_all is_profile (finite.entries (contents_of (state g.S.Store c.args.conn.now).now).profiles)) _ _ _ (sym (c.in_ok-read_bare.ensures.told middle) ∙ c.if-not-branch.false)
@@ -56,16 +50,13 @@ returns-clause-told g c clean =
 
 pub returns-clause-taken : goal.returns-clause-taken
 returns-clause-taken g c clean ok =
-    let middle : HasCleanDisk (state g.S.Store c.read_bare.new.conn) = omega (arith, c.read.ensures.survives.clean) in
+    let middle : HasCleanDisk (state g.S.Store c.read_bare.new.conn) = omega (arith, c.read.ensures.frame.survives.clean) in
     let same = (c.in_ok-read_bare.ensures.unchanged middle).0.now_is in
     let index = c.in_ok-read_bare.ensures.taken middle c.if-not-branch.false in
     c.in_ok-read.ensures.taken clean c.if-not-branch-2.false ∙ (λ i. record (index i) { profiles = (world_in (contents_of (same i))).profiles })
 
 pub returns-clause-unchanged : goal.returns-clause-unchanged
-returns-clause-unchanged g c clean = unchanged_then _ _ _ (c.in_ok-read_bare.ensures.unchanged (omega (arith, clean, c.read.ensures.survives.clean))) (c.in_ok-read.ensures.unchanged clean)
+returns-clause-unchanged g c clean = unchanged_then _ _ _ (c.in_ok-read_bare.ensures.unchanged (omega (arith, clean, c.read.ensures.frame.survives.clean))) (c.in_ok-read.ensures.unchanged clean)
 
-pub returns-clause-same : goal.returns-clause-same
-returns-clause-same g c = both_keep _ _ _ c.read_bare.ensures.same c.read.ensures.same c.read.ensures.survives
-
-pub returns-clause-survives : goal.returns-clause-survives
-returns-clause-survives g c = survives_both _ _ _ c.read_bare.ensures.survives c.read.ensures.survives
+pub returns-clause-frame : goal.returns-clause-frame
+returns-clause-frame g c = left_then _ _ _ c.read_bare.ensures.frame c.read.ensures.frame

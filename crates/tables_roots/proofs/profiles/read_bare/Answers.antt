@@ -14,7 +14,7 @@ returns-clause-told g c clean =
 
 pub returns-clause-taken : goal.returns-clause-taken
 returns-clause-taken g c clean ok =
-    let early : HasCleanDisk (state g.S.Store c.args.conn.now) = omega (arith, c.all.ensures.survives.clean) in
+    let early : HasCleanDisk (state g.S.Store c.args.conn.now) = omega (arith, c.all.ensures.frame.survives.clean) in
     c.in_ok-take_all.ensures.taken ok ∙ profile_put c.in_ok-profiles.profiles.items c.args.index.now
     ∙ ap (λ m. record c.args.index.now { profiles = m })
     (ap₂ (λ es m. put_all (map bare_of es) m) (c.in_ok-profiles.ensures.reads clean).1 (c.requires.empty early) ∙ bare_again (contents_of (state g.S.Store c.args.conn.now).now).profiles)

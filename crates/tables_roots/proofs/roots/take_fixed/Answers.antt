@@ -4,7 +4,7 @@ use Rattle.std.specs.FinMap as finite
 use Rattle.sqlite.specs.State.{HasCleanDisk}
 use Rattle.sqlite.specs.Held.{state}
 use Rattle.tables_sql.specs.Contents.{contents_of}
-use Rattle.tables_sql.proofs.TestFailures.{both_keep, survives_both}
+use Rattle.tables_roots.proofs.Frames.{left_then}
 use Rattle.tables_outline.specs.Outline.{Outline}
 use Rattle.tables_roots.specs.Taken.{is_permanent_root, is_user_root}
 use Rattle.tables_roots.proofs.TwoReads.{told_next, taken_next, unchanged_next}
@@ -12,14 +12,14 @@ use Rattle.tables_roots.proofs.roots.take_fixed.Goals as goal
 
 pub read-requires-2-clause-empty : goal.read-requires-2-clause-empty
 read-requires-2-clause-empty g c clean =
-    let early : HasCleanDisk (state g.S.Store c.args.conn.now) = omega (arith, c.read.ensures.survives.clean) in
+    let early : HasCleanDisk (state g.S.Store c.args.conn.now) = omega (arith, c.read.ensures.frame.survives.clean) in
     ap (λ (o : Outline). o.user_roots) (c.in_ok-read.ensures.taken clean c.if-not-branch.false) ∙ c.requires.user_roots early
 
 pub returns-clause-told : goal.returns-clause-told
 returns-clause-told g c clean =
     let a = state g.S.Store c.args.conn.now in
     let b = state g.S.Store c.read.new.conn in
-    let middle : HasCleanDisk b = omega (arith, c.read-2.ensures.survives.clean) in
+    let middle : HasCleanDisk b = omega (arith, c.read-2.ensures.frame.survives.clean) in
     let same = (c.in_ok-read.ensures.unchanged middle).0.now_is in
     let index = c.in_ok-read.ensures.taken middle c.if-not-branch.false in
     told_next c.read-2.result (list_all (is_permanent_root c.args.index.now.objects) (finite.entries (contents_of a.now).permanent)) _ _ (sym (c.in_ok-read.ensures.told middle) ∙ c.if-not-branch.false)
@@ -29,7 +29,7 @@ pub returns-clause-taken : goal.returns-clause-taken
 returns-clause-taken g c clean =
     let a = state g.S.Store c.args.conn.now in
     let b = state g.S.Store c.read.new.conn in
-    let middle : HasCleanDisk b = omega (arith, c.read-2.ensures.survives.clean) in
+    let middle : HasCleanDisk b = omega (arith, c.read-2.ensures.frame.survives.clean) in
     let same = (c.in_ok-read.ensures.unchanged middle).0.now_is in
     let index = c.in_ok-read.ensures.taken middle c.if-not-branch.false in
     taken_next c.read-2.result c.read-2.new.index _ _ (λ i. record (index i) { user_roots = (contents_of (same i)).user_roots }) (c.read-2.ensures.taken clean)
@@ -38,11 +38,8 @@ pub returns-clause-unchanged : goal.returns-clause-unchanged
 returns-clause-unchanged g c clean =
     let a = state g.S.Store c.args.conn.now in
     let b = state g.S.Store c.read.new.conn in
-    let middle : HasCleanDisk b = omega (arith, c.read-2.ensures.survives.clean) in
+    let middle : HasCleanDisk b = omega (arith, c.read-2.ensures.frame.survives.clean) in
     unchanged_next c.read-2.result a b (state g.S.Store c.read-2.new.conn) (c.in_ok-read.ensures.unchanged middle) (c.read-2.ensures.unchanged clean)
 
-pub returns-clause-same : goal.returns-clause-same
-returns-clause-same g c = both_keep (state g.S.Store c.args.conn.now) (state g.S.Store c.read.new.conn) (state g.S.Store c.read-2.new.conn) c.read.ensures.same c.read-2.ensures.same c.read-2.ensures.survives
-
-pub returns-clause-survives : goal.returns-clause-survives
-returns-clause-survives g c = survives_both (state g.S.Store c.args.conn.now) (state g.S.Store c.read.new.conn) (state g.S.Store c.read-2.new.conn) c.read.ensures.survives c.read-2.ensures.survives
+pub returns-clause-frame : goal.returns-clause-frame
+returns-clause-frame g c = left_then _ _ _ c.read.ensures.frame c.read-2.ensures.frame

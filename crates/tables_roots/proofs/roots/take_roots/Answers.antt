@@ -5,7 +5,7 @@ use Rattle.sqlite.specs.Held.{state}
 use Rattle.tables_schema.specs.Forms.{temp_root}
 use Rattle.tables_sql.specs.Calls.{HasFurther}
 use Rattle.tables_sql.specs.Contents.{contents_of}
-use Rattle.tables_sql.proofs.TestFailures.{both_keep, survives_both}
+use Rattle.tables_roots.proofs.Frames.{left_then}
 use Rattle.tables_world.specs.Told.{world_in}
 use Rattle.tables_outline.specs.Outline.{Outline}
 use Rattle.tables_roots.specs.Taken.{with_lasting, are_temporary}
@@ -16,13 +16,13 @@ use Rattle.tables_roots.proofs.roots.take_roots.Goals as goal
 
 pub read-requires-clause-stands : goal.read-requires-clause-stands
 read-requires-clause-stands g c clean is_open =
-    let early : HasCleanDisk (state g.S.Store c.args.conn.now) = omega (arith, c.take_lasting.ensures.survives.clean) in
+    let early : HasCleanDisk (state g.S.Store c.args.conn.now) = omega (arith, c.take_lasting.ensures.frame.survives.clean) in
     let lasting = (c.in_ok-take_lasting.ensures.unchanged clean).0 in
     subst (λ (d : Database). HasFurther d temp_root) (sym lasting.now_is) (c.requires.stands early (sym c.has_temporary.ensures ∙ c.if-not-has_temporary.false) lasting.was_open)
 
 pub read-requires-clause-empty : goal.read-requires-clause-empty
 read-requires-clause-empty g c clean =
-    let early : HasCleanDisk (state g.S.Store c.args.conn.now) = omega (arith, c.take_lasting.ensures.survives.clean) in
+    let early : HasCleanDisk (state g.S.Store c.args.conn.now) = omega (arith, c.take_lasting.ensures.frame.survives.clean) in
     ap (λ (o : Outline). o.temporary) (c.in_ok-take_lasting.ensures.taken clean c.if-not-branch.false) ∙ c.requires.temporary early
 
 pub returns-then-not-branch-clause-told : goal.returns-then-not-branch-clause-told
@@ -31,13 +31,13 @@ returns-then-not-branch-clause-told g c clean =
 
 pub returns-then-not-has_temporary-clause-told : goal.returns-then-not-has_temporary-clause-told
 returns-then-not-has_temporary-clause-told g c clean =
-    let early : HasCleanDisk (state g.S.Store c.args.conn.now) = omega (arith, c.take_lasting.ensures.survives.clean) in
+    let early : HasCleanDisk (state g.S.Store c.args.conn.now) = omega (arith, c.take_lasting.ensures.frame.survives.clean) in
     let none = c.requires.no_table early (sym c.has_temporary.ensures ∙ c.if-not-has_temporary.true) (c.in_ok-take_lasting.ensures.unchanged clean).0.was_open in
     all_lasting c.args.index.now.objects (contents_of (state g.S.Store c.args.conn.now).now) c.in_ok-take_lasting.field-0 c.if-not-branch.false none (c.in_ok-take_lasting.ensures.told clean)
 
 pub returns-then-not-has_temporary-clause-taken : goal.returns-then-not-has_temporary-clause-taken
 returns-then-not-has_temporary-clause-taken g c clean ok =
-    let early : HasCleanDisk (state g.S.Store c.args.conn.now) = omega (arith, c.take_lasting.ensures.survives.clean) in
+    let early : HasCleanDisk (state g.S.Store c.args.conn.now) = omega (arith, c.take_lasting.ensures.frame.survives.clean) in
     let x = contents_of (state g.S.Store c.args.conn.now).now in
     let old : Outline = c.args.index.now in
     let none = c.requires.no_table early (sym c.has_temporary.ensures ∙ c.if-not-has_temporary.true) (c.in_ok-take_lasting.ensures.unchanged clean).0.was_open in
@@ -48,7 +48,7 @@ pub returns-clause-told : goal.returns-clause-told
 returns-clause-told g c clean =
     let a = state g.S.Store c.args.conn.now in
     let b = state g.S.Store c.take_lasting.new.conn in
-    let middle : HasCleanDisk b = omega (arith, c.read.ensures.survives.clean) in
+    let middle : HasCleanDisk b = omega (arith, c.read.ensures.frame.survives.clean) in
     let same = (c.in_ok-take_lasting.ensures.unchanged middle).0.now_is in
     let index = c.in_ok-take_lasting.ensures.taken middle c.if-not-branch.false in
     sessions_told c.args.index.now.objects (contents_of a.now) c.read.result c.in_ok-take_lasting.field-0 c.if-not-branch.false (c.in_ok-take_lasting.ensures.told middle) _
@@ -58,7 +58,7 @@ pub returns-clause-taken : goal.returns-clause-taken
 returns-clause-taken g c clean =
     let a = state g.S.Store c.args.conn.now in
     let b = state g.S.Store c.take_lasting.new.conn in
-    let middle : HasCleanDisk b = omega (arith, c.read.ensures.survives.clean) in
+    let middle : HasCleanDisk b = omega (arith, c.read.ensures.frame.survives.clean) in
     let same = (c.in_ok-take_lasting.ensures.unchanged middle).0.now_is in
     let index = c.in_ok-take_lasting.ensures.taken middle c.if-not-branch.false in
     taken_next c.read.result c.read.new.index _ _ (λ i. record (index i) { temporary = (world_in (contents_of (same i))).temporary }) (c.read.ensures.taken clean)
@@ -67,11 +67,8 @@ pub returns-clause-unchanged : goal.returns-clause-unchanged
 returns-clause-unchanged g c clean =
     let a = state g.S.Store c.args.conn.now in
     let b = state g.S.Store c.take_lasting.new.conn in
-    let middle : HasCleanDisk b = omega (arith, c.read.ensures.survives.clean) in
+    let middle : HasCleanDisk b = omega (arith, c.read.ensures.frame.survives.clean) in
     unchanged_next c.read.result a b (state g.S.Store c.read.new.conn) (c.in_ok-take_lasting.ensures.unchanged middle) (c.read.ensures.unchanged clean)
 
-pub returns-clause-same : goal.returns-clause-same
-returns-clause-same g c = both_keep (state g.S.Store c.args.conn.now) (state g.S.Store c.take_lasting.new.conn) (state g.S.Store c.read.new.conn) c.take_lasting.ensures.same c.read.ensures.same c.read.ensures.survives
-
-pub returns-clause-survives : goal.returns-clause-survives
-returns-clause-survives g c = survives_both (state g.S.Store c.args.conn.now) (state g.S.Store c.take_lasting.new.conn) (state g.S.Store c.read.new.conn) c.take_lasting.ensures.survives c.read.ensures.survives
+pub returns-clause-frame : goal.returns-clause-frame
+returns-clause-frame g c = left_then _ _ _ c.take_lasting.ensures.frame c.read.ensures.frame

@@ -16,7 +16,7 @@ returns-clause-told g c clean =
 
 pub returns-clause-taken : goal.returns-clause-taken
 returns-clause-taken g c clean ok =
-    let early : HasCleanDisk (state g.S.Store c.args.conn.now) = omega (arith, c.all.ensures.survives.clean) in
+    let early : HasCleanDisk (state g.S.Store c.args.conn.now) = omega (arith, c.all.ensures.frame.survives.clean) in
     c.in_ok-take_all.ensures.taken ok ∙ runtime_put c.in_ok-roots.roots.items c.args.index.now
     ∙ ap (λ m. record c.args.index.now { runtime = m })
     (ap₂ put_all (c.in_ok-roots.ensures.reads clean).1 (c.requires.empty early) ∙ all_put_again pair_total pair_antisymmetric (contents_of (state g.S.Store c.args.conn.now).now).runtime)

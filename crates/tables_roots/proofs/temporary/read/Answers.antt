@@ -14,7 +14,7 @@ returns-clause-told g c clean =
 
 pub returns-clause-taken : goal.returns-clause-taken
 returns-clause-taken g c clean ok =
-    let early : HasCleanDisk (state g.S.Store c.args.conn.now) = omega (arith, c.all.ensures.survives.clean) in
+    let early : HasCleanDisk (state g.S.Store c.args.conn.now) = omega (arith, c.all.ensures.frame.survives.clean) in
     c.in_ok-take_all.ensures.taken ok ∙ temporary_put c.in_ok-roots.roots.items c.args.index.now
     ∙ ap (λ m. record c.args.index.now { temporary = m })
     (ap₂ put_all (ap (map member) (c.in_ok-roots.ensures.reads clean).1) (c.requires.empty early) ∙ temporary_again (contents_of (state g.S.Store c.args.conn.now).now).temp_roots)

@@ -1,11 +1,13 @@
 use Rattle.tables_rows.proofs.Clauses.{shows_same, still_ready, still_stands}
 use Rattle.tables_rows.proofs.reading.select.Goals as goal
 
-pub returns-clause-same : goal.returns-clause-same
-returns-clause-same g c = shows_same c.select.ensures.survives c.requires.ready c.select.ensures.same
-
-pub returns-clause-ready : goal.returns-clause-ready
-returns-clause-ready g c = still_ready c.select.ensures.survives c.requires.ready c.select.ensures.same
+pub returns-clause-frame : goal.returns-clause-frame
+returns-clause-frame g c = record {
+  alone = c.select.ensures.alone c.requires.frame.alone;
+  same = shows_same c.select.ensures.survives c.requires.frame.ready c.select.ensures.same;
+  ready = still_ready c.select.ensures.survives c.requires.frame.ready c.select.ensures.same;
+  survives = c.select.ensures.survives;
+}
 
 pub returns-clause-further : goal.returns-clause-further
-returns-clause-further g c t stands clean = still_stands c.select.ensures.survives c.requires.ready c.select.ensures.same clean t stands
+returns-clause-further g c t stands clean = still_stands c.select.ensures.survives c.requires.frame.ready c.select.ensures.same clean t stands

@@ -34,7 +34,7 @@ pub put_references-requires-clause-is_open : goal.put_references-requires-clause
 put_references-requires-clause-is_open g c clean = (c.in_ok-insert.ensures.done clean).is_open
 
 pub returns-in_err-put_references-clause-same_reference : goal.returns-in_err-put_references-clause-same_reference
-returns-in_err-put_references-clause-same_reference g c = c.put_references.ensures.same_reference ∙ c.insert.ensures.same_reference
+returns-in_err-put_references-clause-same_reference g c = c.put_references.ensures.same_reference ∙ c.insert.ensures.frame.same_reference
 
 pub returns-in_err-put_references-clause-failed : goal.returns-in_err-put_references-clause-failed
 returns-in_err-put_references-clause-failed g c clean =
@@ -42,7 +42,7 @@ returns-in_err-put_references-clause-failed g c clean =
 
 pub returns-in_err-put_references-clause-survives : goal.returns-in_err-put_references-clause-survives
 returns-in_err-put_references-clause-survives g c =
-    survives_both (state g.S.Store c.args.tx.now.conn.now) (state g.S.Store c.insert.new.tx.conn.now) (state g.S.Store c.put_references.new.tx.conn.now) c.insert.ensures.survives c.put_references.ensures.survives
+    survives_both (state g.S.Store c.args.tx.now.conn.now) (state g.S.Store c.insert.new.tx.conn.now) (state g.S.Store c.put_references.new.tx.conn.now) c.insert.ensures.frame.survives c.put_references.ensures.survives
 
 pub put_outputs-requires-clause-under_way : goal.put_outputs-requires-clause-under_way
 put_outputs-requires-clause-under_way g c clean =
@@ -64,11 +64,11 @@ put_outputs-requires-clause-free g c clean name =
     let b = state g.S.Store c.insert.new.tx.conn.now in
     let d = state g.S.Store c.put_references.new.tx.conn.now in
     let it = steps_both a b d _ _ c.in_ok-insert.ensures.done c.put_references.ensures.survives c.in_ok-put_references.ensures.done clean in
-    let early : HasCleanDisk a = omega (arith, c.insert.ensures.survives.clean, c.put_references.ensures.survives.clean, clean) in
+    let early : HasCleanDisk a = omega (arith, c.insert.ensures.frame.survives.clean, c.put_references.ensures.survives.clean, clean) in
     ap (λ (x : Contents). finite.get x.outs (c.args.self.now.base.now, name)) it.contents ∙ (c.requires.fits early it.was_open).1 name
 
 pub returns-in_err-put_outputs-clause-same_reference : goal.returns-in_err-put_outputs-clause-same_reference
-returns-in_err-put_outputs-clause-same_reference g c = c.put_outputs.ensures.same_reference ∙ c.put_references.ensures.same_reference ∙ c.insert.ensures.same_reference
+returns-in_err-put_outputs-clause-same_reference g c = c.put_outputs.ensures.same_reference ∙ c.put_references.ensures.same_reference ∙ c.insert.ensures.frame.same_reference
 
 pub returns-in_err-put_outputs-clause-failed : goal.returns-in_err-put_outputs-clause-failed
 returns-in_err-put_outputs-clause-failed g c clean =
@@ -84,7 +84,7 @@ returns-in_err-put_outputs-clause-survives g c =
     let b = state g.S.Store c.insert.new.tx.conn.now in
     let d = state g.S.Store c.put_references.new.tx.conn.now in
     let e = state g.S.Store c.put_outputs.new.tx.conn.now in
-    survives_both a d e (survives_both a b d c.insert.ensures.survives c.put_references.ensures.survives) c.put_outputs.ensures.survives
+    survives_both a d e (survives_both a b d c.insert.ensures.frame.survives c.put_references.ensures.survives) c.put_outputs.ensures.survives
 
 pub put_pieces-requires-clause-under_way : goal.put_pieces-requires-clause-under_way
 put_pieces-requires-clause-under_way g c clean =
@@ -109,10 +109,10 @@ put_pieces-requires-clause-stands g c clean =
     let d = state g.S.Store c.put_references.new.tx.conn.now in
     let e = state g.S.Store c.put_outputs.new.tx.conn.now in
     pieces_stand a e _ (steps_both a d e _ _ (steps_both a b d _ _ c.in_ok-insert.ensures.done c.put_references.ensures.survives c.in_ok-put_references.ensures.done) c.put_outputs.ensures.survives c.in_ok-put_outputs.ensures.done)
-    (survives_both a d e (survives_both a b d c.insert.ensures.survives c.put_references.ensures.survives) c.put_outputs.ensures.survives) (λ early is_open. (c.requires.whole early is_open).pieces) clean
+    (survives_both a d e (survives_both a b d c.insert.ensures.frame.survives c.put_references.ensures.survives) c.put_outputs.ensures.survives) (λ early is_open. (c.requires.whole early is_open).pieces) clean
 
 pub returns-clause-same_reference : goal.returns-clause-same_reference
-returns-clause-same_reference g c = c.put_pieces.ensures.same_reference ∙ c.put_outputs.ensures.same_reference ∙ c.put_references.ensures.same_reference ∙ c.insert.ensures.same_reference
+returns-clause-same_reference g c = c.put_pieces.ensures.same_reference ∙ c.put_outputs.ensures.same_reference ∙ c.put_references.ensures.same_reference ∙ c.insert.ensures.frame.same_reference
 
 pub returns-clause-done : goal.returns-clause-done
 returns-clause-done g c =
@@ -139,4 +139,4 @@ returns-clause-survives g c =
     let b = state g.S.Store c.insert.new.tx.conn.now in
     let d = state g.S.Store c.put_references.new.tx.conn.now in
     let e = state g.S.Store c.put_outputs.new.tx.conn.now in
-    survives_both a e (state g.S.Store c.put_pieces.new.tx.conn.now) (survives_both a d e (survives_both a b d c.insert.ensures.survives c.put_references.ensures.survives) c.put_outputs.ensures.survives) c.put_pieces.ensures.survives
+    survives_both a e (state g.S.Store c.put_pieces.new.tx.conn.now) (survives_both a d e (survives_both a b d c.insert.ensures.frame.survives c.put_references.ensures.survives) c.put_outputs.ensures.survives) c.put_pieces.ensures.survives

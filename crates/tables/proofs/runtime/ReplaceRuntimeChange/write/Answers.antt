@@ -15,7 +15,7 @@ pub put_runtime-requires-clause-is_open : goal.put_runtime-requires-clause-is_op
 put_runtime-requires-clause-is_open g c clean = (c.in_ok-delete_all.ensures.done clean).is_open
 
 pub returns-clause-same_reference : goal.returns-clause-same_reference
-returns-clause-same_reference g c = c.put_runtime.ensures.same_reference ∙ c.delete_all.ensures.same_reference
+returns-clause-same_reference g c = c.put_runtime.ensures.same_reference ∙ c.delete_all.ensures.frame.same_reference
 
 pub returns-clause-done : goal.returns-clause-done
 returns-clause-done g c =
@@ -29,4 +29,4 @@ returns-clause-failed g c =
 
 pub returns-clause-survives : goal.returns-clause-survives
 returns-clause-survives g c =
-    survives_both (state g.S.Store c.args.tx.now.conn.now) (state g.S.Store c.delete_all.new.tx.conn.now) (state g.S.Store c.put_runtime.new.tx.conn.now) c.delete_all.ensures.survives c.put_runtime.ensures.survives
+    survives_both (state g.S.Store c.args.tx.now.conn.now) (state g.S.Store c.delete_all.new.tx.conn.now) (state g.S.Store c.put_runtime.new.tx.conn.now) c.delete_all.ensures.frame.survives c.put_runtime.ensures.survives

@@ -17,27 +17,27 @@ delete-requires-clause-stands g c clean is_open = (c.requires.whole clean is_ope
 
 pub insert-requires-clause-stands : goal.insert-requires-clause-stands
 insert-requires-clause-stands g c clean is_open =
-    temp_roots_stand (state g.S.Store c.args.tx.now.conn.now) (state g.S.Store c.delete.new.tx.conn.now) _ c.in_ok-delete.ensures.done c.delete.ensures.survives (λ early up. (c.requires.whole early up).temp_roots) clean
+    temp_roots_stand (state g.S.Store c.args.tx.now.conn.now) (state g.S.Store c.delete.new.tx.conn.now) _ c.in_ok-delete.ensures.done c.delete.ensures.frame.survives (λ early up. (c.requires.whole early up).temp_roots) clean
 
 pub insert-requires-clause-under : goal.insert-requires-clause-under
 insert-requires-clause-under g c clean = under_after (state g.S.Store c.args.tx.now.conn.now) (state g.S.Store c.delete.new.tx.conn.now) _ (c.in_ok-delete.ensures.done clean)
 
 pub returns-clause-same_reference : goal.returns-clause-same_reference
-returns-clause-same_reference g c = c.insert.ensures.same_reference ∙ c.delete.ensures.same_reference
+returns-clause-same_reference g c = c.insert.ensures.frame.same_reference ∙ c.delete.ensures.frame.same_reference
 
 pub returns-clause-done : goal.returns-clause-done
 returns-clause-done g c =
     let it = c.args.self.now in
     let key : Kept = (it.owner.now, pos it.session, it.target.now) in
-    done_both (state g.S.Store c.args.tx.now.conn.now) (state g.S.Store c.delete.new.tx.conn.now) (state g.S.Store c.insert.new.tx.conn.now) _ _ c.in_ok-delete.ensures.done c.insert.ensures.survives
+    done_both (state g.S.Store c.args.tx.now.conn.now) (state g.S.Store c.delete.new.tx.conn.now) (state g.S.Store c.insert.new.tx.conn.now) _ _ c.in_ok-delete.ensures.done c.insert.ensures.frame.survives
     c.insert.result _ (λ (x : Contents). ap (λ m. record x { temp_roots = m })
     (ap (λ m. finite.insert m key tt) (without_one x.temp_roots key.0 key.1 key.2) ∙ put_over kept_total kept_antisymmetric x.temp_roots key tt)) c.insert.ensures.done
 
 pub returns-clause-failed : goal.returns-clause-failed
 returns-clause-failed g c =
-    failed_next (state g.S.Store c.args.tx.now.conn.now) (state g.S.Store c.delete.new.tx.conn.now) (state g.S.Store c.insert.new.tx.conn.now) _ (λ x. x) c.in_ok-delete.ensures.done c.insert.ensures.survives
-    c.insert.result c.insert.ensures.failed
+    failed_next (state g.S.Store c.args.tx.now.conn.now) (state g.S.Store c.delete.new.tx.conn.now) (state g.S.Store c.insert.new.tx.conn.now) _ (λ x. x) c.in_ok-delete.ensures.done c.insert.ensures.frame.survives
+    c.insert.result c.insert.ensures.frame.failed
 
 pub returns-clause-survives : goal.returns-clause-survives
 returns-clause-survives g c =
-    survives_both (state g.S.Store c.args.tx.now.conn.now) (state g.S.Store c.delete.new.tx.conn.now) (state g.S.Store c.insert.new.tx.conn.now) c.delete.ensures.survives c.insert.ensures.survives
+    survives_both (state g.S.Store c.args.tx.now.conn.now) (state g.S.Store c.delete.new.tx.conn.now) (state g.S.Store c.insert.new.tx.conn.now) c.delete.ensures.frame.survives c.insert.ensures.frame.survives

@@ -14,20 +14,20 @@ pub insert-requires : goal.insert-requires
 insert-requires g c clean = under_after (state g.S.Store c.args.tx.now.conn.now) (state g.S.Store c.delete.new.tx.conn.now) _ (c.in_ok-delete.ensures.done clean)
 
 pub returns-clause-same_reference : goal.returns-clause-same_reference
-returns-clause-same_reference g c = c.insert.ensures.same_reference ∙ c.delete.ensures.same_reference
+returns-clause-same_reference g c = c.insert.ensures.frame.same_reference ∙ c.delete.ensures.frame.same_reference
 
 pub returns-clause-done : goal.returns-clause-done
 returns-clause-done g c =
     let owned : List ℕ × List ℕ = (c.args.self.now.owner.now, c.args.self.now.name.now) in
-    done_both (state g.S.Store c.args.tx.now.conn.now) (state g.S.Store c.delete.new.tx.conn.now) (state g.S.Store c.insert.new.tx.conn.now) _ _ c.in_ok-delete.ensures.done c.insert.ensures.survives
+    done_both (state g.S.Store c.args.tx.now.conn.now) (state g.S.Store c.delete.new.tx.conn.now) (state g.S.Store c.insert.new.tx.conn.now) _ _ c.in_ok-delete.ensures.done c.insert.ensures.frame.survives
     c.insert.result _ (λ (x : Contents). ap (λ m. record x { user_roots = m })
     (ap (λ m. finite.insert m owned c.args.self.now.target.now) (without_pair x.user_roots owned.0 owned.1) ∙ put_over pair_total pair_antisymmetric x.user_roots owned c.args.self.now.target.now)) c.insert.ensures.done
 
 pub returns-clause-failed : goal.returns-clause-failed
 returns-clause-failed g c =
-    failed_next (state g.S.Store c.args.tx.now.conn.now) (state g.S.Store c.delete.new.tx.conn.now) (state g.S.Store c.insert.new.tx.conn.now) _ (λ x. x) c.in_ok-delete.ensures.done c.insert.ensures.survives
-    c.insert.result c.insert.ensures.failed
+    failed_next (state g.S.Store c.args.tx.now.conn.now) (state g.S.Store c.delete.new.tx.conn.now) (state g.S.Store c.insert.new.tx.conn.now) _ (λ x. x) c.in_ok-delete.ensures.done c.insert.ensures.frame.survives
+    c.insert.result c.insert.ensures.frame.failed
 
 pub returns-clause-survives : goal.returns-clause-survives
 returns-clause-survives g c =
-    survives_both (state g.S.Store c.args.tx.now.conn.now) (state g.S.Store c.delete.new.tx.conn.now) (state g.S.Store c.insert.new.tx.conn.now) c.delete.ensures.survives c.insert.ensures.survives
+    survives_both (state g.S.Store c.args.tx.now.conn.now) (state g.S.Store c.delete.new.tx.conn.now) (state g.S.Store c.insert.new.tx.conn.now) c.delete.ensures.frame.survives c.insert.ensures.frame.survives

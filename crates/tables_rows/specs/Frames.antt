@@ -1,0 +1,65 @@
+-- What each call on the tables requires of a connection, and what it keeps of it, by whichever table it reads or writes.
+use Rattle.std.specs.Prelude.{◌≡◌, false, Option, None, Result, IsSome, IsTrue, IfOk, IfErr, OnOk, OnErr}
+use Rattle.std.specs.Borrow.{MutBor}
+use Rattle.sqlite_value.specs.Order.{Row}
+use Rattle.sqlite_schema.specs.declared.schema.Table.{Table}
+use Rattle.sqlite_trees.specs.declared.store.Store.{Ghosts}
+use Rattle.sqlite.specs.State.{HasCleanDisk, IsUnchanged, KeepsCommit, Survives}
+use Rattle.sqlite.specs.Held.{Held, state}
+use Rattle.tables_sql.specs.Calls.{IsReady, IsUnderWay, KeepsShown, Changes, HasFurther}
+use Rattle.tables_sql.specs.Contents.{Contents, contents_of}
+use Rattle.tables_sql.specs.Failures.{FailsFor, FailsToInsert}
+use Rattle.tables_sql.specs.declared.failure.Failure.{Failure}
+
+module _ {S : Type 0} (g : Ghosts S) where
+  -- ---- a read outside a transaction
+
+  -- no transaction is under way, and unless a fault has shut the connection its tables are ours and committed
+  pub record MayRead (old : Held S) : Type 0 where
+    pub alone : old.in_transaction ≡ false
+    pub ready : HasCleanDisk (state g old) → IsTrue (state g old).is_open → IsReady (state g old)
+
+  -- It ends outside a transaction, whether it succeeds or fails. The connection shows what it showed, unless a fault has shut it, and is as ready as before. A crash leaves what it could leave before.
+  pub record LeftAsItWas (old new : Held S) : Type 0 where
+    pub alone : new.in_transaction ≡ false
+    pub same : HasCleanDisk (state g new) → KeepsShown (state g old) (state g new)
+    pub ready : HasCleanDisk (state g new) → IsTrue (state g new).is_open → IsReady (state g new)
+    pub survives : Survives (state g old) (state g new) (λ _. ⊥)
+
+  -- a further table stands, unless a fault has shut the connection
+  abbrev pub HasTable : Held S → Table → Type 0
+  HasTable at table = HasCleanDisk (state g at) → IsTrue (state g at).is_open → HasFurther (state g at).now table
+
+  -- ---- a call inside a transaction
+
+  -- a transaction is under way over our tables, unless a fault has shut the connection
+  abbrev pub IsInside : MutBor (Held S) → Type 0
+  IsInside old = HasCleanDisk (state g old.now) → IsUnderWay (state g old.now)
+
+  -- It is the same transaction, and where it fails nothing is committed. A crash leaves what it could leave before.
+  pub record StaysInside {T E : Type 0} (old new : MutBor (Held S)) (result : Result T E) : Type 0 where
+    pub same_reference : new.ghost_name ≡ old.ghost_name
+    pub failed : HasCleanDisk (state g new.now) → OnErr result (KeepsCommit (state g old.now) (state g new.now))
+    pub survives : Survives (state g old.now) (state g new.now) (λ _. ⊥)
+
+  -- ---- what a call is about
+
+  -- an answer is this of the contents, which stay as they are
+  abbrev pub Reads : {T E : Type 0} (old new : Held S) (result : Result T E) (shows : Contents → T → Type 0) → Type 0
+  Reads old new result shows = HasCleanDisk (state g new) → IfOk result (λ it. IsUnchanged (state g old) (state g new) × shows (contents_of (state g old).now) it)
+
+  -- where it succeeds, the contents are what the change makes of them
+  abbrev pub Makes : {T E : Type 0} (old new : MutBor (Held S)) (result : Result T E) (change : Contents → Contents) → Type 0
+  Makes old new result change = HasCleanDisk (state g new.now) → OnOk result (Changes (state g old.now) (state g new.now) change)
+
+  -- an error comes of memory, of a fault of the disk or of a limit on steps
+  abbrev pub FailsAlone : {T : Type 0} (old new : Held S) (result : Result T Failure) → Type 0
+  FailsAlone old new result = HasCleanDisk (state g new) → IfErr result (FailsFor (state g old) (state g new))
+
+  -- where it succeeds, there was no such entry
+  abbrev pub WasFree : {T E X : Type 0} (old new : MutBor (Held S)) (result : Result T E) (find : Contents → Option X) → Type 0
+  WasFree old new result find = HasCleanDisk (state g new.now) → OnOk result (find (contents_of (state g old.now).now) ≡ None)
+
+  -- an error of an insert of this row may also come of its size, of want of a rowid, or of such an entry
+  abbrev pub FailsToPut : {T X : Type 0} (old new : MutBor (Held S)) (result : Result T Failure) (table : Table) (row : Row) (find : Contents → Option X) → Type 0
+  FailsToPut old new result table row find = HasCleanDisk (state g new.now) → IfErr result (FailsToInsert table row (IsSome (find (contents_of (state g old.now).now))) (state g old.now) (state g new.now))
