@@ -64,6 +64,6 @@ detail _ = []
 abbrev pub refusal_line : Refusal → List ℕ
 refusal_line r = codes "refused: " ++ decimal (number r) ++ codes " " ++ name r ++ detail r ++ codes "\n"
 
--- What the number of a refusal tells of its line: all of it, or of a configuration what stands before its key word.
+-- What the number of a refusal determines of its line: all of it, or of a configuration what comes before its key word.
 abbrev pub known_text : Refusal → List ℕ
 known_text r = cond (number r == 19) (codes "refused: " ++ decimal (number r) ++ codes " " ++ name r) (refusal_line r)

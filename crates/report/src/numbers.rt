@@ -64,7 +64,7 @@ fn numbered(number: usize) -> Refusal
 /// The number of `bad-config`.
 const BAD_CONFIG: usize = 19;
 
-/// The line of the refusal of a number, as far as the number tells it.
+/// The line of the refusal of a number, as far as the number determines it.
 fn known_line(number: usize) -> &'static str
     requires { (1 ≤ number) × (number ≤ 42) }
     ensures { (r : TheRefusal) → number_of r ≡ number → result.now ≡ known_text r }

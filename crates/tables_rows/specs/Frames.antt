@@ -26,7 +26,7 @@ module _ {S : Type 0} (g : Ghosts S) where
     pub ready : HasCleanDisk (state g new) → IsTrue (state g new).is_open → IsReady (state g new)
     pub survives : Survives (state g old) (state g new) (λ _. ⊥)
 
-  -- a further table stands, unless a fault has shut the connection
+  -- a further table is there, unless a fault has shut the connection
   abbrev pub HasTable : Held S → Table → Type 0
   HasTable at table = HasCleanDisk (state g at) → IsTrue (state g at).is_open → HasFurther (state g at).now table
 

@@ -134,7 +134,7 @@ pub fn read_import(alloc: Global, dir: &StoreDir, body: Body) -> Result<Request,
     }
 }
 
-/// The import that the whole body of `POST /import` asks for: its head, and the archive behind its empty line.
+/// The import that the whole body of `POST /import` asks for: its head, and the archive after its empty line.
 ///
 /// # Errors
 ///
