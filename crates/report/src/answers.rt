@@ -77,3 +77,15 @@ pub(crate) fn answer_bytes(
 }
 
 /// The text of an answer in pieces, as a writer or a body has it. An archive isn't copied.
+///
+/// # Errors
+///
+/// Memory was refused.
+pub fn answer_text(alloc: Global, dir: &StoreDir, answer: Answer) -> Result<Pieces, AllocError>
+    ensures { IfOk result (λ text. text ≡ spec.answer_text dir.now (answer_view answer)) }
+{
+    match answer {
+        Answer::Archive(nar) => Ok(nar),
+        answer => in_pieces(alloc, &answer_bytes(alloc, dir, &answer)?),
+    }
+}

@@ -40,3 +40,19 @@ pub fn reply_text(
 }
 
 /// The text of a reply in pieces. An archive isn't copied.
+///
+/// # Errors
+///
+/// Memory was refused.
+pub fn reply_pieces(alloc: Global, dir: &StoreDir, reply: Reply) -> Result<Pieces, AllocError>
+    ensures { IfOk result (λ text. text ≡ spec.reply_text dir.now (reply_view reply)) }
+{
+    match reply {
+        Reply::Done(answer) => answer_text(alloc, dir, answer),
+        reply => {
+            let mut text = Vec::new(alloc);
+            reply_text(alloc, dir, &reply, &mut text)?;
+            in_pieces(alloc, &text)
+        }
+    }
+}

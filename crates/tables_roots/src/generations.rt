@@ -51,3 +51,24 @@ impl Taken for Generation {
 
 /// Whether the generations of the rows are sound with the objects and the profiles of the index. If so, they are
 /// put into the index.
+pub(crate) fn read<S: Alter>(
+    alloc: Global,
+    conn: &mut Connection<S>,
+    index: &mut Index,
+) -> Result<bool, Failure>
+    requires frame { MayRead S.Store conn.old }
+    requires profiles { HasCleanDisk (state S.Store conn.old)
+        → index.old.profiles ≡ bare_profiles (contents_of (state S.Store conn.old).now).profiles }
+    ensures frame { LeftAsItWas S.Store conn.old conn.new }
+    ensures told { HasCleanDisk (state S.Store conn.new) → IfOk result
+        (λ ok. ok
+        ≡ list_all (is_generation index.old.objects (contents_of (state S.Store conn.old).now).profiles) (finite.entries (contents_of (state S.Store conn.old).now).generations)) }
+    ensures taken { HasCleanDisk (state S.Store conn.new) → IfOk result
+        (λ ok. IsTrue ok → index.new
+        ≡ record index.old { profiles = (world_in (contents_of (state S.Store conn.old).now)).profiles }) }
+    ensures unchanged { HasCleanDisk (state S.Store conn.new) → OnOk result
+        (IsUnchanged (state S.Store conn.old) (state S.Store conn.new)) }
+{
+    let generations = stored::all(alloc, conn)?;
+    Ok(taking::take_all(alloc, index, generations)?)
+}

@@ -45,3 +45,23 @@ impl Taken for PermanentRoot {
 
 /// Whether the permanent roots of the rows are sound with the objects of the index. If so, they are put into the
 /// index.
+pub fn read<S: Alter>(
+    alloc: Global,
+    conn: &mut Connection<S>,
+    index: &mut Index,
+) -> Result<bool, Failure>
+    requires frame { MayRead S.Store conn.old }
+    requires empty { HasCleanDisk (state S.Store conn.old) → index.old.permanent ≡ finite.empty }
+    ensures frame { LeftAsItWas S.Store conn.old conn.new }
+    ensures told { HasCleanDisk (state S.Store conn.new) → IfOk result
+        (λ ok. ok
+        ≡ list_all (is_permanent_root index.old.objects) (finite.entries (contents_of (state S.Store conn.old).now).permanent)) }
+    ensures taken { HasCleanDisk (state S.Store conn.new) → IfOk result
+        (λ ok. IsTrue ok → index.new
+        ≡ record index.old { permanent = (contents_of (state S.Store conn.old).now).permanent }) }
+    ensures unchanged { HasCleanDisk (state S.Store conn.new) → OnOk result
+        (IsUnchanged (state S.Store conn.old) (state S.Store conn.new)) }
+{
+    let roots = stored::all(alloc, conn)?;
+    Ok(taking::take_all(alloc, index, roots)?)
+}

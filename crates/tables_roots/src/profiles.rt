@@ -71,3 +71,28 @@ fn read_bare<S: Alter>(
 
 /// Whether the profiles of the rows are sound, and their generations with the objects of the index, and each
 /// profile has a
+/// generation of its current number. If so, they are put into the index.
+pub fn read<S: Alter>(
+    alloc: Global,
+    conn: &mut Connection<S>,
+    index: &mut Index,
+) -> Result<bool, Failure>
+    requires frame { MayRead S.Store conn.old }
+    requires empty { HasCleanDisk (state S.Store conn.old) → index.old.profiles ≡ finite.empty }
+    ensures frame { LeftAsItWas S.Store conn.old conn.new }
+    ensures told { HasCleanDisk (state S.Store conn.new) → IfOk result
+        (λ ok. ok ≡ are_profiles index.old.objects (contents_of (state S.Store conn.old).now)) }
+    ensures taken { HasCleanDisk (state S.Store conn.new) → IfOk result
+        (λ ok. IsTrue ok → index.new
+        ≡ record index.old { profiles = (world_in (contents_of (state S.Store conn.old).now)).profiles }) }
+    ensures unchanged { HasCleanDisk (state S.Store conn.new) → OnOk result
+        (IsUnchanged (state S.Store conn.old) (state S.Store conn.new)) }
+{
+    if !read_bare(alloc, conn, index)? {
+        return Ok(false);
+    }
+    if !generations::read(alloc, conn, index)? {
+        return Ok(false);
+    }
+    Ok(index.has_currents())
+}

@@ -103,3 +103,41 @@ fn take_lasting<S: Alter>(
 
 /// Whether all roots of the rows are sound with the objects of the index, which are those of the rows. If so, they
 /// are put into the index. Temporary roots are read by the third schema alone, since no other has a table of them.
+///
+/// # Errors
+///
+/// Memory or the disk failed. The rows are as they were, and the index may have some of the roots.
+pub fn take_roots<S: Alter>(
+    alloc: Global,
+    conn: &mut Connection<S>,
+    schema: Schema,
+    index: &mut Index,
+) -> Result<bool, Failure>
+    requires frame { MayRead S.Store conn.old }
+    requires stands { HasCleanDisk (state S.Store conn.old) → IsTrue (has_temporary (schema_view schema))
+        → IsTrue (state S.Store conn.old).is_open → HasFurther (state S.Store conn.old).now temp_root }
+    requires no_table { HasCleanDisk (state S.Store conn.old) → IsFalse (has_temporary (schema_view schema))
+        → IsTrue (state S.Store conn.old).is_open → (contents_of (state S.Store conn.old).now).temp_roots
+        ≡ finite.empty }
+    requires permanent { HasCleanDisk (state S.Store conn.old) → index.old.permanent ≡ finite.empty }
+    requires user_roots { HasCleanDisk (state S.Store conn.old) → index.old.user_roots ≡ finite.empty }
+    requires profiles { HasCleanDisk (state S.Store conn.old) → index.old.profiles ≡ finite.empty }
+    requires runtime { HasCleanDisk (state S.Store conn.old) → index.old.runtime ≡ finite.empty }
+    requires temporary { HasCleanDisk (state S.Store conn.old) → index.old.temporary ≡ finite.empty }
+    ensures frame { LeftAsItWas S.Store conn.old conn.new }
+    ensures told { HasCleanDisk (state S.Store conn.new) → IfOk result
+        (λ ok. AreObjects index.old.objects (contents_of (state S.Store conn.old).now)
+        → (IsTrue ok ↔ AreAllSound (rows_of (contents_of (state S.Store conn.old).now)))) }
+    ensures taken { HasCleanDisk (state S.Store conn.new) → IfOk result
+        (λ ok. IsTrue ok → index.new ≡ with_roots index.old (contents_of (state S.Store conn.old).now)) }
+    ensures unchanged { HasCleanDisk (state S.Store conn.new) → OnOk result
+        (IsUnchanged (state S.Store conn.old) (state S.Store conn.new)) }
+{
+    if !take_lasting(alloc, conn, index)? {
+        return Ok(false);
+    }
+    if !schema.has_temporary() {
+        return Ok(true);
+    }
+    temporary::read(alloc, conn, index)
+}

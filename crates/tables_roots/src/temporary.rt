@@ -55,3 +55,24 @@ impl Taken for TempRoot {
 
 /// Whether what the sessions of the rows keep is sound with the objects of the index. If so, it is put into the
 /// index.
+pub fn read<S: Alter>(
+    alloc: Global,
+    conn: &mut Connection<S>,
+    index: &mut Index,
+) -> Result<bool, Failure>
+    requires frame { MayRead S.Store conn.old }
+    requires stands { HasCleanDisk (state S.Store conn.old) → IsTrue (state S.Store conn.old).is_open
+        → HasFurther (state S.Store conn.old).now temp_root }
+    requires empty { HasCleanDisk (state S.Store conn.old) → index.old.temporary ≡ finite.empty }
+    ensures frame { LeftAsItWas S.Store conn.old conn.new }
+    ensures told { HasCleanDisk (state S.Store conn.new) → IfOk result
+        (λ ok. ok ≡ are_temporary index.old.objects (contents_of (state S.Store conn.old).now)) }
+    ensures taken { HasCleanDisk (state S.Store conn.new) → IfOk result
+        (λ ok. IsTrue ok → index.new
+        ≡ record index.old { temporary = (world_in (contents_of (state S.Store conn.old).now)).temporary }) }
+    ensures unchanged { HasCleanDisk (state S.Store conn.new) → OnOk result
+        (IsUnchanged (state S.Store conn.old) (state S.Store conn.new)) }
+{
+    let roots = stored::all(alloc, conn)?;
+    Ok(taking::take_all(alloc, index, roots)?)
+}

@@ -161,3 +161,27 @@ fn replies(alloc: Global, calls: Vec<(Caller, Request)>) -> Result<Vec<Reply>, F
 
 pub fn tell(alloc: Global, dir: &StoreDir, reply: Reply, told: &mut Vec<u8>) -> Result<(), Fail> {
     let text = reply_pieces(alloc, dir, reply)?.joined()?;
+    told.extend_from_slice(&text)?;
+    Ok(())
+}
+
+pub fn tell_all(alloc: Global, replies: Vec<Reply>, told: &mut Vec<u8>) -> Result<(), Fail> {
+    let dir = StoreDir::parse(alloc, "/nix/store")?;
+    for reply in replies {
+        tell(alloc, &dir, reply, told)?;
+    }
+    Ok(())
+}
+
+#[test]
+fn calls_in_turn(rt: HostRuntime) -> Result<(), Fail> {
+    let alloc = rt.alloc();
+    let mut calls = Vec::new(alloc);
+    push_all(alloc, &mut calls)?;
+    let replies = replies(alloc, calls)?;
+    assert_eq!(rt; replies.len(), 7);
+    let mut told = Vec::new(alloc);
+    tell_all(alloc, replies, &mut told)?;
+    assert!(rt; told.as_slice() == TOLD.as_bytes());
+    Ok(())
+}
