@@ -11,7 +11,7 @@ use report::failure_line;
 use sqlite::Connection;
 use std::alloc::Global;
 use std::test::Fail;
-use store::{Failure, Reply, Store};
+use store::{Failed, Reply, Store};
 use tables::{Cause, Tables, Unadopted, adopt};
 
 /// How far calls came.
@@ -30,7 +30,7 @@ fn take_up(
     alloc: Global,
     conn: Connection<DiskStore>,
     dir: &StoreDir,
-) -> Result<Tables<DiskStore>, (Disks, Option<Failure>)>
+) -> Result<Tables<DiskStore>, (Disks, Option<Failed>)>
     ensures { IfOk result (λ t. t.dir ≡ dir.now) }
 {
     if !conn.is_autocommit() {
@@ -53,7 +53,7 @@ pub fn open(
     alloc: Global,
     files: Disks,
     config: Config,
-) -> Result<Store<DiskStore>, (Disks, Option<Failure>)> {
+) -> Result<Store<DiskStore>, (Disks, Option<Failed>)> {
     let conn = match connect(alloc, files) {
         Ok(conn) => conn,
         Err((files, failure)) => return Err((files, Some(failure))),
@@ -86,7 +86,7 @@ fn make_calls(
 }
 
 /// The line of a failure that stopped an opening.
-fn tell_failure(failure: Option<Failure>, told: &mut Vec<u8>) -> Result<(), Fail> {
+fn tell_failure(failure: Option<Failed>, told: &mut Vec<u8>) -> Result<(), Fail> {
     match failure {
         Some(failure) => Ok(told.extend_from_slice(failure_line(failure).as_bytes())?),
         None => Err(Fail::new("the files hold no store")),

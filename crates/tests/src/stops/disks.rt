@@ -3,7 +3,7 @@ use sqlite::{Connection, FileStore, Options};
 use sqlite_disk::{Crash, Disk, Files, Fuse, Memory};
 use std::alloc::{AllocError, Global};
 use std::test::Fail;
-use store::Failure;
+use store::Failed;
 
 /// The files of a database.
 pub type Disks = Files<Fuse<Memory>>;
@@ -67,13 +67,13 @@ pub fn is_stopped(files: &mut Disks) -> bool {
 }
 
 /// Opens the files. Where that fails they are returned, with the failure.
-pub fn connect(alloc: Global, files: Disks) -> Result<Connection<DiskStore>, (Disks, Failure)> {
+pub fn connect(alloc: Global, files: Disks) -> Result<Connection<DiskStore>, (Disks, Failed)> {
     if !files.may_be_used() {
-        return Err((files, Failure::Disk));
+        return Err((files, Failed::Disk));
     }
     match Connection::open_files(alloc, files, Options::new(1)) {
         Ok(conn) => Ok(conn),
-        Err((error, left)) => Err((left.into_files(), Failure::from(error))),
+        Err((error, left)) => Err((left.into_files(), Failed::from(error))),
     }
 }
 
