@@ -1,4 +1,5 @@
 pub mod Alone
 pub mod Fronts
+pub mod Passing
 pub mod Reading
 pub mod ValueLemmas

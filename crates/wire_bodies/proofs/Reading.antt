@@ -1,10 +1,10 @@
 -- What the lines of a text leave to those that follow.
 use Rattle.std.proofs.Common.{◌≡◌, ℕ, zero, suc, ◌<◌, List, [], ◌∷◌, ◌++◌, length, drop, get_or, refl, sym, ap, ◌∙◌, arith, append_assoc, subst, length-append}
 use Rattle.std.specs.Prelude.{IsUtf8, Option, Some, None, Bool, true, false, ◌==◌}
-use Rattle.std.proofs.lemmas.List.{map-append}
 use Rattle.std.specs.Borrow.{Bor}
+use Rattle.std.proofs.lemmas.Bool.{ne_eqb}
 use Rattle.std.proofs.lemmas.Str.Pattern.{IsSplitOnceResult, split_after}
-use Rattle.wire_bodies.specs.Lines.{Lacks, Entry, entry_text, IsEntry, print_entries, AreEntries, Reads, shown}
+use Rattle.wire_bodies.specs.Lines.{Lacks, Entry, entry_text, IsEntry, print_entries, AreEntries, Reads}
 
 -- a byte that a text lacks divides what it stands in once
 pub divides : (byte : ℕ) (x y a b : List ℕ) → Lacks byte x → Lacks byte y → x ++ byte ∷ a ≡ y ++ byte ∷ b → (x ≡ y) × (a ≡ b)
@@ -90,6 +90,11 @@ pub not_empty : (n : ℕ) (b : Bool) → b ≡ (n == 0) → b ≡ false → 0 < 
 not_empty zero b is no_more = let h : true ≡ false = sym is ∙ no_more in cc
 not_empty (suc n) b is no_more = omega arith
 
+pub nothing_in : (line : List ℕ) (b : Bool) → b ≡ (length line == 0) → b ≡ true → line ≡ []
+nothing_in [] b is told = refl
+nothing_in (x ∷ line) b is told =
+    let h : false ≡ true = sym (ne_eqb (length (x ∷ line)) 0 (λ (e : length (x ∷ line) ≡ 0). omega (arith, e))) ∙ sym is ∙ told in cc
+
 pub no_entry : (text : List ℕ) (es : List Entry) (rest line after : List ℕ) → Read text es rest → rest ≡ line ++ 10 ∷ after → Lacks 10 line → 0 < length line
     → ((k v : List ℕ) → line ≡ entry_text (k, v) → Lacks 58 k → IsUtf8 line → ⊥) → (fs : List Entry) (payload : List ℕ) → Reads text fs payload → ⊥
 no_entry text es rest line after read is lacks some none fs payload reads =
@@ -102,9 +107,6 @@ no_entry text es rest line after read is lacks some none fs payload reads =
     by (f ∷ more) reads =
         let first = first_entry line after f more payload lacks reads in
         none f.0 f.1 first.0 first.1.key (subst IsUtf8 (sym first.0) first.1.text)
-
-pub shown_more : (items : List (Bor (List ℕ) × Bor (List ℕ))) (item : Bor (List ℕ) × Bor (List ℕ)) → shown (items ++ item ∷ []) ≡ shown items ++ (item.0.now, item.1.now) ∷ []
-shown_more items item = map-append (λ (i : Bor (List ℕ) × Bor (List ℕ)). (i.0.now, i.1.now)) items (item ∷ [])
 
 -- ---- one reading
 

@@ -8,7 +8,7 @@ use Rattle.std.specs.Borrow.{Bor}
 use Rattle.std.proofs.Math.Seq.{drop-cons}
 use Rattle.std.proofs.Common.{take-append-drop}
 use Rattle.std.proofs.lemmas.List.{take_more, map-append}
-use Rattle.wire_bodies.specs.Lines.{Entry, shown}
+use Rattle.wire_bodies.specs.Lines.{Entry}
 use Rattle.wire_bodies.specs.Values.{values, single, optional, each, Are}
 use Rattle.wire_bodies.specs.declared.entries.Found.TheVariants as found
 
@@ -32,7 +32,7 @@ values_no key (d ∷ es) e h = by (values_no key es e h) (bytes_eq d.0 key)
     by ih true = ap (λ t. d.1 ∷ t) ih
     by ih false = ih
 
-values-append : (key : List ℕ) (es fs : List Entry) → values key (es ++ fs) ≡ values key es ++ values key fs
+pub values-append : (key : List ℕ) (es fs : List Entry) → values key (es ++ fs) ≡ values key es ++ values key fs
 values-append key [] fs = refl
 values-append key (d ∷ es) fs = by (values-append key es fs) (bytes_eq d.0 key)
   where
@@ -71,7 +71,7 @@ module _ {X : Type 0} (p : X → Bool) where
       by true ih = refl
       by false ih = ih
 
-  all_yes : (xs : List X) (y : X) → list_all p xs ≡ true → p y ≡ true → list_all p (xs ++ y ∷ []) ≡ true
+  pub all_yes : (xs : List X) (y : X) → list_all p xs ≡ true → p y ≡ true → list_all p (xs ++ y ∷ []) ≡ true
   all_yes [] y e f = rw f refl
   all_yes (x ∷ xs) y e f = by (p x) e (all_yes xs y)
     where
@@ -79,7 +79,7 @@ module _ {X : Type 0} (p : X → Bool) where
       by true e ih = ih e f
       by false e ih = e
 
-  all_here : (xs : List X) (y : X) (ys : List X) → p y ≡ false → list_all p (xs ++ y ∷ ys) ≡ false
+  pub all_here : (xs : List X) (y : X) (ys : List X) → p y ≡ false → list_all p (xs ++ y ∷ ys) ≡ false
   all_here [] y ys f = rw f refl
   all_here (x ∷ xs) y ys f = by (p x) (all_here xs y ys f)
     where
@@ -87,37 +87,7 @@ module _ {X : Type 0} (p : X → Bool) where
       by true ih = ih
       by false ih = refl
 
--- ---- the loops over entries and keys
-
-abbrev Lent : Type 0
-Lent = Bor (List ℕ) × Bor (List ℕ)
-
-entry_at : Lent → Entry
-entry_at item = (item.0.now, item.1.now)
-
-module _ (items : List Lent) (i : ℕ) (d : Lent) (h : i < length items) where
-  abbrev here : Lent
-  here = get_or items i d
-
-  pub one_value : (key : List ℕ) → bytes_eq here.0.now key ≡ true → values key (shown (take (i + 1) items)) ≡ values key (shown (take i items)) ++ here.1.now ∷ []
-  one_value key same = ap (values key) (map_more (λ (x : Lent). (x.0.now, x.1.now)) items i d h) ∙ values_yes key (shown (take i items)) (here.0.now, here.1.now) same
-
-  pub no_value : (key : List ℕ) → bytes_eq here.0.now key ≡ false → values key (shown (take (i + 1) items)) ≡ values key (shown (take i items))
-  no_value key other = ap (values key) (map_more (λ (x : Lent). (x.0.now, x.1.now)) items i d h) ∙ values_no key (shown (take i items)) (here.0.now, here.1.now) other
-
-  pub all_so_far : (p : Entry → Bool) → list_all p (shown (take i items)) ≡ true → p (here.0.now, here.1.now) ≡ true → list_all p (shown (take (i + 1) items)) ≡ true
-  all_so_far p so_far one = ap (list_all p) (map_more (λ (x : Lent). (x.0.now, x.1.now)) items i d h) ∙ all_yes p (shown (take i items)) (here.0.now, here.1.now) so_far one
-
-  pub not_all : (p : Entry → Bool) → p (here.0.now, here.1.now) ≡ false → list_all p (shown items) ≡ false
-  not_all p other =
-      ap (list_all p) (map_round (λ (x : Lent). (x.0.now, x.1.now)) items i d h) ∙ all_here p (shown (take i items)) (here.0.now, here.1.now) (shown (drop (suc i) items)) other
-
-  value_there : (key : List ℕ) → bytes_eq here.0.now key ≡ true
-      → values key (shown items) ≡ values key (shown (take i items)) ++ here.1.now ∷ values key (shown (drop (suc i) items))
-  value_there key same =
-      ap (values key) (map_round (λ (x : Lent). (x.0.now, x.1.now)) items i d h)
-      ∙ values-append key (shown (take i items)) ((here.0.now, here.1.now) ∷ shown (drop (suc i) items))
-      ∙ ap (λ b. values key (shown (take i items)) ++ cond b (here.1.now ∷ values key (shown (drop (suc i) items))) (values key (shown (drop (suc i) items)))) same
+-- ---- the loop over keys
 
 module _ (keys : List (Bor (List ℕ))) (i : ℕ) (d : Bor (List ℕ)) (h : i < length keys) (p : List ℕ → Bool) where
   pub none_so_far : list_any p (map (λ (k : Bor (List ℕ)). k.now) (take i keys)) ≡ false → p (get_or keys i d).now ≡ false
@@ -154,12 +124,6 @@ module _ {A : Type 0} (f : List ℕ → Option A) where
       by : (o : Option A) → option_and_then (λ y. option_map (λ ys. y ∷ ys) None) o ≡ None
       by None = refl
       by (Some y) = refl
-
-  pub each_bad : (items : List Lent) (i : ℕ) (d : Lent) → i < length items → (key : List ℕ) → bytes_eq (get_or items i d).0.now key ≡ true
-      → f (get_or items i d).1.now ≡ None → each f (values key (shown items)) ≡ None
-  each_bad items i d h key same none =
-      ap (each f) (value_there items i d h key same)
-      ∙ each_none (values key (shown (take i items))) (get_or items i d).1.now (values key (shown (drop (suc i) items))) none
 
   -- ---- one value or none
 

@@ -1,7 +1,7 @@
 -- The lines of a body, and the payload after them.
-use Rattle.std.specs.Prelude.{◌≡◌, ◌≢◌, ℕ, ◌<◌, List, [], ◌∷◌, ◌++◌, length, slice_index, map, Option, Some, None, IsUtf8}
+use Rattle.std.specs.Prelude.{◌≡◌, ◌≢◌, ℕ, ◌<◌, ◌==◌, Bool, cond, List, [], ◌∷◌, ◌++◌, length, drop, slice_index, Option, Some, None, IsUtf8}
 use Rattle.std.specs.Borrow.{Bor}
-use Rattle.wire_bodies.specs.declared.lines.Body.{Body}
+use Rattle.std.specs.List.{before_first, after_first}
 
 -- the byte isn't in the text
 abbrev pub Lacks : ℕ → List ℕ → Type 0
@@ -36,6 +36,28 @@ pub record Reads (text : List ℕ) (es : List Entry) (payload : List ℕ) : Type
   pub entries : AreEntries es
   pub whole : text ≡ print_entries es ++ 10 ∷ payload
 
+-- the text is the lines of these entries
+abbrev pub AreLines : List ℕ → List Entry → Type 0
+AreLines text es = AreEntries es × (text ≡ print_entries es)
+
+-- ---- the entries that lines stand for
+
+abbrev pub is_colon : ℕ → Bool
+is_colon b = b == 58
+
+-- the key and the value of a line
+abbrev pub entry_in : List ℕ → Entry
+entry_in line = (before_first is_colon line, drop 1 (after_first is_colon line))
+
+-- those of the lines of a text, of whose first line a front stands before it
+abbrev pub entries_from : List ℕ → List ℕ → List Entry
+entries_from front [] = []
+entries_from front (b ∷ text) = cond (b == 10) (entry_in front ∷ entries_from [] text) (entries_from (front ++ b ∷ []) text)
+
+-- those of the lines of a text
+abbrev pub entries_in : List ℕ → List Entry
+entries_in text = entries_from [] text
+
 -- an empty body stands for the empty line alone
 abbrev pub spelled : List ℕ → List ℕ
 spelled [] = 10 ∷ []
@@ -53,11 +75,7 @@ abbrev pub EntryOf : List ℕ → Option (Bor (List ℕ) × Bor (List ℕ)) → 
 EntryOf line None = (k v : List ℕ) → line ≡ entry_text (k, v) → Lacks 58 k → IsUtf8 line → ⊥
 EntryOf line (Some parts) = (line ≡ entry_text (parts.0.now, parts.1.now)) × Lacks 58 parts.0.now × IsUtf8 line
 
--- entries as they are lent
-abbrev pub shown : List (Bor (List ℕ) × Bor (List ℕ)) → List Entry
-shown items = map (λ item. (item.0.now, item.1.now)) items
-
--- the entries and the payload, or that the text has none
-abbrev pub BodyOf : List ℕ → Option Body → Type 0
-BodyOf text None = (es : List Entry) (payload : List ℕ) → Reads text es payload → ⊥
-BodyOf text (Some body) = Reads text (shown body.entries.items) body.payload.now
+-- the first entry is passed, and told; or there is none
+abbrev pub Passes : List Entry → List Entry → Option (Bor (List ℕ) × Bor (List ℕ)) → Type 0
+Passes old new None = old ≡ []
+Passes old new (Some parts) = old ≡ (parts.0.now, parts.1.now) ∷ new

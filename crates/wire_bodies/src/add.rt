@@ -5,7 +5,7 @@ ghost use Rattle.wire_bodies.specs.declared.heads.NamedHead.{NamedHead as NamedO
 
 use crate::error::BodyError;
 use crate::heads::{NamedHead, named_head};
-use crate::lines::body_of;
+use crate::parts::body_of;
 use paths::StoreDir;
 use std::alloc::Global;
 
@@ -22,10 +22,8 @@ pub fn named_body<'b>(
     ensures ok { IfOk result (λ add. IsNamedBody dir.now body.now add.0 add.1.now) }
     ensures bad { result ≡ Err BodyError.BadBodyHead → (head : NamedOf) (contents : List ℕ) → IsNamedBody dir.now body.now head contents → ⊥ }
 {
-    let parts = match body_of(alloc, body) {
-        Ok(Some(parts)) => parts,
-        Ok(None) => return Err(BodyError::BadBodyHead),
-        Err(_) => return Err(BodyError::Memory),
+    let Some(parts) = body_of(body) else {
+        return Err(BodyError::BadBodyHead);
     };
     match named_head(alloc, dir, &parts.entries) {
         Ok(head) => Ok((head, parts.payload)),

@@ -1,13 +1,13 @@
 //! The body of a collection.
 ghost use Rattle.std.specs.Prelude.{◌≡◌, IfOk, Err};
 ghost use Rattle.paths.specs.Decimal.{decimal_of};
-ghost use Rattle.wire_bodies.specs.Lines.{shown};
 ghost use Rattle.wire_bodies.specs.Values.{Answers, values, optional};
 ghost use Rattle.wire_bodies.specs.Bodies.{IsCollect};
 ghost use Rattle.wire_bodies.specs.declared.collect.CollectHead.{CollectHead as CollectOf};
 
 use crate::entries::{Found, are_known, find_value};
 use crate::error::BodyError;
+use crate::lines::Lines;
 use crate::values::flag_if_any;
 use paths::numbers::decimal;
 
@@ -20,8 +20,8 @@ pub struct CollectHead {
 }
 
 /// The number of the entry of a key, if there is one.
-fn number_if_any(entries: &[(&str, &str)], key: &str) -> Result<Option<u64>, BodyError>
-    ensures { Answers (λ n. n) (optional decimal_of (values key.now (shown entries.now))) result }
+fn number_if_any(entries: &Lines<'_>, key: &str) -> Result<Option<u64>, BodyError>
+    ensures { Answers (λ n. n) (optional decimal_of (values key.now entries.now)) result }
 {
     match find_value(entries, key) {
         Found::One(text) => match decimal(text) {
@@ -38,9 +38,9 @@ fn number_if_any(entries: &[(&str, &str)], key: &str) -> Result<Option<u64>, Bod
 /// # Errors
 ///
 /// `BadBodyHead` exactly where they are none.
-pub fn collect_head(entries: &[(&str, &str)]) -> Result<CollectHead, BodyError>
-    ensures ok { IfOk result (λ head. IsCollect (shown entries.now) head) }
-    ensures bad { result ≡ Err BodyError.BadBodyHead → (head : CollectOf) → IsCollect (shown entries.now) head → ⊥ }
+pub fn collect_head(entries: &Lines<'_>) -> Result<CollectHead, BodyError>
+    ensures ok { IfOk result (λ head. IsCollect entries.now head) }
+    ensures bad { result ≡ Err BodyError.BadBodyHead → (head : CollectOf) → IsCollect entries.now head → ⊥ }
 {
     if !are_known(entries, &["max-freed", "ignore-liveness"]) {
         return Err(BodyError::BadBodyHead);

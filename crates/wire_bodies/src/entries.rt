@@ -2,8 +2,9 @@
 ghost use Rattle.std.specs.Prelude.{◌≡◌, ℕ, List, [], ◌∷◌, ◌++◌};
 ghost use Rattle.std.specs.List.{list_any};
 ghost use Rattle.std.specs.Str.{bytes_eq};
-ghost use Rattle.wire_bodies.specs.Lines.{shown};
 ghost use Rattle.wire_bodies.specs.Values.{Are, values, are_known, texts};
+
+use crate::lines::Lines;
 
 /// The values of a key.
 #[derive(Clone, Copy)]
@@ -24,16 +25,19 @@ fn with_another<'b>(found: Found<'b>, value: &'b str) -> Found<'b>
 }
 
 /// The values of a key.
-pub fn find_value<'b>(entries: &[(&'b str, &'b str)], key: &str) -> Found<'b>
-    ensures { Are (values key.now (shown entries.now)) result }
+pub fn find_value<'b>(entries: &Lines<'b>, key: &str) -> Found<'b>
+    ensures { Are (values key.now entries.now) result }
 {
     let mut found = Found::None;
-    for entry in entries {
-        if entry.0 == key {
-            found = with_another(found, entry.1);
+    let mut left = entries.again();
+    'lines: loop {
+        let Some((name, value)) = left.take_entry() else {
+            return found;
+        };
+        if name == key {
+            found = with_another(found, value);
         }
     }
-    found
 }
 
 /// Whether a key is one of some.
@@ -48,14 +52,17 @@ fn is_among(key: &str, keys: &[&str]) -> bool
     false
 }
 
-/// Whether each key of the entries is one of some.
-pub fn are_known(entries: &[(&str, &str)], keys: &[&str]) -> bool
-    ensures { result ≡ are_known (texts keys.now) (shown entries.now) }
+/// Whether each key of the entries is one of some. It looks at none behind the first that isn't.
+pub fn are_known(entries: &Lines<'_>, keys: &[&str]) -> bool
+    ensures { result ≡ are_known (texts keys.now) entries.now }
 {
-    for entry in entries {
-        if !is_among(entry.0, keys) {
+    let mut left = entries.again();
+    'lines: loop {
+        let Some((name, _)) = left.take_entry() else {
+            return true;
+        };
+        if !is_among(name, keys) {
             return false;
         }
     }
-    true
 }

@@ -1,12 +1,12 @@
 //! The heads of the other bodies.
 ghost use Rattle.std.specs.Prelude.{◌≡◌, IfOk, Err, List, ℕ};
-ghost use Rattle.wire_bodies.specs.Lines.{shown};
 ghost use Rattle.wire_bodies.specs.Bodies.{IsNamed, IsPath, IsDelete};
 ghost use Rattle.wire_bodies.specs.declared.heads.NamedHead.{NamedHead as NamedOf};
 ghost use Rattle.wire_bodies.specs.declared.heads.DeleteHead.{DeleteHead as DeleteOf};
 
 use crate::entries::are_known;
 use crate::error::BodyError;
+use crate::lines::Lines;
 use crate::values::{each_path, flag_if_any, one_name, one_path};
 use paths::{Name, StoreDir, StorePath};
 use std::alloc::Global;
@@ -33,10 +33,10 @@ pub struct DeleteHead {
 pub fn named_head(
     alloc: Global,
     dir: &StoreDir,
-    entries: &[(&str, &str)],
+    entries: &Lines<'_>,
 ) -> Result<NamedHead, BodyError>
-    ensures ok { IfOk result (λ head. IsNamed dir.now (shown entries.now) head) }
-    ensures bad { result ≡ Err BodyError.BadBodyHead → (head : NamedOf) → IsNamed dir.now (shown entries.now) head → ⊥ }
+    ensures ok { IfOk result (λ head. IsNamed dir.now entries.now head) }
+    ensures bad { result ≡ Err BodyError.BadBodyHead → (head : NamedOf) → IsNamed dir.now entries.now head → ⊥ }
 {
     if !are_known(entries, &["name", "reference"]) {
         return Err(BodyError::BadBodyHead);
@@ -56,13 +56,9 @@ pub fn named_head(
 /// # Errors
 ///
 /// `BadBodyHead` exactly where they name none, and `Memory`.
-pub fn path_head(
-    alloc: Global,
-    dir: &StoreDir,
-    entries: &[(&str, &str)],
-) -> Result<StorePath, BodyError>
-    ensures ok { IfOk result (λ path. IsPath dir.now (shown entries.now) path) }
-    ensures bad { result ≡ Err BodyError.BadBodyHead → (path : List ℕ) → IsPath dir.now (shown entries.now) path → ⊥ }
+pub fn path_head(alloc: Global, dir: &StoreDir, entries: &Lines<'_>) -> Result<StorePath, BodyError>
+    ensures ok { IfOk result (λ path. IsPath dir.now entries.now path) }
+    ensures bad { result ≡ Err BodyError.BadBodyHead → (path : List ℕ) → IsPath dir.now entries.now path → ⊥ }
 {
     if !are_known(entries, &["path"]) {
         return Err(BodyError::BadBodyHead);
@@ -78,10 +74,10 @@ pub fn path_head(
 pub fn delete_head(
     alloc: Global,
     dir: &StoreDir,
-    entries: &[(&str, &str)],
+    entries: &Lines<'_>,
 ) -> Result<DeleteHead, BodyError>
-    ensures ok { IfOk result (λ head. IsDelete dir.now (shown entries.now) head) }
-    ensures bad { result ≡ Err BodyError.BadBodyHead → (head : DeleteOf) → IsDelete dir.now (shown entries.now) head → ⊥ }
+    ensures ok { IfOk result (λ head. IsDelete dir.now entries.now head) }
+    ensures bad { result ≡ Err BodyError.BadBodyHead → (head : DeleteOf) → IsDelete dir.now entries.now head → ⊥ }
 {
     if !are_known(entries, &["path", "ignore-liveness"]) {
         return Err(BodyError::BadBodyHead);

@@ -1,12 +1,12 @@
 //! The body of an import.
 ghost use Rattle.std.specs.Prelude.{◌≡◌, IfOk, Err, List, ℕ};
-ghost use Rattle.wire_bodies.specs.Lines.{shown};
 ghost use Rattle.wire_bodies.specs.Bodies.{IsImport, IsImportBody};
 ghost use Rattle.wire_bodies.specs.declared.import.ImportHead.{ImportHead as HeadOf};
 
 use crate::entries::are_known;
 use crate::error::BodyError;
-use crate::lines::body_of;
+use crate::lines::Lines;
+use crate::parts::body_of;
 use crate::values::{ca_if_any, each_path, one_hash, one_path, path_if_any};
 use paths::{Ca, StoreDir, StorePath};
 use std::alloc::Global;
@@ -30,10 +30,10 @@ pub struct ImportHead {
 pub fn import_head(
     alloc: Global,
     dir: &StoreDir,
-    entries: &[(&str, &str)],
+    entries: &Lines<'_>,
 ) -> Result<ImportHead, BodyError>
-    ensures ok { IfOk result (λ head. IsImport dir.now (shown entries.now) head) }
-    ensures bad { result ≡ Err BodyError.BadBodyHead → (head : HeadOf) → IsImport dir.now (shown entries.now) head → ⊥ }
+    ensures ok { IfOk result (λ head. IsImport dir.now entries.now head) }
+    ensures bad { result ≡ Err BodyError.BadBodyHead → (head : HeadOf) → IsImport dir.now entries.now head → ⊥ }
 {
     if !are_known(entries, &["path", "nar-hash", "reference", "deriver", "ca"]) {
         return Err(BodyError::BadBodyHead);
@@ -79,10 +79,8 @@ pub fn import_body<'b>(
     ensures ok { IfOk result (λ import. IsImportBody dir.now body.now import.0 import.1.now) }
     ensures bad { result ≡ Err BodyError.BadBodyHead → (head : HeadOf) (nar : List ℕ) → IsImportBody dir.now body.now head nar → ⊥ }
 {
-    let parts = match body_of(alloc, body) {
-        Ok(Some(parts)) => parts,
-        Ok(None) => return Err(BodyError::BadBodyHead),
-        Err(_) => return Err(BodyError::Memory),
+    let Some(parts) = body_of(body) else {
+        return Err(BodyError::BadBodyHead);
     };
     match import_head(alloc, dir, &parts.entries) {
         Ok(head) => Ok((head, parts.payload)),

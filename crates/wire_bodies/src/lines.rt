@@ -1,19 +1,12 @@
-//! The lines of a body, and its payload.
-ghost use Rattle.std.specs.Prelude.{◌≡◌, IfOk};
-ghost use Rattle.wire_bodies.specs.Lines.{FirstLine, EntryOf, BodyOf, spelled};
+//! The lines of a body: a key and a value each.
+ghost use Rattle.std.specs.Prelude.{◌≡◌};
+ghost use Rattle.wire_bodies.specs.Lines.{FirstLine, EntryOf, Passes};
 
-use std::alloc::{AllocError, Global};
+use std::marker::Model;
 use std::str;
 
-/// The keys and values of a body, and what follows its empty line.
-#[derive(Drop)]
-pub struct Body<'b> {
-    pub entries: Vec<(&'b str, &'b str)>,
-    pub payload: &'b [u8],
-}
-
 /// The first line of a text, and what follows its line feed.
-fn first_line<'b>(text: &'b [u8]) -> Option<(&'b [u8], &'b [u8])>
+pub(crate) fn first_line<'b>(text: &'b [u8]) -> Option<(&'b [u8], &'b [u8])>
     ensures { FirstLine text.now result }
 {
     for (i, byte) in text.iter().enumerate() {
@@ -25,7 +18,7 @@ fn first_line<'b>(text: &'b [u8]) -> Option<(&'b [u8], &'b [u8])>
 }
 
 /// The key and the value of a line.
-fn entry_of<'b>(line: &'b [u8]) -> Option<(&'b str, &'b str)>
+pub(crate) fn entry_of<'b>(line: &'b [u8]) -> Option<(&'b str, &'b str)>
     ensures { EntryOf line.now result }
 {
     let Ok(text) = str::from_utf8(line) else {
@@ -40,40 +33,43 @@ fn entry_of<'b>(line: &'b [u8]) -> Option<(&'b str, &'b str)>
     }
 }
 
-/// The entries and the payload of a text that isn't empty.
-fn parts_of<'b>(alloc: Global, text: &'b [u8]) -> Result<Option<Body<'b>>, AllocError>
-    ensures { IfOk result (BodyOf text.now) }
-{
-    let mut entries = Vec::new(alloc);
-    let mut rest = text;
-    'lines: loop {
-        let Some((line, after)) = first_line(rest) else {
-            return Ok(None);
-        };
-        if line.is_empty() {
-            return Ok(Some(Body {
-                entries,
-                payload: after,
-            }));
-        }
-        let Some(entry) = entry_of(line) else {
-            return Ok(None);
-        };
-        entries.push(entry)?;
-        rest = after;
-    }
+/// Lines that are known to have a key and a value each, lent as they stand: there is no list of them. Contracts see
+/// the keys and values in their order.
+#[derive(Drop)]
+pub struct Lines<'b> {
+    pub(crate) text: &'b [u8],
 }
 
-/// The entries and the payload of a body, lent, or none where it has no empty line after good lines. What follows the
-/// empty line isn't looked at, so a prefix of a body gives the same entries as soon as its empty line is there.
-pub fn body_of<'b>(alloc: Global, body: &'b [u8]) -> Result<Option<Body<'b>>, AllocError>
-    ensures { IfOk result (BodyOf (spelled body.now)) }
-{
-    if body.is_empty() {
-        return Ok(Some(Body {
-            entries: Vec::new(alloc),
-            payload: body,
-        }));
+impl<'b> Model for Lines<'b> {
+    ghost use Rattle.std.specs.Prelude.{List};
+    ghost use Rattle.wire_bodies.specs.Lines.{Entry, AreLines, entries_in};
+
+    ghost Value = { List Entry };
+
+    ghost view = { λ lines. entries_in lines.text.now };
+
+    ghost invariant = { λ lines. AreLines lines.text.now (entries_in lines.text.now) };
+}
+
+impl<'b> Lines<'b> {
+    /// The same lines, to be gone through.
+    pub fn again(&self) -> Lines<'b>
+        ensures { result ≡ self.now }
+    {
+        Lines { text: self.text }
     }
-    parts_of(alloc, body)
+
+    /// The key and the value of the first line, which is passed; none where no line is left.
+    pub fn take_entry(&mut self) -> Option<(&'b str, &'b str)>
+        ensures { Passes self.old self.new result }
+    {
+        let Some((line, after)) = first_line(self.text) else {
+            return None;
+        };
+        let Some(entry) = entry_of(line) else {
+            return None;
+        };
+        self.text = after;
+        Some(entry)
+    }
 }

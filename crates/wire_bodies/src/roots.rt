@@ -1,6 +1,5 @@
 //! The runtime roots of a body.
 ghost use Rattle.std.specs.Prelude.{◌≡◌, IfOk, Err, List, ℕ, string_bytes};
-ghost use Rattle.wire_bodies.specs.Lines.{shown};
 ghost use Rattle.wire_bodies.specs.Values.{Answers, values, each};
 ghost use Rattle.wire_bodies.specs.Kinds.{root_text, is_space};
 ghost use Rattle.std.specs.List.{before_first, after_first};
@@ -8,6 +7,7 @@ ghost use Rattle.wire_bodies.specs.Bodies.{IsRuntime, labelled};
 
 use crate::entries::are_known;
 use crate::error::BodyError;
+use crate::lines::Lines;
 use crate::values::path_of;
 use paths::{StoreDir, StorePath};
 use std::alloc::Global;
@@ -42,15 +42,19 @@ fn root_of(alloc: Global, dir: &StoreDir, text: &str) -> Result<(String, StorePa
 fn each_root(
     alloc: Global,
     dir: &StoreDir,
-    entries: &[(&str, &str)],
+    entries: &Lines<'_>,
     key: &str,
 ) -> Result<Vec<(String, StorePath)>, BodyError>
-    ensures { Answers (λ roots. labelled roots.items) (each (root_text dir.now) (values key.now (shown entries.now))) result }
+    ensures { Answers (λ roots. labelled roots.items) (each (root_text dir.now) (values key.now entries.now)) result }
 {
     let mut roots = Vec::new(alloc);
-    for entry in entries {
-        if entry.0 == key {
-            match root_of(alloc, dir, entry.1) {
+    let mut left = entries.again();
+    'lines: loop {
+        let Some((name, value)) = left.take_entry() else {
+            return Ok(roots);
+        };
+        if name == key {
+            match root_of(alloc, dir, value) {
                 Ok(root) => match roots.push(root) {
                     Ok(()) => {}
                     Err(_) => return Err(BodyError::Memory),
@@ -60,7 +64,6 @@ fn each_root(
             }
         }
     }
-    Ok(roots)
 }
 
 /// The labels and paths that some entries name: any number of `root`.
@@ -71,10 +74,10 @@ fn each_root(
 pub fn runtime_head(
     alloc: Global,
     dir: &StoreDir,
-    entries: &[(&str, &str)],
+    entries: &Lines<'_>,
 ) -> Result<Vec<(String, StorePath)>, BodyError>
-    ensures ok { IfOk result (λ roots. IsRuntime dir.now (shown entries.now) (labelled roots.items)) }
-    ensures bad { result ≡ Err BodyError.BadBodyHead → (roots : List (List ℕ × List ℕ)) → IsRuntime dir.now (shown entries.now) roots → ⊥ }
+    ensures ok { IfOk result (λ roots. IsRuntime dir.now entries.now (labelled roots.items)) }
+    ensures bad { result ≡ Err BodyError.BadBodyHead → (roots : List (List ℕ × List ℕ)) → IsRuntime dir.now entries.now roots → ⊥ }
 {
     if !are_known(entries, &["root"]) {
         return Err(BodyError::BadBodyHead);

@@ -1,12 +1,12 @@
 //! What the values of a key stand for.
 ghost use Rattle.std.specs.Prelude.{◌≡◌, option_map, Some, None, List};
-ghost use Rattle.wire_bodies.specs.Lines.{shown};
 ghost use Rattle.wire_bodies.specs.Values.{Answers, values, single, optional, each};
 ghost use Rattle.wire_bodies.specs.Kinds.{path_text, name_text, hash_text, flag_text};
 ghost use Rattle.paths.specs.ContentAddress.{address_of};
 
 use crate::entries::{Found, find_value};
 use crate::error::BodyError;
+use crate::lines::Lines;
 use paths::{
     Base32Error, Ca, CaError, Name, NameError, StoreDir, StorePath, StorePathError, unbase32,
 };
@@ -80,10 +80,10 @@ fn flag_of(text: &str) -> Result<bool, BodyError>
 pub fn one_path(
     alloc: Global,
     dir: &StoreDir,
-    entries: &[(&str, &str)],
+    entries: &Lines<'_>,
     key: &str,
 ) -> Result<StorePath, BodyError>
-    ensures { Answers (λ p. p) (single (path_text dir.now) (values key.now (shown entries.now))) result }
+    ensures { Answers (λ p. p) (single (path_text dir.now) (values key.now entries.now)) result }
 {
     match find_value(entries, key) {
         Found::One(text) => path_of(alloc, dir, text),
@@ -96,10 +96,10 @@ pub fn one_path(
 pub fn path_if_any(
     alloc: Global,
     dir: &StoreDir,
-    entries: &[(&str, &str)],
+    entries: &Lines<'_>,
     key: &str,
 ) -> Result<Option<StorePath>, BodyError>
-    ensures { Answers (λ p. p) (optional (path_text dir.now) (values key.now (shown entries.now))) result }
+    ensures { Answers (λ p. p) (optional (path_text dir.now) (values key.now entries.now)) result }
 {
     match find_value(entries, key) {
         Found::One(text) => match path_of(alloc, dir, text) {
@@ -116,15 +116,19 @@ pub fn path_if_any(
 pub fn each_path(
     alloc: Global,
     dir: &StoreDir,
-    entries: &[(&str, &str)],
+    entries: &Lines<'_>,
     key: &str,
 ) -> Result<Vec<StorePath>, BodyError>
-    ensures { Answers (λ ps. ps.items) (each (path_text dir.now) (values key.now (shown entries.now))) result }
+    ensures { Answers (λ ps. ps.items) (each (path_text dir.now) (values key.now entries.now)) result }
 {
     let mut paths = Vec::new(alloc);
-    for entry in entries {
-        if entry.0 == key {
-            match path_of(alloc, dir, entry.1) {
+    let mut left = entries.again();
+    'lines: loop {
+        let Some((name, value)) = left.take_entry() else {
+            return Ok(paths);
+        };
+        if name == key {
+            match path_of(alloc, dir, value) {
                 Ok(path) => match paths.push(path) {
                     Ok(()) => {}
                     Err(_) => return Err(BodyError::Memory),
@@ -134,12 +138,11 @@ pub fn each_path(
             }
         }
     }
-    Ok(paths)
 }
 
 /// The store name of the one entry of a key.
-pub fn one_name(alloc: Global, entries: &[(&str, &str)], key: &str) -> Result<Name, BodyError>
-    ensures { Answers (λ n. n) (single name_text (values key.now (shown entries.now))) result }
+pub fn one_name(alloc: Global, entries: &Lines<'_>, key: &str) -> Result<Name, BodyError>
+    ensures { Answers (λ n. n) (single name_text (values key.now entries.now)) result }
 {
     match find_value(entries, key) {
         Found::One(text) => name_of(alloc, text),
@@ -149,8 +152,8 @@ pub fn one_name(alloc: Global, entries: &[(&str, &str)], key: &str) -> Result<Na
 }
 
 /// The digest of the one entry of a key.
-pub fn one_hash(alloc: Global, entries: &[(&str, &str)], key: &str) -> Result<[u8; 32], BodyError>
-    ensures { Answers (λ h. h) (single hash_text (values key.now (shown entries.now))) result }
+pub fn one_hash(alloc: Global, entries: &Lines<'_>, key: &str) -> Result<[u8; 32], BodyError>
+    ensures { Answers (λ h. h) (single hash_text (values key.now entries.now)) result }
 {
     match find_value(entries, key) {
         Found::One(text) => hash_of(alloc, text),
@@ -160,12 +163,8 @@ pub fn one_hash(alloc: Global, entries: &[(&str, &str)], key: &str) -> Result<[u
 }
 
 /// The content address of the entry of a key, if there is one.
-pub fn ca_if_any(
-    alloc: Global,
-    entries: &[(&str, &str)],
-    key: &str,
-) -> Result<Option<Ca>, BodyError>
-    ensures { Answers (λ c. c) (optional address_of (values key.now (shown entries.now))) result }
+pub fn ca_if_any(alloc: Global, entries: &Lines<'_>, key: &str) -> Result<Option<Ca>, BodyError>
+    ensures { Answers (λ c. c) (optional address_of (values key.now entries.now)) result }
 {
     match find_value(entries, key) {
         Found::One(text) => match ca_of(alloc, text) {
@@ -178,8 +177,8 @@ pub fn ca_if_any(
 }
 
 /// What the entry of a key sets, if there is one.
-pub fn flag_if_any(entries: &[(&str, &str)], key: &str) -> Result<Option<bool>, BodyError>
-    ensures { Answers (λ f. f) (optional flag_text (values key.now (shown entries.now))) result }
+pub fn flag_if_any(entries: &Lines<'_>, key: &str) -> Result<Option<bool>, BodyError>
+    ensures { Answers (λ f. f) (optional flag_text (values key.now entries.now)) result }
 {
     match find_value(entries, key) {
         Found::One(text) => match flag_of(text) {

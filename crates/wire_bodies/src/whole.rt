@@ -1,7 +1,7 @@
 //! Whole bodies without a payload.
 ghost use Rattle.std.specs.Prelude.{◌≡◌, IfOk, Err, List, ℕ, [], ◌∷◌};
 ghost use Rattle.std.specs.Str.{bytes_eq};
-ghost use Rattle.wire_bodies.specs.Lines.{Entry, Reads, spelled, shown};
+ghost use Rattle.wire_bodies.specs.Lines.{Entry, Reads, spelled};
 ghost use Rattle.wire_bodies.specs.Bodies.{Says, IsPath, IsDelete, IsCollect, IsRuntime, labelled};
 ghost use Rattle.wire_bodies.specs.declared.heads.DeleteHead.{DeleteHead as DeleteOf};
 ghost use Rattle.wire_bodies.specs.declared.collect.CollectHead.{CollectHead as CollectOf};
@@ -9,7 +9,8 @@ ghost use Rattle.wire_bodies.specs.declared.collect.CollectHead.{CollectHead as 
 use crate::collect::{CollectHead, collect_head};
 use crate::error::BodyError;
 use crate::heads::{DeleteHead, delete_head, path_head};
-use crate::lines::body_of;
+use crate::lines::Lines;
+use crate::parts::body_of;
 use crate::roots::runtime_head;
 use paths::{StoreDir, StorePath};
 use std::alloc::Global;
@@ -22,20 +23,19 @@ pub fn is_blank(body: &[u8]) -> bool
 }
 
 /// The entries of a body after whose empty line nothing follows.
-fn entries_of<'b>(alloc: Global, body: &'b [u8]) -> Result<Vec<(&'b str, &'b str)>, BodyError>
-    ensures ok { IfOk result (λ entries. Reads (spelled body.now) (shown entries.items) []) }
+fn entries_of<'b>(body: &'b [u8]) -> Result<Lines<'b>, BodyError>
+    ensures ok { IfOk result (λ entries. Reads (spelled body.now) entries []) }
     ensures bad { result ≡ Err BodyError.BadBodyHead → (es : List Entry) → Reads (spelled body.now) es [] → ⊥ }
 {
-    match body_of(alloc, body) {
-        Ok(Some(parts)) => {
+    match body_of(body) {
+        Some(parts) => {
             if parts.payload.is_empty() {
                 Ok(parts.entries)
             } else {
                 Err(BodyError::BadBodyHead)
             }
         }
-        Ok(None) => Err(BodyError::BadBodyHead),
-        Err(_) => Err(BodyError::Memory),
+        None => Err(BodyError::BadBodyHead),
     }
 }
 
@@ -48,7 +48,7 @@ pub fn path_body(alloc: Global, dir: &StoreDir, body: &[u8]) -> Result<StorePath
     ensures ok { IfOk result (λ path. Says (IsPath dir.now) body.now path) }
     ensures bad { result ≡ Err BodyError.BadBodyHead → (path : List ℕ) → Says (IsPath dir.now) body.now path → ⊥ }
 {
-    match entries_of(alloc, body) {
+    match entries_of(body) {
         Ok(entries) => path_head(alloc, dir, &entries),
         Err(fault) => Err(fault),
     }
@@ -63,7 +63,7 @@ pub fn delete_body(alloc: Global, dir: &StoreDir, body: &[u8]) -> Result<DeleteH
     ensures ok { IfOk result (λ head. Says (IsDelete dir.now) body.now head) }
     ensures bad { result ≡ Err BodyError.BadBodyHead → (head : DeleteOf) → Says (IsDelete dir.now) body.now head → ⊥ }
 {
-    match entries_of(alloc, body) {
+    match entries_of(body) {
         Ok(entries) => delete_head(alloc, dir, &entries),
         Err(fault) => Err(fault),
     }
@@ -78,7 +78,7 @@ pub fn collect_body(alloc: Global, body: &[u8]) -> Result<CollectHead, BodyError
     ensures ok { IfOk result (λ head. Says IsCollect body.now head) }
     ensures bad { result ≡ Err BodyError.BadBodyHead → (head : CollectOf) → Says IsCollect body.now head → ⊥ }
 {
-    match entries_of(alloc, body) {
+    match entries_of(body) {
         Ok(entries) => collect_head(&entries),
         Err(fault) => Err(fault),
     }
@@ -97,7 +97,7 @@ pub fn runtime_body(
     ensures ok { IfOk result (λ roots. Says (IsRuntime dir.now) body.now (labelled roots.items)) }
     ensures bad { result ≡ Err BodyError.BadBodyHead → (roots : List (List ℕ × List ℕ)) → Says (IsRuntime dir.now) body.now roots → ⊥ }
 {
-    match entries_of(alloc, body) {
+    match entries_of(body) {
         Ok(entries) => runtime_head(alloc, dir, &entries),
         Err(fault) => Err(fault),
     }

@@ -1,5 +1,5 @@
-use Rattle.std.proofs.Common.{◌≡◌, Err, sym, ap, ◌∙◌, subst}
-use Rattle.wire_bodies.specs.Lines.{shown, spelled}
+use Rattle.std.proofs.Common.{◌≡◌, Err, ap, ◌∙◌, subst}
+use Rattle.wire_bodies.specs.Lines.{spelled}
 use Rattle.wire_bodies.specs.Bodies.{IsNamed}
 use Rattle.wire_bodies.specs.declared.error.BodyError.TheVariants.{BadBodyHead}
 use Rattle.wire_bodies.proofs.Reading.{reads_once}
@@ -7,8 +7,6 @@ use Rattle.wire_bodies.proofs.add.named_body.Goals as goal
 
 pub returns-in-Err-BadBodyHead-clause-bad : goal.returns-in-Err-BadBodyHead-clause-bad
 returns-in-Err-BadBodyHead-clause-bad c = λ same head nar is.
-    let read = rw c.in-Ok-Some.field-0-is at c.in-Ok-Some.ensures in
     let told : c.named_head.result ≡ Err BadBodyHead = c.in-Err-BadBodyHead.is ∙ ap (λ e. Err e) c.in-Err-BadBodyHead.field-0-is in
-    let entries = (reads_once (spelled c.args.body.now) is.0 (shown c.in-Ok-Some.parts.entries.items) nar c.in-Ok-Some.parts.payload.now is.1 read).0 in
-    let here = subst (λ es. IsNamed c.args.dir.now es head) (entries ∙ ap shown (sym c.deref.ensures.value)) is.2 in
-    c.named_head.ensures.bad told head here
+    let entries = (reads_once (spelled c.args.body.now) is.0 c.in-Some.parts.entries nar c.in-Some.parts.payload.now is.1 c.in-Some.ensures).0 in
+    c.named_head.ensures.bad told head (subst (λ es. IsNamed c.args.dir.now es head) entries is.2)

@@ -1,15 +1,20 @@
 use Rattle.std.proofs.Common.{sym, ◌∙◌}
-use Rattle.wire_bodies.proofs.ValueLemmas.{one_value, no_value}
+use Rattle.wire_bodies.specs.Lines.{Entry}
+use Rattle.wire_bodies.specs.Values.{Are, values}
+use Rattle.wire_bodies.proofs.ValueLemmas.{values_yes, values_no}
+use Rattle.wire_bodies.proofs.Passing.{one_passed}
 use Rattle.wire_bodies.proofs.entries.find_value.Goals as goal
-use Rattle.wire_bodies.proofs.entries.find_value.Goals.{then-eq, else-eq}
 
-pub loop-entry-preserved : goal.loop-entry-preserved
-loop-entry-preserved c =
-    let items = c.args.entries.now in
-    let i = c.loop-entry.entry-index in
+pub lines-preserved-then-eq : goal.lines-preserved-then-eq
+lines-preserved-then-eq c =
     let key = c.args.key.now in
-    elim c.if-eq.branch [
-      | then-eq w ↦
-          rw (one_value items i _ c.loop-entry-test.true key (sym c.eq.ensures ∙ w.if-eq.true), w.found-is) (w.with_another-found.ensures _ c.loop-entry.invariant)
-      | else-eq w ↦ rw (no_value items i _ c.loop-entry-test.true key (sym c.eq.ensures ∙ w.if-eq.false), w.found-is) c.loop-entry.invariant
-    ]
+    let e : Entry = (c.in-Some.name.now, c.in-Some.value.now) in
+    one_passed (λ es. Are (values key es) c.lines.found) (λ es. Are (values key es) c.with_another-found.result) c.args.entries.now c.lines.left c.take_entry.new.self e c.lines.invariant c.in-Some.ensures
+    (λ done are. rw (values_yes key done e (sym c.eq.ensures ∙ c.if-eq.true)) (c.with_another-found.ensures _ are))
+
+pub lines-preserved : goal.lines-preserved
+lines-preserved c =
+    let key = c.args.key.now in
+    let e : Entry = (c.in-Some.name.now, c.in-Some.value.now) in
+    one_passed (λ es. Are (values key es) c.lines.found) (λ es. Are (values key es) c.lines.found) c.args.entries.now c.lines.left c.take_entry.new.self e c.lines.invariant c.in-Some.ensures
+    (λ done are. rw (values_no key done e (sym c.eq.ensures ∙ c.if-eq.false)) are)

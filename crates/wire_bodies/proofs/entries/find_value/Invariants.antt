@@ -1,7 +1,10 @@
-use Rattle.std.proofs.Common.{take}
-use Rattle.wire_bodies.specs.Lines.{shown}
+use Rattle.std.proofs.Common.{length}
 use Rattle.wire_bodies.specs.Values.{Are, values}
+use Rattle.wire_bodies.proofs.Passing.{Sofar}
 use Rattle.wire_bodies.proofs.entries.find_value.Given as goal
 
-abbrev pub invariant-loop-entry : goal.invariant-loop-entry
-invariant-loop-entry l = Are (values l.key (shown (take l.entry-index l.entries))) l.found
+abbrev pub invariant-lines : goal.invariant-lines
+invariant-lines l = Sofar (λ es. Are (values l.key es) l.found) l.entries l.left
+
+abbrev pub decreases-lines : goal.decreases-lines
+decreases-lines l = length l.left

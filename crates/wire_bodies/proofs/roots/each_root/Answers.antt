@@ -1,29 +1,33 @@
-use Rattle.std.proofs.Common.{sym, ◌∙◌, ap, Some}
-use Rattle.wire_bodies.specs.Values.{each}
+use Rattle.std.proofs.Common.{◌≡◌, sym, ◌∙◌, ap, Some}
+use Rattle.wire_bodies.specs.Lines.{Entry}
+use Rattle.wire_bodies.specs.Values.{values, each}
 use Rattle.wire_bodies.specs.Kinds.{root_text}
 use Rattle.wire_bodies.specs.Bodies.{labelled}
-use Rattle.wire_bodies.proofs.ValueLemmas.{one_value, no_value, each_more, each_bad}
 use Rattle.wire_bodies.proofs.Alone.{labelled-more}
+use Rattle.wire_bodies.proofs.ValueLemmas.{values_yes, values_no, each_more}
+use Rattle.wire_bodies.proofs.Passing.{one_passed, each_bad}
 use Rattle.wire_bodies.proofs.roots.each_root.Goals as goal
-use Rattle.wire_bodies.proofs.roots.each_root.Goals.{then-eq+in-Ok+in-Ok-push, else-eq}
 
-pub loop-entry-preserved : goal.loop-entry-preserved
-loop-entry-preserved c =
-    let items = c.args.entries.now in
-    let i = c.loop-entry.entry-index in
+pub lines-preserved-in-Ok-push : goal.lines-preserved-in-Ok-push
+lines-preserved-in-Ok-push c =
     let key = c.args.key.now in
     let read = root_text c.args.dir.now in
-    elim c.if-eq.branch [
-      | then-eq+in-Ok+in-Ok-push w ↦
-          rw w.roots-is
-          (ap (each read) (one_value items i _ c.loop-entry-test.true key (sym c.eq.ensures ∙ w.if-eq.true))
-          ∙ each_more read _ _ _ _ c.loop-entry.invariant w.in-Ok.ensures
-          ∙ ap (λ t. Some t) (sym (ap labelled w.in-Ok-push.ensures.items ∙ labelled-more _ _)))
-      | else-eq w ↦
-          rw w.roots-is (ap (each read) (no_value items i _ c.loop-entry-test.true key (sym c.eq.ensures ∙ w.if-eq.false)) ∙ c.loop-entry.invariant)
-    ]
+    let e : Entry = (c.in-Some.name.now, c.in-Some.value.now) in
+    one_passed (λ es. each read (values key es) ≡ Some (labelled c.lines.roots.items)) (λ es. each read (values key es) ≡ Some (labelled c.push.new.self.items)) c.args.entries.now c.lines.left c.take_entry.new.self e c.lines.invariant c.in-Some.ensures
+    (λ done are. ap (each read) (values_yes key done e (sym c.eq.ensures ∙ c.if-eq.true)) ∙ each_more read _ _ _ _ are c.in-Ok.ensures ∙ ap (λ t. Some t) (sym (ap labelled c.in-Ok-push.ensures.items ∙ labelled-more _ _)))
+
+pub lines-preserved : goal.lines-preserved
+lines-preserved c =
+    let key = c.args.key.now in
+    let read = root_text c.args.dir.now in
+    let e : Entry = (c.in-Some.name.now, c.in-Some.value.now) in
+    one_passed (λ es. each read (values key es) ≡ Some (labelled c.lines.roots.items)) (λ es. each read (values key es) ≡ Some (labelled c.lines.roots.items)) c.args.entries.now c.lines.left c.take_entry.new.self e c.lines.invariant c.in-Some.ensures
+    (λ done are. ap (each read) (values_no key done e (sym c.eq.ensures ∙ c.if-eq.false)) ∙ are)
 
 pub returns-in-Err-BadBodyHead : goal.returns-in-Err-BadBodyHead
 returns-in-Err-BadBodyHead c =
-    each_bad (root_text c.args.dir.now) c.args.entries.now c.loop-entry.entry-index _ c.loop-entry-test.true c.args.key.now (sym c.eq.ensures ∙ c.if-eq.true)
+    let key = c.args.key.now in
+    let read = root_text c.args.dir.now in
+    let e : Entry = (c.in-Some.name.now, c.in-Some.value.now) in
+    each_bad read (λ es. each read (values key es) ≡ Some (labelled c.lines.roots.items)) c.args.entries.now c.lines.left c.take_entry.new.self e c.lines.invariant c.in-Some.ensures key (sym c.eq.ensures ∙ c.if-eq.true)
     (rw c.in-Err-BadBodyHead.field-0-is at c.in-Err-BadBodyHead.ensures)

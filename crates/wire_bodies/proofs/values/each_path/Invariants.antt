@@ -1,8 +1,11 @@
-use Rattle.std.proofs.Common.{◌≡◌, Some, take}
-use Rattle.wire_bodies.specs.Lines.{shown}
+use Rattle.std.proofs.Common.{◌≡◌, Some, length}
 use Rattle.wire_bodies.specs.Values.{values, each}
 use Rattle.wire_bodies.specs.Kinds.{path_text}
+use Rattle.wire_bodies.proofs.Passing.{Sofar}
 use Rattle.wire_bodies.proofs.values.each_path.Given as goal
 
-abbrev pub invariant-loop-entry : goal.invariant-loop-entry
-invariant-loop-entry l = each (path_text l.dir) (values l.key (shown (take l.entry-index l.entries))) ≡ Some l.paths.items
+abbrev pub invariant-lines : goal.invariant-lines
+invariant-lines l = Sofar (λ es. each (path_text l.dir) (values l.key es) ≡ Some l.paths.items) l.entries l.left
+
+abbrev pub decreases-lines : goal.decreases-lines
+decreases-lines l = length l.left
