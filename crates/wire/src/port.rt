@@ -16,6 +16,7 @@ use sqlite::Alter;
 use std::alloc::Global;
 use std::io::Write;
 use std::net::{Net, TcpListener, TcpStream};
+use std::rt::Clock;
 use tables::Tables;
 use wire_server::{Listener, Port, Responder, serve_on};
 
@@ -37,7 +38,7 @@ fn serve_listener<L: Listener, E: Write, A: Responder>(
 }
 
 /// Serves a number of connections of a port, where it can be bound, and returns the exit status.
-fn listen<N: Net<Listener = TcpListener, Stream = TcpStream>, E: Write, A: Responder>(
+fn listen<N: Net<Listener = TcpListener, Stream = TcpStream> + Clock, E: Write, A: Responder>(
     net: &N,
     alloc: Global,
     port: u16,
@@ -55,7 +56,7 @@ fn listen<N: Net<Listener = TcpListener, Stream = TcpStream>, E: Write, A: Respo
 }
 
 /// Serves the store of these tables on a number of connections of a port of 127.0.0.1.
-fn serve<N: Net<Listener = TcpListener, Stream = TcpStream>, S: Alter + Drop, E: Write>(
+fn serve<N: Net<Listener = TcpListener, Stream = TcpStream> + Clock, S: Alter + Drop, E: Write>(
     net: &N,
     alloc: Global,
     port: u16,
@@ -82,7 +83,7 @@ fn serve<N: Net<Listener = TcpListener, Stream = TcpStream>, S: Alter + Drop, E:
 ///
 /// A line on `errors` says why a connection failed: `failed: input`, `failed: output` or `failed: memory`. Where the port can't be
 /// bound, or an accept fails, `failed: input` is said, and nothing more is served.
-pub fn serve_port<N: Net<Listener = TcpListener, Stream = TcpStream>, S: Alter + Drop, E: Write>(
+pub fn serve_port<N: Net<Listener = TcpListener, Stream = TcpStream> + Clock, S: Alter + Drop, E: Write>(
     net: &N,
     alloc: Global,
     port: u16,

@@ -8,6 +8,7 @@ use Rattle.wire_messages.specs.declared.head.Head.{Head}
 use Rattle.wire_messages.specs.declared.error.Fault.{Fault}
 use Rattle.wire_messages.specs.declared.error.Fault.TheVariants.{BadHead, BadLength, TooLarge}
 use Rattle.wire_messages.specs.declared.error.ReceiveError.{ReceiveError}
+use Rattle.wire_messages.specs.declared.error.ReceiveError.TheVariants.{Silent}
 use Rattle.wire_messages.specs.declared.receive.Start.{Start}
 use Rattle.wire_messages.specs.declared.receive.Start.TheVariants.{NoMore, Begun, NoHead}
 use Rattle.wire_messages.specs.declared.receive.Received.{Received}
@@ -40,6 +41,7 @@ pub record ReadsMore (old new : Option (List ℕ)) (held held' : List ℕ) (resu
   pub taken : (bs : List ℕ) × Consumes old new bs × OnOk result (held' ≡ held ++ bs)
   pub some : result ≡ Ok true → length held < length held'
   pub at_end : result ≡ Ok false → IsAtEnd new × (held' ≡ held)
+  pub silent : result ≡ Err Silent → held' ≡ held
 
 -- what is held and what may follow it begin in this way
 abbrev pub Starts : List ℕ → Option (List ℕ) → Start → Type 0
@@ -63,10 +65,12 @@ Announces held rest End = (held ≡ []) × IsAtEnd rest
 Announces held rest (Message head size) = HoldsHead held head size
 Announces held rest (Faulty fault) = (0 < length held) × IfSome rest (λ more. IsFault (held ++ more) fault)
 
--- What was read is appended to what was held; and what is held and follows it is like that.
+-- What was read is appended to what was held; and what is held and follows it is like that. A reader is silent only where nothing
+-- is held of a message.
 abbrev pub Receives : {A : Type 0} → (List ℕ → Option (List ℕ) → A → Type 0) → Option (List ℕ) → Option (List ℕ) → List ℕ → List ℕ → Result A ReceiveError → Type 0
 Receives is old new held held' result =
     ((bs : List ℕ) × Consumes old new bs × OnOk result (held' ≡ held ++ bs)) × IfOk result (is held' new)
+    × (result ≡ Err Silent → (held ≡ []) × (held' ≡ []))
 
 -- A body of this size was passed on that follows a head of `len` bytes: what was held of it, and what was read, which is
 -- nothing beyond it; or the input ended inside it.

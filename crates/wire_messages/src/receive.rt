@@ -1,11 +1,11 @@
 //! Messages, read from a reader in pieces of any size.
-ghost use Rattle.std.specs.Prelude.{◌<◌, ◌≤◌, length, vec_len};
+ghost use Rattle.std.specs.Prelude.{◌≡◌, ◌<◌, ◌≤◌, length, vec_len};
 ghost use Rattle.wire_messages.specs.Messages.{ReadsMore, Receives, Starts, Announces, HandsOn};
 
 use crate::error::{Fault, ReceiveError};
 use crate::fields::length_of_body;
 use crate::head::{Head, Look, has_begun, look_again};
-use std::io::{ErrorKind, Read};
+use std::io::{Error, ErrorKind, Read};
 use streams::{Sink, receive_at_most};
 
 /// What the input begins with.
@@ -27,6 +27,24 @@ pub enum Received {
     Faulty(Fault),
 }
 
+/// Why a read failed: `Silent` where it gave up waiting.
+fn broken(fault: &Error) -> ReceiveError {
+    match fault.kind() {
+        ErrorKind::WouldBlock | ErrorKind::TimedOut => ReceiveError::Silent,
+        _ => ReceiveError::Read,
+    }
+}
+
+/// The same in the middle of a message, where one who gives up waiting has failed.
+fn within(fault: ReceiveError) -> ReceiveError
+    ensures { result ≡ ReceiveError.Silent → ⊥ }
+{
+    match fault {
+        ReceiveError::Memory => ReceiveError::Memory,
+        _ => ReceiveError::Read,
+    }
+}
+
 /// Reads once, by way of a window, and appends what came: whether anything did.
 fn read_more<R: Read>(
     input: &mut R,
@@ -41,7 +59,7 @@ fn read_more<R: Read>(
             Ok(()) => Ok(count > 0),
             Err(_) => Err(ReceiveError::Memory),
         },
-        Err(_) => Err(ReceiveError::Read),
+        Err(fault) => Err(broken(&fault)),
     }
 }
 
@@ -68,12 +86,17 @@ fn find_head<R: Read>(
         match read_more(input, window, buffer) {
             Ok(true) => {}
             Ok(false) => return Ok(Start::NoHead),
-            Err(fault) => return Err(fault),
+            Err(fault) => return Err(within(fault)),
         }
     }
 }
 
 /// Reads until the buffer begins with a whole head, or can't, or nothing is left.
+///
+/// # Errors
+///
+/// `Read` where the reader failed, `Silent` where it gave up waiting (`WouldBlock` or `TimedOut`) and nothing is held, and `Memory`
+/// where it was refused.
 pub fn receive_start<R: Read>(
     input: &mut R,
     window: &mut [u8],
@@ -94,6 +117,10 @@ pub fn receive_start<R: Read>(
 
 /// Reads until the buffer begins with a whole head that states the size of its body, or can't, or nothing is left. Some of the
 /// body may be held after the head then.
+///
+/// # Errors
+///
+/// As `receive_start`.
 pub fn receive_head<R: Read>(
     input: &mut R,
     window: &mut [u8],

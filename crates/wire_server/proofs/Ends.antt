@@ -11,7 +11,7 @@ use Rattle.wire_messages.specs.Messages.{IsFault, HoldsMessage}
 use Rattle.wire_messages.specs.Division.{message, faulty, closes}
 use Rattle.wire_server.specs.Responses.{Replied, reply_bytes}
 use Rattle.wire_server.specs.Answers.{body_in, Answered}
-use Rattle.wire_server.specs.Serves.{fault_reply, joined, Serves, Stops}
+use Rattle.wire_server.specs.Serves.{fault_reply, joined, Serves, Stops, Rests}
 use Rattle.wire_server.proofs.Told.{Told, divides_all, begins_all, follows_start, follows_read, follows_end, follows_any, follows_fault, follows_last, follows_more, follows_item, joined_more, counted_more, replies_item, replies_fault}
 
 full : (n : ℕ) → n ≡ 18446744073709551615 → n < 2 ^ 64 - 1 → ⊥
@@ -46,6 +46,29 @@ module _ {S : Type 0} (answers : S → RequestHead → List ℕ → Replied → 
     answered = told.answered;
     written = inl refl;
     appended = told.written;
+  }
+
+  -- left before another message
+  pub rested : (rest out : Option (List ℕ)) (held : List ℕ) (t : S) (n : ℕ) → Told answers input rest output out held s t n → Rests answers input output out s t n
+  rested rest out held t n told = record {
+    items = told.done;
+    replies = told.replies;
+    counted = told.counted;
+    front = begins_all input told.done (follows_any input rest held told.done told.follows);
+    answered = told.answered;
+    written = told.written;
+  }
+
+  -- which is to be broken off there
+  pub rests_stop : (out : Option (List ℕ)) (t : S) (n : ℕ) → Rests answers input output out s t n → Stops answers input output out s t
+  rests_stop out t n rests = record {
+    items = rests.items;
+    replies = rests.replies;
+    bytes = joined rests.replies;
+    front = rests.front;
+    answered = rests.answered;
+    written = inl refl;
+    appended = rests.written;
   }
 
   -- as many as are counted

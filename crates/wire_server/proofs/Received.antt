@@ -1,21 +1,19 @@
 -- A message of which the head is held and the body has been received.
-use Rattle.std.proofs.Common.{◌≡◌, ℕ, ◌+◌, ◌<◌, ◌≤◌, List, [], ◌++◌, length, take, drop, Option, Some, None, Result, Ok, Err, Bool, refl, sym, ap, ◌∙◌, arith, subst, inl, inr, length-append}
+use Rattle.std.proofs.Common.{◌≡◌, ℕ, ◌+◌, ◌<◌, ◌≤◌, List, [], ◌++◌, length, drop, Option, Some, None, Result, Ok, Err, refl, ap, ◌∙◌, arith, subst, inl, inr, length-append}
 use Rattle.std.specs.Prelude.{◌⊎◌, IfSome}
-use Rattle.std.specs.Io.KnownBytes.{Consumes, IsAtEnd}
+use Rattle.std.specs.Io.KnownBytes.{IsAtEnd}
 use Rattle.std.specs.declared.alloc.AllocError.{AllocError}
 use Rattle.httparse.specs.Grammar.{RequestHead}
 use Rattle.wire_messages.specs.declared.head.Head.{Head}
 use Rattle.wire_messages.specs.declared.error.Fault.{Fault}
 use Rattle.wire_messages.specs.declared.error.Fault.TheVariants.{BadLength}
-use Rattle.wire_messages.specs.Heads.{Holds}
-use Rattle.wire_messages.specs.Fields.{fields_of, body_length}
 use Rattle.wire_messages.specs.Messages.{HoldsHead, HoldsMessage, IsFault}
 use Rattle.wire_messages.specs.Division.{closes}
 use Rattle.wire_messages.proofs.Longer.{holds-append}
 use Rattle.wire_messages.proofs.Reading.{at_end_all, ends_inside}
-use Rattle.wire_server.specs.declared.response.Response.{Response}
 use Rattle.wire_server.specs.Responses.{Replied, replied}
-use Rattle.wire_server.specs.declared.error.WireError.{WireError}
+use Rattle.wire_server.specs.declared.exchange.Halt.{Halt}
+use Rattle.wire_server.specs.declared.exchange.Halt.TheVariants.{Failed, Silent}
 use Rattle.wire_server.specs.declared.exchange.Exchange.{Exchange}
 use Rattle.wire_server.specs.Answers.{body_in, Answered}
 use Rattle.wire_server.specs.Exchanges.{Refuses, Answers, IsAnswered, Comes}
@@ -26,14 +24,15 @@ taken_all before after body none all = all ∙ ap (λ t. t ++ body) none
 
 module _ {S : Type 0} (answers : S → RequestHead → List ℕ → Replied → S → Type 0) where
   -- bytes that begin with no message
-  pub refused_comes : (all held' : List ℕ) (rest : Option (List ℕ)) (s : S) (fault : Fault) (result : Result (Option Exchange) WireError)
+  pub refused_comes : (all held' : List ℕ) (rest : Option (List ℕ)) (s : S) (fault : Fault) (result : Result (Option Exchange) Halt)
       → 0 < length all → IfSome rest (λ more. IsFault (all ++ more) fault) → Refuses fault result → Comes answers all held' rest s s result
   refused_comes all held' rest s fault (Ok (Some x)) some is told = inr ((fault, some, is, told), refl)
   refused_comes all held' rest s fault (Ok None) some is told = absurd told
-  refused_comes all held' rest s fault (Err e) some is told = inl refl
+  refused_comes all held' rest s fault (Err (Failed e)) some is told = inl refl
+  refused_comes all held' rest s fault (Err Silent) some is told = absurd told
 
   -- bytes that end inside a body
-  pub cut_short : (held read held' : List ℕ) (rest : Option (List ℕ)) (s : S) (head : Head) (size : ℕ) (result : Result (Option Exchange) WireError)
+  pub cut_short : (held read held' : List ℕ) (rest : Option (List ℕ)) (s : S) (head : Head) (size : ℕ) (result : Result (Option Exchange) Halt)
       → 0 < length held → HoldsHead held head size → IsAtEnd rest → length (held ++ read) < head.spans.len + size
       → Refuses BadLength result → Comes answers (held ++ read) held' rest s s result
   cut_short held read held' rest s head size result some (h, is, states) end short told =

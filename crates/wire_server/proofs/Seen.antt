@@ -5,7 +5,10 @@ use Rattle.httparse.specs.Grammar.{RequestHead}
 use Rattle.wire_messages.specs.Division.{Item, message, faulty}
 use Rattle.wire_server.specs.Responses.{Replied}
 use Rattle.wire_server.specs.declared.error.WireError.{WireError}
-use Rattle.wire_server.specs.Serves.{Replies, Served}
+use Rattle.wire_server.specs.declared.sessions.Close.{Close}
+use Rattle.wire_server.specs.declared.sessions.Close.TheVariants.{Ended, Idle}
+use Rattle.wire_server.specs.Serves.{Replies, Served, Rests}
+use Rattle.wire_server.specs.Closes.{Closes}
 use Rattle.wire_server.specs.Sessions.{result_of}
 use Rattle.wire_server.specs.ServesAll as server
 use Rattle.wire_server.specs.ServesAll.{Session, Follow, ServesOn}
@@ -59,12 +62,33 @@ module _ {S W : Type 0} (answers : S → RequestHead → List ℕ → Replied �
         },
       )
 
+  rests_seen : (input output output' : Option (List ℕ)) (old : S) (w : W) (new : S) (count : ℕ) → Shows old w
+      → Rests answers input output output' old new count → (w' : W) × Shows new w' × Rests seen input output output' w w' count
+  rests_seen input output output' old w new count shows rests =
+      let more = replies_seen old w rests.items rests.replies new shows rests.answered in (
+        more.0,
+        more.1,
+        record {
+          items = rests.items;
+          replies = rests.replies;
+          counted = rests.counted;
+          front = rests.front;
+          answered = more.2;
+          written = rests.written;
+        },
+      )
+
+  closes_seen : (input output output' : Option (List ℕ)) (old : S) (w : W) (new : S) (close : Close) → Shows old w
+      → Closes answers input output output' old new close → (w' : W) × Shows new w' × Closes seen input output output' w w' close
+  closes_seen input output output' old w new (Ended end) shows served = served_seen input output output' old w new (result_of end) shows served
+  closes_seen input output output' old w new (Idle count) shows rests = rests_seen input output output' old w new count shows rests
+
   -- connections one after another
   follow_seen : (old : S) (w : W) (err err' : Option (List ℕ)) (sessions : List Session) (new : S) → Shows old w → Follow answers old err sessions new err'
       → (w' : W) × Shows new w' × Follow seen w err sessions w' err'
   follow_seen old w err err' [] new shows (same, kept) = (w, subst (λ s. Shows s w) (sym same) shows, (refl, kept))
   follow_seen old w err err' (session ∷ sessions) new shows (fresh, mid, said, is, served, says, rest) =
-      let one = served_seen session.input fresh session.output old w mid (result_of session.end) shows served in
+      let one = closes_seen session.input fresh session.output old w mid session.close shows served in
       let more = follow_seen mid one.0 said err' sessions new one.1 rest in
       (more.0, more.1, (fresh, one.0, said, is, one.2, says, more.2))
 
@@ -77,7 +101,7 @@ module _ {S W : Type 0} (answers : S → RequestHead → List ℕ → Replied �
 
     pub serves_on_seen : (n : ℕ) (result : Result ℕ Error) → ServesOn answers n waiting waiting' closed closed' err err' old new result
         → (w' : W) × Shows new w' × ServesOn seen n waiting waiting' closed closed' err err' w w' result
-    serves_on_seen n (Ok failed) (sessions, served, all, counted) =
+    serves_on_seen n (Ok count) (sessions, served, all, counted) =
         let more = sessions_seen sessions served in (more.0, more.1, (sessions, more.2, all, counted))
     serves_on_seen n (Err fault) (sessions, served, fewer) =
         let more = sessions_seen sessions served in (more.0, more.1, (sessions, more.2, fewer))

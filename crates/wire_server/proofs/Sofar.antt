@@ -5,11 +5,13 @@ use Rattle.std.specs.Io.KnownBytes.{Appends, Keeps}
 use Rattle.std.proofs.KnownBytes.{Keeps-refl, Keeps-trans}
 use Rattle.httparse.specs.Grammar.{RequestHead}
 use Rattle.wire_server.specs.Responses.{Replied}
-use Rattle.wire_server.specs.Serves.{Served}
 use Rattle.wire_server.specs.declared.sessions.End.{End}
 use Rattle.wire_server.specs.declared.sessions.End.TheVariants as ends
+use Rattle.wire_server.specs.declared.sessions.Close.{Close}
+use Rattle.wire_server.specs.declared.sessions.Close.TheVariants.{Ended, Idle}
 use Rattle.wire_server.specs.Peers.{IsFresh, Leaves, Takes}
-use Rattle.wire_server.specs.Sessions.{Says, failure, result_of}
+use Rattle.wire_server.specs.Sessions.{Says, failure}
+use Rattle.wire_server.specs.Closes.{Closes, Tells, failed}
 use Rattle.wire_server.specs.ServesAll.{Session, Follow, Serves, failures}
 use Rattle.wire_server.proofs.Peers.{takes_none, takes_more, leaves_none, leaves_more}
 
@@ -26,27 +28,35 @@ says_kept (ends.Served count) a b c p q = Keeps-trans a b c p q
 says_kept (ends.Told fault) a b c p q = appends_kept a b c _ p q
 says_kept (ends.Untold fault) a b c p (n, below, q) = (n, below, appends_kept a b c _ p q)
 
+tells_kept : (close : Close) (a b c : Option (List ℕ)) → Keeps a b → Tells close b c → Tells close a c
+tells_kept (Ended end) a b c p q = says_kept end a b c p q
+tells_kept (Idle count) a b c p q = Keeps-trans a b c p q
+
 -- ---- how many failed
 
 failures_append : (sessions more : List Session) → failures (sessions ++ more) ≡ failures sessions + failures more
 failures_append [] more = omega arith
 failures_append (session ∷ sessions) more = let rest = failures_append sessions more in omega (arith, rest)
 
-pub failure_le : (end : End) → failure end ≤ 1
+failure_le : (end : End) → failure end ≤ 1
 failure_le (ends.Served count) = omega arith
 failure_le (ends.Told fault) = omega arith
 failure_le (ends.Untold fault) = omega arith
 
+pub failed_le : (close : Close) → failed close ≤ 1
+failed_le (Ended end) = failure_le end
+failed_le (Idle count) = omega arith
+
 pub failures_le : (sessions : List Session) → failures sessions ≤ length sessions
 failures_le [] = omega arith
-failures_le (session ∷ sessions) = omega (arith, failure_le session.end, failures_le sessions)
+failures_le (session ∷ sessions) = omega (arith, failed_le session.close, failures_le sessions)
 
 module _ {S : Type 0} (answers : S → RequestHead → List ℕ → Replied → S → Type 0) where
   follow_kept : (old new : S) (err said err' : Option (List ℕ)) (sessions : List Session) → Keeps err said → Follow answers old said sessions new err'
       → Follow answers old err sessions new err'
   follow_kept old new err said err' [] kept (same, more) = (same, Keeps-trans err said err' kept more)
   follow_kept old new err said err' (session ∷ sessions) kept (before, mid, line, fresh, served, says, rest) =
-      (before, mid, line, fresh, served, says_kept session.end err said line kept says, rest)
+      (before, mid, line, fresh, served, tells_kept session.close err said line kept says, rest)
 
   follow_more : (old mid new : S) (err said err' : Option (List ℕ)) (sessions more : List Session) → Follow answers old err sessions mid said
       → Follow answers mid said more new err' → Follow answers old err (sessions ++ more) new err'
@@ -56,11 +66,11 @@ module _ {S : Type 0} (answers : S → RequestHead → List ℕ → Replied → 
       (before, s, line, fresh, served, says, follow_more s mid new line said err' sessions more rest second)
 
   -- so many connections were served
-  pub record Sofar (waiting waiting' closed closed' : Option (List (List ℕ))) (err err' : Option (List ℕ)) (old new : S) (n failed : ℕ) : Type 0 where
+  pub record Sofar (waiting waiting' closed closed' : Option (List (List ℕ))) (err err' : Option (List ℕ)) (old new : S) (n count : ℕ) : Type 0 where
     pub sessions : List Session
     pub serves : Serves answers waiting waiting' closed closed' err err' old new sessions
     pub counted : length sessions ≡ n
-    pub failing : failed ≡ failures sessions
+    pub failing : count ≡ failures sessions
 
   pub sofar_start : (waiting closed : Option (List (List ℕ))) (err : Option (List ℕ)) (s : S) → Sofar waiting waiting closed closed err err s s 0 0
   sofar_start waiting closed err s = record {
@@ -70,8 +80,8 @@ module _ {S : Type 0} (answers : S → RequestHead → List ℕ → Replied → 
     failing = refl;
   }
 
-  module _ (waiting waiting' closed closed' : Option (List (List ℕ))) (err err' : Option (List ℕ)) (old new : S) (n failed : ℕ)
-      (sofar : Sofar waiting waiting' closed closed' err err' old new n failed) where
+  module _ (waiting waiting' closed closed' : Option (List (List ℕ))) (err err' : Option (List ℕ)) (old new : S) (n count : ℕ)
+      (sofar : Sofar waiting waiting' closed closed' err err' old new n count) where
     -- no more was taken, left or said
     pub sofar_still : (waiting'' closed'' : Option (List (List ℕ))) → Takes waiting' waiting'' [] → Leaves closed' closed'' []
         → Serves answers waiting waiting'' closed closed'' err err' old new (sofar.sessions ++ [])
@@ -82,12 +92,12 @@ module _ {S : Type 0} (answers : S → RequestHead → List ℕ → Replied → 
     }
 
     -- one more connection
-    pub sofar_more : (waiting'' closed'' : Option (List (List ℕ))) (err'' input before output : Option (List ℕ)) (new' : S) (end : End)
+    pub sofar_more : (waiting'' closed'' : Option (List (List ℕ))) (err'' input before output : Option (List ℕ)) (new' : S) (close : Close)
         → Takes waiting' waiting'' (input ∷ []) → Leaves closed' closed'' (output ∷ []) → IsFresh before
-        → Served answers input before output new new' (result_of end) → Says end err' err''
-        → Sofar waiting waiting'' closed closed'' err err'' old new' (n + 1) (failed + failure end)
-    sofar_more waiting'' closed'' err'' input before output new' end taken left fresh served says =
-        let session : Session = record { input = input; output = output; end = end } in
+        → Closes answers input before output new new' close → Tells close err' err''
+        → Sofar waiting waiting'' closed closed'' err err'' old new' (n + 1) (count + failed close)
+    sofar_more waiting'' closed'' err'' input before output new' close taken left fresh served says =
+        let session : Session = record { input = input; output = output; close = close } in
         record {
           sessions = sofar.sessions ++ session ∷ [];
           serves = record {

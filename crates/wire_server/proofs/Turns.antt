@@ -1,15 +1,16 @@
 -- What one exchange adds to a connection that was served so far.
-use Rattle.std.proofs.Common.{◌≡◌, ℕ, ◌+◌, Bool, List, ◌++◌, take, Option, Some, None, Ok, Err, true, false, refl, sym, ap, ◌∙◌, subst, inl, inr}
+use Rattle.std.proofs.Common.{◌≡◌, ℕ, ◌+◌, List, ◌++◌, take, Option, Some, None, Ok, Err, true, false, refl, sym, ap, ◌∙◌, subst, inl, inr}
 use Rattle.std.specs.Io.KnownBytes.{Appends}
 use Rattle.std.proofs.KnownBytes.{Appends-nil}
 use Rattle.httparse.specs.Grammar.{RequestHead}
 use Rattle.wire_server.specs.Responses.{Replied, replied, reply_bytes}
 use Rattle.wire_server.specs.declared.error.WireError.{WireError}
 use Rattle.wire_server.specs.declared.exchange.Exchange.{Exchange}
-use Rattle.wire_server.specs.Serves.{Serves, Stops}
+use Rattle.wire_server.specs.declared.exchange.Halt.TheVariants.{Failed, Silent}
+use Rattle.wire_server.specs.Serves.{Serves, Stops, Rests}
 use Rattle.wire_server.specs.Exchanges.{Exchanged}
 use Rattle.wire_server.proofs.Told.{Told}
-use Rattle.wire_server.proofs.Ends.{told_read, stopped, ended, refused, refused_in_part, answered_in_part, closed, goes_on}
+use Rattle.wire_server.proofs.Ends.{told_read, stopped, rested, ended, refused, refused_in_part, answered_in_part, closed, goes_on}
 
 module _ {S : Type 0} (answers : S → RequestHead → List ℕ → Replied → S → Type 0) (input output : Option (List ℕ)) (s : S)
     (mid rest out : Option (List ℕ)) (held held' : List ℕ) (t t' : S) (n : ℕ) (told : Told answers input mid output out held s t n) where
@@ -20,11 +21,15 @@ module _ {S : Type 0} (answers : S → RequestHead → List ℕ → Replied → 
       subst (λ u. Serves answers input output out s u n) (sym same) (ended answers input output s rest out (held ++ read) t n read_told none end)
 
   -- no response came
-  pub turn_failed : (e : WireError) → Exchanged answers mid rest held held' t t' (Err e) → Stops answers input output out s t'
+  pub turn_failed : (e : WireError) → Exchanged answers mid rest held held' t t' (Err (Failed e)) → Stops answers input output out s t'
   turn_failed e (read, taken, inl same) = subst (Stops answers input output out s) (sym same) (stopped answers input output s mid out held t n told)
   turn_failed e (read, taken, inr (r, a)) =
       let read_told = told_read answers input output s mid rest out held (held ++ read) read t n told taken refl in
       answered_in_part answers input output s rest out (held ++ read) t n a.head a.size a.h read_told a.holds out t' r a.answered (0, Appends-nil out)
+
+  -- nothing of a message came
+  pub turn_silent : Exchanged answers mid rest held held' t t' (Err Silent) → Rests answers input output out s t' n
+  turn_silent (read, taken, (none, same)) = subst (λ u. Rests answers input output out s u n) (sym same) (rested answers input output s mid out held t n told)
 
   -- ---- a response
 

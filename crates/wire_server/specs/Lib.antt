@@ -1,4 +1,6 @@
 pub mod Answers
+pub mod Closes
+pub mod Courses
 pub mod Exchanges
 pub mod Peers
 pub mod ReplyHead

@@ -1,6 +1,5 @@
 -- What is replied, and the bytes of a reply.
-use Rattle.std.specs.Prelude.{ℕ, Bool, List, ◌++◌, length, codes, Option, Some, None, option_map}
-use Rattle.policy.specs.declared.kinds.Rule.{Rule}
+use Rattle.std.specs.Prelude.{ℕ, Bool, List, ◌++◌, length, codes, Option, None, option_map}
 use Rattle.report.specs.declared.refusal.Refusal.{Refusal}
 use Rattle.report.specs.declared.refusal.Refusal.TheVariants.{NotValid, NoRoot, NoProfile, NoGeneration, NoRoute, BadMethod}
 use Rattle.report.specs.Refusals.{refusal_line}

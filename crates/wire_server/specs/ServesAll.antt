@@ -4,21 +4,20 @@ use Rattle.std.specs.Io.KnownBytes.{Keeps}
 use Rattle.std.specs.declared.io.Error.{Error}
 use Rattle.httparse.specs.Grammar.{RequestHead}
 use Rattle.wire_server.specs.Responses.{Replied}
-use Rattle.wire_server.specs.Serves.{Served}
 use Rattle.wire_server.specs.Peers.{IsFresh, Leaves, Takes}
-use Rattle.wire_server.specs.Sessions.{Says, failure, result_of}
-use Rattle.wire_server.specs.declared.sessions.End.{End}
+use Rattle.wire_server.specs.Closes.{Closes, Tells, failed}
+use Rattle.wire_server.specs.declared.sessions.Close.{Close}
 
--- a connection: what its peer sent, what was written to it, and how it ended
+-- a connection: what its peer sent, what was written to him, and how it came to be closed
 pub record Session : Type 0 where
   pub input : Option (List ℕ)
   pub output : Option (List ℕ)
-  pub end : End
+  pub close : Close
 
 -- how many failed
 abbrev pub failures : List Session → ℕ
 failures [] = 0
-failures (session ∷ sessions) = failure session.end + failures sessions
+failures (session ∷ sessions) = failed session.close + failures sessions
 
 module _ {S : Type 0} (answers : S → RequestHead → List ℕ → Replied → S → Type 0) where
   -- each is served from the state that the one before it left, and what is said of it follows what was said of that
@@ -26,7 +25,7 @@ module _ {S : Type 0} (answers : S → RequestHead → List ℕ → Replied → 
   Follow old err [] new err' = (new ≡ old) × Keeps err err'
   Follow old err (session ∷ sessions) new err' =
       (fresh : Option (List ℕ)) × (mid : S) × (said : Option (List ℕ)) × IsFresh fresh
-      × Served answers session.input fresh session.output old mid (result_of session.end) × Says session.end err said × Follow mid said sessions new err'
+      × Closes answers session.input fresh session.output old mid session.close × Tells session.close err said × Follow mid said sessions new err'
 
   -- these connections were taken from a listener, served, and closed
   pub record Serves (waiting waiting' closed closed' : Option (List (List ℕ))) (err err' : Option (List ℕ)) (old new : S) (sessions : List Session) : Type 0 where
@@ -37,7 +36,7 @@ module _ {S : Type 0} (answers : S → RequestHead → List ℕ → Replied → 
   -- This number of connections was served, and those that failed are counted; or fewer were, and then an accept failed.
   abbrev pub ServesOn : ℕ → Option (List (List ℕ)) → Option (List (List ℕ)) → Option (List (List ℕ)) → Option (List (List ℕ)) → Option (List ℕ) → Option (List ℕ) → S → S
       → Result ℕ Error → Type 0
-  ServesOn n waiting waiting' closed closed' err err' old new (Ok failed) =
-      (sessions : List Session) × Serves waiting waiting' closed closed' err err' old new sessions × (length sessions ≡ n) × (failed ≡ failures sessions)
+  ServesOn n waiting waiting' closed closed' err err' old new (Ok count) =
+      (sessions : List Session) × Serves waiting waiting' closed closed' err err' old new sessions × (length sessions ≡ n) × (count ≡ failures sessions)
   ServesOn n waiting waiting' closed closed' err err' old new (Err fault) =
       (sessions : List Session) × Serves waiting waiting' closed closed' err err' old new sessions × (length sessions < n)

@@ -1,5 +1,5 @@
 -- How a connection ended, and what was said of it.
-use Rattle.std.specs.Prelude.{ℕ, List, codes, Option, Result, Ok, Err}
+use Rattle.std.specs.Prelude.{◌≡◌, ℕ, List, codes, Option, Result, Ok, Err}
 use Rattle.std.specs.Io.KnownBytes.{Appends, Keeps}
 use Rattle.streams.specs.Sends.{AppendsFront}
 use Rattle.wire_server.specs.declared.error.WireError.{WireError}
@@ -24,6 +24,10 @@ abbrev pub Says : End → Option (List ℕ) → Option (List ℕ) → Type 0
 Says (Served count) err err' = Keeps err err'
 Says (Told fault) err err' = Appends err err' (failure_line fault)
 Says (Untold fault) err err' = AppendsFront err err' (failure_line fault)
+
+-- the line of that fault, or a front of it
+abbrev pub SaysOf : WireError → End → Option (List ℕ) → Option (List ℕ) → Type 0
+SaysOf fault end err err' = (result_of end ≡ Err fault) × Says end err err'
 
 -- how many failures it counts for
 abbrev pub failure : End → ℕ

@@ -3,13 +3,13 @@ ghost use Rattle.wire_server.specs.ServesAll.{ServesOn};
 
 use crate::listener::Listener;
 use crate::responder::Responder;
-use crate::sessions::serve_connection;
+use crate::sessions::serve_peer;
 use std::alloc::Global;
 use std::io;
 use std::io::Write;
 
 /// Serves a number of connections, one after another, and returns how many failed. For each of these a line on `errors` says why; the next
-/// is served all the same.
+/// is served all the same. One whose input gives up waiting between two messages is closed, and hasn't failed.
 ///
 /// # Errors
 ///
@@ -27,9 +27,9 @@ pub fn serve_on<L: Listener, E: Write, A: Responder>(
     'connections: for _ in 0..connections {
         match listener.accept() {
             Ok((mut input, mut output)) => {
-                let end = serve_connection(alloc, &mut input, &mut output, errors, responder);
+                let close = serve_peer(alloc, &mut input, &mut output, errors, responder);
                 listener.close(input, output);
-                failed += end.failures();
+                failed += close.failures();
             }
             Err(fault) => return Err(fault),
         }

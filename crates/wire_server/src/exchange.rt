@@ -19,16 +19,24 @@ pub(crate) struct Exchange {
     pub close: bool,
 }
 
-/// Why a connection ends where a message can't be received.
+/// Why a connection ends before its input does.
+#[derive(Clone, Copy)]
+pub(crate) enum Halt {
+    Failed(WireError),
+    /// Nothing of the next message came for as long as the input waits.
+    Silent,
+}
+
+/// Why a connection fails where a message can't be received.
 fn broken(fault: ReceiveError) -> WireError {
     match fault {
-        ReceiveError::Read => WireError::Read,
         ReceiveError::Memory => WireError::Memory,
+        _ => WireError::Read,
     }
 }
 
 /// The response to an input that begins with no message, after which the connection is closed.
-fn refused(alloc: Global, fault: Fault) -> Result<Option<Exchange>, WireError>
+fn refused(alloc: Global, fault: Fault) -> Result<Option<Exchange>, Halt>
     ensures { Refuses fault result }
 {
     match refuse(alloc, fault) {
@@ -36,7 +44,7 @@ fn refused(alloc: Global, fault: Fault) -> Result<Option<Exchange>, WireError>
             response,
             close: true,
         })),
-        Err(_) => Err(WireError::Memory),
+        Err(_) => Err(Halt::Failed(WireError::Memory)),
     }
 }
 
@@ -48,7 +56,7 @@ fn answer_message<R: Read, A: Responder>(
     responder: &mut A,
     head: &Head,
     size: usize,
-) -> Result<Option<Exchange>, WireError>
+) -> Result<Option<Exchange>, Halt>
     requires some { 0 < length buffer.old.items }
     requires head { HoldsHead buffer.old.items head.now size }
     ensures { Exchanged A.answers (R.remaining input.old) (R.remaining input.new) buffer.old.items buffer.new.items responder.old responder.new result }
@@ -58,10 +66,10 @@ fn answer_message<R: Read, A: Responder>(
     match receive_body(input, buffer, head, size, &mut body) {
         Ok(true) => {}
         Ok(false) => return refused(alloc, Fault::BadLength),
-        Err(fault) => return Err(broken(fault)),
+        Err(fault) => return Err(Halt::Failed(broken(fault))),
     }
     let Ok(response) = responder.answer(buffer, head, body) else {
-        return Err(WireError::Memory);
+        return Err(Halt::Failed(WireError::Memory));
     };
     take_front(buffer, head.spans.len + size);
     Ok(Some(Exchange { response, close }))
@@ -74,7 +82,7 @@ pub(crate) fn next_exchange<R: Read, A: Responder>(
     window: &mut [u8],
     buffer: &mut Vec<u8>,
     responder: &mut A,
-) -> Result<Option<Exchange>, WireError>
+) -> Result<Option<Exchange>, Halt>
     requires { 0 < length window.old }
     ensures { Exchanged A.answers (R.remaining input.old) (R.remaining input.new) buffer.old.items buffer.new.items responder.old responder.new result }
 {
@@ -84,6 +92,7 @@ pub(crate) fn next_exchange<R: Read, A: Responder>(
         }
         Ok(Received::End) => Ok(None),
         Ok(Received::Faulty(fault)) => refused(alloc, fault),
-        Err(fault) => Err(broken(fault)),
+        Err(ReceiveError::Silent) => Err(Halt::Silent),
+        Err(fault) => Err(Halt::Failed(broken(fault))),
     }
 }

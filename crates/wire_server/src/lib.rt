@@ -3,10 +3,12 @@
 
 mod buffer;
 mod connections;
+mod draining;
 mod error;
 mod exchange;
 mod faults;
 mod listener;
+mod peer;
 mod port;
 mod reply_head;
 mod responder;
@@ -19,6 +21,7 @@ mod statuses;
 pub use connections::serve_on;
 pub use error::WireError;
 pub use listener::Listener;
+pub use peer::{Incoming, Outgoing};
 pub use port::Port;
 pub use reply_head::{ReplyHead, write_reply_head};
 pub use responder::Responder;

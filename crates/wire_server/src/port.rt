@@ -1,70 +1,72 @@
 //! A port of this machine.
 ghost use Rattle.std.specs.Prelude.{None};
 
+use crate::draining::read_out;
 use crate::listener::Listener;
+use crate::peer::{Incoming, Outgoing};
 use std::io;
-use std::io::Read;
 use std::net::{Ipv4Addr, Net, Shutdown, TcpListener, TcpStream};
+use std::rt::Clock;
 use std::time::Duration;
 
-/// How many seconds a peer may be silent before a connection is closed that the peer hasn't closed.
-const PATIENCE: u64 = 1;
+/// How many seconds a connection waits for a peer: for the next byte of an input, and until some of a reply is taken.
+const LIMIT: u64 = 60;
 
-/// How many reads a peer is granted who goes on sending, each of at most 65,536 bytes: what is left of any body that is refused.
-const READS: usize = 512;
-
-/// A port of this machine, at 127.0.0.1.
+/// A port of this machine, at 127.0.0.1. A peer who sends nothing for 60 seconds, or takes nothing of a reply, makes the read or the
+/// write fail that waits for it.
 #[derive(Drop)]
-pub struct Port(TcpListener);
+pub struct Port<'a, C: Clock> {
+    listener: TcpListener,
+    clock: &'a C,
+}
 
-impl Port {
+impl<'a, N: Net<Listener = TcpListener, Stream = TcpStream> + Clock> Port<'a, N> {
     /// Listens on a port, 0 for any that is free.
     ///
     /// # Errors
     ///
-    /// The error of the system, as where the port is taken.
-    pub fn bind<N: Net<Listener = TcpListener, Stream = TcpStream>>(
-        net: &N,
-        port: u16,
-    ) -> io::Result<Port> {
-        Ok(Port(TcpListener::bind(net, (Ipv4Addr::LOCALHOST, port))?))
+    /// That of the system, as where the port is taken.
+    pub fn bind(net: &'a N, port: u16) -> io::Result<Port<'a, N>> {
+        let listener = TcpListener::bind(net, (Ipv4Addr::LOCALHOST, port))?;
+        Ok(Port {
+            listener,
+            clock: net,
+        })
     }
 }
 
-/// Reads what a peer still sends, until it closes the connection, is silent, or has sent enough.
-fn read_out(input: &mut TcpStream) -> io::Result<()> {
-    input.set_read_timeout(Some(Duration::from_secs(PATIENCE)))?;
-    let mut window = [0; 65_536];
-    for _ in 0..READS {
-        if input.read(&mut window)? == 0 {
-            break;
-        }
-    }
-    Ok(())
+/// Sets the time limits of a connection, and gives another handle of it, to write by.
+fn prepare(input: &TcpStream) -> io::Result<TcpStream> {
+    // Head and text of a reply are two writes, and none waits for the other to arrive. Where the system doesn't allow that, replies
+    // only take longer: no reason to serve nobody any more.
+    drop(input.set_nodelay(true));
+    input.set_read_timeout(Some(Duration::from_secs(LIMIT)))?;
+    input.set_write_timeout(Some(Duration::from_secs(LIMIT)))?;
+    input.try_clone()
 }
 
-impl Listener for Port {
-    type Input = TcpStream;
+impl<'a, C: Clock> Listener for Port<'a, C> {
+    type Input = Incoming;
 
-    type Output = TcpStream;
+    type Output = Outgoing;
 
     ghost waiting = { λ _. None };
 
     ghost closed = { λ _. None };
 
-    /// Head and text of a reply are two writes, and none waits for the other to arrive.
-    fn accept(&mut self) -> io::Result<(TcpStream, TcpStream)> {
-        let (input, _) = self.0.accept()?;
-        // Where the system doesn't allow that, replies only take longer: no reason to serve nobody any more.
-        drop(input.set_nodelay(true));
-        let output = input.try_clone()?;
-        Ok((input, output))
+    /// A connection that was accepted and can't be prepared fails at its first read: it is one that failed, and the next is served.
+    fn accept(&mut self) -> io::Result<(Incoming, Outgoing)> {
+        let (input, _) = self.listener.accept()?;
+        let output = prepare(&input).ok();
+        let is_ready = output.is_some();
+        Ok((Incoming::new(input, is_ready), Outgoing::new(output)))
     }
 
     /// The peer learns first that no more comes. Closing at once would take the last reply from one who still sends.
-    fn close(&mut self, mut input: TcpStream, output: TcpStream) {
-        if output.shutdown(Shutdown::Write).is_ok() {
-            drop(read_out(&mut input));
+    fn close(&mut self, mut input: Incoming, output: Outgoing) {
+        if input.stream().shutdown(Shutdown::Write).is_ok() {
+            drop(read_out(self.clock, input.stream()));
         }
+        drop(output);
     }
 }

@@ -1,11 +1,12 @@
 //! One connection, and how it ended.
 ghost use Rattle.std.specs.Prelude.{◌≡◌};
 ghost use Rattle.wire_server.specs.Serves.{Served};
-ghost use Rattle.wire_server.specs.Sessions.{Says, failure, failure_line, result_of};
+ghost use Rattle.wire_server.specs.Sessions.{Says, SaysOf, failure, failure_line, result_of};
+ghost use Rattle.wire_server.specs.Closes.{Closes, Tells, failed};
 
 use crate::error::WireError;
 use crate::responder::Responder;
-use crate::serving::serve;
+use crate::serving::{Stop, run, serve};
 use std::alloc::Global;
 use std::io::{Read, Write};
 use streams::send_bytes;
@@ -21,14 +22,23 @@ pub enum End {
     Untold(WireError),
 }
 
-impl End {
+/// How the connection of a peer came to be closed.
+#[derive(Clone, Copy, PartialEq, Eq, Debug)]
+pub(crate) enum Close {
+    /// It ended, or failed.
+    Ended(End),
+    /// The peer was silent for too long between two messages. The number is that of the messages answered.
+    Idle(u64),
+}
+
+impl Close {
     /// How many failures it counts for.
     pub(crate) fn failures(self) -> u32
-        ensures { result ≡ failure self }
+        ensures { result ≡ failed self }
     {
         match self {
-            End::Served(_) => 0,
-            End::Told(_) | End::Untold(_) => 1,
+            Close::Ended(End::Served(_)) | Close::Idle(_) => 0,
+            Close::Ended(End::Told(_)) | Close::Ended(End::Untold(_)) => 1,
         }
     }
 }
@@ -41,6 +51,16 @@ fn line_of(fault: WireError) -> &'static str
         WireError::Read => "failed: input\n",
         WireError::Write => "failed: output\n",
         WireError::Memory => "failed: memory\n",
+    }
+}
+
+/// Says on `errors` why a connection failed.
+fn tell<E: Write>(fault: WireError, errors: &mut E) -> End
+    ensures { SaysOf fault result (E.contents errors.old) (E.contents errors.new) }
+{
+    match send_bytes(errors, line_of(fault).as_bytes()) {
+        Ok(()) => End::Told(fault),
+        Err(_) => End::Untold(fault),
     }
 }
 
@@ -57,9 +77,26 @@ pub fn serve_connection<R: Read, W: Write, E: Write, A: Responder>(
 {
     match serve(alloc, input, output, responder) {
         Ok(count) => End::Served(count),
-        Err(fault) => match send_bytes(errors, line_of(fault).as_bytes()) {
-            Ok(()) => End::Told(fault),
-            Err(_) => End::Untold(fault),
-        },
+        Err(fault) => tell(fault, errors),
+    }
+}
+
+/// Serves the connection of a peer. Where it fails, a line on `errors` says why. Where the peer is silent for too long between two
+/// messages, nothing is said.
+pub(crate) fn serve_peer<R: Read, W: Write, E: Write, A: Responder>(
+    alloc: Global,
+    input: &mut R,
+    output: &mut W,
+    errors: &mut E,
+    responder: &mut A,
+) -> Close
+    ensures served { Closes A.answers (R.remaining input.old) (W.contents output.old) (W.contents output.new)
+        responder.old responder.new result }
+    ensures said { Tells result (E.contents errors.old) (E.contents errors.new) }
+{
+    match run(alloc, input, output, responder) {
+        Ok(count) => Close::Ended(End::Served(count)),
+        Err(Stop::Failed(fault)) => Close::Ended(tell(fault, errors)),
+        Err(Stop::Silent(count)) => Close::Idle(count),
     }
 }

@@ -1,5 +1,6 @@
-use Rattle.std.proofs.Common.{rules, refl, sym, append-nil, arith}
+use Rattle.std.proofs.Common.{rules, ◌≡◌, refl, sym, append-nil, arith}
 use Rattle.std.proofs.KnownBytes.{Consumes-nil, Consumes-trans}
+use Rattle.wire_messages.specs.declared.error.ReceiveError.TheVariants.{Silent}
 use Rattle.wire_messages.proofs.Heads.{none_in_nothing}
 use Rattle.wire_messages.proofs.receive.find_head.Goals as goal
 
@@ -18,4 +19,4 @@ head-init g c = record {
 pub returns-in-Err : goal.returns-in-Err
 returns-in-Err g c =
     let took = c.head.invariant.took in
-    ((_, Consumes-trans _ _ _ _ _ took.taken c.read_more.ensures.taken.1, tt), tt)
+    ((_, Consumes-trans _ _ _ _ _ took.taken c.read_more.ensures.taken.1, tt), tt, λ e. let same : c.within.result ≡ Silent = cc in absurd (c.within.ensures same))

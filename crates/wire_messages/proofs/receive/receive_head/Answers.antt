@@ -13,4 +13,4 @@ returns-in-Err-length_of_body g c =
     let states : Err fault ≡ body_length (fields_at held c.in-Ok-Begun.head) =
     sym c.in-Err-length_of_body.is ∙ (rw c.deref.ensures.value at c.length_of_body.ensures) in
     let whole = λ (more : List ℕ). is_fault (held ++ more) fault (fault_of_head held c.in-Ok-Begun.head start.1.1.0 fault start.1.1.1 states more) in
-    ((start.0.0, start.0.1, start.0.2), (start.1.0, whatever (λ t. IsFault t fault) held _ whole))
+    ((start.0.0, start.0.1, start.0.2), (start.1.0, whatever (λ t. IsFault t fault) held _ whole), λ e. absurd cc)

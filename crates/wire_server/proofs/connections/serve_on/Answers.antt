@@ -1,6 +1,6 @@
 use Rattle.std.proofs.Common.{◌<◌, [], ◌∷◌, ◌++◌, length, length-append, arith}
 use Rattle.wire_server.proofs.Peers.{takes_more, leaves_more}
-use Rattle.wire_server.proofs.Sofar.{failure_le, failures_le, sofar_start, sofar_still, sofar_more}
+use Rattle.wire_server.proofs.Sofar.{failed_le, failures_le, sofar_start, sofar_still, sofar_more}
 use Rattle.wire_server.proofs.connections.serve_on.Goals as goal
 
 -- src/connections.rt:27:5
@@ -15,7 +15,7 @@ overflow_add-failed g c =
       c.ranges.connections,
       c.connections-test.true,
       c.failures-failed.ensures,
-      failure_le c.serve_connection-end.result,
+      failed_le c.serve_peer-close.result,
       c.connections.invariant.counted,
       c.connections.invariant.failing,
       failures_le c.connections.invariant.sessions,
@@ -33,7 +33,7 @@ returns-in-Err g c =
 pub connections-preserved : goal.connections-preserved
 connections-preserved g c =
     let taken = takes_more _ _ _ (g.L.Input.Read.remaining c.in-Ok.input ∷ []) [] c.in-Ok.ensures.taken c.close.ensures.taken in
-    let left = leaves_more _ _ _ [] (g.L.Output.Write.contents c.serve_connection-end.new.output ∷ []) c.in-Ok.ensures.left c.close.ensures.left in
-    let more = sofar_more g.A.Responder.answers _ _ _ _ _ _ _ _ _ _ c.connections.invariant _ _ _ _ _ _ _ c.serve_connection-end.result taken left c.in-Ok.ensures.fresh
-    c.serve_connection-end.ensures.served c.serve_connection-end.ensures.said in
+    let left = leaves_more _ _ _ [] (g.L.Output.Write.contents c.serve_peer-close.new.output ∷ []) c.in-Ok.ensures.left c.close.ensures.left in
+    let more = sofar_more g.A.Responder.answers _ _ _ _ _ _ _ _ _ _ c.connections.invariant _ _ _ _ _ _ _ c.serve_peer-close.result taken left c.in-Ok.ensures.fresh
+    c.serve_peer-close.ensures.served c.serve_peer-close.ensures.said in
     rw c.failures-failed.ensures more

@@ -1,4 +1,4 @@
-use Rattle.std.proofs.Common.{◌≡◌, ◌++◌, Ok, refl, sym, ap, ◌∙◌, inl}
+use Rattle.std.proofs.Common.{◌++◌, Ok, sym, ap, ◌∙◌, inl}
 use Rattle.wire_server.specs.Answers.{body_in}
 use Rattle.wire_server.proofs.Told.{closes_at}
 use Rattle.wire_server.proofs.Received.{taken_all, cut_short, answer_comes, lost_comes}

@@ -1,4 +1,4 @@
-use Rattle.std.proofs.Common.{◌≡◌, ◌++◌, ◌∙◌, ap, sym, subst, append_assoc}
+use Rattle.std.proofs.Common.{◌++◌, ◌∙◌, refl, ap, subst, append_assoc}
 use Rattle.std.proofs.KnownBytes.{Consumes-trans}
 use Rattle.wire_server.specs.Exchanges.{Comes}
 use Rattle.wire_server.proofs.exchange.next_exchange.Goals as goal
@@ -12,3 +12,8 @@ returns-in-Ok-Message g c =
       Consumes-trans _ _ _ head.0.0 next.0 head.0.1 next.1,
       subst (λ t. Comes g.A.Responder.answers t c.answer_message.new.buffer.items (g.R.Read.remaining c.answer_message.new.input) c.args.responder.now c.answer_message.new.responder c.answer_message.result) all next.2,
     )
+
+pub returns-in-Err-Silent : goal.returns-in-Err-Silent
+returns-in-Err-Silent g c =
+    let got = rw c.in-Err-Silent.field-0-is at c.in-Err-Silent.ensures in
+    (got.0.0, got.0.1, ((got.2 refl).1, refl))

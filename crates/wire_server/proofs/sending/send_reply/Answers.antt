@@ -1,4 +1,4 @@
-use Rattle.std.proofs.Common.{◌≡◌, ◌∙◌, ap, ℕ, List, ◌++◌, take, subst}
+use Rattle.std.proofs.Common.{◌≡◌, ◌∙◌, ap, ◌++◌, take, subst}
 use Rattle.std.specs.Io.KnownBytes.{Appends}
 use Rattle.streams.proofs.Sending.{front-second}
 use Rattle.wire_server.specs.Responses.{replied, reply_bytes}

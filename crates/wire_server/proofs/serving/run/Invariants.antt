@@ -1,5 +1,5 @@
 use Rattle.wire_server.proofs.Told.{Told}
-use Rattle.wire_server.proofs.serving.serve.Given as goal
+use Rattle.wire_server.proofs.serving.run.Given as goal
 
 abbrev pub invariant-messages : goal.invariant-messages
 invariant-messages g l = Told g.A.Responder.answers (g.R.Read.remaining l.fn.input) (g.R.Read.remaining l.input) (g.W.Write.contents l.fn.output) (g.W.Write.contents l.output) l.buffer.items l.fn.responder l.responder l.count

@@ -1,0 +1,51 @@
+//! What a peer still sends where a connection is closed.
+use std::io;
+use std::io::Read;
+use std::net::TcpStream;
+use std::rt::Clock;
+use std::time::{Duration, Instant};
+
+/// How many bytes are read at most: the largest body that is taken, and a head.
+const MOST: usize = 20_971_520 + 16_384;
+
+/// How many seconds a peer may be silent.
+const SILENCE: u64 = 1;
+
+/// How many seconds it takes in all, whatever he does.
+const TIME: u64 = 5;
+
+/// How long the next read may wait, of the time that is left. Nothing where none is left.
+fn patience<C: Clock>(clock: &C, start: Instant) -> io::Result<Option<Duration>> {
+    let silence = Duration::from_secs(SILENCE);
+    let Some(left) = Duration::from_secs(TIME).checked_sub(start.elapsed(clock)?) else {
+        return Ok(None);
+    };
+    if left.is_zero() {
+        return Ok(None);
+    }
+    Ok(Some(if left < silence { left } else { silence }))
+}
+
+/// Reads what a peer still sends, and lets it go: until he closes the connection, is silent for a second, or has sent 20,987,904
+/// bytes, but no longer than five seconds.
+///
+/// # Errors
+///
+/// That of the first read that fails, or waits too long, or of the clock.
+pub(crate) fn read_out<C: Clock>(clock: &C, input: &mut TcpStream) -> io::Result<()> {
+    let start = Instant::now(clock)?;
+    let mut window = [0; 65_536];
+    let mut left = MOST;
+    'reads: while left > 0 {
+        let Some(patience) = patience(clock, start)? else {
+            return Ok(());
+        };
+        input.set_read_timeout(Some(patience))?;
+        let count = input.read(&mut window)?;
+        if count == 0 {
+            return Ok(());
+        }
+        left -= count.min(left);
+    }
+    Ok(())
+}
