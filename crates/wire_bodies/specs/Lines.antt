@@ -49,7 +49,7 @@ is_colon b = b == 58
 abbrev pub entry_in : List ℕ → Entry
 entry_in line = (before_first is_colon line, drop 1 (after_first is_colon line))
 
--- those of the lines of a text, of whose first line a front stands before it
+-- those of the lines of a text, of whose first line a prefix comes before it
 abbrev pub entries_from : List ℕ → List ℕ → List Entry
 entries_from front [] = []
 entries_from front (b ∷ text) = cond (b == 10) (entry_in front ∷ entries_from [] text) (entries_from (front ++ b ∷ []) text)

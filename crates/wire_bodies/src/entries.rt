@@ -52,7 +52,7 @@ fn is_among(key: &str, keys: &[&str]) -> bool
     false
 }
 
-/// Whether each key of the entries is one of some. It looks at none behind the first that isn't.
+/// Whether each key of the entries is one of some. It looks at none after the first that isn't.
 pub fn are_known(entries: &Lines<'_>, keys: &[&str]) -> bool
     ensures { result ≡ are_known (texts keys.now) entries.now }
 {

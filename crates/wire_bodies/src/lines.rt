@@ -33,7 +33,7 @@ pub(crate) fn entry_of<'b>(line: &'b [u8]) -> Option<(&'b str, &'b str)>
     }
 }
 
-/// Lines that are known to have a key and a value each, lent as they stand: there is no list of them. Contracts see
+/// Lines that are known to have a key and a value each, lent as they are: there is no list of them. Contracts see
 /// the keys and values in their order.
 #[derive(Drop)]
 pub struct Lines<'b> {

@@ -4,7 +4,7 @@ ghost use Rattle.wire_bodies.specs.Parts.{BodyOf};
 
 use crate::lines::{Lines, entry_of, first_line};
 
-/// The keys and values of a body, and what stands behind its empty line.
+/// The keys and values of a body, and what follows its empty line.
 #[derive(Drop)]
 pub struct Body<'b> {
     pub entries: Lines<'b>,
@@ -34,8 +34,8 @@ fn parts_of<'b>(text: &'b [u8]) -> Option<Body<'b>>
     }
 }
 
-/// The entries and the payload of a body, lent, or none where it has no empty line behind good lines. What follows the
-/// empty line isn't looked at, so the front of a body gives the same entries as soon as its empty line is there. It
+/// The entries and the payload of a body, lent, or none where it has no empty line after good lines. What follows the
+/// empty line isn't looked at, so a prefix of a body gives the same entries as soon as its empty line is there. It
 /// takes no memory.
 pub fn body_of<'b>(body: &'b [u8]) -> Option<Body<'b>>
     ensures { BodyOf (spelled body.now) result }

@@ -78,7 +78,7 @@ module _ {S : Type 0} (answers : S → RequestHead → List ℕ → Replied → 
     pub written : IsWritten replies bytes
     pub appended : Appends output output' bytes
 
-  -- The peer was silent behind items that the input begins with: all of their replies were written whole.
+  -- The peer was silent after items that the input begins with: all of their replies were written whole.
   pub record Rests (input output output' : Option (List ℕ)) (old new : S) (count : ℕ) : Type 0 where
     pub items : List Item
     pub replies : List (List ℕ)

@@ -8,7 +8,7 @@ use Rattle.wire_server.specs.Peers.{IsFresh, Leaves, Takes}
 use Rattle.wire_server.specs.Closes.{Closes, Tells, failed}
 use Rattle.wire_server.specs.declared.sessions.Close.{Close}
 
--- a connection: what its peer sent, what was written to him, and how it came to be closed
+-- a connection: what its peer sent, what was written to it, and how it came to be closed
 pub record Session : Type 0 where
   pub input : Option (List ℕ)
   pub output : Option (List ℕ)

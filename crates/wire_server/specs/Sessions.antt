@@ -25,7 +25,7 @@ Says (Served count) err err' = Keeps err err'
 Says (Told fault) err err' = Appends err err' (failure_line fault)
 Says (Untold fault) err err' = AppendsFront err err' (failure_line fault)
 
--- the line of that fault, or a front of it
+-- the line of that fault, or a prefix of it
 abbrev pub SaysOf : WireError → End → Option (List ℕ) → Option (List ℕ) → Type 0
 SaysOf fault end err err' = (result_of end ≡ Err fault) × Says end err err'
 

@@ -11,7 +11,7 @@ const MOST: usize = 20_971_520 + 16_384;
 /// How many seconds a peer may be silent.
 const SILENCE: u64 = 1;
 
-/// How many seconds it takes in all, whatever he does.
+/// How many seconds it takes in all, whatever the peer does.
 const TIME: u64 = 5;
 
 /// How long the next read may wait, of the time that is left. Nothing where none is left.
@@ -26,7 +26,7 @@ fn patience<C: Clock>(clock: &C, start: Instant) -> io::Result<Option<Duration>>
     Ok(Some(if left < silence { left } else { silence }))
 }
 
-/// Reads what a peer still sends, and lets it go: until he closes the connection, is silent for a second, or has sent 20,987,904
+/// Reads what a peer still sends, and lets it go: until it closes the connection, is silent for a second, or has sent 20,987,904
 /// bytes, but no longer than five seconds.
 ///
 /// # Errors
