@@ -21,17 +21,20 @@ from nixkeep_tools import nar, paths, store_file
 PACKAGES = {
     "nginx": "nginx-light",
     "nix": "nix-bin",
+    "nix-store": "nix-bin",
     "htpasswd": "apache2-utils",
     "dot": "graphviz",
     "sqlite3": "sqlite3",
     "openssl": "openssl",
     "curl": "curl",
+    "wrk": "wrk",
     "chromium": "chromium",
     "aiohttp": "python3-aiohttp",
     "zstandard": "python3-zstandard",
     "jinja2": "python3-jinja2",
 }
 counts = {"passed": 0, "failed": 0}
+skips = []
 # A script that is ended ends its parts, too.
 signal.signal(signal.SIGTERM, lambda *_: sys.exit(1))
 
@@ -48,15 +51,21 @@ def same(what, came, wanted):
 
 
 def end():
-    """Ends a script."""
+    """Ends a script; what was skipped is said once more."""
+    for it in skips:
+        print(f"SKIPPED: {it}")
     print(f"{counts['passed']} passed, {counts['failed']} failed")
     sys.exit(1 if counts["failed"] else 0)
 
 
+def skip(why):
+    skips.append(why)
+    print(f"SKIPPED: {why}", flush=True)
+
+
 def skipped(what, missing):
-    print(
-        f"SKIPPED: {what}: install the Debian packages: {' '.join(PACKAGES.get(it, it) for it in missing)}", flush=True
-    )
+    packages = dict.fromkeys(PACKAGES.get(it, it) for it in missing)
+    skip(f"{what}: install the Debian packages: {' '.join(packages)}")
 
 
 def found(tool):
