@@ -100,9 +100,8 @@ class Handed(Serving):
     def __init__(self, run):
         ours, self.theirs = socket.socketpair()
         self.client = Client(ours)
-        self.started = subprocess.Popen(
-            [run.file, "serve"], stdin=self.theirs, stdout=self.theirs, stderr=subprocess.DEVNULL
-        )
+        self.started = subprocess.Popen([run.file, "serve"], stdin=self.theirs, stdout=self.theirs,
+                                        stderr=subprocess.DEVNULL)
 
     def __exit__(self, *said):
         super().__exit__(*said)

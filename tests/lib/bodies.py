@@ -18,6 +18,21 @@ def selected():
     return [tuple(it) for it in lines if it]
 
 
+def changes(path):
+    """The changes of an edit: the file, the old text and the new."""
+    found, file, old = [], None, None
+    with open(path, encoding="utf-8") as lines:
+        for line in lines.read().split("\n"):
+            kind, _, text = line.partition(": ")
+            if kind == "file":
+                file = text.strip()
+            elif kind == "old":
+                old = text
+            elif line.startswith("new:"):
+                found.append((file, old, text))
+    return found
+
+
 def plain(name):
     """A function's path without what tells it from a type or a module of its name."""
     return name.replace("fn::", "")

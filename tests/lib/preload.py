@@ -13,33 +13,16 @@ class Library:
     def __init__(self, source, folder):
         name = os.path.splitext(os.path.basename(source))[0]
         self.file = os.path.join(folder, f"{name}.so")
-        words = [
-            "cc",
-            "-shared",
-            "-fPIC",
-            "-O1",
-            "-Wall",
-            "-Wextra",
-            "-Werror",
-            "-I",
-            HERE,
-            "-o",
-            self.file,
-            source,
-            "-ldl",
-        ]
+        words = ["cc", "-shared", "-fPIC", "-O1", "-Wall", "-Wextra", "-Werror", "-I", HERE, "-o", self.file, source,
+                 "-ldl"]
         subprocess.run(words, check=True)
 
     def env(self, counts, **settings):
         """The environment of a run that counts in a file of this name."""
         with open(counts, "wb") as out:
             out.write(bytes(16))
-        return {
-            **os.environ,
-            "LD_PRELOAD": self.file,
-            "COUNTS": counts,
-            **{name: str(it) for name, it in settings.items()},
-        }
+        return {**os.environ, "LD_PRELOAD": self.file, "COUNTS": counts,
+                **{name: str(it) for name, it in settings.items()}}
 
 
 def counted(counts):

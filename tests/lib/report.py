@@ -11,14 +11,8 @@ import time
 from tests.lib import program
 
 # The Debian package of a tool that scripts need.
-PACKAGES = {
-    "cc": "gcc",
-    "nix": "nix-bin",
-    "nix-store": "nix-bin",
-    "nix-instantiate": "nix-bin",
-    "nix-hash": "nix-bin",
-    "nginx": "nginx-light",
-}
+PACKAGES = {"cc": "gcc", "nix": "nix-bin", "nix-store": "nix-bin", "nix-instantiate": "nix-bin", "nix-hash": "nix-bin",
+            "nginx": "nginx-light"}
 passed = 0
 
 
@@ -90,9 +84,8 @@ def options(doc, count=None, more=lambda asked: None, parts=()):
     asked = argparse.ArgumentParser(description=doc, formatter_class=argparse.RawDescriptionHelpFormatter)
     asked.add_argument("--program", metavar="FILE", help="the program; else the one that bin/nixkeep proves and builds")
     asked.add_argument("--seed", metavar="N", type=int, default=today(), help="what chance begins with; else the day")
-    asked.add_argument(
-        "--count", metavar="N", type=int, default=count, help=f"how much is tried ({count or 'all'}, if not given)"
-    )
+    asked.add_argument("--count", metavar="N", type=int, default=count,
+                       help=f"how much is tried ({count or 'all'}, if not given)")
     more(asked)
     if parts:
         asked.add_argument("parts", nargs="*", metavar="PART", help=f"{', '.join(parts)}; else all")

@@ -24,46 +24,26 @@ def requests():
     drv, out, gone = "0" * 32 + "-d.drv", "1" * 32 + "-o", "7" * 32 + "-gone"
     long = b"x" * (PART + 9)
     added = text_path("long", long, [out])
-    return [
-        ("ann", "GET", "/report"),
-        imported(drv, archive(derivation({"out": out}))),
-        imported(out, archive(b""), ("deriver", drv)),
-        ("ann", "POST", "/text", text("long", long, out)),
-        ("ann", "POST", "/source", text("s", archive(b"abc"), out, drv)),
-        imported(gone, archive(b"x"), ("reference", "8" * 32 + "-none")),
-        ("ann", "GET", f"/info/{added}"),
-        ("ann", "GET", f"/nar/{added}"),
-        ("ann", "GET", f"/ls/{added}"),
-        ("ann", "POST", "/root/user/ann/mine", path(out)),
-        ("root", "POST", "/root/permanent/ours", path(added)),
-        ("root", "POST", "/root/permanent/ours", path(drv)),
-        ("root", "POST", "/runtime", lines(("root", f"a {out}"), ("root", f"b {added}"), ("root", f"c {gone}"))),
-        ("ann", "POST", "/temp/ann/3", path(added)),
-        ("ann", "POST", "/temp/ann/3", path(out)),
-        ("ann", "GET", f"/roots-of/{out}"),
-        ("ann", "POST", "/delete", lines(("path", out))),
-        ("ann", "POST", "/profile/ann/tools", path(out)),
-        ("ann", "POST", "/profile/ann/tools", path(added)),
-        ("ann", "POST", "/rollback/ann/tools"),
-        ("ann", "POST", "/profile/ann/tools", path(added)),
-        ("ann", "DELETE", "/generation/ann/tools/2"),
-        ("ann", "POST", "/switch/ann/tools/1"),
-        ("ann", "POST", "/switch/ann/tools/2"),
-        ("ann", "DELETE", "/generation/ann/tools/1"),
-        ("ann", "POST", "/rollback/ann/tools"),
-        ("ann", "DELETE", "/generation/ann/tools/7"),
-        ("ann", "DELETE", "/temp/ann/3"),
-        ("root", "POST", "/runtime", lines()),
-        ("root", "DELETE", "/root/permanent/ours"),
-        ("ann", "POST", "/collect", lines(("max-freed", 1))),
-        ("ann", "DELETE", "/root/user/ann/mine"),
-        ("ann", "POST", "/collect", lines()),
-        ("ann", "GET", "/dead"),
-        ("bob", "POST", "/profile/ann/tools", path(out)),
-        ("ann", "POST", "/profile/ann/tools", path(out)),
-        ("ann", "DELETE", "/generation/ann/tools/2"),
-        ("ann", "POST", "/delete", lines(("path", added))),
-    ]
+    return [("ann", "GET", "/report"), imported(drv, archive(derivation({"out": out}))),
+            imported(out, archive(b""), ("deriver", drv)), ("ann", "POST", "/text", text("long", long, out)),
+            ("ann", "POST", "/source", text("s", archive(b"abc"), out, drv)),
+            imported(gone, archive(b"x"), ("reference", "8" * 32 + "-none")), ("ann", "GET", f"/info/{added}"),
+            ("ann", "GET", f"/nar/{added}"), ("ann", "GET", f"/ls/{added}"),
+            ("ann", "POST", "/root/user/ann/mine", path(out)), ("root", "POST", "/root/permanent/ours", path(added)),
+            ("root", "POST", "/root/permanent/ours", path(drv)),
+            ("root", "POST", "/runtime", lines(("root", f"a {out}"), ("root", f"b {added}"), ("root", f"c {gone}"))),
+            ("ann", "POST", "/temp/ann/3", path(added)), ("ann", "POST", "/temp/ann/3", path(out)),
+            ("ann", "GET", f"/roots-of/{out}"), ("ann", "POST", "/delete", lines(("path", out))),
+            ("ann", "POST", "/profile/ann/tools", path(out)), ("ann", "POST", "/profile/ann/tools", path(added)),
+            ("ann", "POST", "/rollback/ann/tools"), ("ann", "POST", "/profile/ann/tools", path(added)),
+            ("ann", "DELETE", "/generation/ann/tools/2"), ("ann", "POST", "/switch/ann/tools/1"),
+            ("ann", "POST", "/switch/ann/tools/2"), ("ann", "DELETE", "/generation/ann/tools/1"),
+            ("ann", "POST", "/rollback/ann/tools"), ("ann", "DELETE", "/generation/ann/tools/7"),
+            ("ann", "DELETE", "/temp/ann/3"), ("root", "POST", "/runtime", lines()),
+            ("root", "DELETE", "/root/permanent/ours"), ("ann", "POST", "/collect", lines(("max-freed", 1))),
+            ("ann", "DELETE", "/root/user/ann/mine"), ("ann", "POST", "/collect", lines()), ("ann", "GET", "/dead"),
+            ("bob", "POST", "/profile/ann/tools", path(out)), ("ann", "POST", "/profile/ann/tools", path(out)),
+            ("ann", "DELETE", "/generation/ann/tools/2"), ("ann", "POST", "/delete", lines(("path", added)))]
 
 
 def kept():
@@ -71,34 +51,19 @@ def kept():
     drv, out = "2" * 32 + "-d.drv", "3" * 32 + "-o"
     both = [imported(drv, archive(derivation({"out": out}))), imported(out, archive(b""), ("deriver", drv))]
     collect = "ann", "POST", "/collect", lines()
-    return [
-        *both,
-        ("ann", "GET", "/dead"),
-        collect,
-        *both,
-        ("ann", "POST", "/root/user/ann/kept", path(out)),
-        ("ann", "GET", f"/roots-of/{drv}"),
-        ("ann", "POST", "/delete", path(drv)),
-        collect,
-    ]
+    return [*both, ("ann", "GET", "/dead"), collect, *both, ("ann", "POST", "/root/user/ann/kept", path(out)),
+            ("ann", "GET", f"/roots-of/{drv}"), ("ann", "POST", "/delete", path(drv)), collect]
 
 
 def lost():
     """The root keeps the output alone, and the derivation goes: where derivers aren't kept."""
-    return [
-        ("ann", "GET", "/dead"),
-        ("ann", "GET", f"/roots-of/{'2' * 32}-d.drv"),
-        ("ann", "POST", "/delete", path("3" * 32 + "-o")),
-        ("ann", "POST", "/collect", lines()),
-    ]
+    return [("ann", "GET", "/dead"), ("ann", "GET", f"/roots-of/{'2' * 32}-d.drv"),
+            ("ann", "POST", "/delete", path("3" * 32 + "-o")), ("ann", "POST", "/collect", lines())]
 
 
 # What is asked under which settings, over one file.
-LISTS = [
-    ("", requests),
-    ("keep-outputs = true\nkeep-derivations = true\n", kept),
-    ("keep-outputs = true\nkeep-derivations = false\n", lost),
-]
+LISTS = [("", requests), ("keep-outputs = true\nkeep-derivations = true\n", kept),
+         ("keep-outputs = true\nkeep-derivations = false\n", lost)]
 
 
 def some_store(schema):

@@ -9,19 +9,14 @@ from tests.lib.nar import STORE, archive, derivation, hidden, nar_hash, sha256, 
 
 SHELL = shutil.which("sqlite3")
 # Each table in the order in which they are made: its columns, `?` where NULL may stand, and how many make its key.
-FORMS = {
-    "meta": (["word TEXT", "val TEXT"], 1),
-    "object": (["base TEXT", "nar BLOB", "hash BLOB", "deriver TEXT ?", "ca TEXT ?"], 1),
-    "refs": (["base TEXT", "target TEXT"], 2),
-    "outs": (["base TEXT", "name TEXT", "target TEXT"], 2),
-    "permanent": (["name TEXT", "target TEXT"], 1),
-    "user_root": (["owner TEXT", "name TEXT", "target TEXT"], 2),
-    "profile": (["owner TEXT", "name TEXT", "cur INTEGER"], 2),
-    "generation": (["owner TEXT", "name TEXT", "num INTEGER", "target TEXT"], 3),
-    "runtime": (["label TEXT", "target TEXT"], 2),
-    "piece": (["base TEXT", "num INTEGER", "bytes BLOB"], 2),
-    "temp_root": (["owner TEXT", "session INTEGER", "target TEXT"], 3),
-}
+FORMS = {"meta": (["word TEXT", "val TEXT"], 1),
+         "object": (["base TEXT", "nar BLOB", "hash BLOB", "deriver TEXT ?", "ca TEXT ?"], 1),
+         "refs": (["base TEXT", "target TEXT"], 2), "outs": (["base TEXT", "name TEXT", "target TEXT"], 2),
+         "permanent": (["name TEXT", "target TEXT"], 1), "user_root": (["owner TEXT", "name TEXT", "target TEXT"], 2),
+         "profile": (["owner TEXT", "name TEXT", "cur INTEGER"], 2),
+         "generation": (["owner TEXT", "name TEXT", "num INTEGER", "target TEXT"], 3),
+         "runtime": (["label TEXT", "target TEXT"], 2), "piece": (["base TEXT", "num INTEGER", "bytes BLOB"], 2),
+         "temp_root": (["owner TEXT", "session INTEGER", "target TEXT"], 3)}
 # The tables that each schema lacks.
 LACKS = {1: ["piece", "temp_root"], 2: ["temp_root"], 3: []}
 # The bytes of an archive in its object's row, and in each piece but the last.
@@ -30,10 +25,8 @@ BEFORE = (
     "CREATE TABLE note (id INTEGER PRIMARY KEY AUTOINCREMENT, t TEXT UNIQUE); INSERT INTO note (t) VALUES ('x'), ('y');"
 )
 BETWEEN = "CREATE TABLE middle (a TEXT, b BLOB, PRIMARY KEY (a)) WITHOUT ROWID; INSERT INTO middle VALUES ('m', x'00');"
-AFTER = (
-    "CREATE TABLE later (id INTEGER PRIMARY KEY, t TEXT); INSERT INTO later VALUES (7, 'z'); "
-    "CREATE INDEX targets ON refs (target);"
-)
+AFTER = ("CREATE TABLE later (id INTEGER PRIMARY KEY, t TEXT); INSERT INTO later VALUES (7, 'z'); "
+         "CREATE INDEX targets ON refs (target);")
 THEIRS = "SELECT 'note', id, t FROM note; SELECT 'middle', a, hex(b) FROM middle; SELECT 'later', id, t FROM later;"
 
 
@@ -70,9 +63,8 @@ def sqlite(path, text):
     """Runs the statements, and returns the rows that they answer, a line for each with `|` between columns: by
     SQLite's shell, and where it isn't installed by SQLite in python."""
     if SHELL:
-        ran = subprocess.run(
-            [SHELL, "-batch", "-bail", "-init", "/dev/null", path], input=text, capture_output=True, text=True
-        )
+        ran = subprocess.run([SHELL, "-batch", "-bail", "-init", "/dev/null", path], input=text, capture_output=True,
+                             text=True)
         if ran.returncode or ran.stderr:
             report.fail(f"SQLite: {ran.stderr}: {text[:200]}", path)
         return ran.stdout
@@ -133,9 +125,7 @@ class Model:
             "permanent": sorted(self.permanent.items()),
             "user_root": sorted((*key, it) for key, it in self.user.items()),
             "profile": sorted((*key, cur) for key, (_, cur) in self.profiles.items()),
-            "generation": sorted(
-                (*key, num, it) for key, (found, _) in self.profiles.items() for num, it in found.items()
-            ),
+            "generation": sorted((*key, *it) for key, (nums, _) in self.profiles.items() for it in nums.items()),
             "runtime": sorted(self.runtime),
             "piece": [(p, *it) for p, o in objects for it in pieces(o["nar"])],
             "temp_root": sorted(self.temporary),
@@ -150,11 +140,8 @@ class Model:
         """Kind, target and label of each root, in their order; sessions of the same number are one."""
         found = [(0, it, f"gcroots/{name}") for name, it in self.permanent.items()]
         found += [(1, it, f"gcroots/per-user/{owner}/{name}") for (owner, name), it in self.user.items()]
-        found += [
-            (2, it, f"profiles/per-user/{owner}/{name}-{num}-link")
-            for (owner, name), (nums, _) in self.profiles.items()
-            for num, it in nums.items()
-        ]
+        found += [(2, it, f"profiles/per-user/{owner}/{name}-{num}-link") for (owner, name),
+                  (nums, _) in self.profiles.items() for num, it in nums.items()]
         found += [(3, it, label) for label, it in self.runtime]
         found += [(4, it, f"{{temp:{session}}}") for _, session, it in self.temporary]
         return sorted(set(found))
@@ -167,11 +154,8 @@ class Model:
                 continue
             seen.add(at)
             it = self.objects[at]
-            left += [
-                *it["refs"],
-                *(it["outs"].values() if outputs else []),
-                *([it["deriver"]] if derivers and it["deriver"] else []),
-            ]
+            left += [*it["refs"], *(it["outs"].values() if outputs else []),
+                     *([it["deriver"]] if derivers and it["deriver"] else [])]
         return seen
 
     def add(self, path, nar, refs=(), deriver=None, ca=None, outs=None):
@@ -206,10 +190,8 @@ def some_model(rng, count):
             path = hidden(f"handed{at}")
             made.add(path, archive(contents), [*refs, *([path] if rng.random() < 0.3 else [])], deriver)
         else:
-            outs = {
-                name: rng.choice([hidden(f"out{at}"), *paths])
-                for name in rng.sample(["out", "dev", "lib"], rng.choice([1, 2]))
-            }
+            outs = {name: rng.choice([hidden(f"out{at}"), *paths])
+                    for name in rng.sample(["out", "dev", "lib"], rng.choice([1, 2]))}
             path = made.add_text(f"made{at}.drv", derivation(outs), refs, outs, deriver)
         paths.append(path)
     pick = lambda: rng.choice(paths)

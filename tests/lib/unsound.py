@@ -44,10 +44,8 @@ class Faulty:
 
     def of_settings(self):
         return {
-            **{
-                f"schema `{it}`": update("meta", f"val = '{it}'", "word = 'schema'")
-                for it in ("", "0", "4", "01", "03", " 3", "3 ", "three")
-            },
+            **{f"schema `{it}`": update("meta", f"val = '{it}'", "word = 'schema'")
+               for it in ("", "0", "4", "01", "03", " 3", "3 ", "three")},
             "no schema": "DELETE FROM meta WHERE word = 'schema';",
             "no store directory": "DELETE FROM meta WHERE word = 'store-dir';",
             "a store directory that is none": update("meta", "val = '/'", "word = 'store-dir'"),
@@ -60,9 +58,8 @@ class Faulty:
         return {
             "a path of an object that is none": "INSERT INTO object VALUES "
             f"('{self.malformed}', {blob(other)}, {blob(sha256(other))}, NULL, NULL);",
-            "an archive that is none": update(
-                "object", f"nar = x'00', hash = {blob(sha256(bytes(1)))}", f"base = '{own}'"
-            ),
+            "an archive that is none": update("object", f"nar = x'00', hash = {blob(sha256(bytes(1)))}",
+                                              f"base = '{own}'"),
             "an archive without bytes": update("object", f"nar = x'', hash = {blob(sha256(b''))}", f"base = '{own}'"),
             "another digest": update("object", f"hash = {blob(sha256(b'x'))}", f"base = '{own}'"),
             "a digest that is too short": update("object", "hash = x'00'", f"base = '{own}'"),
@@ -71,9 +68,8 @@ class Faulty:
                 "object", f"nar = {blob(other)}, hash = {blob(sha256(other))}", f"base = '{low}'"
             ),
             "an address that is none": update("object", "ca = 'x'", f"base = '{low}'"),
-            "an address of another's": update(
-                "object", f"ca = (SELECT ca FROM object WHERE base = '{top}')", f"base = '{low}'"
-            ),
+            "an address of another's": update("object", f"ca = (SELECT ca FROM object WHERE base = '{top}')",
+                                              f"base = '{low}'"),
             "an address of an object that refers to itself": update(
                 "object", f"ca = 'fixed:r:{nar_hash(archive(b'own'))}'", f"base = '{own}'"
             ),
@@ -93,26 +89,24 @@ class Faulty:
 
     def of_roots(self):
         low, gone = self.low, self.gone
-        return {
-            "a permanent root without its object": update("permanent", f"target = '{gone}'", "name = 'root'"),
-            "a permanent root with a bad name": update("permanent", "name = 'a/b'", "name = 'root'"),
-            "a user root without its object": update("user_root", f"target = '{gone}'", "name = 'root'"),
-            "a user root with a bad name": update("user_root", "name = ''", "name = 'root'"),
-            "a user root with a bad owner": update("user_root", "owner = '-ann'", "name = 'root'"),
-            "a profile with a bad name": "UPDATE profile SET name = 'a b'; UPDATE generation SET name = 'a b';",
-            "a profile with a bad owner": "UPDATE profile SET owner = 'a b'; UPDATE generation SET owner = 'a b';",
-            "a current number without its generation": update("profile", "cur = 3", "name = 'profile'"),
-            "a profile without generations": "DELETE FROM generation;",
-            "a generation of no profile": f"INSERT INTO generation VALUES ('bob', 'profile', 1, '{low}');",
-            "a generation without its object": update("generation", f"target = '{gone}'", "num = 1"),
-            "generation 0": f"INSERT INTO generation VALUES ('ann', 'profile', 0, '{low}');",
-            "generation 10,000": f"INSERT INTO generation VALUES ('ann', 'profile', 10000, '{low}');",
-            "a generation below 0": f"INSERT INTO generation VALUES ('ann', 'profile', -1, '{low}');",
-            "a runtime root without its object": update("runtime", f"target = '{gone}'", "1"),
-            "a runtime root with an empty label": update("runtime", "label = ''", "1"),
-            "a runtime root with a blank in its label": update("runtime", "label = 'a b'", "1"),
-            "a runtime root with a long label": update("runtime", f"label = '{'a' * 257}'", "1"),
-        }
+        return {"a permanent root without its object": update("permanent", f"target = '{gone}'", "name = 'root'"),
+                "a permanent root with a bad name": update("permanent", "name = 'a/b'", "name = 'root'"),
+                "a user root without its object": update("user_root", f"target = '{gone}'", "name = 'root'"),
+                "a user root with a bad name": update("user_root", "name = ''", "name = 'root'"),
+                "a user root with a bad owner": update("user_root", "owner = '-ann'", "name = 'root'"),
+                "a profile with a bad name": "UPDATE profile SET name = 'a b'; UPDATE generation SET name = 'a b';",
+                "a profile with a bad owner": "UPDATE profile SET owner = 'a b'; UPDATE generation SET owner = 'a b';",
+                "a current number without its generation": update("profile", "cur = 3", "name = 'profile'"),
+                "a profile without generations": "DELETE FROM generation;",
+                "a generation of no profile": f"INSERT INTO generation VALUES ('bob', 'profile', 1, '{low}');",
+                "a generation without its object": update("generation", f"target = '{gone}'", "num = 1"),
+                "generation 0": f"INSERT INTO generation VALUES ('ann', 'profile', 0, '{low}');",
+                "generation 10,000": f"INSERT INTO generation VALUES ('ann', 'profile', 10000, '{low}');",
+                "a generation below 0": f"INSERT INTO generation VALUES ('ann', 'profile', -1, '{low}');",
+                "a runtime root without its object": update("runtime", f"target = '{gone}'", "1"),
+                "a runtime root with an empty label": update("runtime", "label = ''", "1"),
+                "a runtime root with a blank in its label": update("runtime", "label = 'a b'", "1"),
+                "a runtime root with a long label": update("runtime", f"label = '{'a' * 257}'", "1")}
 
     def cut(self, name, *parts, numbers=None):
         """The archive's row has the first of these bytes, and pieces the others, numbered from 1 or so."""
@@ -169,23 +163,16 @@ class Faulty:
             "a temporary root of no path": put("ann", 1, self.malformed),
             **{
                 f"a temporary root of {what}": put(owner, 1, self.low)
-                for what, owner in {
-                    "nobody": "",
-                    "a bad owner": "-ann",
-                    "an owner with a blank": "a b",
-                    "an owner with a slash": "a/b",
-                    "a long owner": "a" * 65,
-                }.items()
+                for what, owner in {"nobody": "", "a bad owner": "-ann", "an owner with a blank": "a b",
+                                    "an owner with a slash": "a/b", "a long owner": "a" * 65}.items()
             },
         }
 
     def of_tables(self):
         return {
             "no rows at all": "".join(f"DELETE FROM {it};" for it in FORMS),
-            **{
-                f"schema `{it}` with all tables": update("meta", f"val = '{it}'", "word = 'schema'")
-                for it in ("1", "2")
-            },
+            **{f"schema `{it}` with all tables": update("meta", f"val = '{it}'", "word = 'schema'")
+               for it in ("1", "2")},
             **{f"a {table} without its table": f"DROP TABLE {table};" for table in FORMS},
         }
 
