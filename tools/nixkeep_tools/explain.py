@@ -61,6 +61,8 @@ def print_verdict(file, examined, config):
         print(f"  {shown(it.table, it.row)}: {it.rule}")
     if examined.names and not examined.are_rows_tested:
         print("  no row is tested, since the tables are not those of one schema")
+    if count := store_file.passed_over(file):
+        print(f"  its log: the last {count} frames don't count: a commit was stopped there, or the log is damaged")
     if not refusal and examined.foreign:
         names = ", ".join(examined.foreign)
         print(f"  of other programs: {names}; nixkeep refuses the file if its own SQLite can't read them")

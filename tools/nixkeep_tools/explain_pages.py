@@ -1,6 +1,8 @@
 """What nixkeep asks of the whole file, the tables of other programs included: header, pages and foreign keys."""
+import contextlib
 import os
 import re
+import sqlite3
 
 from . import store_file
 from .explain_rows import scanned
@@ -25,19 +27,29 @@ def number(data, at, size=4):
 def header_faults(path):
     """The rules that the first 100 bytes of the database break."""
     with open(path, "rb") as file:
-        head = file.read(100)
+        head, pages = file.read(100), None
     if not head:
         return
+    for first, pages, _ in store_file.commits(path):
+        head = first or head
     size = 65_536 if number(head, 16, 2) == 1 else number(head, 16, 2)
     if size not in (512 << at for at in range(8)):
         yield f"bytes 16 and 17 state pages of {size} bytes, which SQLite hasn't"
         return
-    pages = os.path.getsize(path) // size
-    for first, count in store_file.commits(path):
-        head, pages = first or head, count
+    pages = os.path.getsize(path) // size if pages is None else pages
     yield from setting_faults(head)
     if number(head, 28) != pages:
         yield f"bytes 28 to 31 state {number(head, 28)} pages, and there are {pages}"
+    if head[20] == 8:
+        yield from sum_faults(path, size)
+
+
+def sum_faults(path, size):
+    """The pages whose last 8 bytes, which are reserved, aren't the checksum that SQLite's cksumvfs writes there."""
+    with open(path, "rb") as file:
+        for at, page in enumerate(iter(lambda: file.read(size), b""), 1):
+            if len(page) == size and store_file.checksum(page[:-8]) != page[-8:]:
+                yield f"page {at} doesn't end in its checksum, for which byte 20 reserves 8 bytes"
 
 
 def setting_faults(head):
@@ -116,6 +128,34 @@ def key_faults(conn, entries):
             yield Fault(table, None if rowid is None else (rowid,), f"a foreign key to {to} finds no row there")
 
 
+def check_faults(conn, entries):
+    """The Faults of rows that break a CHECK. SQLite's own check passes over these in a file that it only reads.
+
+    nixkeep tests the tables that it could write.
+    """
+    untested = frozen(conn, entries) | set(FORMS)
+    for it in entries:
+        if it.type == "table" and "CHECK" in words_of(it.text) and lower(it.name) not in untested:
+            with contextlib.closing(sqlite3.connect(":memory:")) as alone, contextlib.suppress(*DAMAGED):
+                yield from broken_checks(conn, it, alone)
+
+
+def broken_checks(conn, entry, alone):
+    """The Faults of one table, whose rows are put one by one into a table of the same text in another database."""
+    alone.execute(entry.text)
+    found = alone.execute("SELECT name, hidden FROM pragma_table_xinfo(?)", (entry.name,)).fetchall()
+    names, marks = ", ".join(quoted(it) for it, _ in found), ", ".join("?" * len(found))
+    if any(hidden for _, hidden in found):
+        return
+    for row in conn.execute(f"SELECT {names} FROM {quoted(entry.name)}"):
+        try:
+            alone.execute(f"INSERT INTO {quoted(entry.name)} ({names}) VALUES ({marks})", row)
+        except sqlite3.IntegrityError as error:
+            if "CHECK" in str(error):
+                yield Fault(entry.name, row, str(error))
+        alone.execute(f"DELETE FROM {quoted(entry.name)}")
+
+
 def frozen(conn, entries):
     """The tables that nixkeep can't write, since they have a trigger or an index with a WHERE or an expression."""
     found = {lower(it.table) for it in entries if it.type == "trigger"}
@@ -151,4 +191,5 @@ def faults(conn, entries, path):
     yield from (Fault(THE_FILE, None, rule) for rule in header_faults(path))
     yield from page_faults(conn, entries)
     yield from key_faults(conn, entries)
+    yield from check_faults(conn, entries)
     yield from faults_of_others(conn, entries)

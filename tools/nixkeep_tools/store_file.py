@@ -16,7 +16,7 @@ import sqlite3
 import struct
 import urllib.parse
 
-# Each table of the third schema: its columns, `?` where NULL may stand, and how many of them make its key.
+# Each table of the third schema: its columns, `?` where NULL is allowed, and how many of them make its key.
 FORMS = {
     "meta": (["word TEXT", "val TEXT"], 1),
     "object": (["base TEXT", "nar BLOB", "hash BLOB", "deriver TEXT ?", "ca TEXT ?"], 1),
@@ -97,10 +97,16 @@ def _sum(data, order, first, second):
     return first, second
 
 
+def checksum(data):
+    """The checksum of a page as SQLite's cksumvfs computes it, which is that of a log in one byte order."""
+    return struct.pack("<2I", *_sum(data, "<", 0, 0))
+
+
 def commits(path):
     """Yields the commits that SQLite takes from the log of a file.
 
-    Each is a pair of the first page, or None if the log has none so far, and the number of pages of the database.
+    Each is the first page, or None if the log has none so far, the number of pages of the database, and the number of
+    frames of the log up to there.
     """
     try:
         log = open(log_of(path), "rb")
@@ -114,14 +120,34 @@ def commits(path):
         size, found = struct.unpack(">I", head[8:12])[0], _sum(head[:24], order, 0, 0)
         if found != struct.unpack(">2I", head[24:]):
             return
+        count = 0
         while len(frame := log.read(24 + size)) == 24 + size:
             number, pages, *sums = struct.unpack(">2I8x2I", frame[:24])
             found = _sum(frame[24:], order, *_sum(frame[:8], order, *found))
             if frame[8:16] != head[16:24] or tuple(sums) != found or not number:
                 return
-            first = frame[24:] if number == 1 else first
+            first, count = frame[24:] if number == 1 else first, count + 1
             if pages:
-                yield first, pages
+                yield first, pages, count
+
+
+def passed_over(path):
+    """How many frames of the log SQLite passes over though they were written after the last commit that it takes.
+
+    Such a frame is damaged, follows a damaged one, or belongs to a commit that was stopped. Frames from before the log
+    was begun anew have another salt, and aren't counted.
+    """
+    used = max((count for _, _, count in commits(path)), default=0)
+    try:
+        log = open(log_of(path), "rb")
+    except OSError:
+        return 0
+    with log:
+        head, count = log.read(32), 0
+        size = int.from_bytes(head[8:12], "big")
+        while len(head) == 32 and len(frame := log.read(24 + size)) == 24 + size and frame[8:16] == head[16:24]:
+            count += 1
+    return count - used
 
 
 def connect(path):
