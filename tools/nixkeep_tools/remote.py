@@ -14,15 +14,16 @@ from .failures import DENIED, DONE, FAILED, REFUSED, Stop, refused
 from .http_client import MOST_OF_BODY, Foreign, Place, Server
 from .progress import Progress
 
-# The bytes of an archive that decide what it is, and the most bytes of a text.
+# The bytes of an archive that decide what it is, the most bytes of a text, and those that decide whether it is one.
 MOST_OF_ARCHIVE = nar.LIMIT + 8
 MOST_OF_TEXT = nar.LIMIT - 112
+DECIDING_OF_TEXT = MOST_OF_TEXT + 1
 MOST_REFERENCES = 4_096
 # A name that isn't plain may not fit into a target. This one isn't plain either, and does.
 NOT_PLAIN = "-"
 CONNECTS = "connect: yes\n"
 OUTPUT = "failed: output"
-# What the bad name of a permanent root tells of a caller.
+# What the reply to a bad name of a permanent root says of the caller.
 CLASSES = {
     "denied: connect\n": "stranger",
     "denied: trusted-permanent-root\n": "allowed",
@@ -139,22 +140,22 @@ class Asked:
     def ask_why(self):
         return Request("GET", f"/roots-of/{self.base()}")
 
-    def added(self, target):
+    def added(self, target, most):
         name, refs = self.values["name"], self.values["reference"]
         if not paths.is_store_name(name):
             raise refused(12, "bad-store-name")
         for it in refs:
             _base(it)
-        given = streams.Input(MOST_OF_ARCHIVE)
+        given = streams.Input(most)
         head = _lines(("name", name), *(("reference", it) for it in refs))
         # With too many references the server doesn't look at the archive, and the body might be too long.
         return Request("POST", target, head, given if len(refs) <= MOST_REFERENCES else None)
 
     def ask_add_text(self):
-        return self.added("/text")
+        return self.added("/text", DECIDING_OF_TEXT)
 
     def ask_add_source(self):
-        return self.added("/source")
+        return self.added("/source", MOST_OF_ARCHIVE)
 
     def ask_import(self):
         # The archive of a longer body is above its limit.
@@ -269,14 +270,14 @@ def object_path(asked):
         raise refused(fault.number, fault.name) from None
     if len(refs) > MOST_REFERENCES:
         raise refused(33, "too-many-references")
-    digest = hashlib.sha256()
+    digest, is_text = hashlib.sha256(), asked.line.name == "text-path"
 
     def parts():
-        for part in streams.received(MOST_OF_ARCHIVE):
+        for part in streams.received(DECIDING_OF_TEXT if is_text else MOST_OF_ARCHIVE):
             digest.update(part)
             yield part
 
-    if asked.line.name == "text-path":
+    if is_text:
         kind = "text"
         if sum(map(len, parts())) > MOST_OF_TEXT:
             raise refused(8, "too-large")
