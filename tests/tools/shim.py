@@ -1,8 +1,8 @@
-"""A stand-in for the program `nixkeep`, which starts a server for each command and asks it by `nixkeep-remote`.
+"""A command of `nixkeep` by `nixkeep-remote`: a server is started for the command, and asked.
 
 The options before the subcommand become a server (`--db`, `--config`) and its caller (`--user`, `--group`). The
 program itself does what no server can be asked: `serve`, `help`, and words before the subcommand that are no such
-options. A log gets a line for each command: its subcommand, and whether a server was asked.
+options.
 """
 import contextlib
 import os
@@ -11,6 +11,7 @@ import subprocess
 import sys
 import tempfile
 import time
+import tomllib
 
 HERE = os.path.dirname(os.path.dirname(os.path.dirname(os.path.realpath(__file__))))
 sys.path.insert(0, f"{HERE}/tools")
@@ -128,9 +129,6 @@ def told(ended, is_who):
 def store_dir(options):
     if "config" not in options:
         return []
-    # It is needed rarely, and takes time to load.
-    import tomllib
-
     with open(options["config"], "rb") as file:
         return ["--store-dir", tomllib.load(file).get("store-dir", paths.STORE)]
 
@@ -156,14 +154,3 @@ def by_remote(program, title, options, words):
             return remote.main([title, "--server", f"http://127.0.0.1:{port}", *folder, *as_words[1:]])
     except Ended as ended:
         return told(ended, name == "who")
-
-
-def main(program, log):
-    found = leading(sys.argv[1:])
-    why = why_not(found)
-    with open(log, "a") as file:
-        file.write(f"{'by the program: ' + why if why else 'by a server: ' + found[1][0][:20]!r}\n")
-    if why:
-        os.execv(program, sys.argv)
-    streams.keep_closed()
-    return by_remote(program, os.path.basename(sys.argv[0]), *found)

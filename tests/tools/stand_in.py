@@ -1,0 +1,117 @@
+"""Does the commands of the cases over servers: each process of stand_in.c asks for one, and gets its exit status.
+
+Starting Python takes a hundred times as long as a command. So one process loads the client once, and becomes the
+client of a command by a fork: it takes over the streams, the words, the environment, the folder, the ignored signals
+and the limits of the one that asks. A log gets a line for each command: its subcommand, and whether a server was asked.
+"""
+import contextlib
+import os
+import resource
+import signal
+import socket
+import stat
+import struct
+import subprocess
+import sys
+import traceback
+
+from tests.tools import shim
+from nixkeep_tools import streams
+
+SOURCE = os.path.join(os.path.dirname(os.path.realpath(__file__)), "stand_in.c")
+BY_THE_PROGRAM = 255
+
+
+def compiled(folder, program, listening):
+    """The program that takes the place of another one, in a folder. It asks at a socket of this path."""
+    file = f"{folder}/nixkeep"
+    named = [f'-D{name}="{value}"' for name, value in (("LISTENING", listening), ("PROGRAM", program))]
+    subprocess.run(["cc", "-O1", "-Wall", "-Wextra", "-Werror", *named, "-o", file, SOURCE], check=True)
+    return file
+
+
+@contextlib.contextmanager
+def answering(program, folder):
+    """The file of the stand-in for a program, and its log. Both are in a folder, and work until the end."""
+    path, log = f"{folder}/asked", f"{folder}/log"
+    file = compiled(folder, program, path)
+    script = "import sys; from tests.tools import stand_in; stand_in.listen(*sys.argv[1:])"
+    with socket.socket(socket.AF_UNIX) as made, open(log, "wb"):
+        made.bind(path)
+        made.listen(100)
+        where = {"cwd": shim.HERE, "env": {**os.environ, "PYTHONPATH": f"{shim.HERE}:{shim.HERE}/tools"}}
+        how = {"stdin": subprocess.DEVNULL, "pass_fds": [made.fileno()], "start_new_session": True}
+        words = [sys.executable, "-B", "-c", script, str(made.fileno()), program, log]
+        listening = subprocess.Popen(words, **how, **where)
+    try:
+        yield file, log
+    finally:
+        os.killpg(listening.pid, signal.SIGKILL)
+        listening.wait()
+
+
+def listen(number, program, log):
+    """Does each command that is asked for at a socket, side by side, without end."""
+    signal.signal(signal.SIGCHLD, signal.SIG_IGN)
+    asked = socket.socket(fileno=int(number))
+    while True:
+        with asked.accept()[0] as connection:
+            if os.fork():
+                continue
+            asked.close()
+            signal.signal(signal.SIGCHLD, signal.SIG_DFL)
+            status = 254
+            try:
+                status = done(connection, program, log)
+            except BaseException:
+                os.write(2, traceback.format_exc().encode())
+            connection.send(bytes([status]))
+            os._exit(0)
+
+
+def of_process(pid, name):
+    with open(f"/proc/{pid}/{name}", "rb") as file:
+        return file.read()
+
+
+def strings(written):
+    return [os.fsdecode(it) for it in written.split(b"\0")[:-1]]
+
+
+def become(pid, is_open, found):
+    """Takes over the streams and settings of a process: which streams are open, and those in their order."""
+    for number in range(3):
+        if is_open[number]:
+            os.dup2(found[0], number)
+            os.close(found.pop(0))
+        else:
+            os.close(number)
+    streams.keep_closed()
+    os.chdir(f"/proc/{pid}/cwd")
+    os.environ.clear()
+    os.environ.update(it.split("=", 1) for it in strings(of_process(pid, "environ")) if "=" in it)
+    status = dict(it.split(":\t", 1) for it in of_process(pid, "status").decode().splitlines())
+    os.umask(int(status["Umask"], 8))
+    for it in signal.Signals:
+        if int(status["SigIgn"], 16) >> (it - 1) & 1:
+            signal.signal(it, signal.SIG_IGN)
+    for name in (it for it in dir(resource) if it.startswith("RLIMIT_")):
+        resource.setrlimit(getattr(resource, name), resource.prlimit(pid, getattr(resource, name)))
+
+
+def done(connection, program, log):
+    """The exit status of the command that is asked for, or that the program has to do it."""
+    is_open, found, _, _ = socket.recv_fds(connection, 3, 3)
+    pid, _, _ = struct.unpack("3i", connection.getsockopt(socket.SOL_SOCKET, socket.SO_PEERCRED, 12))
+    words = strings(of_process(pid, "cmdline"))
+    line = shim.leading(words[1:])
+    why = shim.why_not(line)
+    with open(log, "a") as file:
+        file.write(f"{'by the program: ' + why if why else 'by a server: ' + line[1][0][:20]!r}\n")
+    if why:
+        return BY_THE_PROGRAM
+    become(pid, is_open, found)
+    if stat.S_ISDIR(os.fstat(0).st_mode):
+        # (as a program of Python's, the client doesn't start there)
+        return subprocess.call([sys.executable, f"{shim.HERE}/tools/nixkeep-remote"])
+    return shim.by_remote(program, os.path.basename(words[0]), *line)
