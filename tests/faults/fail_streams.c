@@ -24,7 +24,7 @@ static ssize_t allowed(size_t size) {
   counts()->taken = taken + 1;
   if (!strcmp(fault, "takes one byte")) return size ? 1 : 0;
   if (!strcmp(fault, "takes none")) return -1;
-  errno = !strcmp(fault, "fails") ? EIO : !strcmp(fault, "is out of memory") ? ENOMEM : EINTR;
+  errno = strcmp(fault, "fails") ? EINTR : EIO;
   return -2;
 }
 
