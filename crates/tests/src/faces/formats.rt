@@ -27,7 +27,7 @@ fn caller_of_archives_in_pieces(rt: HostRuntime) -> Result<(), Fail> {
     let alloc = rt.alloc();
     let mut pieces = Pieces::new(alloc);
     pieces.push(MY_FILE)?;
-    assert_eq!(rt; pieces.len(), 1);
+    assert_eq!(rt; pieces.len(), 128);
     let mut checker = Checker::new(alloc);
     for byte in MY_FILE {
         checker.feed(&[*byte])?;
