@@ -135,22 +135,20 @@ def store_dir(options):
 
 def by_remote(program, title, options, words):
     """Does a command by nixkeep-remote, and returns its exit status."""
-    as_words = [title, "--as", caller(options), *words]
+    named, nowhere = caller(options), ["--server", "unix:/nowhere"]
+    as_words = ["--as", named, *words]
     try:
-        name = subcommands.read(as_words[1:], title).name
-        is_ready = name in LOCAL or caller(options) != ""
+        name = subcommands.read(as_words, title).name
     except Told:
-        is_ready = False
-    if not is_ready:
         # (it ends before any server is asked)
-        return remote.main([title, "--server", "unix:/nowhere", *as_words[1:]])
-    if name in (*LOCAL, "who"):
+        return remote.main([title, *nowhere, *as_words])
+    if name in (*LOCAL, "who") or not named:
         options = {key: value for key, value in options.items() if key != "db"}
     try:
-        if name in LOCAL and "config" not in options:
-            return remote.main(as_words)
+        if (name in LOCAL or not named) and "config" not in options:
+            return remote.main([title, *nowhere, *as_words])
         with serving(program, options) as port:
             folder = store_dir(options) if name in LOCAL else []
-            return remote.main([title, "--server", f"http://127.0.0.1:{port}", *folder, *as_words[1:]])
+            return remote.main([title, "--server", f"http://127.0.0.1:{port}", *folder, *as_words])
     except Ended as ended:
         return told(ended, name == "who")
