@@ -83,7 +83,11 @@ fn serve<N: Net<Listener = TcpListener, Stream = TcpStream> + Clock, S: Alter + 
 ///
 /// A line on `errors` says why a connection failed: `failed: input`, `failed: output` or `failed: memory`. Where the port can't be
 /// bound, or an accept fails, `failed: input` is said, and nothing more is served.
-pub fn serve_port<N: Net<Listener = TcpListener, Stream = TcpStream> + Clock, S: Alter + Drop, E: Write>(
+pub fn serve_port<
+    N: Net<Listener = TcpListener, Stream = TcpStream> + Clock,
+    S: Alter + Drop,
+    E: Write,
+>(
     net: &N,
     alloc: Global,
     port: u16,
