@@ -7,7 +7,7 @@ mod rows;
 mod standing;
 mod texts;
 
-use crate::stops::course::run;
+use crate::stops::course::make_run;
 use crate::stops::disks::{Contents, files_of, is_stopped};
 use crate::stops::requests::Step;
 use crate::stops::standing::{Case, stands};
@@ -24,7 +24,7 @@ fn stop_at_each(alloc: Global, case: &Case, is_log: bool) -> Result<u64, Fail> {
             (u64::MAX, calls)
         };
         let files = files_of(alloc, &case.start.log, &case.start.db, log, db)?;
-        let mut run = run(alloc, files, case.settings, case.steps)?;
+        let mut run = make_run(alloc, files, case.settings, case.steps)?;
         if !is_stopped(&mut run.files) {
             return if run.told.as_slice() == case.told.as_bytes() {
                 Ok(calls)

@@ -94,7 +94,7 @@ fn tell_failure(failure: Option<Failed>, told: &mut Vec<u8>) -> Result<(), Fail>
 }
 
 /// Opens files and makes calls, up to the first that fails. Files that didn't fail are closed.
-pub fn run(alloc: Global, files: Disks, settings: &[u8], steps: &[Step]) -> Result<Run, Fail> {
+pub fn make_run(alloc: Global, files: Disks, settings: &[u8], steps: &[Step]) -> Result<Run, Fail> {
     let config = Config::from_toml(alloc, settings)?;
     let mut told = Vec::new(alloc);
     match open(alloc, files, config) {

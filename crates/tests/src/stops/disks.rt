@@ -43,7 +43,7 @@ pub fn files_of(
 }
 
 /// What the files hold now.
-pub fn contents(alloc: Global, files: &Disks) -> Result<Contents, AllocError> {
+pub fn held_in(alloc: Global, files: &Disks) -> Result<Contents, AllocError> {
     Ok(Contents {
         log: Vec::from_slice(alloc, files.log.inner().bytes())?,
         db: Vec::from_slice(alloc, files.db.inner().bytes())?,

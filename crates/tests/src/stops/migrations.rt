@@ -1,6 +1,6 @@
 //! Files of earlier schemas, which an opening brings to the third, stopped at each call of a file.
 use crate::libraries::archives::spelled;
-use crate::stops::disks::{Contents, DiskStore, close, connect, contents, files_of};
+use crate::stops::disks::{Contents, DiskStore, close, connect, files_of, held_in};
 use crate::stops::standing::{case_of, earlier_of};
 use crate::stops::stop_both;
 use crate::stops::texts::{FIRST, SECOND, THIRD};
@@ -103,7 +103,7 @@ fn made(alloc: Global, tables: &[&str], schema: &str, is_cut: bool) -> Result<Co
         put_object(&mut conn, &nar)?;
     }
     let files = close(conn);
-    Ok(contents(alloc, &files)?)
+    Ok(held_in(alloc, &files)?)
 }
 
 /// Rows of the third schema, with nothing in it that the earlier ones haven't.

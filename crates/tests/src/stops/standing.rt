@@ -1,7 +1,7 @@
 //! What is left after a stop.
 use crate::libraries::archives::front;
-use crate::stops::course::{Run, open, run};
-use crate::stops::disks::{Contents, connect, contents, crash, files_of};
+use crate::stops::course::{Run, make_run, open};
+use crate::stops::disks::{Contents, connect, crash, files_of, held_in};
 use crate::stops::requests::Step;
 use crate::stops::texts::{THIRD, rows_of};
 use policy::Config;
@@ -61,8 +61,8 @@ fn worlds_of(
     worlds.push(world_of(alloc, &start.log, &start.db, settings)?)?;
     for made in 0..=steps.len() {
         let files = files_of(alloc, &start.log, &start.db, u64::MAX, u64::MAX)?;
-        let run = run(alloc, files, settings, &steps[..made])?;
-        let held = contents(alloc, &run.files)?;
+        let run = make_run(alloc, files, settings, &steps[..made])?;
+        let held = held_in(alloc, &run.files)?;
         worlds.push(world_of(alloc, &held.log, &held.db, settings)?)?;
     }
     Ok(worlds)
@@ -142,9 +142,9 @@ pub fn stands(alloc: Global, case: &Case, mut run: Run) -> Result<(), Fail> {
     if !is_told(case, &run) {
         return Err(Fail::new("another answer before a stop"));
     }
-    let kept = contents(alloc, &run.files)?;
+    let kept = held_in(alloc, &run.files)?;
     crash(&mut run.files);
-    let lost = contents(alloc, &run.files)?;
+    let lost = held_in(alloc, &run.files)?;
     stands_in(alloc, case, run.made, &kept)?;
     stands_in(alloc, case, run.made, &lost)?;
     stands_in(alloc, case, run.made, &held_of(alloc, &kept.log, &lost.db)?)?;
