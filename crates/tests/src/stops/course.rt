@@ -38,13 +38,14 @@ fn take_up(
     }
     match adopt(alloc, conn, dir) {
         Ok(tables) => Ok(tables),
-        Err(
-            Unadopted {
-                conn,
-                cause: Cause::Failed(failure),
-            },
-        ) => Err((give_up(conn), Some(failure))),
-        Err(Unadopted { conn, cause: _ }) => Err((give_up(conn), None)),
+        Err(unadopted) => {
+            let Unadopted { conn, cause } = unadopted;
+            let failure = match cause {
+                Cause::Failed(failure) => Some(failure),
+                _ => None,
+            };
+            Err((give_up(conn), failure))
+        }
     }
 }
 
