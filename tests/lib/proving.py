@@ -132,7 +132,7 @@ class Plan:
         self.work, self.memory = {}, {}
         for crate in crates:
             work, memory = guess(crate, len(named[crate]))
-            self.work[crate] = known.get(crate, {}).get("work", work)
+            self.work[crate] = max(0.1, known.get(crate, {}).get("work", work))
             self.memory[crate] = known.get(crate, {}).get("memory", memory)
         above = {it: [other for other in crates if it in named[other]] for it in crates}
         # The work from the start of a crate to the end of all, on the longest way: crates stand lowest first.
