@@ -2,6 +2,14 @@
 #![tactic(auto)]
 
 #[cfg(test)]
+mod faces;
+#[cfg(test)]
+mod fakes;
+#[cfg(test)]
 mod libraries;
+#[cfg(test)]
+mod served;
+#[cfg(test)]
+mod stops;
 #[cfg(test)]
 mod stores;

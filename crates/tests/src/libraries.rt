@@ -1,6 +1,6 @@
 //! What no clause says of the libraries, and no command shows.
 
-mod archives;
+pub mod archives;
 mod refused_memory;
 mod streaming;
 mod words;

@@ -42,7 +42,7 @@ fn push(
     }
 }
 
-fn push_text(alloc: Global, calls: &mut Vec<(Caller, Request)>) -> Result<(), Fail> {
+pub fn push_text(alloc: Global, calls: &mut Vec<(Caller, Request)>) -> Result<(), Fail> {
     let caller = Caller::new(alloc, "bob", None)?;
     let name = Name::parse(alloc, "myfile")?;
     let contents = Vec::from_slice(alloc, b"mycontent\n")?;
@@ -114,7 +114,7 @@ fn push_bad_label(alloc: Global, calls: &mut Vec<(Caller, Request)>) -> Result<(
     Ok(())
 }
 
-fn push_list(alloc: Global, calls: &mut Vec<(Caller, Request)>) -> Result<(), Fail> {
+pub fn push_list(alloc: Global, calls: &mut Vec<(Caller, Request)>) -> Result<(), Fail> {
     let caller = Caller::new(alloc, "bob", None)?;
     push(calls, caller, Request::List)?;
     Ok(())
@@ -145,27 +145,27 @@ fn push_all(alloc: Global, calls: &mut Vec<(Caller, Request)>) -> Result<(), Fai
     Ok(())
 }
 
-/// A store in memory, in which there is nothing yet.
-fn store(alloc: Global) -> Result<Store<MemStore>, Fail> {
-    let config = Config::from_toml(alloc, SETTINGS)?;
+/// A store in memory, under these settings, in which there is nothing yet.
+pub fn store(alloc: Global, settings: &[u8]) -> Result<Store<MemStore>, Fail> {
+    let config = Config::from_toml(alloc, settings)?;
     let tables = Tables::open_in_memory(alloc, store_dir(&config))?;
     Ok(Store::new(alloc, config, tables))
 }
 
 fn replies(alloc: Global, calls: Vec<(Caller, Request)>) -> Result<Vec<Reply>, Fail> {
-    let mut store = store(alloc)?;
+    let mut store = store(alloc, SETTINGS)?;
     let replies = store.run(calls);
     drop(store.release().release());
     Ok(replies?)
 }
 
-fn tell(alloc: Global, dir: &StoreDir, reply: Reply, told: &mut Vec<u8>) -> Result<(), Fail> {
+pub fn tell(alloc: Global, dir: &StoreDir, reply: Reply, told: &mut Vec<u8>) -> Result<(), Fail> {
     let text = reply_pieces(alloc, dir, reply)?.joined()?;
     told.extend_from_slice(&text)?;
     Ok(())
 }
 
-fn tell_all(alloc: Global, replies: Vec<Reply>, told: &mut Vec<u8>) -> Result<(), Fail> {
+pub fn tell_all(alloc: Global, replies: Vec<Reply>, told: &mut Vec<u8>) -> Result<(), Fail> {
     let dir = StoreDir::parse(alloc, "/nix/store")?;
     for reply in replies {
         tell(alloc, &dir, reply, told)?;

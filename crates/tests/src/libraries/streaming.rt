@@ -1,60 +1,9 @@
 //! Readers and writers that move one byte a call and fail, or are interrupted, at each call in turn.
+use crate::fakes::{Drip, Narrow};
 use std::alloc::Global;
-use std::io;
-use std::io::{ErrorKind, Read, Write};
+use std::io::ErrorKind;
 use streams::{Held, read_at_most, send_bytes};
 use wire_messages::{ReceiveError, Received, receive_body, receive_head};
-
-/// A reader that gives one byte a call, and has this fault once `calls` are used up.
-#[derive(Drop)]
-struct Drip<'a> {
-    rest: &'a [u8],
-    calls: usize,
-    fault: ErrorKind,
-}
-
-impl Read for Drip<'_> {
-    fn read(&mut self, buf: &mut [u8]) -> io::Result<usize> {
-        if self.calls == 0 {
-            return Err(io::Error::from(self.fault));
-        }
-        self.calls -= 1;
-        let [first, rest @ ..] = self.rest else {
-            return Ok(0);
-        };
-        if buf.is_empty() {
-            return Ok(0);
-        }
-        buf[0] = *first;
-        self.rest = rest;
-        Ok(1)
-    }
-}
-
-/// A writer that takes one byte a call, and fails at the call after `calls` of them.
-#[derive(Drop)]
-struct Narrow {
-    taken: Vec<u8>,
-    calls: usize,
-}
-
-impl Write for Narrow {
-    fn write(&mut self, buf: &[u8]) -> io::Result<usize> {
-        if self.calls == 0 {
-            return Err(io::Error::from(ErrorKind::Other));
-        }
-        self.calls -= 1;
-        let [first, ..] = buf else {
-            return Ok(0);
-        };
-        self.taken.push(*first)?;
-        Ok(1)
-    }
-
-    fn flush(&mut self) -> io::Result<()> {
-        Ok(())
-    }
-}
 
 const BYTES: &[u8] = b"mycontent\n";
 
@@ -69,6 +18,7 @@ fn readers_that_fail(rt: HostRuntime) {
         for calls in 0..14usize {
             let mut input = Drip {
                 rest: BYTES,
+                most: 1,
                 calls,
                 fault,
             };
@@ -85,7 +35,9 @@ fn writers_that_fail(rt: HostRuntime) {
     for calls in 0..12usize {
         let mut output = Narrow {
             taken: Vec::new(rt.alloc()),
+            most: 1,
             calls,
+            fault: Some(ErrorKind::Other),
         };
         let is_sent = send_bytes(&mut output, BYTES).is_ok();
         assert!(rt; is_sent == (calls >= 10), "{calls}");
@@ -116,6 +68,7 @@ fn messages_of_readers_that_fail(rt: HostRuntime) {
     for calls in 0..message.len() {
         let mut input = Drip {
             rest: message,
+            most: 1,
             calls,
             fault: ErrorKind::Other,
         };
