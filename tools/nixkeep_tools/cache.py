@@ -1,4 +1,4 @@
-"""A binary cache of Nix in front of a store's server, on Debian's python3-aiohttp."""
+"""A binary cache of Nix over a store's server, on Debian's python3-aiohttp."""
 import argparse
 import asyncio
 import contextlib
@@ -307,7 +307,7 @@ def name(text):
 def parser():
     asked = argparse.ArgumentParser(
         prog="nixkeep-cache",
-        description="A binary cache of Nix in front of `nixkeep serve`: real Nix fetches "
+        description="A binary cache of Nix over `nixkeep serve`: real Nix fetches "
         "from it and uploads to it, and the store's own requests pass through.",
     )
     who = asked.add_mutually_exclusive_group(required=True)
