@@ -14,7 +14,11 @@ import time
 
 HERE = os.path.dirname(os.path.realpath(__file__))
 ROOT = os.path.dirname(os.path.dirname(HERE))
-sys.path.insert(0, f"{ROOT}/tools")
+# The programs of this checkout; or, if this folder is the package's among its documents, the installed ones.
+IS_CHECKOUT = os.path.isdir(f"{ROOT}/tools")
+TOOLS = f"{ROOT}/tools" if IS_CHECKOUT else "/usr/lib/nixkeep"
+PROGRAM = f"{ROOT}/bin/nixkeep" if IS_CHECKOUT else "/usr/bin/nixkeep"
+sys.path.insert(0, TOOLS)
 sys.dont_write_bytecode = True
 from nixkeep_tools import nar, paths, store_file
 
@@ -141,7 +145,7 @@ def cache(folder, port, place=None, *more):
     place = place or free_port()
     listen = place if isinstance(place, str) else f"127.0.0.1:{place}"
     words = [
-        f"{ROOT}/tools/nixkeep-cache",
+        f"{TOOLS}/nixkeep-cache",
         "--store",
         f"127.0.0.1:{port}",
         "--listen",
@@ -199,6 +203,8 @@ class Nix:
         with open(f"{folder}/conf/nix.conf", "w") as out:
             out.write(
                 "build-users-group =\nsubstituters =\nexperimental-features = nix-command\nrequire-sigs = false\n"
+                # (what Nix uses on a machine with a network; else it waits one second, and tries once)
+                "connect-timeout = 60\ndownload-attempts = 5\n"
                 + settings
             )
         places = {"NIX_LOG_DIR": "log", "NIX_CONF_DIR": "conf", "XDG_CACHE_HOME": "cache", "HOME": "home"}

@@ -217,6 +217,8 @@ class Server:
             why = f"; it doesn't accept the credentials of {sent.source}" if sent else "; it wants credentials"
         elif response.status == 413:
             why = f"; it takes no body of {length} bytes, and has to take {MOST_OF_BODY}"
+        elif response.status == 429:
+            why = "; it takes no more requests for now: try again"
         elif response.status in (502, 503, 504):
             why = "; the server behind it doesn't answer"
         elif 300 <= response.status < 400:
