@@ -59,6 +59,8 @@ class Cache:
     def __init__(self, server, waiting, fixed, settings, idle, every):
         self.server, self.waiting, self.fixed, self.idle = server, waiting, fixed, idle
         self.stored = Stored(f"{waiting.folder}/stored")
+        for name in filter(self.stored.base, [*waiting.files]):
+            waiting.use(name)
         self.store, *self.keeps = settings
         self.names, self.large = Names(server, every), asyncio.Semaphore(MANY)
         self.pages, self.records = asyncio.Lock(), overview_source.Records(server, self.keeps[0])

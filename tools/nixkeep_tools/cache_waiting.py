@@ -46,19 +46,24 @@ class Waiting:
         with contextlib.suppress(FileNotFoundError):
             os.unlink(f"{self.folder}/{name}")
 
-    def is_over(self, share, found):
-        return len(found) > self.count // share or sum(it.bytes for it in found) > self.size // share
+    def make_room(self, share, found):
+        """Deletes used files among these, the oldest first, until they have that share of the room; whether they have."""
+        count, size = len(found), sum(it.bytes for _, it in found)
+        is_over = lambda: count > self.count // share or size > self.size // share
+        for name, file in sorted(found, key=lambda it: it[1].since):
+            if not is_over():
+                break
+            if file.is_used:
+                self.delete(name)
+                count, size = count - 1, size - file.bytes
+        return not is_over()
 
     def reserve(self, key, file):
         """Keeps room for a file that comes. Raises Full."""
         self.expire()
         self.files[key] = file
-        for name, other in sorted(self.files.items(), key=lambda it: it[1].since):
-            if other.is_used and self.is_over(1, self.files.values()):
-                self.delete(name)
-        if self.is_over(1, self.files.values()) or self.is_over(
-            2, [it for it in self.files.values() if it.owner == file.owner]
-        ):
+        own = [it for it in self.files.items() if it[1].owner == file.owner]
+        if not (self.make_room(2, own) and self.make_room(1, [*self.files.items()])):
             del self.files[key]
             raise Full
 
