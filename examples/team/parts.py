@@ -203,8 +203,6 @@ class Nix:
         with open(f"{folder}/conf/nix.conf", "w") as out:
             out.write(
                 "build-users-group =\nsubstituters =\nexperimental-features = nix-command\nrequire-sigs = false\n"
-                # (what Nix uses on a machine with a network; else it waits one second, and tries once)
-                "connect-timeout = 60\ndownload-attempts = 5\n"
                 + settings
             )
         places = {"NIX_LOG_DIR": "log", "NIX_CONF_DIR": "conf", "XDG_CACHE_HOME": "cache", "HOME": "home"}
@@ -212,6 +210,8 @@ class Nix:
             **os.environ,
             **{name: f"{folder}/{part}" for name, part in places.items()},
             "NIX_REMOTE": f"local?root={self.root}",
+            # (on a machine with loopback alone Nix would wait one second, and try once)
+            "NIX_CONFIG": "connect-timeout = 60\ndownload-attempts = 5\n",
         }
 
     def run(self, *words, given=b""):
