@@ -1,5 +1,6 @@
 /* Ends the process as it is about to make the call STOP_AT that changes a file whose path begins with STOP_IN; half of a
-   write is made where STOP_TORN stands. What a file has when it is synced is copied to a file next to it. */
+   write is made where STOP_TORN stands. What a file has when it is synced is copied to a file next to it; the file LOST
+   isn't synced. */
 #include "preload.h"
 #include <stdio.h>
 #include <string.h>
@@ -79,7 +80,10 @@ static void keep(int fd) {
 }
 
 static int synced(int fd, int (*next)(int)) {
+  char path[MOST];
+  const char *lost = getenv("LOST");
   if (is_stop(fd)) _exit(STOPPED);
+  if (lost && path_of(fd, path) && !strcmp(path, lost)) return 0;
   int done = next(fd);
   keep(fd);
   return done;

@@ -106,11 +106,12 @@ def environment(room):
     return {**places, "PATH": ":".join(tools), "LANG": "C.UTF-8"}
 
 
-def run_steps(steps, room, nixkeep, seconds=SECONDS):
+def run_steps(steps, room, programs, seconds):
     """Runs the steps in a folder of their own; returns where each has left what it gave."""
     for name in ("bin", "steps", "work"):
         os.mkdir(f"{room}/{name}")
-    os.symlink(nixkeep, f"{room}/bin/nixkeep")
+    for name, file in programs.items():
+        os.symlink(file, f"{room}/bin/{name}")
     paths = [f"{room}/steps/{at:04}.step" for at in range(len(steps))]
     for step, path in zip(steps, paths):
         with open(path, "w") as file:
@@ -131,12 +132,14 @@ def run_steps(steps, room, nixkeep, seconds=SECONDS):
     return paths
 
 
-def run_case(case, nixkeep, seconds=SECONDS):
-    """Returns the number of steps, and what is to be said of those that came out otherwise."""
+def run_case(case, programs, seconds=SECONDS):
+    """Runs a case with these programs by name, which come before the tools. Returns the number of steps, and those that
+    came out otherwise, each with what differs."""
     with open(case) as file:
         steps = steps_of(file.read())
     if not steps:
         raise ValueError("it has no step")
     with tempfile.TemporaryDirectory(prefix="case-") as room:
-        told = [(step, difference(step, path)) for step, path in zip(steps, run_steps(steps, room, nixkeep, seconds))]
-    return len(steps), [f"line {step.line}: $ {step.command}\n{why}" for step, why in told if why]
+        paths = run_steps(steps, room, programs, seconds)
+        found = [(step, difference(step, path)) for step, path in zip(steps, paths)]
+    return len(steps), [(step, why) for step, why in found if why]

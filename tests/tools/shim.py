@@ -7,6 +7,7 @@ options.
 import contextlib
 import os
 import socket
+import struct
 import subprocess
 import sys
 import tempfile
@@ -68,22 +69,26 @@ def free_port():
         return free.getsockname()[1]
 
 
+def sockets(folder):
+    """The sockets among the open files of a process, as links of /proc."""
+    with contextlib.suppress(OSError):
+        return {it for it in (os.readlink(f"{folder}/{name}") for name in os.listdir(folder)) if it[:7] == "socket:"}
+    return set()
+
+
 def listeners(port):
     """The links of /proc to the sockets that listen on a port of this machine."""
     with open("/proc/net/tcp") as file:
-        rows = [line.split() for line in file]
-    return {f"socket:[{row[9]}]" for row in rows if row[1].endswith(f":{port:04X}") and row[3] == "0A"}
+        return {f"socket:[{it.split()[9]}]" for it in file if f":{port:04X} 00000000:0000 0A " in it}
 
 
 def listens(port, server):
     """Waits until this server, and no other program, listens on a port. Returns False if it ends before."""
-    folder = f"/proc/{server.pid}/fd"
     while server.poll() is None:
-        found = listeners(port)
-        with contextlib.suppress(OSError):
-            if found and any(os.readlink(f"{folder}/{it}") in found for it in os.listdir(folder)):
-                return True
-        time.sleep(0.005)
+        # (the list of all connections is long, so it is read once there is a socket)
+        if (found := sockets(f"/proc/{server.pid}/fd")) and found & listeners(port):
+            return True
+        time.sleep(0.002)
     return False
 
 
@@ -114,11 +119,11 @@ def serving(program, options):
         try:
             yield port
         finally:
-            # (the connections that are left, so that it ends as it does by itself)
+            # (the connections that are left, so that it ends as it does by itself; reset, so that none is kept waiting)
             while server.poll() is None:
-                with contextlib.suppress(OSError):
-                    socket.create_connection(("127.0.0.1", port)).close()
-                time.sleep(0.005)
+                with contextlib.suppress(OSError), socket.create_connection(("127.0.0.1", port)) as left:
+                    left.setsockopt(socket.SOL_SOCKET, socket.SO_LINGER, struct.pack("ii", 1, 0))
+                time.sleep(0.002)
 
 
 def told(ended, is_who):

@@ -107,7 +107,7 @@ def done(connection, program, log):
     line = shim.leading(words[1:])
     why = shim.why_not(line)
     with open(log, "a") as file:
-        file.write(f"{'by the program: ' + why if why else 'by a server: ' + line[1][0][:20]!r}\n")
+        file.write(f"by the program: {why}\n" if why else f"by a server: {line[1][0][:20]!r}\n")
     if why:
         return BY_THE_PROGRAM
     become(pid, is_open, found)
