@@ -47,7 +47,8 @@ class Waiting:
             os.unlink(f"{self.folder}/{name}")
 
     def make_room(self, share, found):
-        """Deletes used files among these, the oldest first, until they have that share of the room; whether they have."""
+        """Deletes used files among these, the oldest first, until they have that share of the room. Returns whether
+        they have no more then."""
         count, size = len(found), sum(it.bytes for _, it in found)
         is_over = lambda: count > self.count // share or size > self.size // share
         for name, file in sorted(found, key=lambda it: it[1].since):
