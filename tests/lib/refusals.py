@@ -26,10 +26,7 @@ def archives():
 def derivations():
     """A derivation text with each fault."""
     whole = derivation({"out": OTHER})
-    return {
-        "17 bad-derivation": whole[:-1],
-        "18 double-output": derivation([("out", OTHER), ("out", OTHER)]),
-    }
+    return {"17 bad-derivation": whole[:-1], "18 double-output": derivation([("out", OTHER), ("out", OTHER)])}
 
 
 def settings():

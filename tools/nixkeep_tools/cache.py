@@ -107,9 +107,8 @@ class Cache:
     async def get(self, request, caller, target):
         record, archive, file = RECORD.fullmatch(target), NAR.fullmatch(target), FILE.fullmatch(target)
         if target == "/nix-cache-info":
-            return reply(
-                200, f"StoreDir: {self.store}\nWantMassQuery: 1\nPriority: 40\n", "text/x-nix-cache-info", MINUTE
-            )
+            return reply(200, f"StoreDir: {self.store}\nWantMassQuery: 1\nPriority: 40\n", "text/x-nix-cache-info",
+                         MINUTE)
         if record:
             base, failed = await self.names.base(caller, record[1])
             if failed:
@@ -314,55 +313,26 @@ def parser():
     )
     who = asked.add_mutually_exclusive_group(required=True)
     who.add_argument("--user", type=name, help="the caller that all clients are")
-    who.add_argument(
-        "--proxied",
-        action="store_true",
-        help="a proxy says who each client is, by the fields store-user and store-group",
-    )
+    who.add_argument("--proxied", action="store_true",
+                     help="a proxy says who each client is, by the fields store-user and store-group")
     asked.add_argument("--group", type=name, help="the primary group of --user")
-    asked.add_argument(
-        "--store",
-        type=place,
-        default=("127.0.0.1", 8080),
-        metavar="HOST:PORT",
-        help="where the server listens [127.0.0.1:8080]",
-    )
-    asked.add_argument(
-        "--listen",
-        type=listening,
-        default=("127.0.0.1", 8081),
-        metavar="HOST:PORT|/SOCKET",
-        help="where clients are accepted, a port or a Unix socket [127.0.0.1:8081]",
-    )
-    asked.add_argument(
-        "--config", metavar="FILE", help="the configuration of the store: its directory, and what it keeps"
-    )
-    asked.add_argument(
-        "--waiting",
-        default="/var/cache/nixkeep-cache",
-        metavar="FOLDER",
-        help="where archives wait for their records [/var/cache/nixkeep-cache]",
-    )
+    asked.add_argument("--store", type=place, default=("127.0.0.1", 8080), metavar="HOST:PORT",
+                       help="where the server listens [127.0.0.1:8080]")
+    asked.add_argument("--listen", type=listening, default=("127.0.0.1", 8081), metavar="HOST:PORT|/SOCKET",
+                       help="where clients are accepted, a port or a Unix socket [127.0.0.1:8081]")
+    asked.add_argument("--config", metavar="FILE",
+                       help="the configuration of the store: its directory, and what it keeps")
+    asked.add_argument("--waiting", default="/var/cache/nixkeep-cache", metavar="FOLDER",
+                       help="where archives wait for their records [/var/cache/nixkeep-cache]")
     asked.add_argument("--waiting-count", type=int, default=1000, metavar="N", help="how many may wait [1000]")
-    asked.add_argument(
-        "--waiting-bytes", type=int, default=1 << 30, metavar="N", help="how many bytes they may have [1073741824]"
-    )
+    asked.add_argument("--waiting-bytes", type=int, default=1 << 30, metavar="N",
+                       help="how many bytes they may have [1073741824]")
     asked.add_argument("--waiting-seconds", type=float, default=3600, metavar="N", help="how long one may wait [3600]")
     asked.add_argument("--idle", type=float, default=60, metavar="SECONDS", help="how long a client may be silent [60]")
-    asked.add_argument(
-        "--patience",
-        type=float,
-        default=30,
-        metavar="SECONDS",
-        help="how long a server that can't be reached is waited for, as while it starts again [30]",
-    )
-    asked.add_argument(
-        "--list-every",
-        type=float,
-        default=30,
-        metavar="SECONDS",
-        help="how often, at most, a path that isn't known is looked for in a new listing [30]",
-    )
+    asked.add_argument("--patience", type=float, default=30, metavar="SECONDS",
+                       help="how long a server that can't be reached is waited for, as while it starts again [30]")
+    asked.add_argument("--list-every", type=float, default=30, metavar="SECONDS",
+                       help="how often, at most, a path that isn't known is looked for in a new listing [30]")
     return asked
 
 

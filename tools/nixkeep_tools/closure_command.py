@@ -39,9 +39,8 @@ WAYS = {
 
 def parser():
     form = argparse.RawDescriptionHelpFormatter
-    top = argparse.ArgumentParser(
-        prog="nixkeep-closure", description=DESCRIPTION, epilog=EPILOG, allow_abbrev=False, formatter_class=form
-    )
+    top = argparse.ArgumentParser(prog="nixkeep-closure", description=DESCRIPTION, epilog=EPILOG, allow_abbrev=False,
+                                  formatter_class=form)
     place, add = top.add_mutually_exclusive_group(), top.add_argument
     place.add_argument("--server", metavar="URL", help="the nixkeep store of this server")
     place.add_argument("--db", metavar="FILE", help="the nixkeep store in this file, which no server has open")
@@ -68,9 +67,8 @@ def add_action(action, name):
     one, of_nix = action.add_mutually_exclusive_group(), name == "pull"
     for kind in ROOTS[name]:
         text = f"set this {kind} of Nix on PATH at the end" if of_nix else f"set this {kind} on PATH at the end"
-        one.add_argument(
-            f"--{kind}", metavar="FILE" if of_nix else "NAME", help=text.replace("permanent", "permanent root")
-        )
+        one.add_argument(f"--{kind}", metavar="FILE" if of_nix else "NAME",
+                         help=text.replace("permanent", "permanent root"))
     action.add_argument("paths", nargs="+", metavar="PATH")
 
 

@@ -17,17 +17,15 @@ def place(text):
 
 
 def parser():
-    asked = argparse.ArgumentParser(
-        prog="nixkeep-overview", description="Writes a page of who keeps how much of a store: HTML, by itself."
-    )
+    asked = argparse.ArgumentParser(prog="nixkeep-overview",
+                                    description="Writes a page of who keeps how much of a store: HTML, by itself.")
     where = asked.add_mutually_exclusive_group(required=True)
     where.add_argument("--db", metavar="FILE", help="the file of a store that no server has open")
     where.add_argument("--store", type=place, metavar="HOST:PORT", help="the server of a store")
     asked.add_argument("--user", help="the caller, for --store")
     asked.add_argument("--group", help="the primary group of the caller")
-    asked.add_argument(
-        "--config", metavar="FILE", help="the configuration of the store, for keep-outputs and keep-derivations"
-    )
+    asked.add_argument("--config", metavar="FILE",
+                       help="the configuration of the store, for keep-outputs and keep-derivations")
     asked.add_argument("--why", metavar="PATH", help="write why this path is kept in place of the figures")
     asked.add_argument("--output", metavar="FILE", help="the page [standard output]")
     return asked
