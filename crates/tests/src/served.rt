@@ -7,9 +7,7 @@ use std::alloc::Global;
 use std::io::ErrorKind;
 use std::test::Fail;
 use store::Store;
-use wire::{Server, WireError};
-use wire_requests::Routes;
-use wire_server::serve;
+use wire::{WireError, serve};
 
 /// It lists the paths: there are none.
 const FIRST: &[u8] = b"GET /paths HTTP/1.1\r\nstore-user: ann\r\n\r\n";
@@ -58,10 +56,8 @@ fn list(alloc: Global, store: &mut Store<MemStore>) -> Result<Vec<u8>, Fail> {
 
 /// Serves a store in which there is nothing.
 fn serve_all(alloc: Global, input: &mut Drip, output: &mut Narrow) -> Result<Served, Fail> {
-    let routes = Routes::new(alloc)?;
-    let mut server = Server::new(alloc, routes, store(alloc, b"")?);
-    let end = serve(alloc, input, output, &mut server);
-    let mut store = server.release();
+    let mut store = store(alloc, b"")?;
+    let end = serve(alloc, &mut store, input, output);
     let listed = list(alloc, &mut store);
     drop(store.release().release());
     let listed = listed?;

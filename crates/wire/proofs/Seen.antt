@@ -1,5 +1,6 @@
 -- What is seen of a store that is served: the worlds that its tables tell, and no more than the replies.
-use Rattle.std.proofs.Common.{◌≡◌, ℕ, List, Option, None, refl, sym, ap, subst, inl, inr}
+use Rattle.std.specs.declared.io.Error.{Error}
+use Rattle.std.proofs.Common.{◌≡◌, ℕ, List, Option, Result, None, refl, sym, ap, subst, inl, inr}
 use Rattle.sqlite_trees.specs.declared.store.Store.{Ghosts}
 use Rattle.httparse.specs.Grammar.{RequestHead}
 use Rattle.sqlite.specs.State.{HasCleanDisk}
@@ -12,10 +13,12 @@ use Rattle.store.proofs.Clean.{step_clean}
 use Rattle.wire_server.specs.Responses.{Replied}
 use Rattle.wire.specs.Courses.{Course, replies, calls, Takes}
 use Rattle.wire.specs.Answers.{Answers, Ends}
+use Rattle.wire_server.specs.declared.error.WireError.{WireError}
+use Rattle.wire_server.specs.Serves.{Served}
 use Rattle.wire_server.specs.Sessions.{result_of}
 use Rattle.wire_server.proofs.Seen.{served_seen, serves_on_seen}
 use Rattle.wire.specs.Worlds.{AnswersFrom, AnswersSome}
-use Rattle.wire.specs.Ends.{ServesStreams, ServesPort}
+use Rattle.wire.specs.Ends.{ServesStreams, ServesPort, ServesOver}
 
 module _ {S : Type 0} (g : Ghosts S) where
   -- tables that tell a world, under these settings
@@ -66,6 +69,25 @@ module _ {S : Type 0} (g : Ghosts S) where
           let more = served_seen (Answers g) (AnswersSome old.settings) (IsUnder old.settings) (answer_some old.settings) known out out' old tt new (result_of end) refl is in
           inr (end, more.0, more.2, says, ends)
     ]
+
+  module _ (old new : Standing S) (known out out' : Option (List ℕ)) (result : Result ℕ WireError) (served : Served (Answers g) known out out' old new result) where
+    pub served_from : ((held : Held S) → HasCleanDisk (state g held)) → (w : World) → Tells g old.tables w
+        → (next : World) × Tells g new.tables next × Served (AnswersFrom old.settings) known out out' w next result
+    served_from clean w told =
+        let more = served_seen (Answers g) (AnswersFrom old.settings) (IsAt old.settings) (answer_from clean old.settings) known out out' old w new result (told, refl) served in
+        (more.0, more.1.0, more.2)
+
+    pub served_some : Served (AnswersSome old.settings) known out out' tt tt result
+    served_some = (served_seen (Answers g) (AnswersSome old.settings) (IsUnder old.settings) (answer_some old.settings) known out out' old tt new result refl served).2
+
+    pub served_settings : new.settings ≡ old.settings
+    served_settings = (served_seen (Answers g) (AnswersSome old.settings) (IsUnder old.settings) (answer_some old.settings) known out out' old tt new result refl served).1
+
+  -- the settings stay over connections that come one after another
+  pub over_settings : (old new : Standing S) (n : ℕ) (err err' : Option (List ℕ)) (result : Result ℕ Error) → ServesOver (Answers g) n err err' old new result → new.settings ≡ old.settings
+  over_settings old new n err err' result (inl served) =
+      (serves_on_seen (Answers g) (AnswersSome old.settings) (IsUnder old.settings) (answer_some old.settings) None None None None err err' old tt new refl n result served).1
+  over_settings old new n err err' result (inr (fault, same, kept)) = ap (λ st. st.settings) same
 
   module _ (old : Standing S) (n : ℕ) (err err' : Option (List ℕ)) (status : ℕ) (served : ServesPort (Answers g) n err err' old status) where
     pub port_from : ((held : Held S) → HasCleanDisk (state g held)) → (w : World) → Tells g old.tables w → ServesPort (AnswersFrom old.settings) n err err' w status

@@ -1,7 +1,9 @@
 -- How a command ends that serves a store.
-use Rattle.std.specs.Prelude.{◌≡◌, ◌⊎◌, ℕ, min, List, codes, Option, None, Result, Ok, Err}
+use Rattle.std.specs.Prelude.{◌≡◌, ◌⊎◌, ℕ, min, List, codes, Option, None, Result, Ok, Err, IsErrAnd}
 use Rattle.std.specs.Io.KnownBytes.{Keeps}
 use Rattle.std.specs.declared.io.Error.{Error}
+use Rattle.std.specs.IoError.{error_kind}
+use Rattle.std.specs.declared.io.ErrorKind.TheVariants.{OutOfMemory}
 use Rattle.httparse.specs.Grammar.{RequestHead}
 use Rattle.wire_server.specs.Responses.{Replied}
 use Rattle.report.specs.Outputs.{LacksMemory, Prints}
@@ -25,6 +27,11 @@ module _ {S : Type 0} (answers : S → RequestHead → List ℕ → Replied → 
   abbrev pub ServesListener : ℕ → Option (List (List ℕ)) → Option (List (List ℕ)) → Option (List (List ℕ)) → Option (List (List ℕ)) → Option (List ℕ) → Option (List ℕ) → S → S → ℕ → Type 0
   ServesListener n waiting waiting' closed closed' err err' old new status =
       (result : Result ℕ Error) × (said : Option (List ℕ)) × ServesOn answers n waiting waiting' closed closed' err said old new result × EndsOn result said err' status
+
+  -- a number of connections are served of a listener, of which nothing is known; or there was no memory to begin with
+  abbrev pub ServesOver : ℕ → Option (List ℕ) → Option (List ℕ) → S → S → Result ℕ Error → Type 0
+  ServesOver n err err' old new result = ServesOn answers n None None None None err err' old new result
+      ⊎ (IsErrAnd result (λ fault. error_kind fault ≡ OutOfMemory) × (new ≡ old) × Keeps err err')
 
   -- a number of connections of a port, of which nothing is known; or there was no memory to begin with, or the port couldn't be bound
   abbrev pub ServesPort : ℕ → Option (List ℕ) → Option (List ℕ) → S → ℕ → Type 0

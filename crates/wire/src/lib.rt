@@ -4,16 +4,18 @@
 mod course;
 mod courses;
 mod kinds;
+mod listening;
 mod parts;
 mod port;
 mod replies;
 mod said;
 mod server;
-mod standing;
+mod serving;
 mod stream;
 
+pub use listening::serve_on;
 pub use port::serve_port;
-pub use server::Server;
+pub use serving::{Count, serve};
 pub use stream::serve_streams;
 pub use wire_requests::{import_body, runtime_body};
 pub use wire_server::WireError;

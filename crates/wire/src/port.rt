@@ -10,27 +10,29 @@ ghost use Rattle.wire.specs.Worlds.{AnswersFrom, AnswersSome};
 ghost use Rattle.wire.specs.Ends.{ServesListener, ServesPort};
 
 use crate::said::{FAILED, NO_INPUT, NO_MEMORY, say};
-use crate::standing::{make_server, release};
+use crate::server::Server;
 use policy::Config;
 use sqlite::Alter;
 use std::alloc::Global;
 use std::io::Write;
-use std::net::{Net, TcpListener, TcpStream};
+use std::net::{Ipv4Addr, Net, TcpListener, TcpStream};
 use std::rt::Clock;
+use store::Store;
 use tables::Tables;
-use wire_server::{Listener, Port, Responder, serve_on};
+use wire_server::{Listener, Port, Responder};
 
 /// Serves a number of connections of a listener, and returns the exit status.
-fn serve_listener<L: Listener, E: Write, A: Responder>(
+fn serve_listener<L: Listener, E: Write, T, A: Responder<T>>(
     alloc: Global,
     listener: &mut L,
     connections: u32,
     errors: &mut E,
-    responder: &mut A,
+    responder: &A,
+    state: &mut T,
 ) -> u8
-    ensures { ServesListener A.answers connections (L.waiting listener.old) (L.waiting listener.new) (L.closed listener.old) (L.closed listener.new) (E.contents errors.old) (E.contents errors.new) responder.old responder.new result }
+    ensures { ServesListener A.answers connections (L.waiting listener.old) (L.waiting listener.new) (L.closed listener.old) (L.closed listener.new) (E.contents errors.old) (E.contents errors.new) state.old state.new result }
 {
-    match serve_on(alloc, listener, connections, errors, responder) {
+    match wire_server::serve_on(alloc, listener, connections, errors, responder, state) {
         Ok(0) => 0,
         Ok(_) => FAILED,
         Err(_) => say(NO_INPUT, errors),
@@ -38,19 +40,23 @@ fn serve_listener<L: Listener, E: Write, A: Responder>(
 }
 
 /// Serves a number of connections of a port, where it can be bound, and returns the exit status.
-fn listen<N: Net<Listener = TcpListener, Stream = TcpStream> + Clock, E: Write, A: Responder>(
+fn listen<N: Net<Listener = TcpListener, Stream = TcpStream> + Clock, E: Write, T, A: Responder<T>>(
     net: &N,
     alloc: Global,
     port: u16,
     connections: u32,
     errors: &mut E,
-    responder: &mut A,
+    responder: &A,
+    state: &mut T,
 ) -> u8
     ensures { Prints (codes "failed: input\n") 1 (E.contents errors.old) (E.contents errors.new) result
-        ⊎ ServesListener A.answers connections None None None None (E.contents errors.old) (E.contents errors.new) responder.old responder.new result }
+        ⊎ ServesListener A.answers connections None None None None (E.contents errors.old) (E.contents errors.new) state.old state.new result }
 {
-    match Port::bind(net, port) {
-        Ok(mut listener) => serve_listener(alloc, &mut listener, connections, errors, responder),
+    match TcpListener::bind(net, (Ipv4Addr::LOCALHOST, port)) {
+        Ok(listener) => {
+            let mut peers = Port::new(net, &listener);
+            serve_listener(alloc, &mut peers, connections, errors, responder, state)
+        }
         Err(_) => say(NO_INPUT, errors),
     }
 }
@@ -68,13 +74,17 @@ fn serve<N: Net<Listener = TcpListener, Stream = TcpStream> + Clock, S: Alter + 
     requires { tables.dir ≡ config.store_dir }
     ensures { ServesPort (Answers S.Store) connections (E.contents errors.old) (E.contents errors.new) (record { tables = tables; settings = config }) result }
 {
-    match make_server(alloc, config, tables) {
-        Some(mut server) => {
-            let status = listen(net, alloc, port, connections, errors, &mut server);
-            release(server);
+    match Server::new(alloc) {
+        Ok(server) => {
+            let mut store = Store::new(alloc, config, tables);
+            let status = listen(net, alloc, port, connections, errors, &server, &mut store);
+            drop(store.release().release());
             status
         }
-        None => say(NO_MEMORY, errors),
+        Err(_) => {
+            drop(tables.release());
+            say(NO_MEMORY, errors)
+        }
     }
 }
 

@@ -11,11 +11,12 @@ ghost use Rattle.wire.specs.Worlds.{AnswersFrom, AnswersSome};
 ghost use Rattle.wire.specs.Ends.{ServesStreams};
 
 use crate::said::{FAILED, NO_MEMORY, say};
-use crate::standing::{make_server, release};
+use crate::server::Server;
 use policy::Config;
 use sqlite::Alter;
 use std::alloc::Global;
 use std::io::{Read, Write};
+use store::Store;
 use tables::Tables;
 use wire_server::{End, serve_connection};
 
@@ -41,13 +42,17 @@ fn serve<S: Alter + Drop, R: Read, W: Write, E: Write>(
     requires { tables.dir ≡ config.store_dir }
     ensures { ServesStreams (Answers S.Store) (R.remaining input.old) (W.contents output.old) (W.contents output.new) (E.contents errors.old) (E.contents errors.new) (record { tables = tables; settings = config }) result }
 {
-    match make_server(alloc, config, tables) {
-        Some(mut server) => {
-            let end = serve_connection(alloc, input, output, errors, &mut server);
-            release(server);
+    match Server::new(alloc) {
+        Ok(server) => {
+            let mut store = Store::new(alloc, config, tables);
+            let end = serve_connection(alloc, input, output, errors, &server, &mut store);
+            drop(store.release().release());
             status_of(end)
         }
-        None => say(NO_MEMORY, errors),
+        Err(_) => {
+            drop(tables.release());
+            say(NO_MEMORY, errors)
+        }
     }
 }
 

@@ -1,21 +1,23 @@
 -- What one turn of the loop comes to.
-use Rattle.std.proofs.Common.{◌≡◌, ℕ, ◌+◌, ◌<◌, ◌-◌, ◌^◌, List, [], ◌∷◌, ◌++◌, length, take, drop, Option, true, false, refl, sym, ◌∙◌, arith, subst, inl, inr}
-use Rattle.std.specs.Prelude.{IfSome, Err}
-use Rattle.std.specs.Io.KnownBytes.{Consumes, IsAtEnd, Appends}
-use Rattle.std.specs.declared.alloc.AllocError.{AllocError}
-use Rattle.std.proofs.KnownBytes.{Appends-trans, Appends-nil}
+use Rattle.std.proofs.Common.{◌≡◌, ℕ, ◌+◌, ◌<◌, ◌-◌, ◌^◌, List, [], ◌∷◌, ◌++◌, length, take, drop, Option, true, false, refl, sym, ap, ◌∙◌, arith, subst, inl, inr}
+use Rattle.std.specs.Prelude.{IfSome}
+use Rattle.std.specs.Io.KnownBytes.{Consumes, IsAtEnd, Appends, Keeps}
+use Rattle.std.proofs.KnownBytes.{Appends-trans, Appends-nil, Appends-kept}
+use Rattle.streams.specs.Sends.{AppendsFront}
 use Rattle.httparse.specs.Grammar.{RequestHead}
 use Rattle.wire_messages.specs.declared.head.Head.{Head}
 use Rattle.wire_messages.specs.declared.error.Fault.{Fault}
 use Rattle.wire_messages.specs.Messages.{IsFault, HoldsMessage}
 use Rattle.wire_messages.specs.Division.{message, faulty, closes}
 use Rattle.wire_server.specs.Responses.{Replied, reply_bytes}
-use Rattle.wire_server.specs.Answers.{body_in, Answered}
-use Rattle.wire_server.specs.Serves.{fault_reply, joined, Serves, Stops, Rests}
+use Rattle.wire_server.specs.Answers.{body_in}
+use Rattle.wire_server.specs.Serves.{fault_reply, joined, reported, IsWritten, Serves, Stops, Rests}
+use Rattle.wire_server.specs.declared.error.WireError.{WireError}
+use Rattle.wire_server.specs.declared.error.WireError.TheVariants.{Read, Write, Memory}
 use Rattle.wire_server.proofs.Told.{Told, divides_all, begins_all, follows_start, follows_read, follows_end, follows_any, follows_fault, follows_last, follows_more, follows_item, joined_more, counted_more, replies_item, replies_fault}
 
-full : (n : ℕ) → n ≡ 18446744073709551615 → n < 2 ^ 64 - 1 → ⊥
-full n is small = omega arith
+full : (n k : ℕ) → n ≡ 340282366920938463463374607431768211455 → n ≡ k → k < 2 ^ 128 - 1 → ⊥
+full n k is same small = omega arith
 
 -- one more reply
 sent_more : (a b c : Option (List ℕ)) (replies : List (List ℕ)) (last : List ℕ) → Appends a b (joined replies) → Appends b c last → Appends a c (joined (replies ++ last ∷ []))
@@ -37,60 +39,82 @@ module _ {S : Type 0} (answers : S → RequestHead → List ℕ → Replied → 
   }
 
   -- broken off before another reply
-  pub stopped : (rest out : Option (List ℕ)) (held : List ℕ) (t : S) (n : ℕ) → Told answers input rest output out held s t n → Stops answers input output out s t
-  stopped rest out held t n told = record {
+  pub stopped : (rest out : Option (List ℕ)) (held : List ℕ) (t : S) (n : ℕ) → Told answers input rest output out held s t n
+      → (e : WireError) → (e ≡ Write → ⊥) → Stops answers input output out s t e
+  stopped rest out held t n told e reading = record {
     items = told.done;
     replies = told.replies;
     bytes = joined told.replies;
     front = begins_all input told.done (follows_any input rest held told.done told.follows);
     answered = told.answered;
-    written = inl refl;
+    written = by e reading;
     appended = told.written;
+  }
+    where
+      by : (v : WireError) → (v ≡ Write → ⊥) → IsWritten v told.replies (joined told.replies)
+      by Read reads = refl
+      by Write reads = absurd (reads refl)
+      by Memory reads = inl refl
+
+  -- nothing was read, answered or written
+  pub unserved : Stops answers input output output s s Memory
+  unserved = stopped input output [] s 0 told_start Memory (λ is. cc)
+
+  -- a connection to whose writer nothing was given
+  pub still : (rest out out' : Option (List ℕ)) (held : List ℕ) (t : S) (n : ℕ) → Told answers input rest output out held s t n → Keeps out out'
+      → Told answers input rest output out' held s t n
+  still rest out out' held t n told kept = record {
+    done = told.done;
+    replies = told.replies;
+    counted = told.counted;
+    follows = told.follows;
+    answered = told.answered;
+    written = Appends-kept output out out' (joined told.replies) told.written kept;
   }
 
   -- left before another message
-  pub rested : (rest out : Option (List ℕ)) (held : List ℕ) (t : S) (n : ℕ) → Told answers input rest output out held s t n → Rests answers input output out s t n
+  pub rested : (rest out : Option (List ℕ)) (held : List ℕ) (t : S) (n : ℕ) → Told answers input rest output out held s t n → Rests answers input output out s t (reported n)
   rested rest out held t n told = record {
     items = told.done;
     replies = told.replies;
-    counted = told.counted;
+    counted = ap reported told.counted;
     front = begins_all input told.done (follows_any input rest held told.done told.follows);
     answered = told.answered;
     written = told.written;
   }
 
   -- which is to be broken off there
-  pub rests_stop : (out : Option (List ℕ)) (t : S) (n : ℕ) → Rests answers input output out s t n → Stops answers input output out s t
+  pub rests_stop : (out : Option (List ℕ)) (t : S) (n : ℕ) → Rests answers input output out s t n → Stops answers input output out s t Read
   rests_stop out t n rests = record {
     items = rests.items;
     replies = rests.replies;
     bytes = joined rests.replies;
     front = rests.front;
     answered = rests.answered;
-    written = inl refl;
+    written = refl;
     appended = rests.written;
   }
 
   -- as many as are counted
-  pub counted_out : (rest out : Option (List ℕ)) (held : List ℕ) (t : S) (n : ℕ) → Told answers input rest output out held s t n → n ≡ 18446744073709551615
-      → Serves answers input output out s t 18446744073709551615
+  pub counted_out : (rest out : Option (List ℕ)) (held : List ℕ) (t : S) (n : ℕ) → Told answers input rest output out held s t n
+      → n ≡ 340282366920938463463374607431768211455 → Serves answers input output out s t 18446744073709551615
   counted_out rest out held t n told is = record {
     items = told.done;
     replies = told.replies;
-    counted = sym is ∙ told.counted;
+    counted = ap reported (sym is ∙ told.counted);
     front = begins_all input told.done (follows_any input rest held told.done told.follows);
-    whole = λ small. absurd (full 18446744073709551615 refl small);
+    whole = λ small. absurd (full n (length told.done) is told.counted small);
     answered = told.answered;
     written = told.written;
   }
 
   -- nothing is left
   pub ended : (rest out : Option (List ℕ)) (held : List ℕ) (t : S) (n : ℕ) → Told answers input rest output out held s t n → held ≡ [] → IsAtEnd rest
-      → Serves answers input output out s t n
+      → Serves answers input output out s t (reported n)
   ended rest out held t n told none end = record {
     items = told.done;
     replies = told.replies;
-    counted = told.counted;
+    counted = ap reported told.counted;
     front = begins_all input told.done (follows_any input rest held told.done told.follows);
     whole = λ small. divides_all input told.done (follows_end input rest held told.done told.follows none end);
     answered = told.answered;
@@ -101,25 +125,25 @@ module _ {S : Type 0} (answers : S → RequestHead → List ℕ → Replied → 
 
   module _ (rest out out' : Option (List ℕ)) (held : List ℕ) (t : S) (n : ℕ) (fault : Fault) (told : Told answers input rest output out held s t n)
       (some : 0 < length held) (is : IfSome rest (λ more. IsFault (held ++ more) fault)) where
-    pub refused : Appends out out' (fault_reply fault) → Serves answers input output out' s t (n + 1)
+    pub refused : Appends out out' (fault_reply fault) → Serves answers input output out' s t (reported (n + 1))
     refused sent = record {
       items = told.done ++ faulty fault ∷ [];
       replies = told.replies ++ fault_reply fault ∷ [];
-      counted = counted_more told.done (faulty fault) n told.counted;
+      counted = ap reported (counted_more told.done (faulty fault) n told.counted);
       front = begins_all input _ (follows_fault false input rest held told.done fault told.follows some is);
       whole = λ small. divides_all input _ (follows_fault true input rest held told.done fault told.follows some is);
       answered = replies_fault answers s t told.done told.replies fault told.answered;
       written = sent_more output out out' told.replies (fault_reply fault) told.written sent;
     }
 
-    pub refused_in_part : (k : ℕ) × Appends out out' (take k (fault_reply fault)) → Stops answers input output out' s t
-    refused_in_part (k, sent) = record {
+    pub refused_in_part : AppendsFront out out' (fault_reply fault) → Stops answers input output out' s t Write
+    refused_in_part (k, below, sent) = record {
       items = told.done ++ faulty fault ∷ [];
       replies = told.replies ++ fault_reply fault ∷ [];
       bytes = joined told.replies ++ take k (fault_reply fault);
       front = begins_all input _ (follows_fault false input rest held told.done fault told.follows some is);
       answered = replies_fault answers s t told.done told.replies fault told.answered;
-      written = inr (told.replies, fault_reply fault, k, refl, refl);
+      written = (told.replies, fault_reply fault, k, refl, below, refl);
       appended = Appends-trans output out out' (joined told.replies) (take k (fault_reply fault)) told.written sent;
     }
 
@@ -127,29 +151,38 @@ module _ {S : Type 0} (answers : S → RequestHead → List ℕ → Replied → 
 
   module _ (rest out : Option (List ℕ)) (held : List ℕ) (t : S) (n : ℕ) (head : Head) (size : ℕ) (h : RequestHead)
       (told : Told answers input rest output out held s t n) (is : HoldsMessage held head size h) where
-    pub answered_in_part : (out' : Option (List ℕ)) (new : S) (r : Replied) → answers t h (body_in held head size) r new
-        → (k : ℕ) × Appends out out' (take k (reply_bytes (closes h) r)) → Stops answers input output out' s new
-    answered_in_part out' new r answered (k, sent) = record {
+    answered_broken : (out' : Option (List ℕ)) (new : S) (r : Replied) (e : WireError) (bytes : List ℕ) → answers t h (body_in held head size) r new
+        → IsWritten e (told.replies ++ reply_bytes (closes h) r ∷ []) bytes → Appends output out' bytes → Stops answers input output out' s new e
+    answered_broken out' new r e bytes answered written appended = record {
       items = told.done ++ message h (body_in held head size) ∷ [];
       replies = told.replies ++ reply_bytes (closes h) r ∷ [];
-      bytes = joined told.replies ++ take k (reply_bytes (closes h) r);
+      bytes = bytes;
       front = begins_all input _ (follows_item held told.done head size h is input rest told.follows);
       answered = replies_item answers s t new told.done told.replies h (body_in held head size) r told.answered answered;
-      written = inr (told.replies, reply_bytes (closes h) r, k, refl, refl);
-      appended = Appends-trans output out out' (joined told.replies) (take k (reply_bytes (closes h) r)) told.written sent;
+      written = written;
+      appended = appended;
     }
 
-    -- no response came
-    pub lost : (new : S) (e : AllocError) → Answered answers t h (body_in held head size) (Err e) new → Stops answers input output out s new
-    lost new e (inl same) = subst (Stops answers input output out s) (sym same) (stopped rest out held t n told)
-    lost new e (inr (r, answered)) = answered_in_part out new r answered (0, Appends-nil out)
+    -- a prefix of the reply was written
+    pub answered_in_part : (out' : Option (List ℕ)) (new : S) (r : Replied) → answers t h (body_in held head size) r new
+        → AppendsFront out out' (reply_bytes (closes h) r) → Stops answers input output out' s new Write
+    answered_in_part out' new r answered (k, below, sent) =
+        answered_broken out' new r Write (joined told.replies ++ take k (reply_bytes (closes h) r)) answered (told.replies, reply_bytes (closes h) r, k, refl, below, refl)
+        (Appends-trans output out out' (joined told.replies) (take k (reply_bytes (closes h) r)) told.written sent)
+
+    -- nothing of it was
+    pub answered_lost : (out' : Option (List ℕ)) (new : S) (r : Replied) → answers t h (body_in held head size) r new → Keeps out out'
+        → Stops answers input output out' s new Memory
+    answered_lost out' new r answered kept =
+        answered_broken out' new r Memory (joined told.replies) answered (inr (told.replies, reply_bytes (closes h) r, refl, refl))
+        (Appends-kept output out out' (joined told.replies) told.written kept)
 
     pub closed : (out' : Option (List ℕ)) (new : S) (r : Replied) → answers t h (body_in held head size) r new → closes h ≡ true
-        → Appends out out' (reply_bytes (closes h) r) → Serves answers input output out' s new (n + 1)
+        → Appends out out' (reply_bytes (closes h) r) → Serves answers input output out' s new (reported (n + 1))
     closed out' new r answered last sent = record {
       items = told.done ++ message h (body_in held head size) ∷ [];
       replies = told.replies ++ reply_bytes (closes h) r ∷ [];
-      counted = counted_more told.done _ n told.counted;
+      counted = ap reported (counted_more told.done _ n told.counted);
       front = begins_all input _ (follows_last held told.done head size h is false input rest told.follows last);
       whole = λ small. divides_all input _ (follows_last held told.done head size h is true input rest told.follows last);
       answered = replies_item answers s t new told.done told.replies h (body_in held head size) r told.answered answered;

@@ -1,4 +1,5 @@
-mod Ends
+mod Both
+pub mod Ends
 mod Peers
 mod Received
 pub mod Seen

@@ -1,76 +1,101 @@
--- A message of which the head is held and the body has been received.
-use Rattle.std.proofs.Common.{◌≡◌, ℕ, ◌+◌, ◌<◌, ◌≤◌, List, [], ◌++◌, length, drop, Option, Some, None, Result, Ok, Err, refl, ap, ◌∙◌, arith, subst, inl, inr, length-append}
-use Rattle.std.specs.Prelude.{◌⊎◌, IfSome}
+-- A message of which the head is held, as its body comes and as it is answered.
+use Rattle.std.proofs.Common.{◌≡◌, ℕ, ◌+◌, ◌<◌, ◌≤◌, List, [], ◌++◌, min, length, drop, Bool, true, false, ◌==◌, refl, Option, Err, sym, ap, ◌∙◌, arith, subst, inl, inr, length-append}
+use Rattle.std.proofs.lemmas.List.{drop_all}
+use Rattle.std.proofs.lemmas.Bool.Decides.{nat_tests}
+use Rattle.std.specs.Prelude.{IfSome}
 use Rattle.std.specs.Io.KnownBytes.{IsAtEnd}
 use Rattle.std.specs.declared.alloc.AllocError.{AllocError}
 use Rattle.httparse.specs.Grammar.{RequestHead}
 use Rattle.wire_messages.specs.declared.head.Head.{Head}
-use Rattle.wire_messages.specs.declared.error.Fault.{Fault}
 use Rattle.wire_messages.specs.declared.error.Fault.TheVariants.{BadLength}
-use Rattle.wire_messages.specs.Messages.{HoldsHead, HoldsMessage, IsFault}
+use Rattle.wire_messages.specs.declared.error.ReceiveError.{ReceiveError}
+use Rattle.wire_messages.specs.declared.error.ReceiveError.TheVariants as received
+use Rattle.wire_messages.specs.Messages.{HoldsHead, IsFault}
 use Rattle.wire_messages.specs.Division.{closes}
 use Rattle.wire_messages.proofs.Longer.{holds-append}
 use Rattle.wire_messages.proofs.Reading.{at_end_all, ends_inside}
 use Rattle.wire_server.specs.Responses.{Replied, replied}
-use Rattle.wire_server.specs.declared.exchange.Halt.{Halt}
-use Rattle.wire_server.specs.declared.exchange.Halt.TheVariants.{Failed, Silent}
+use Rattle.wire_server.specs.declared.error.WireError.{WireError}
+use Rattle.wire_server.specs.declared.receiving.Halt.TheVariants.{Failed}
 use Rattle.wire_server.specs.declared.exchange.Exchange.{Exchange}
 use Rattle.wire_server.specs.Answers.{body_in, Answered}
-use Rattle.wire_server.specs.Exchanges.{Refuses, Answers, IsAnswered, Comes}
+use Rattle.wire_server.specs.Arrivals.{Whole, Brings, broken_of}
+use Rattle.wire_server.specs.Exchanges.{IsAnswered, IsLost}
 
 -- what a sink has taken that had taken nothing
 pub taken_all : (before after body : List ℕ) → before ≡ [] → after ≡ before ++ body → after ≡ body
 taken_all before after body none all = all ∙ ap (λ t. t ++ body) none
 
-module _ {S : Type 0} (answers : S → RequestHead → List ℕ → Replied → S → Type 0) where
-  -- bytes that begin with no message
-  pub refused_comes : (all held' : List ℕ) (rest : Option (List ℕ)) (s : S) (fault : Fault) (result : Result (Option Exchange) Halt)
-      → 0 < length all → IfSome rest (λ more. IsFault (all ++ more) fault) → Refuses fault result → Comes answers all held' rest s s result
-  refused_comes all held' rest s fault (Ok (Some x)) some is told = inr ((fault, some, is, told), refl)
-  refused_comes all held' rest s fault (Ok None) some is told = absurd told
-  refused_comes all held' rest s fault (Err (Failed e)) some is told = inl refl
-  refused_comes all held' rest s fault (Err Silent) some is told = absurd told
+-- ---- a body that comes
 
-  -- bytes that end inside a body
-  pub cut_short : (held read held' : List ℕ) (rest : Option (List ℕ)) (s : S) (head : Head) (size : ℕ) (result : Result (Option Exchange) Halt)
-      → 0 < length held → HoldsHead held head size → IsAtEnd rest → length (held ++ read) < head.spans.len + size
-      → Refuses BadLength result → Comes answers (held ++ read) held' rest s s result
-  cut_short held read held' rest s head size result some (h, is, states) end short told =
+module _ (held read : List ℕ) (head : Head) (size : ℕ) (is : HoldsHead held head size) where
+  -- the bytes end inside it
+  pub cut_short : (rest : Option (List ℕ)) → 0 < length held → IsAtEnd rest → length (held ++ read) < head.spans.len + size
+      → (0 < length (held ++ read)) × IfSome rest (λ more. IsFault ((held ++ read) ++ more) BadLength)
+  cut_short rest some end short =
       let all = held ++ read in
-      let fault : IsFault all BadLength = inr (ends_inside all head h size (holds-append held read head h is) states short) in
+      let fault : IsFault all BadLength = inr (ends_inside all head is.0 size (holds-append held read head is.0 is.1) is.2 short) in
       let more : 0 < length all = omega (arith, some, length-append held read) in
-      refused_comes all held' rest s BadLength result more (at_end_all (λ t. IsFault t BadLength) all rest fault end) told
+      (more, at_end_all (λ t. IsFault t BadLength) all rest fault end)
 
-  module _ (held read : List ℕ) (s : S) (head : Head) (size : ℕ) (is : HoldsHead held head size) (whole : head.spans.len + size ≤ length (held ++ read)) where
-    message : HoldsMessage (held ++ read) head size is.0
-    message = record { holds = holds-append held read head is.0 is.1; states = is.2; whole = whole }
+  -- it came whole
+  pub whole_arrives : {B : Type 0} (taken : B → List ℕ) (body : B) → head.spans.len + size ≤ length (held ++ read) → taken body ≡ body_in (held ++ read) head size
+      → drop (head.spans.len + size) (held ++ read) ≡ drop (head.spans.len + size) held → Whole taken (held ++ read) held head size body
+  whole_arrives taken body whole all rest = record {
+    h = is.0;
+    message = record { holds = holds-append held read head is.0 is.1; states = is.2; whole = whole };
+    holds = is.1;
+    all_taken = all;
+    rest = sym rest;
+  }
 
-    -- the response that came
-    pub answer_comes : (body held' : List ℕ) (x : Exchange) (new : S) → body ≡ body_in (held ++ read) head size → answers s is.0 body (replied x.response) new
-        → x.close ≡ closes is.0 → held' ≡ drop (head.spans.len + size) (held ++ read) → IsAnswered answers (held ++ read) held' s x new
-    answer_comes body held' x new same a close rest = (
-      record {
-        head = head;
-        size = size;
-        h = is.0;
-        holds = message;
-        answered = subst (λ b. answers s is.0 b (replied x.response) new) same a;
-      },
-      close,
-      rest,
-    )
+-- nothing came
+pub brings_broken : {B : Type 0} (taken : B → List ℕ) (all held : List ℕ) (rest : Option (List ℕ)) (fault : ReceiveError) (e : WireError) → e ≡ broken_of fault
+    → Brings taken all held rest (Err (Failed e))
+brings_broken taken all held rest fault e is = subst (λ v. Brings taken all held rest (Err (Failed v))) (sym is) (by fault)
+  where
+    by : (f : ReceiveError) → Brings taken all held rest (Err (Failed (broken_of f)))
+    by received.Read = tt
+    by received.Silent = tt
+    by received.Memory = tt
 
-    -- none, or one that is lost
-    pub lost_comes : (body : List ℕ) (new : S) (e : AllocError) → body ≡ body_in (held ++ read) head size → Answered answers s is.0 body (Err e) new
-        → (new ≡ s) ⊎ ((r : Replied) × Answers answers (held ++ read) s r new)
-    lost_comes body new e same (inl none) = inl none
-    lost_comes body new e same (inr (r, a)) = inr (
-      r,
-      record {
-        head = head;
-        size = size;
-        h = is.0;
-        holds = message;
-        answered = subst (λ b. answers s is.0 b r new) same a;
-      },
-    )
+-- a number of bytes that stays at the greatest is as good as the number, where there are fewer
+pub drop_saturated : (n m : ℕ) (bytes : List ℕ) → m ≡ min n 18446744073709551615 → length bytes < 18446744073709551616 → drop m bytes ≡ drop n bytes
+drop_saturated n m bytes is fits = by (m == n) refl
+  where
+    by : (v : Bool) → (m == n) ≡ v → drop m bytes ≡ drop n bytes
+    by true e = ap (λ k. drop k bytes) (grind (arith, nat_tests))
+    by false e = drop_all m bytes (grind (arith, nat_tests, is)) ∙ sym (drop_all n bytes (grind (arith, nat_tests, is)))
+
+-- ---- a message that came whole
+
+module _ {S B : Type 0} (answers : S → RequestHead → List ℕ → Replied → S → Type 0) (taken : B → List ℕ) (all held : List ℕ) (head : Head) (size : ℕ) (body : B)
+    (is : Whole taken all held head size body) (s new : S) where
+  -- the response that came
+  pub answered_whole : (held' : List ℕ) (x : Exchange) → answers s is.h (taken body) (replied x.response) new → x.close ≡ closes is.h
+      → held' ≡ drop (head.spans.len + size) held → IsAnswered answers all held' s x new
+  answered_whole held' x a close rest = (
+    record {
+      head = head;
+      size = size;
+      h = is.h;
+      holds = is.message;
+      answered = subst (λ b. answers s is.h b (replied x.response) new) is.all_taken a;
+    },
+    close,
+    rest ∙ is.rest,
+  )
+
+  -- none, or one that is lost
+  pub lost_whole : (e : AllocError) → Answered answers s is.h (taken body) (Err e) new → IsLost answers all s new
+  lost_whole e (inl none) = inl none
+  lost_whole e (inr (r, a)) = inr (
+    r,
+    record {
+      head = head;
+      size = size;
+      h = is.h;
+      holds = is.message;
+      answered = subst (λ b. answers s is.h b r new) is.all_taken a;
+    },
+  )

@@ -9,5 +9,5 @@ use Rattle.wire_server.specs.declared.serving.Stop.TheVariants.{Failed, Silent}
 module _ {S : Type 0} (answers : S → RequestHead → List ℕ → Replied → S → Type 0) where
   abbrev pub Ran : Option (List ℕ) → Option (List ℕ) → Option (List ℕ) → S → S → Result ℕ Stop → Type 0
   Ran input output output' old new (Ok n) = Serves answers input output output' old new n
-  Ran input output output' old new (Err (Failed e)) = Stops answers input output output' old new
+  Ran input output output' old new (Err (Failed e)) = Stops answers input output output' old new e
   Ran input output output' old new (Err (Silent n)) = Rests answers input output output' old new n

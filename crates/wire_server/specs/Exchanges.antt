@@ -1,14 +1,13 @@
--- What becomes of the next message of a connection.
-use Rattle.std.specs.Prelude.{◌≡◌, ◌⊎◌, ℕ, ◌+◌, ◌<◌, true, List, [], ◌++◌, length, drop, Option, Some, None, Result, Ok, Err, IfSome, ⊤}
+-- What becomes of what a connection brings next.
+use Rattle.std.specs.Prelude.{◌≡◌, ◌⊎◌, ℕ, ◌+◌, ◌<◌, true, List, [], ◌++◌, length, drop, Option, Some, None, Result, Ok, Err, IfSome}
 use Rattle.std.specs.Io.KnownBytes.{Consumes, IsAtEnd}
+use Rattle.std.specs.declared.alloc.AllocError.{AllocError}
 use Rattle.httparse.specs.Grammar.{RequestHead}
 use Rattle.wire_messages.specs.declared.head.Head.{Head}
 use Rattle.wire_messages.specs.declared.error.Fault.{Fault}
 use Rattle.wire_messages.specs.Messages.{HoldsMessage, IsFault}
 use Rattle.wire_messages.specs.Division.{closes}
 use Rattle.wire_server.specs.Responses.{Replied, replied, refused}
-use Rattle.wire_server.specs.declared.exchange.Halt.{Halt}
-use Rattle.wire_server.specs.declared.exchange.Halt.TheVariants.{Failed, Silent}
 use Rattle.wire_server.specs.declared.exchange.Exchange.{Exchange}
 use Rattle.wire_server.specs.Answers.{body_in}
 use Rattle.wire_server.specs.Serves.{refusal_of}
@@ -16,12 +15,6 @@ use Rattle.wire_server.specs.Serves.{refusal_of}
 -- the response is the refusal of that fault, and closes the connection
 abbrev pub IsRefusal : Fault → Exchange → Type 0
 IsRefusal fault x = (replied x.response ≡ refused (refusal_of fault) None) × (x.close ≡ true)
-
-abbrev pub Refuses : Fault → Result (Option Exchange) Halt → Type 0
-Refuses fault (Ok (Some x)) = IsRefusal fault x
-Refuses fault (Ok None) = ⊥
-Refuses fault (Err (Failed e)) = ⊤
-Refuses fault (Err Silent) = ⊥
 
 -- All the bytes, and what may follow them, begin with no message, and the fault is reported.
 abbrev pub HasFault : List ℕ → Option (List ℕ) → Exchange → Type 0
@@ -41,13 +34,21 @@ module _ {S : Type 0} (answers : S → RequestHead → List ℕ → Replied → 
   IsAnswered all held' s x s' =
       (a : Answers all s (replied x.response) s') × (x.close ≡ closes a.h) × (held' ≡ drop (a.head.spans.len + a.size) all)
 
+  -- nothing was answered, or the response is lost
+  abbrev pub IsLost : List ℕ → S → S → Type 0
+  IsLost all s s' = (s' ≡ s) ⊎ ((r : Replied) × Answers all s r s')
+
+  -- what comes of a message
+  abbrev pub Responds : List ℕ → List ℕ → S → S → Result Exchange AllocError → Type 0
+  Responds all held' s s' (Ok x) = IsAnswered all held' s x s'
+  Responds all held' s s' (Err e) = IsLost all s s'
+
   -- what comes of all the bytes that were held and read: nothing at the end of an input; the response to a message, or to none; or
-  -- nothing was answered, or the response is lost; or nothing of a message came
-  abbrev pub Comes : List ℕ → List ℕ → Option (List ℕ) → S → S → Result (Option Exchange) Halt → Type 0
+  -- memory was refused
+  abbrev pub Comes : List ℕ → List ℕ → Option (List ℕ) → S → S → Result (Option Exchange) AllocError → Type 0
   Comes all held' rest s s' (Ok None) = (all ≡ []) × IsAtEnd rest × (s' ≡ s)
   Comes all held' rest s s' (Ok (Some x)) = IsAnswered all held' s x s' ⊎ (HasFault all rest x × (s' ≡ s))
-  Comes all held' rest s s' (Err (Failed e)) = (s' ≡ s) ⊎ ((r : Replied) × Answers all s r s')
-  Comes all held' rest s s' (Err Silent) = (held' ≡ []) × (s' ≡ s)
+  Comes all held' rest s s' (Err e) = IsLost all s s'
 
-  abbrev pub Exchanged : Option (List ℕ) → Option (List ℕ) → List ℕ → List ℕ → S → S → Result (Option Exchange) Halt → Type 0
+  abbrev pub Exchanged : Option (List ℕ) → Option (List ℕ) → List ℕ → List ℕ → S → S → Result (Option Exchange) AllocError → Type 0
   Exchanged old new held held' s s' result = (read : List ℕ) × Consumes old new read × Comes (held ++ read) held' new s s' result

@@ -1,9 +1,13 @@
 -- What a writer holds after it was given a reply.
-use Rattle.std.specs.Prelude.{ℕ, List, take, Option, Result, Ok, Err}
-use Rattle.std.specs.Io.KnownBytes.{Appends}
+use Rattle.std.specs.Prelude.{ℕ, List, Option, Result, Ok, Err}
+use Rattle.std.specs.Io.KnownBytes.{Appends, Keeps}
+use Rattle.streams.specs.Sends.{AppendsFront}
 use Rattle.wire_server.specs.declared.error.WireError.{WireError}
+use Rattle.wire_server.specs.declared.error.WireError.TheVariants.{Read, Write, Memory}
 
--- all of it, or a prefix of it
+-- all of it; where the writer failed a prefix of it that isn't whole, and where memory was refused nothing; no reader has part in it
 abbrev pub SendsReply : Option (List ℕ) → Option (List ℕ) → List ℕ → Result (Unit {0}) WireError → Type 0
 SendsReply old new reply (Ok u) = Appends old new reply
-SendsReply old new reply (Err e) = (n : ℕ) × Appends old new (take n reply)
+SendsReply old new reply (Err Read) = ⊥
+SendsReply old new reply (Err Write) = AppendsFront old new reply
+SendsReply old new reply (Err Memory) = Keeps old new

@@ -1,5 +1,5 @@
 -- What a connection writes for what it reads.
-use Rattle.std.specs.Prelude.{◌≡◌, ◌⊎◌, ℕ, ◌<◌, ◌-◌, ◌^◌, true, cond, List, [], ◌∷◌, ◌++◌, length, take, Option, Some, None, Result, Ok, Err, ⊤}
+use Rattle.std.specs.Prelude.{◌≡◌, ◌⊎◌, ℕ, ◌<◌, ◌-◌, ◌^◌, true, min, cond, List, [], ◌∷◌, ◌++◌, length, take, Option, Some, None, Result, Ok, Err, ⊤}
 use Rattle.std.specs.List.{flat_map}
 use Rattle.std.specs.Io.KnownBytes.{Appends}
 use Rattle.httparse.specs.Grammar.{RequestHead}
@@ -11,6 +11,7 @@ use Rattle.report.specs.declared.refusal.Refusal.{Refusal}
 use Rattle.report.specs.declared.refusal.Refusal.TheVariants as refusals
 use Rattle.wire_server.specs.Responses.{Replied, refused, reply_bytes}
 use Rattle.wire_server.specs.declared.error.WireError.{WireError}
+use Rattle.wire_server.specs.declared.error.WireError.TheVariants.{Read, Write, Memory}
 
 -- the refusal of an input that begins with no message
 abbrev pub refusal_of : Fault → Refusal
@@ -41,11 +42,17 @@ BeginsWith (Some all) items = Begins all items
 abbrev pub joined : List (List ℕ) → List ℕ
 joined replies = flat_map (λ reply. reply) replies
 
--- What was written is all of the replies; or all but the last, and a prefix of that one.
-abbrev pub IsWritten : List (List ℕ) → List ℕ → Type 0
-IsWritten replies bytes =
-    (bytes ≡ joined replies)
-    ⊎ ((before : List (List ℕ)) × (last : List ℕ) × (n : ℕ) × (replies ≡ before ++ last ∷ []) × (bytes ≡ joined before ++ take n last))
+-- What was written at an error. Where the reader failed, all of the replies. Where the writer failed, all but the last, and a prefix
+-- of that one, which isn't whole. Where memory was refused, all, or all but the last.
+abbrev pub IsWritten : WireError → List (List ℕ) → List ℕ → Type 0
+IsWritten Read replies bytes = bytes ≡ joined replies
+IsWritten Write replies bytes =
+    (before : List (List ℕ)) × (last : List ℕ) × (n : ℕ) × (replies ≡ before ++ last ∷ []) × (n < length last) × (bytes ≡ joined before ++ take n last)
+IsWritten Memory replies bytes = (bytes ≡ joined replies) ⊎ ((before : List (List ℕ)) × (last : List ℕ) × (replies ≡ before ++ last ∷ []) × (bytes ≡ joined before))
+
+-- a number of messages as it is reported: it stays at 2^64 - 1
+abbrev pub reported : ℕ → ℕ
+reported n = min n (2 ^ 64 - 1)
 
 module _ {S : Type 0} (answers : S → RequestHead → List ℕ → Replied → S → Type 0) where
   -- each item has its reply, one after another
@@ -57,36 +64,36 @@ module _ {S : Type 0} (answers : S → RequestHead → List ℕ → Replied → 
   Replies s [] (reply ∷ replies) new = ⊥
   Replies s (item ∷ items) [] new = ⊥
 
-  -- The input divides into this number of items, and what was written is all of their replies. (After 2^64 - 1 of them the connection is
+  -- The input divides into this number of items, and what was written is all of their replies. (After 2^128 - 1 of them the connection is
   -- left, whatever follows.)
   pub record Serves (input output output' : Option (List ℕ)) (old new : S) (count : ℕ) : Type 0 where
     pub items : List Item
     pub replies : List (List ℕ)
-    pub counted : count ≡ length items
+    pub counted : count ≡ reported (length items)
     pub front : BeginsWith input items
-    pub whole : count < 2 ^ 64 - 1 → DividesAll input items
+    pub whole : length items < 2 ^ 128 - 1 → DividesAll input items
     pub answered : Replies old items replies new
     pub written : Appends output output' (joined replies)
 
-  -- The connection was broken off after items that the input begins with: all but the last reply were written whole.
-  pub record Stops (input output output' : Option (List ℕ)) (old new : S) : Type 0 where
+  -- The connection was broken off after items that the input begins with, for that error.
+  pub record Stops (input output output' : Option (List ℕ)) (old new : S) (fault : WireError) : Type 0 where
     pub items : List Item
     pub replies : List (List ℕ)
     pub bytes : List ℕ
     pub front : BeginsWith input items
     pub answered : Replies old items replies new
-    pub written : IsWritten replies bytes
+    pub written : IsWritten fault replies bytes
     pub appended : Appends output output' bytes
 
   -- The peer was silent after items that the input begins with: all of their replies were written whole.
   pub record Rests (input output output' : Option (List ℕ)) (old new : S) (count : ℕ) : Type 0 where
     pub items : List Item
     pub replies : List (List ℕ)
-    pub counted : count ≡ length items
+    pub counted : count ≡ reported (length items)
     pub front : BeginsWith input items
     pub answered : Replies old items replies new
     pub written : Appends output output' (joined replies)
 
   abbrev pub Served : Option (List ℕ) → Option (List ℕ) → Option (List ℕ) → S → S → Result ℕ WireError → Type 0
   Served input output output' old new (Ok n) = Serves input output output' old new n
-  Served input output output' old new (Err e) = Stops input output output' old new
+  Served input output output' old new (Err e) = Stops input output output' old new e

@@ -14,20 +14,21 @@ use std::io::Write;
 /// # Errors
 ///
 /// The fault of an accept, which ends it.
-pub fn serve_on<L: Listener, E: Write, A: Responder>(
+pub fn serve_on<L: Listener, E: Write, T, A: Responder<T>>(
     alloc: Global,
     listener: &mut L,
     connections: u32,
     errors: &mut E,
-    responder: &mut A,
+    responder: &A,
+    state: &mut T,
 ) -> io::Result<u32>
-    ensures { ServesOn A.answers connections (L.waiting listener.old) (L.waiting listener.new) (L.closed listener.old) (L.closed listener.new) (E.contents errors.old) (E.contents errors.new) responder.old responder.new result }
+    ensures { ServesOn A.answers connections (L.waiting listener.old) (L.waiting listener.new) (L.closed listener.old) (L.closed listener.new) (E.contents errors.old) (E.contents errors.new) state.old state.new result }
 {
     let mut failed = 0;
     'connections: for _ in 0..connections {
         match listener.accept() {
             Ok((mut input, mut output)) => {
-                let close = serve_peer(alloc, &mut input, &mut output, errors, responder);
+                let close = serve_peer(alloc, &mut input, &mut output, errors, responder, state);
                 listener.close(input, output);
                 failed += close.failures();
             }

@@ -1,16 +1,15 @@
-//! The next message of a connection, and its response.
-ghost use Rattle.std.specs.Prelude.{◌≡◌, ◌<◌, length, IfOk};
-ghost use Rattle.wire_messages.specs.Messages.{HoldsHead};
-ghost use Rattle.wire_server.specs.Exchanges.{Exchanged, Refuses};
+//! What a connection brings next, and its response.
+ghost use Rattle.std.specs.Prelude.{◌≡◌, IfOk, List, ℕ, Option};
+ghost use Rattle.wire_server.specs.Arrivals.{Arrived, Whole};
+ghost use Rattle.wire_server.specs.Exchanges.{Comes, IsRefusal, Responds};
 
 use crate::buffer::take_front;
-use crate::error::WireError;
 use crate::faults::refuse;
+use crate::receiving::Next;
 use crate::responder::Responder;
 use crate::response::Response;
-use std::alloc::Global;
-use std::io::Read;
-use wire_messages::{Fault, Head, ReceiveError, Received, closes, receive_body, receive_head};
+use std::alloc::{AllocError, Global};
+use wire_messages::{Fault, Head, closes};
 
 /// A response, and whether the connection is closed after it.
 #[derive(Drop)]
@@ -19,80 +18,65 @@ pub(crate) struct Exchange {
     pub close: bool,
 }
 
-/// Why a connection ends before its input does.
-#[derive(Clone, Copy)]
-pub(crate) enum Halt {
-    Failed(WireError),
-    /// Nothing of the next message came for as long as the input waits.
-    Silent,
-}
-
-/// Why a connection fails where a message can't be received.
-fn broken(fault: ReceiveError) -> WireError {
-    match fault {
-        ReceiveError::Memory => WireError::Memory,
-        _ => WireError::Read,
-    }
-}
-
 /// The response to an input that begins with no message, after which the connection is closed.
-fn refused(alloc: Global, fault: Fault) -> Result<Option<Exchange>, Halt>
-    ensures { Refuses fault result }
+fn refused(alloc: Global, fault: Fault) -> Result<Exchange, AllocError>
+    ensures { IfOk result (IsRefusal fault) }
 {
-    match refuse(alloc, fault) {
-        Ok(response) => Ok(Some(Exchange {
-            response,
-            close: true,
-        })),
-        Err(_) => Err(Halt::Failed(WireError::Memory)),
-    }
+    Ok(Exchange {
+        response: refuse(alloc, fault)?,
+        close: true,
+    })
 }
 
-/// Receives the body of a message whose head is held, has it answered, and takes the message off the buffer.
-fn answer_message<R: Read, A: Responder>(
-    alloc: Global,
-    input: &mut R,
+/// Has a message answered, whose head is held and whose body was taken, and takes it off the buffer.
+fn answer_message<T, A: Responder<T>>(
+    responder: &A,
+    state: &mut T,
     buffer: &mut Vec<u8>,
-    responder: &mut A,
     head: &Head,
     size: usize,
-) -> Result<Option<Exchange>, Halt>
-    requires some { 0 < length buffer.old.items }
-    requires head { HoldsHead buffer.old.items head.now size }
-    ensures { Exchanged A.answers (R.remaining input.old) (R.remaining input.new) buffer.old.items buffer.new.items responder.old responder.new result }
+    body: A::Body,
+) -> Result<Exchange, AllocError>
+    requires { (all : List ℕ) × Whole A.Body.taken all buffer.old.items head.now size body }
+    ensures { (all : List ℕ) → Whole A.Body.taken all buffer.old.items head.now size body
+        → Responds A.answers all buffer.new.items state.old state.new result }
 {
     let close = closes(buffer, head);
-    let mut body = responder.begin(buffer, head, size);
-    match receive_body(input, buffer, head, size, &mut body) {
-        Ok(true) => {}
-        Ok(false) => return refused(alloc, Fault::BadLength),
-        Err(fault) => return Err(Halt::Failed(broken(fault))),
-    }
-    let Ok(response) = responder.answer(buffer, head, body) else {
-        return Err(Halt::Failed(WireError::Memory));
+    let response = match responder.answer(state, buffer, head, body) {
+        Ok(response) => response,
+        Err(fault) => return Err(fault),
     };
-    take_front(buffer, head.spans.len + size);
-    Ok(Some(Exchange { response, close }))
+    take_front(buffer, head.spans.len.saturating_add(size));
+    Ok(Exchange { response, close })
 }
 
-/// Receives the next message and has it answered; nothing where the input is at its end.
-pub(crate) fn next_exchange<R: Read, A: Responder>(
+/// Has answered what a connection brings next: nothing where the input is at its end. It reads nothing.
+///
+/// # Errors
+///
+/// Memory was refused: a message was not answered, or it was and its response is lost.
+pub(crate) fn answer_next<T, A: Responder<T>>(
     alloc: Global,
-    input: &mut R,
-    window: &mut [u8],
+    responder: &A,
+    state: &mut T,
     buffer: &mut Vec<u8>,
-    responder: &mut A,
-) -> Result<Option<Exchange>, Halt>
-    requires { 0 < length window.old }
-    ensures { Exchanged A.answers (R.remaining input.old) (R.remaining input.new) buffer.old.items buffer.new.items responder.old responder.new result }
+    next: Next<A::Body>,
+) -> Result<Option<Exchange>, AllocError>
+    requires { (all : List ℕ) × (rest : Option (List ℕ)) × Arrived A.Body.taken all buffer.old.items rest next }
+    ensures { (all : List ℕ) (rest : Option (List ℕ)) → Arrived A.Body.taken all buffer.old.items rest next
+        → Comes A.answers all buffer.new.items rest state.old state.new result }
 {
-    match receive_head(input, window, buffer) {
-        Ok(Received::Message(head, size)) => {
-            answer_message(alloc, input, buffer, responder, &head, size)
+    match next {
+        Next::End => Ok(None),
+        Next::Message(head, size, body) => {
+            match answer_message(responder, state, buffer, &head, size, body) {
+                Ok(exchange) => Ok(Some(exchange)),
+                Err(fault) => Err(fault),
+            }
         }
-        Ok(Received::End) => Ok(None),
-        Ok(Received::Faulty(fault)) => refused(alloc, fault),
-        Err(ReceiveError::Silent) => Err(Halt::Silent),
-        Err(fault) => Err(Halt::Failed(broken(fault))),
+        Next::Faulty(fault) => match refused(alloc, fault) {
+            Ok(exchange) => Ok(Some(exchange)),
+            Err(fault) => Err(fault),
+        },
     }
 }

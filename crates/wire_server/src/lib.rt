@@ -10,6 +10,7 @@ mod faults;
 mod listener;
 mod peer;
 mod port;
+mod receiving;
 mod reply_head;
 mod responder;
 mod response;

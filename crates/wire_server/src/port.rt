@@ -1,37 +1,29 @@
-//! A port of this machine.
+//! Connections of a port.
 ghost use Rattle.std.specs.Prelude.{None};
 
 use crate::draining::read_out;
 use crate::listener::Listener;
 use crate::peer::{Incoming, Outgoing};
 use std::io;
-use std::net::{Ipv4Addr, Net, Shutdown, TcpListener, TcpStream};
+use std::net::{Shutdown, TcpListener, TcpStream};
 use std::rt::Clock;
 use std::time::Duration;
 
 /// How many seconds a connection waits for a peer: for the next byte of an input, and until some of a reply is taken.
 const LIMIT: u64 = 60;
 
-/// A port of this machine, at 127.0.0.1. A peer who sends nothing for 60 seconds, or takes nothing of a reply, makes the read or the
+/// The connections of a listener. A peer who sends nothing for 60 seconds, or takes nothing of a reply, makes the read or the
 /// write fail that waits for it.
 #[derive(Drop)]
 pub struct Port<'a, C: Clock> {
-    listener: TcpListener,
+    listener: &'a TcpListener,
     clock: &'a C,
 }
 
-impl<'a, N: Net<Listener = TcpListener, Stream = TcpStream> + Clock> Port<'a, N> {
-    /// Listens on a port, 0 for any that is free.
-    ///
-    /// # Errors
-    ///
-    /// That of the system, as where the port is taken.
-    pub fn bind(net: &'a N, port: u16) -> io::Result<Port<'a, N>> {
-        let listener = TcpListener::bind(net, (Ipv4Addr::LOCALHOST, port))?;
-        Ok(Port {
-            listener,
-            clock: net,
-        })
+impl<'a, C: Clock> Port<'a, C> {
+    /// The connections of a listener, by a clock.
+    pub fn new(clock: &'a C, listener: &'a TcpListener) -> Port<'a, C> {
+        Port { listener, clock }
     }
 }
 

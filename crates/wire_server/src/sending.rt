@@ -1,15 +1,32 @@
 //! Replies, written whole or up to where the writer fails.
-ghost use Rattle.std.specs.Prelude.{◌≡◌};
+ghost use Rattle.std.specs.Prelude.{◌≡◌, ◌++◌};
+ghost use Rattle.streams.specs.Sends.{Sends};
 ghost use Rattle.wire_server.specs.Responses.{replied, reply_bytes};
 ghost use Rattle.wire_server.specs.Sends.{SendsReply};
 
 use crate::error::WireError;
 use crate::response::Response;
 use std::alloc::Global;
+use std::io;
 use std::io::Write;
-use streams::{send_bytes, send_pieces};
+use streams::{Pieces, send_bytes, send_pieces};
+
+/// Writes a head and a text.
+fn send_both<W: Write>(output: &mut W, head: &[u8], text: &Pieces) -> io::Result<()>
+    ensures { Sends (W.contents output.old) (W.contents output.new) (head.now ++ text.now) result }
+{
+    match send_bytes(output, head) {
+        Ok(()) => send_pieces(output, text),
+        Err(fault) => Err(fault),
+    }
+}
 
 /// Writes a reply: its head, and its text.
+///
+/// # Errors
+///
+/// `Write` where the writer fails, which has a prefix of the reply then, and not all; `Memory` where it was refused, and nothing is
+/// written.
 pub(crate) fn send_reply<W: Write>(
     alloc: Global,
     output: &mut W,
@@ -18,15 +35,11 @@ pub(crate) fn send_reply<W: Write>(
 ) -> Result<(), WireError>
     ensures { SendsReply (W.contents output.old) (W.contents output.new) (reply_bytes close (replied response.now)) result }
 {
-    let head = match response.head(alloc, close) {
-        Ok(head) => head,
-        Err(_) => return Err(WireError::Memory),
+    let Ok(head) = response.head(alloc, close) else {
+        return Err(WireError::Memory);
     };
-    match send_bytes(output, head.as_bytes()) {
-        Ok(()) => match send_pieces(output, &response.text) {
-            Ok(()) => Ok(()),
-            Err(_) => Err(WireError::Write),
-        },
+    match send_both(output, head.as_bytes(), &response.text) {
+        Ok(()) => Ok(()),
         Err(_) => Err(WireError::Write),
     }
 }

@@ -1,9 +1,11 @@
 //! The one loop of a connection.
-ghost use Rattle.wire_server.specs.Serves.{Served};
+ghost use Rattle.std.specs.Prelude.{◌≡◌};
+ghost use Rattle.wire_server.specs.Serves.{Served, reported};
 ghost use Rattle.wire_server.specs.Courses.{Ran};
 
 use crate::error::WireError;
-use crate::exchange::{Halt, next_exchange};
+use crate::exchange::answer_next;
+use crate::receiving::{Halt, receive_next};
 use crate::responder::Responder;
 use crate::sending::send_reply;
 use std::alloc::Global;
@@ -17,51 +19,68 @@ pub(crate) enum Stop {
     Silent(u64),
 }
 
+/// A number of messages as it is reported: it stays at the greatest value.
+fn reported(count: u128) -> u64
+    ensures { result ≡ reported count }
+{
+    if count < u64::MAX as u128 {
+        count as u64
+    } else {
+        u64::MAX
+    }
+}
+
 /// Answers the messages of an input one after another, as `serve` does, and keeps a silent peer apart from a reader that failed.
-pub(crate) fn run<R: Read, W: Write, A: Responder>(
+pub(crate) fn run<R: Read, W: Write, T, A: Responder<T>>(
     alloc: Global,
     input: &mut R,
     output: &mut W,
-    responder: &mut A,
+    responder: &A,
+    state: &mut T,
 ) -> Result<u64, Stop>
     ensures { Ran A.answers (R.remaining input.old) (W.contents output.old) (W.contents output.new)
-        responder.old responder.new result }
+        state.old state.new result }
 {
     let mut window = [0; 4096];
     let mut buffer = Vec::new(alloc);
-    'messages: for count in 0..u64::MAX {
-        let next = match next_exchange(alloc, input, &mut window, &mut buffer, responder) {
-            Ok(Some(next)) => next,
-            Ok(None) => return Ok(count),
+    'messages: for count in 0..u128::MAX {
+        let next = match receive_next(input, &mut window, &mut buffer, responder, state) {
+            Ok(next) => next,
             Err(Halt::Failed(fault)) => return Err(Stop::Failed(fault)),
-            Err(Halt::Silent) => return Err(Stop::Silent(count)),
+            Err(Halt::Silent) => return Err(Stop::Silent(reported(count))),
         };
-        match send_reply(alloc, output, &next.response, next.close) {
+        let exchange = match answer_next(alloc, responder, state, &mut buffer, next) {
+            Ok(Some(exchange)) => exchange,
+            Ok(None) => return Ok(reported(count)),
+            Err(_) => return Err(Stop::Failed(WireError::Memory)),
+        };
+        match send_reply(alloc, output, &exchange.response, exchange.close) {
             Ok(()) => {}
             Err(fault) => return Err(Stop::Failed(fault)),
         }
-        if next.close {
-            return Ok(count + 1);
+        if exchange.close {
+            return Ok(reported(count + 1));
         }
     }
     Ok(u64::MAX)
 }
 
 /// Answers the messages of an input one after another, up to its end, the first that closes the connection, or an input that
-/// begins with no message; and how many were answered.
+/// begins with no message; and how many were answered, a number that stays at its greatest value.
 ///
 /// # Errors
 ///
-/// `Read` and `Write` where the reader or the writer failed, a write that takes no byte too; `Memory` where it was refused.
-pub fn serve<R: Read, W: Write, A: Responder>(
+/// `Read` where the reader failed; `Write` where the writer did, or took no byte; `Memory` where it was refused.
+pub fn serve<R: Read, W: Write, T, A: Responder<T>>(
     alloc: Global,
     input: &mut R,
     output: &mut W,
-    responder: &mut A,
+    responder: &A,
+    state: &mut T,
 ) -> Result<u64, WireError>
-    ensures { Served A.answers (R.remaining input.old) (W.contents output.old) (W.contents output.new) responder.old responder.new result }
+    ensures { Served A.answers (R.remaining input.old) (W.contents output.old) (W.contents output.new) state.old state.new result }
 {
-    match run(alloc, input, output, responder) {
+    match run(alloc, input, output, responder, state) {
         Ok(count) => Ok(count),
         Err(Stop::Failed(fault)) => Err(fault),
         Err(Stop::Silent(_)) => Err(WireError::Read),

@@ -65,17 +65,18 @@ fn tell<E: Write>(fault: WireError, errors: &mut E) -> End
 }
 
 /// Serves one connection. Where it fails, a line on `errors` says why: `failed: input`, `failed: output` or `failed: memory`.
-pub fn serve_connection<R: Read, W: Write, E: Write, A: Responder>(
+pub fn serve_connection<R: Read, W: Write, E: Write, T, A: Responder<T>>(
     alloc: Global,
     input: &mut R,
     output: &mut W,
     errors: &mut E,
-    responder: &mut A,
+    responder: &A,
+    state: &mut T,
 ) -> End
-    ensures served { Served A.answers (R.remaining input.old) (W.contents output.old) (W.contents output.new) responder.old responder.new (result_of result) }
+    ensures served { Served A.answers (R.remaining input.old) (W.contents output.old) (W.contents output.new) state.old state.new (result_of result) }
     ensures said { Says result (E.contents errors.old) (E.contents errors.new) }
 {
-    match serve(alloc, input, output, responder) {
+    match serve(alloc, input, output, responder, state) {
         Ok(count) => End::Served(count),
         Err(fault) => tell(fault, errors),
     }
@@ -83,18 +84,19 @@ pub fn serve_connection<R: Read, W: Write, E: Write, A: Responder>(
 
 /// Serves the connection of a peer. Where it fails, a line on `errors` says why. Where the peer is silent for too long between two
 /// messages, nothing is said.
-pub(crate) fn serve_peer<R: Read, W: Write, E: Write, A: Responder>(
+pub(crate) fn serve_peer<R: Read, W: Write, E: Write, T, A: Responder<T>>(
     alloc: Global,
     input: &mut R,
     output: &mut W,
     errors: &mut E,
-    responder: &mut A,
+    responder: &A,
+    state: &mut T,
 ) -> Close
     ensures served { Closes A.answers (R.remaining input.old) (W.contents output.old) (W.contents output.new)
-        responder.old responder.new result }
+        state.old state.new result }
     ensures said { Tells result (E.contents errors.old) (E.contents errors.new) }
 {
-    match run(alloc, input, output, responder) {
+    match run(alloc, input, output, responder, state) {
         Ok(count) => Close::Ended(End::Served(count)),
         Err(Stop::Failed(fault)) => Close::Ended(tell(fault, errors)),
         Err(Stop::Silent(count)) => Close::Idle(count),

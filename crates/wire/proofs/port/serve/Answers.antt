@@ -3,16 +3,16 @@ use Rattle.wire.specs.Answers.{Answers}
 use Rattle.wire.specs.Ends.{ServesListener}
 use Rattle.wire.proofs.port.serve.Goals as goal
 
-pub returns-in-Some : goal.returns-in-Some
-returns-in-Some g c = elim c.listen-status.ensures [
+pub returns-in-Ok : goal.returns-in-Ok
+returns-in-Ok g c = elim c.listen-status.ensures [
   | inl taken ↦ inr (inl taken)
   | inr served ↦
       inr (inr (
-        c.listen-status.new.responder,
+        c.listen-status.new.state,
         subst (λ s. ServesListener (Answers g.S.Store) c.args.connections None None None None (g.E.Write.contents c.args.errors.now)
-            (g.E.Write.contents c.listen-status.new.errors) s c.listen-status.new.responder c.listen-status.result) c.in-Some.ensures served,
+            (g.E.Write.contents c.listen-status.new.errors) s c.listen-status.new.state c.listen-status.result) c.new-store.ensures served,
       ))
 ]
 
-pub returns-in-None : goal.returns-in-None
-returns-in-None g c = inl c.say.ensures
+pub returns-in-Err : goal.returns-in-Err
+returns-in-Err g c = inl c.say.ensures

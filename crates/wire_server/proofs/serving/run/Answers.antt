@@ -1,45 +1,61 @@
 use Rattle.std.proofs.Common.{rules, ◌≡◌, sym, subst}
+use Rattle.wire_server.specs.Serves.{Serves, Stops, Rests}
 use Rattle.wire_server.proofs.Told.{Told}
-use Rattle.wire_server.proofs.Ends.{told_start, counted_out}
-use Rattle.wire_server.proofs.Turns.{turn_end, turn_failed, turn_silent, turn_cut, turn_closed, turn_on}
+use Rattle.wire_server.proofs.Ends.{told_start, rested, counted_out}
+use Rattle.wire_server.proofs.Turns.{turn_end, turn_broken, turn_lost, turn_cut, turn_closed, turn_on}
 use Rattle.wire_server.proofs.serving.run.Goals as goal
 
 pub messages-init : goal.messages-init
 messages-init g c =
-    subst (λ held. Told g.A.Responder.answers (g.R.Read.remaining c.args.input.now) (g.R.Read.remaining c.args.input.now) (g.W.Write.contents c.args.output.now) (g.W.Write.contents c.args.output.now) held c.args.responder.now c.args.responder.now 0)
-    (sym c.new-buffer.ensures.items) (told_start g.A.Responder.answers (g.R.Read.remaining c.args.input.now) (g.W.Write.contents c.args.output.now) c.args.responder.now)
-
-pub returns-in-Ok-None : goal.returns-in-Ok-None
-returns-in-Ok-None g c =
-    let next = rw c.in-Ok-None.field-0-is at c.in-Ok-None.ensures in
-    turn_end g.A.Responder.answers (g.R.Read.remaining c.args.input.now) (g.W.Write.contents c.args.output.now) c.args.responder.now (g.R.Read.remaining c.messages.input) (g.R.Read.remaining c.next_exchange.new.input) (g.W.Write.contents c.messages.output) c.messages.buffer.items c.next_exchange.new.buffer.items c.messages.responder c.next_exchange.new.responder c.messages.count c.messages.invariant next
+    subst (λ held. Told g.A.Responder.answers (g.R.Read.remaining c.args.input.now) (g.R.Read.remaining c.args.input.now) (g.W.Write.contents c.args.output.now) (g.W.Write.contents c.args.output.now) held c.args.state.now c.args.state.now 0)
+    (sym c.new-buffer.ensures.items) (told_start g.A.Responder.answers (g.R.Read.remaining c.args.input.now) (g.W.Write.contents c.args.output.now) c.args.state.now)
 
 pub returns-in-Err-Failed : goal.returns-in-Err-Failed
 returns-in-Err-Failed g c =
-    let next = rw c.in-Err-Failed.field-0-is at c.in-Err-Failed.ensures in
-    turn_failed g.A.Responder.answers (g.R.Read.remaining c.args.input.now) (g.W.Write.contents c.args.output.now) c.args.responder.now (g.R.Read.remaining c.messages.input) (g.R.Read.remaining c.next_exchange.new.input) (g.W.Write.contents c.messages.output) c.messages.buffer.items c.next_exchange.new.buffer.items c.messages.responder c.next_exchange.new.responder c.messages.count c.messages.invariant c.in-Err-Failed.fault next
+    let broken = rw c.in-Err-Failed.field-0-is at c.in-Err-Failed.ensures in
+    subst (λ e. Stops g.A.Responder.answers (g.R.Read.remaining c.args.input.now) (g.W.Write.contents c.args.output.now) (g.W.Write.contents c.messages.output) c.args.state.now c.messages.state e)
+    (sym c.in-Err-Failed.fault-is) (turn_broken g.A.Responder.answers (g.R.Read.remaining c.args.input.now) (g.W.Write.contents c.args.output.now) c.args.state.now (g.R.Read.remaining c.messages.input) (g.R.Read.remaining c.receive_next.new.input) (g.W.Write.contents c.messages.output) c.messages.buffer.items c.receive_next.new.buffer.items c.messages.state c.messages.state c.messages.count c.messages.invariant g.A.Body.Sink.taken c.in-Err-Failed.fault broken)
 
 pub returns-in-Err-Silent : goal.returns-in-Err-Silent
 returns-in-Err-Silent g c =
-    let next = rw c.in-Err-Silent.field-0-is at c.in-Err-Silent.ensures in
-    turn_silent g.A.Responder.answers (g.R.Read.remaining c.args.input.now) (g.W.Write.contents c.args.output.now) c.args.responder.now (g.R.Read.remaining c.messages.input) (g.R.Read.remaining c.next_exchange.new.input) (g.W.Write.contents c.messages.output) c.messages.buffer.items c.next_exchange.new.buffer.items c.messages.responder c.next_exchange.new.responder c.messages.count c.messages.invariant next
+    subst (λ k. Rests g.A.Responder.answers (g.R.Read.remaining c.args.input.now) (g.W.Write.contents c.args.output.now) (g.W.Write.contents c.messages.output) c.args.state.now c.messages.state k)
+    (sym c.reported.ensures) (rested g.A.Responder.answers _ _ _ _ _ _ _ _ c.messages.invariant)
+
+pub answer_next-requires : goal.answer_next-requires
+answer_next-requires g c = (_, _, c.in-Ok.ensures.2)
+
+pub returns-in-Ok-None : goal.returns-in-Ok-None
+returns-in-Ok-None g c =
+    let arrives = c.in-Ok.ensures in
+    let comes = rw c.in-Ok-None.field-0-is at (c.in-Ok-None.ensures _ _ arrives.2) in
+    subst (λ k. Serves g.A.Responder.answers (g.R.Read.remaining c.args.input.now) (g.W.Write.contents c.args.output.now) (g.W.Write.contents c.messages.output) c.args.state.now c.answer_next.new.state k)
+    (sym c.reported-in-Ok-None.ensures) (turn_end g.A.Responder.answers (g.R.Read.remaining c.args.input.now) (g.W.Write.contents c.args.output.now) c.args.state.now (g.R.Read.remaining c.messages.input) (g.R.Read.remaining c.receive_next.new.input) (g.W.Write.contents c.messages.output) c.messages.buffer.items c.answer_next.new.buffer.items c.messages.state c.answer_next.new.state c.messages.count c.messages.invariant (arrives.0, arrives.1, comes))
 
 pub returns-in-Err : goal.returns-in-Err
 returns-in-Err g c =
-    let next = rw c.in-Ok-Some.field-0-is at c.in-Ok-Some.ensures in
-    turn_cut g.A.Responder.answers (g.R.Read.remaining c.args.input.now) (g.W.Write.contents c.args.output.now) c.args.responder.now (g.R.Read.remaining c.messages.input) (g.R.Read.remaining c.next_exchange.new.input) (g.W.Write.contents c.messages.output) c.messages.buffer.items c.next_exchange.new.buffer.items c.messages.responder c.next_exchange.new.responder c.messages.count c.messages.invariant c.in-Ok-Some.next (g.W.Write.contents c.send_reply.new.output) next c.in-Err.ensures
+    let arrives = c.in-Ok.ensures in
+    turn_lost g.A.Responder.answers (g.R.Read.remaining c.args.input.now) (g.W.Write.contents c.args.output.now) c.args.state.now (g.R.Read.remaining c.messages.input) (g.R.Read.remaining c.receive_next.new.input) (g.W.Write.contents c.messages.output) c.messages.buffer.items c.answer_next.new.buffer.items c.messages.state c.answer_next.new.state c.messages.count c.messages.invariant c.in-Err.field-0 (arrives.0, arrives.1, c.in-Err.ensures _ _ arrives.2)
 
-pub returns-then-next : goal.returns-then-next
-returns-then-next g c =
-    let next = rw c.in-Ok-Some.field-0-is at c.in-Ok-Some.ensures in
-    turn_closed g.A.Responder.answers (g.R.Read.remaining c.args.input.now) (g.W.Write.contents c.args.output.now) c.args.responder.now (g.R.Read.remaining c.messages.input) (g.R.Read.remaining c.next_exchange.new.input) (g.W.Write.contents c.messages.output) c.messages.buffer.items c.next_exchange.new.buffer.items c.messages.responder c.next_exchange.new.responder c.messages.count c.messages.invariant c.in-Ok-Some.next (g.W.Write.contents c.send_reply.new.output) c.in-Ok.ensures next c.if-next.true
+pub returns-in-Err-send_reply : goal.returns-in-Err-send_reply
+returns-in-Err-send_reply g c =
+    let arrives = c.in-Ok.ensures in
+    let comes = rw c.in-Ok-Some.field-0-is at (c.in-Ok-Some.ensures _ _ arrives.2) in
+    turn_cut g.A.Responder.answers (g.R.Read.remaining c.args.input.now) (g.W.Write.contents c.args.output.now) c.args.state.now (g.R.Read.remaining c.messages.input) (g.R.Read.remaining c.receive_next.new.input) (g.W.Write.contents c.messages.output) c.messages.buffer.items c.answer_next.new.buffer.items c.messages.state c.answer_next.new.state c.messages.count c.messages.invariant c.in-Ok-Some.exchange (g.W.Write.contents c.send_reply.new.output) (arrives.0, arrives.1, comes) c.in-Err-send_reply.fault c.in-Err-send_reply.ensures
+
+pub returns-then-exchange : goal.returns-then-exchange
+returns-then-exchange g c =
+    let arrives = c.in-Ok.ensures in
+    let comes = rw c.in-Ok-Some.field-0-is at (c.in-Ok-Some.ensures _ _ arrives.2) in
+    subst (λ k. Serves g.A.Responder.answers (g.R.Read.remaining c.args.input.now) (g.W.Write.contents c.args.output.now) (g.W.Write.contents c.send_reply.new.output) c.args.state.now c.answer_next.new.state k)
+    (sym c.reported-then-exchange.ensures) (turn_closed g.A.Responder.answers (g.R.Read.remaining c.args.input.now) (g.W.Write.contents c.args.output.now) c.args.state.now (g.R.Read.remaining c.messages.input) (g.R.Read.remaining c.receive_next.new.input) (g.W.Write.contents c.messages.output) c.messages.buffer.items c.answer_next.new.buffer.items c.messages.state c.answer_next.new.state c.messages.count c.messages.invariant c.in-Ok-Some.exchange (g.W.Write.contents c.send_reply.new.output) c.in-Ok-send_reply.ensures (arrives.0, arrives.1, comes) c.if-exchange.true)
 
 pub messages-preserved : goal.messages-preserved
 messages-preserved g c =
-    let next = rw c.in-Ok-Some.field-0-is at c.in-Ok-Some.ensures in
-    turn_on g.A.Responder.answers (g.R.Read.remaining c.args.input.now) (g.W.Write.contents c.args.output.now) c.args.responder.now (g.R.Read.remaining c.messages.input) (g.R.Read.remaining c.next_exchange.new.input) (g.W.Write.contents c.messages.output) c.messages.buffer.items c.next_exchange.new.buffer.items c.messages.responder c.next_exchange.new.responder c.messages.count c.messages.invariant c.in-Ok-Some.next (g.W.Write.contents c.send_reply.new.output) c.in-Ok.ensures next c.if-next.false
+    let arrives = c.in-Ok.ensures in
+    let comes = rw c.in-Ok-Some.field-0-is at (c.in-Ok-Some.ensures _ _ arrives.2) in
+    turn_on g.A.Responder.answers (g.R.Read.remaining c.args.input.now) (g.W.Write.contents c.args.output.now) c.args.state.now (g.R.Read.remaining c.messages.input) (g.R.Read.remaining c.receive_next.new.input) (g.W.Write.contents c.messages.output) c.messages.buffer.items c.answer_next.new.buffer.items c.messages.state c.answer_next.new.state c.messages.count c.messages.invariant c.in-Ok-Some.exchange (g.W.Write.contents c.send_reply.new.output) c.in-Ok-send_reply.ensures (arrives.0, arrives.1, comes) c.if-exchange.false
 
 pub returns : goal.returns
 returns g c =
-    let all : c.messages.count ≡ 18446744073709551615 = search rules in
-    counted_out g.A.Responder.answers (g.R.Read.remaining c.args.input.now) (g.W.Write.contents c.args.output.now) c.args.responder.now (g.R.Read.remaining c.messages.input) (g.W.Write.contents c.messages.output) c.messages.buffer.items c.messages.responder c.messages.count c.messages.invariant all
+    let all : c.messages.count ≡ 340282366920938463463374607431768211455 = search rules in
+    counted_out g.A.Responder.answers (g.R.Read.remaining c.args.input.now) (g.W.Write.contents c.args.output.now) c.args.state.now (g.R.Read.remaining c.messages.input) (g.W.Write.contents c.messages.output) c.messages.buffer.items c.messages.state c.messages.count c.messages.invariant all

@@ -1,0 +1,41 @@
+//! A store that is lent, served on the connections of a listener.
+ghost use Rattle.std.specs.Prelude.{◌≡◌};
+ghost use Rattle.wire.specs.Answers.{Answers};
+ghost use Rattle.wire.specs.Ends.{ServesOver};
+
+use crate::server::Server;
+use sqlite::Alter;
+use std::alloc::Global;
+use std::io;
+use std::io::{Error, ErrorKind, Write};
+use std::net::TcpListener;
+use std::rt::Clock;
+use store::Store;
+use wire_server::Port;
+
+/// Serves a store on a number of connections of a listener, one after another, and returns how many failed. For each of these a
+/// line on `errors` says why: `failed: input`, `failed: output` or `failed: memory`. The clock bounds how long a connection that is
+/// closed waits for its peer.
+///
+/// # Errors
+///
+/// The fault of an accept, which ends it; and `OutOfMemory` where there was no memory to begin with, and nothing was served.
+pub fn serve_on<C: Clock, S: Alter, E: Write>(
+    clock: &C,
+    alloc: Global,
+    listener: &TcpListener,
+    connections: u32,
+    store: &mut Store<S>,
+    errors: &mut E,
+) -> io::Result<u32>
+    ensures served { ServesOver (Answers S.Store) connections (E.contents errors.old) (E.contents errors.new) store.old store.new result }
+    ensures settings { store.new.settings ≡ store.old.settings }
+{
+    match Server::new(alloc) {
+        Ok(server) => {
+            let mut peers = Port::new(clock, listener);
+            wire_server::serve_on(alloc, &mut peers, connections, errors, &server, store)
+        }
+        Err(_) => Err(Error::from(ErrorKind::OutOfMemory)),
+    }
+}

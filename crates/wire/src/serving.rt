@@ -1,0 +1,45 @@
+//! A store that is lent, served on one connection.
+ghost use Rattle.std.specs.Prelude.{◌≡◌};
+ghost use Rattle.sqlite.specs.State.{HasCleanDisk};
+ghost use Rattle.sqlite.specs.Held.{Held, state};
+ghost use Rattle.model.specs.World.{World};
+ghost use Rattle.tables.specs.Kept.{Tells};
+ghost use Rattle.wire_server.specs.Serves.{Served};
+ghost use Rattle.wire.specs.Answers.{Answers};
+ghost use Rattle.wire.specs.Worlds.{AnswersFrom, AnswersSome};
+
+use crate::server::Server;
+use sqlite::Alter;
+use std::alloc::Global;
+use std::io::{Read, Write};
+use store::Store;
+use wire_server::WireError;
+
+/// How many messages were answered. It stays at its greatest value.
+pub type Count = u64;
+
+/// Serves a store on one connection: answers the messages of the input one after another, up to its end, the first that closes the
+/// connection, or an input that begins with no message; and how many were answered.
+///
+/// # Errors
+///
+/// `Read` where the reader failed; `Write` where the writer did, or took no byte; `Memory` where it was refused. The store is the one
+/// after the calls made, and the output has the whole replies before, and at `Write` a prefix of the next.
+pub fn serve<S: Alter, R: Read, W: Write>(
+    alloc: Global,
+    store: &mut Store<S>,
+    input: &mut R,
+    output: &mut W,
+) -> Result<Count, WireError>
+    ensures served { Served (Answers S.Store) (R.remaining input.old) (W.contents output.old) (W.contents output.new) store.old store.new result }
+    ensures settings { store.new.settings ≡ store.old.settings }
+    ensures worlds { ((h : Held S) → HasCleanDisk (state S.Store h)) → (w : World) → Tells S.Store store.old.tables w
+        → (next : World) × Tells S.Store store.new.tables next
+        × Served (AnswersFrom store.old.settings) (R.remaining input.old) (W.contents output.old) (W.contents output.new) w next result }
+    ensures replies { Served (AnswersSome store.old.settings) (R.remaining input.old) (W.contents output.old) (W.contents output.new) tt tt result }
+{
+    match Server::new(alloc) {
+        Ok(server) => wire_server::serve(alloc, input, output, &server, store),
+        Err(_) => Err(WireError::Memory),
+    }
+}

@@ -1,0 +1,85 @@
+//! The next message of a connection, as it comes.
+ghost use Rattle.std.specs.Prelude.{◌≡◌, ◌<◌, length};
+ghost use Rattle.wire_messages.specs.Messages.{HoldsHead};
+ghost use Rattle.wire_server.specs.Arrivals.{Arrives, broken_of};
+
+use crate::error::WireError;
+use crate::responder::Responder;
+use std::io::Read;
+use wire_messages::{Fault, Head, ReceiveError, Received, receive_body, receive_head};
+
+/// What a connection brings next.
+#[derive(Drop)]
+pub(crate) enum Next<B> {
+    /// The input is at its end.
+    End,
+    /// A head, the length of the body after it, and what has taken the body.
+    Message(Head, usize, B),
+    /// The input begins with no message.
+    Faulty(Fault),
+}
+
+/// Why nothing is received.
+#[derive(Clone, Copy)]
+pub(crate) enum Halt {
+    Failed(WireError),
+    /// Nothing of the next message came for as long as the input waits.
+    Silent,
+}
+
+/// Why a connection fails where a message can't be received. No writer has part in it.
+fn broken(fault: ReceiveError) -> WireError
+    ensures { result ≡ broken_of fault }
+{
+    match fault {
+        ReceiveError::Read | ReceiveError::Silent => WireError::Read,
+        ReceiveError::Memory => WireError::Memory,
+    }
+}
+
+/// Receives the body of a message whose head is held.
+fn receive_message<R: Read, T, A: Responder<T>>(
+    input: &mut R,
+    held: &[u8],
+    responder: &A,
+    state: &T,
+    head: Head,
+    size: usize,
+) -> Result<Next<A::Body>, Halt>
+    requires some { 0 < length held.now }
+    requires head { HoldsHead held.now head size }
+    ensures { Arrives A.Body.taken (R.remaining input.old) (R.remaining input.new) held.now held.now result }
+{
+    let mut body = responder.begin(state, held, &head, size);
+    match receive_body(input, held, &head, size, &mut body) {
+        Ok(true) => Ok(Next::Message(head, size, body)),
+        Ok(false) => Ok(Next::Faulty(Fault::BadLength)),
+        Err(fault) => Err(Halt::Failed(broken(fault))),
+    }
+}
+
+/// Receives the next message of a connection, whole.
+///
+/// # Errors
+///
+/// `Failed` with `Read` where the reader failed, and with `Memory`; `Silent` where the reader gave up waiting before a message.
+pub(crate) fn receive_next<R: Read, T, A: Responder<T>>(
+    input: &mut R,
+    window: &mut [u8],
+    buffer: &mut Vec<u8>,
+    responder: &A,
+    state: &T,
+) -> Result<Next<A::Body>, Halt>
+    requires { 0 < length window.old }
+    ensures { Arrives A.Body.taken (R.remaining input.old) (R.remaining input.new) buffer.old.items buffer.new.items result }
+{
+    match receive_head(input, window, buffer) {
+        Ok(Received::Message(head, size)) => {
+            receive_message(input, buffer, responder, state, head, size)
+        }
+        Ok(Received::End) => Ok(Next::End),
+        Ok(Received::Faulty(fault)) => Ok(Next::Faulty(fault)),
+        Err(ReceiveError::Silent) => Err(Halt::Silent),
+        Err(fault) => Err(Halt::Failed(broken(fault))),
+    }
+}
