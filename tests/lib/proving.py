@@ -116,12 +116,14 @@ def link(made, runs):
     os.remove(made)
 
 
-def guess(crate, libraries):
-    """The processor seconds and the memory that a crate may take, by its lines and the number of its libraries."""
-    files = program.files_of(crate)
-    code, proofs = [sum(lines_of(it) for it in files if it.endswith(kind)) for kind in (".rt", ".antt")]
-    memory = 900_000_000 + 500_000 * code + 50_000 * proofs + 60_000_000 * libraries
-    return 8 + 0.13 * code + 0.012 * proofs + 1.5 * libraries, memory
+def guess(crate, below):
+    """The processor seconds and the memory that a crate may take, by its lines and the crates below it."""
+    code, proofs = lines(crate)
+    memory = 900_000_000 + 500_000 * code + 50_000 * proofs + 60_000_000 * len(below)
+    if crate == program.NAME:
+        # (the program is linked and compiled whole)
+        return 0.014 * sum(lines(it)[0] for it in below), 4_500_000_000
+    return max(10, 0.2 * code + 0.011 * proofs + 4.9 * len(below) - 37), memory
 
 
 class Plan:
@@ -131,7 +133,7 @@ class Plan:
         known = program.times()
         self.work, self.memory = {}, {}
         for crate in crates:
-            work, memory = guess(crate, len(named[crate]))
+            work, memory = guess(crate, program.with_below(crate, named)[:-1])
             self.work[crate] = max(0.1, known.get(crate, {}).get("work", work))
             self.memory[crate] = known.get(crate, {}).get("memory", memory)
         above = {it: [other for other in crates if it in named[other]] for it in crates}
@@ -144,14 +146,21 @@ class Plan:
         return self.memory[crate] * (1 + 0.3 * (jobs - 1))
 
     def seconds(self, crate, jobs):
-        """How long a crate is likely to take: it loads what it reads by one process, and jobs share the rest."""
-        alone = min(15, self.work[crate])
+        """How long a crate is likely to take: it loads what it reads by one process, and jobs share the rest. The
+        program is linked and compiled by one process."""
+        alone = self.work[crate] if crate == program.NAME else min(15, self.work[crate])
         return alone + (self.work[crate] - alone) / (0.85 * jobs + 0.15)
 
 
 def lines_of(path):
     with open(f"{program.HERE}/{path}", "rb") as file:
         return file.read().count(b"\n")
+
+
+def lines(crate):
+    """How many lines of code and of statements and proofs a crate has."""
+    files = program.files_of(crate)
+    return [sum(lines_of(it) for it in files if it.endswith(kind)) for kind in (".rt", ".antt")]
 
 
 class Shown:
@@ -173,7 +182,9 @@ class Shown:
         """How many minutes are likely to be left, by what the crates until now took of what was planned for them."""
         work = {it: self.plan.work[it] * self.part_left(it) for it in self.left}
         chain = max((self.plan.chain[it] - self.plan.work[it] + work[it] for it in self.left), default=0)
-        return max(1, round(self.slow() * max(sum(work.values()) / processors() / 0.9, chain / 2.5) / 60))
+        alone = work.get(program.NAME, 0)
+        longest = max(sum(work.values()) / processors() / 0.9, (chain - alone) / 2.5 + alone)
+        return max(1, round(self.slow() * longest / 60))
 
     def slow(self):
         return self.taken / self.planned
