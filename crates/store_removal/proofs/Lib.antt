@@ -4,15 +4,12 @@ pub mod DeletedRows
 pub mod Denied
 pub mod Kept
 pub mod Limited
-pub mod Loops
 pub mod Marked
 pub mod Noted
 pub mod Pairs
 pub mod Places
 pub mod Removed
 pub mod Rising
-pub mod RootOrder
-pub mod Sets
 pub mod Shown
 pub mod Sized
 pub mod Told

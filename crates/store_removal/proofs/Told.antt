@@ -1,43 +1,18 @@
 -- What an outline tells of the roots and of what lives in its world.
 use Rattle.std.proofs.Common.{◌≡◌, List, [], ◌∷◌, map, sym, ap, ◌∙◌, T}
 use Rattle.std.specs.Prelude.{not, filter}
-use Rattle.std.specs.declared.cmp.Ordering.{Ordering}
-use Rattle.std.specs.Ordering.{is_lt}
 use Rattle.std.specs.FinMap as finite
-use Rattle.std.specs.FinMap.Entries.{is_sorted, below_all}
-use Rattle.paths.specs.Root.{bytes_cmp}
 use Rattle.live.specs.Live.{is_live}
 use Rattle.live.specs.Numbering.{graph_of}
 use Rattle.policy.specs.Settings.{Settings}
 use Rattle.model.specs.World.{Path, Object, World, all_paths, roots_of}
 use Rattle.tables_outline.specs.Outline.{Outline, Outlined, outlined, outline_of}
-use Rattle.tables_outline.proofs.Orders.{bytes_total, bytes_antisymmetric}
-use Rattle.tables_outline.proofs.Ordered.{both_T, from_both, listed_as}
+use Rattle.tables.proofs.Outlined.{entries_outlined}
 use Rattle.model.specs.Liveness as spec
 use Rattle.model.specs.Liveness.{linked}
 use Rattle.store_removal.specs.Linked.{row_in, rows_in, lives_in}
-use Rattle.store_removal.specs.Rooted.{rooted}
-use Rattle.store_removal.proofs.RootOrder.{map-map}
-
-module _ {K X Y : Type 0} (R : K → K → Ordering) (f : X → Y) where
-  abbrev with_values : List (K × X) → List (K × Y)
-  with_values es = map (λ (e : K × X). let d : K × Y = (e.0, f e.1) in d) es
-
-  below_mapped : (k : K) (es : List (K × X)) → T (below_all R k es) → T (below_all R k (with_values es))
-  below_mapped k [] h = tt
-  below_mapped k (e ∷ es) h =
-      let parts = both_T (is_lt (R k e.0)) (below_all R k es) h in
-      from_both (is_lt (R k e.0)) (below_all R k (with_values es)) parts.0 (below_mapped k es parts.1)
-
-  sorted_mapped : (es : List (K × X)) → T (is_sorted R es) → T (is_sorted R (with_values es))
-  sorted_mapped [] h = tt
-  sorted_mapped (e ∷ es) h =
-      let parts = both_T (below_all R e.0 es) (is_sorted R es) h in
-      from_both (below_all R e.0 (with_values es)) (is_sorted R (with_values es)) (below_mapped e.0 es parts.0) (sorted_mapped es parts.1)
-
--- the entries of the objects, each outlined
-pub entries_outlined : (w : World) → finite.entries (outline_of w).objects ≡ map (λ (e : Path × Object). let d : Path × Outlined = (e.0, outlined e.1) in d) (finite.entries w.objects)
-entries_outlined w = listed_as bytes_total bytes_antisymmetric _ (sorted_mapped bytes_cmp outlined (finite.entries w.objects) (finite.entries_sorted w.objects))
+use Rattle.tables_listing.specs.Rooted.{rooted}
+use Rattle.tables_listing.proofs.RootOrder.{map-map}
 
 -- the same paths
 pub paths_told : (w : World) (o : Outline) → outline_of w ≡ o → finite.keys o.objects ≡ all_paths w

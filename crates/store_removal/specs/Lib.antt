@@ -1,9 +1,6 @@
 pub mod Found
-pub mod Gaining
 pub mod Keeping
 pub mod Linked
 pub mod Removing
-pub mod Rooted
 pub mod Sizes
 pub mod Told
-pub mod View

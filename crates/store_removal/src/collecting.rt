@@ -20,7 +20,6 @@ use crate::lending::{lent, of_valid};
 use crate::linking::rows;
 use crate::living::{dead_paths, keep_of};
 use crate::removing::{Found, remove};
-use crate::root_lists::root_list;
 use crate::sizes::{bytes_in, size_of};
 use live::{Graph, Keep, Root, Roots, Row, limited, mark};
 use paths::StorePath;
@@ -29,6 +28,7 @@ use sqlite::Alter;
 use std::alloc::{AllocError, Global};
 use store_types::{Answer, Stop};
 use tables::Tables;
+use tables_listing::root_list;
 use tables_outline::Index;
 use tables_sql::failure::Failure;
 

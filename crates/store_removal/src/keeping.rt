@@ -16,12 +16,12 @@ use crate::lending::{lent, of_valid};
 use crate::linking::rows;
 use crate::living::{keep_of, marks};
 use crate::reaching::place_of;
-use crate::root_lists::root_list;
 use crate::seen::seen_root;
 use live::{Marks, Row};
 use paths::StorePath;
 use policy::{Class, Config};
 use std::alloc::{AllocError, Global};
+use tables_listing::root_list;
 use tables_outline::Index;
 
 /// The place of the first root of a path, by the marks of the rows.

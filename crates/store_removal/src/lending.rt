@@ -4,10 +4,10 @@ ghost use Rattle.std.specs.Prelude.{◌≡◌, IfOk, filter, map};
 ghost use Rattle.std.specs.FinMap as finite;
 ghost use Rattle.live.specs.Handed as handed;
 ghost use Rattle.live.specs.Handed.{roots_view};
-ghost use Rattle.store_removal.specs.View.{kind_view, root_view};
+ghost use Rattle.tables_listing.specs.View.{kind_view, root_view};
 
-use crate::root::{Kind, Root};
 use std::alloc::{AllocError, Global};
+use tables_listing::{Kind, Root};
 use tables_outline::Index;
 
 /// A kind of roots, as `live` has it.

@@ -1,17 +1,14 @@
 //! What is live, collection and deletion.
 #![tactic(auto)]
 
-mod all_roots;
 pub mod collecting;
 pub mod deleting;
 mod keeping;
-mod labels;
 mod lending;
 mod linking;
 mod living;
 mod reaching;
 mod removing;
-mod root;
 mod root_lists;
 mod seen;
 mod sizes;

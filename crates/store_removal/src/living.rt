@@ -15,11 +15,11 @@ ghost use Rattle.store_removal.specs.Linked.{is_wanted, lives_in, rows_in};
 
 use crate::lending::{lent, of_valid};
 use crate::linking::rows;
-use crate::root_lists::root_list;
 use live::{Graph, Keep, Marks, Root, Roots, Row, mark};
 use paths::StorePath;
 use policy::{Config, keep_derivations, keep_outputs};
 use std::alloc::{AllocError, Global};
+use tables_listing::root_list;
 use tables_outline::Index;
 
 /// What is kept alive besides references, as the configuration says.

@@ -15,12 +15,12 @@ ghost use Rattle.model.specs.Seen.{seen as seen_by};
 use crate::lending::{lent, of_valid};
 use crate::linking::rows;
 use crate::living::keep_of;
-use crate::root_lists::root_list;
 use crate::seen::seen;
 use live::{Graph, Keep, Root, Roots, Row, roots_of};
 use paths::StorePath;
 use policy::{Class, Config};
 use std::alloc::{AllocError, Global};
+use tables_listing::root_list;
 use tables_outline::Index;
 
 /// The place of a path among rows, if it is there.

@@ -79,7 +79,7 @@ pub fn set_profile<S: Alter>(
 {
     match next_number(tables.index(), &owned, &path) {
         Ok(number) => answered(
-            tables.put_profile(owned.0.as_str(), owned.1.as_str(), number, &path),
+            tables.set_profile(owned.0.as_str(), owned.1.as_str(), number, &path),
             Answer::Generation(number),
         ),
         Err(stop) => Err(stop),

@@ -1,10 +1,7 @@
 -- What the outline of a world tells of it.
-use Rattle.std.proofs.Common.{◌≡◌, List, [], ◌∷◌, map, Option, Some, None, is_some, option_map, refl, sym, ap, ◌∙◌, T}
-use Rattle.std.specs.declared.cmp.Ordering.{Ordering}
-use Rattle.std.specs.Ordering.{is_lt}
+use Rattle.std.proofs.Common.{◌≡◌, List, map, Option, Some, None, is_some, option_map, sym, ap, ◌∙◌}
 use Rattle.std.specs.List.{list_all}
 use Rattle.std.specs.FinMap as finite
-use Rattle.std.specs.FinMap.Entries.{is_sorted, below_all}
 use Rattle.std.proofs.lemmas.Bool.{false≢true}
 use Rattle.std.proofs.lemmas.Option.{same_Some}
 use Rattle.paths.specs.Root.{bytes_cmp}
@@ -15,31 +12,7 @@ use Rattle.model.specs.Answers.{record_at}
 use Rattle.store_steps.specs.Told.{info_in}
 use Rattle.tables_outline.proofs.Orders.{bytes_total, bytes_antisymmetric}
 use Rattle.tables_outline.proofs.Told.{get-told, has-told}
-use Rattle.tables_outline.proofs.Ordered.{both_T, from_both, listed_as}
-
-module _ {K X Y : Type 0} (R : K → K → Ordering) (f : X → Y) where
-  abbrev with_values : List (K × X) → List (K × Y)
-  with_values es = map (λ (e : K × X). let d : K × Y = (e.0, f e.1) in d) es
-
-  below_mapped : (k : K) (es : List (K × X)) → T (below_all R k es) → T (below_all R k (with_values es))
-  below_mapped k [] h = tt
-  below_mapped k (e ∷ es) h =
-      let parts = both_T (is_lt (R k e.0)) (below_all R k es) h in
-      from_both (is_lt (R k e.0)) (below_all R k (with_values es)) parts.0 (below_mapped k es parts.1)
-
-  sorted_mapped : (es : List (K × X)) → T (is_sorted R es) → T (is_sorted R (with_values es))
-  sorted_mapped [] h = tt
-  sorted_mapped (e ∷ es) h =
-      let parts = both_T (below_all R e.0 es) (is_sorted R es) h in
-      from_both (below_all R e.0 (with_values es)) (is_sorted R (with_values es)) (below_mapped e.0 es parts.0) (sorted_mapped es parts.1)
-
-  keys_mapped : (es : List (K × X)) → map (λ (e : K × Y). e.0) (with_values es) ≡ map (λ (e : K × X). e.0) es
-  keys_mapped [] = refl
-  keys_mapped (e ∷ es) = ap (λ (ks : List K). e.0 ∷ ks) (keys_mapped es)
-
--- the entries of the objects, each outlined
-pub entries_outlined : (w : World) → finite.entries (outline_of w).objects ≡ map (λ (e : Path × Object). let d : Path × Outlined = (e.0, outlined e.1) in d) (finite.entries w.objects)
-entries_outlined w = listed_as bytes_total bytes_antisymmetric _ (sorted_mapped bytes_cmp outlined (finite.entries w.objects) (finite.entries_sorted w.objects))
+use Rattle.tables.proofs.Outlined.{entries_outlined, keys_mapped}
 
 -- the same paths
 pub paths_outlined : (w : World) → finite.keys (outline_of w).objects ≡ all_paths w

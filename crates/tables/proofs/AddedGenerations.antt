@@ -60,38 +60,62 @@ module _ (dir : List ℕ) (c : Contents) (rows : IsSoundContents dir c) (owned :
       by true e h = (n, ap (λ (k : Triple). k.2) (tied_is triple_antisymmetric (owner, name, z) key e))
       by false e h = rows.numbers owner name z h
 
-  -- a number gets a path, and becomes current
-  pub add_follows : Follows dir (add_generation owned n t) (with_next owned (λ p. put_at p n t)) c
-  add_follows =
-      let it = profile_follows dir c rows (finite.insert c.profiles owned (pos n)) (finite.insert c.generations key t) owned (put_at (here dir c rows owned) n t) (record {
-        profile = finite.get-insert pair_total c.profiles owned (pos n);
+  -- a number gets a path, and a number becomes current
+  pub add_follows : (current : ℕ) → Follows dir (add_generation owned n t current) (with_next owned (λ p. switched (put_at p n t) current)) c
+  add_follows current =
+      let it = profile_follows dir c rows (finite.insert c.profiles owned (pos current)) (finite.insert c.generations key t) owned (switched (put_at (here dir c rows owned) n t) current) (record {
+        profile = finite.get-insert pair_total c.profiles owned (pos current);
         generation = each;
         numbers = numbers;
-      }) (with_next owned (λ p. put_at p n t)) refl in
+      }) (with_next owned (λ p. switched (put_at p n t) current)) refl in
       record { world = it.world; sound = it.sound }
 
 -- ---- the outline
 
+get_put : (m : finite.FinMap pair_cmp Profile) (k : Pair) (x : Profile) → finite.get (finite.insert m k x) k ≡ Some x
+get_put m k x = finite.get-insert pair_total m k x k ∙ ap (λ b. cond b (Some x) (finite.get m k)) ((eq_by_cmp_equiv pair_total).refl k)
+
+-- a profile that is put over one that was just put
+put_again : (m : finite.FinMap pair_cmp Profile) (k : Pair) (x y : Profile) → finite.insert (finite.insert m k x) k y ≡ finite.insert m k y
+put_again m k x y = finite.same_map pair_total pair_antisymmetric _ _ (λ q.
+    finite.get-insert pair_total (finite.insert m k x) k y q
+    ∙ ap (cond (eq_by_cmp pair_cmp q k) (Some y)) (finite.get-insert pair_total m k x q)
+    ∙ by (eq_by_cmp pair_cmp q k) (finite.get m q) ∙ sym (finite.get-insert pair_total m k y q))
+  where
+    by : (b : Bool) (g : Option Profile) → cond b (Some y) (cond b (Some x) g) ≡ cond b (Some y) g
+    by true g = refl
+    by false g = refl
+
 module _ (old put : Outline) (owned key again : Pair) (n : ℕ) (target value : Path) (same : key ≡ owned) (same_again : again ≡ owned) (same_value : value ≡ target) (is : put ≡ with_profile old key (put_at (profile_of old key) n value)) where
-  pub generation_put : put ≡ with_profile old owned (put_at (profile_of old owned) n target)
-  generation_put = is ∙ ap₂ (λ k v. with_profile old k (put_at (profile_of old k) n v)) same same_value
+  abbrev added : Profile
+  added = put_at (profile_of old owned) n target
 
-  pub generation_there : IsTrue (finite.contains_key put.profiles again)
-  generation_there = ap₂ (λ (o : Outline) k. finite.contains_key o.profiles k) generation_put same_again ∙ has_put pair_total pair_antisymmetric old.profiles owned (put_at (profile_of old owned) n target)
+  put_is : put ≡ with_profile old owned added
+  put_is = is ∙ ap₂ (λ k v. with_profile old k (put_at (profile_of old k) n v)) same same_value
 
-  -- one that was added is taken away again
-  taken : (o : Option Profile) → finite.get old.profiles owned ≡ o → finite.get (profile_or_new o).generations n ≡ None → (x : Profile) → x ≡ put_at (profile_or_new o) n target
-      → without_added (with_profile old owned x) owned n (option_map (λ (p : Profile). p.current) o) ≡ old.profiles
-  taken None e new x at = unput_put pair_total pair_antisymmetric old.profiles owned x None (sym e)
-  taken (Some p) e new x at =
-      ap (λ (o : Option Profile). finite.insert (finite.insert old.profiles owned x) owned (switched (without_generation (profile_or_new o) n) p.current)) (there ∙ ap Some at)
-      ∙ ap (λ (m : finite.FinMap nat_cmp Path). finite.insert (finite.insert old.profiles owned x) owned (record { generations = m; current = p.current })) (unput_put nat_cmp_total nat_antisymmetric p.generations n target None (sym new))
-      ∙ unput_put pair_total pair_antisymmetric old.profiles owned x (Some p) (sym e)
-    where
-      there : finite.get (finite.insert old.profiles owned x) owned ≡ Some x
-      there = finite.get-insert pair_total old.profiles owned x owned ∙ ap (λ b. cond b (Some x) (finite.get old.profiles owned)) ((eq_by_cmp_equiv pair_total).refl owned)
+  pub put_there : IsTrue (finite.contains_key put.profiles again)
+  put_there = ap₂ (λ (o : Outline) k. finite.contains_key o.profiles k) put_is same_again ∙ has_put pair_total pair_antisymmetric old.profiles owned added
 
-  pub generation_undone : finite.get (profile_of old owned).generations n ≡ None → (undone : Outline) (had : Option ℕ) → had ≡ current_of old key → undone ≡ record put { profiles = without_added put again n had } → undone ≡ old
-  generation_undone new undone had was back =
-      back ∙ (λ i. record (generation_put i) { profiles = without_added (generation_put i) (same_again i) n ((was ∙ ap (current_of old) same) i) })
-      ∙ ap (λ m. record old { profiles = m }) (taken (finite.get old.profiles owned) refl new (put_at (profile_of old owned) n target) refl)
+  module _ (now : Outline) (current : ℕ) (switch : now ≡ with_profile put again (switched (profile_of put again) current)) where
+    pub generation_put : now ≡ with_profile old owned (switched added current)
+    generation_put =
+        switch ∙ ap₂ (λ (o : Outline) k. with_profile o k (switched (profile_of o k) current)) put_is same_again
+        ∙ ap (λ (o : Option Profile). with_profile (with_profile old owned added) owned (switched (profile_or_new o) current)) (get_put old.profiles owned added)
+        ∙ ap (λ m. record old { profiles = m }) (put_again old.profiles owned added (switched added current))
+
+    pub generation_there : IsTrue (finite.contains_key now.profiles again)
+    generation_there = ap₂ (λ (o : Outline) k. finite.contains_key o.profiles k) generation_put same_again ∙ has_put pair_total pair_antisymmetric old.profiles owned (switched added current)
+
+    -- one that was added is taken away again
+    taken : (o : Option Profile) → finite.get old.profiles owned ≡ o → finite.get (profile_or_new o).generations n ≡ None → (x : Profile) → x ≡ switched (put_at (profile_or_new o) n target) current
+        → without_added (with_profile old owned x) owned n (option_map (λ (p : Profile). p.current) o) ≡ old.profiles
+    taken None e new x at = unput_put pair_total pair_antisymmetric old.profiles owned x None (sym e)
+    taken (Some p) e new x at =
+        ap (λ (o : Option Profile). finite.insert (finite.insert old.profiles owned x) owned (switched (without_generation (profile_or_new o) n) p.current)) (get_put old.profiles owned x ∙ ap Some at)
+        ∙ ap (λ (m : finite.FinMap nat_cmp Path). finite.insert (finite.insert old.profiles owned x) owned (record { generations = m; current = p.current })) (unput_put nat_cmp_total nat_antisymmetric p.generations n target None (sym new))
+        ∙ unput_put pair_total pair_antisymmetric old.profiles owned x (Some p) (sym e)
+
+    pub generation_undone : finite.get (profile_of old owned).generations n ≡ None → (undone : Outline) (had : Option ℕ) → had ≡ current_of old key → undone ≡ record now { profiles = without_added now again n had } → undone ≡ old
+    generation_undone new undone had was back =
+        back ∙ (λ i. record (generation_put i) { profiles = without_added (generation_put i) (same_again i) n ((was ∙ ap (current_of old) same) i) })
+        ∙ ap (λ m. record old { profiles = m }) (taken (finite.get old.profiles owned) refl new (switched added current) refl)

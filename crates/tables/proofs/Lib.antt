@@ -17,6 +17,7 @@ pub mod Lasting
 pub mod Lists
 pub mod Made
 pub mod NumbersLeft
+pub mod Outlined
 pub mod Parts
 pub mod Passed
 pub mod ProfileRows

@@ -1,10 +1,11 @@
 -- What rows that go with some objects make of the world.
-use Rattle.std.proofs.Common.{◌≡◌, ℕ, List, [], ◌∷◌, ◌++◌, Bool, true, false, ◌||◌, not, cond, Some, None, Option, option_map, is_some, refl, sym, ap, subst, ◌∙◌, IsTrue}
+use Rattle.std.proofs.Common.{◌≡◌, ℕ, List, [], ◌∷◌, ◌++◌, Bool, true, false, ◌||◌, not, cond, Some, None, Option, option_map, is_some, length, refl, sym, ap, subst, ◌∙◌, IsTrue}
 use Rattle.std.specs.declared.cmp.Ordering.{Ordering}
 use Rattle.std.specs.Prelude.{ℤ}
 use Rattle.std.specs.Cmp.{IsTotalOrder, int_cmp_total}
 use Rattle.std.specs.FinMap as finite
 use Rattle.std.proofs.lemmas.Bool.{false≢true}
+use Rattle.std.proofs.lemmas.List.{nil_from_length}
 use Rattle.sha2.specs.Sha256.{sha256}
 use Rattle.live.specs.Graph.{same, holds}
 use Rattle.tables_sql.proofs.Orders.{numbered_total, numbered_antisymmetric}
@@ -48,6 +49,10 @@ without_none c = λ i. record c {
   outs = none_gone pair_total pair_antisymmetric (λ (k : Path × Path). k.0) c.outs i;
   pieces = none_gone numbered_total numbered_antisymmetric (λ (k : Path × ℤ). k.0) c.pieces i;
 }
+
+-- no path makes no change
+pub none_removed : (ps : List Path) → length ps ≡ 0 → ◌≡◌ {A = Contents → Contents} (λ c. c) (without_objects ps)
+none_removed ps none = (λ i c. sym (without_none c) i) ∙ ap {B = Contents → Contents} without_objects (sym (nil_from_length ps none))
 
 pub without_next : (p : Path) (ps : List Path) (c : Contents) → without_objects ps (without_object p c) ≡ without_objects (p ∷ ps) c
 without_next p ps c = λ i. record c {

@@ -1,3 +1,6 @@
+pub mod Causes
+pub mod Entries
+pub mod Frames
 pub mod InTheWay
 pub mod Kept
 pub mod Opened

@@ -41,9 +41,9 @@ abbrev pub put_pairs : List Pair → PairSet → PairSet
 put_pairs [] m = m
 put_pairs (p ∷ ps) m = put_pairs ps (finite.insert m p tt)
 
--- the rows of a profile with a generation more, which is current
-abbrev pub add_generation : world.Pair → ℕ → Path → Contents → Contents
-add_generation owned n t c = record c { profiles = finite.insert c.profiles owned (pos n); generations = finite.insert c.generations (owned.0, owned.1, pos n) t }
+-- the rows of a profile with a generation more, and with this current number
+abbrev pub add_generation : world.Pair → ℕ → Path → ℕ → Contents → Contents
+add_generation owned n t current c = record c { profiles = finite.insert c.profiles owned (pos current); generations = finite.insert c.generations (owned.0, owned.1, pos n) t }
 
 -- the rows without those of one path's object
 abbrev pub without_object : Path → Contents → Contents

@@ -1,7 +1,7 @@
 //! Profiles are set, switched and lose generations, one transaction a call. That the world is sound then is the caller's condition. A
 //! call fails when it runs out of memory, for a row too large, or for a fault of the disk, and then nothing has changed.
 
-ghost use Rattle.std.specs.Prelude.{◌≡◌, IsTrue, None, OnOk, OnErr};
+ghost use Rattle.std.specs.Prelude.{◌≡◌, IfNone, IfSome, IsTrue, None, OnOk, OnErr, option_map};
 ghost use Rattle.std.specs.FinMap as finite;
 ghost use Rattle.sqlite.specs.State.{HasCleanDisk, Survives};
 ghost use Rattle.sqlite.specs.Held.{state};
@@ -10,6 +10,8 @@ ghost use Rattle.model.specs.World.{World};
 ghost use Rattle.model.specs.Profiles.{profile_at, number_for, put_at, set_to, switched, without_generation};
 ghost use Rattle.model.specs.Sound.{IsSound};
 ghost use Rattle.tables_outline.specs.Outline.{profile_of};
+ghost use Rattle.tables.specs.Entries.{with_numbers};
+ghost use Rattle.tables.specs.Frames.{CommitsChange, StaysSound};
 ghost use Rattle.tables.specs.Kept.{Tells, LeavesWorld};
 ghost use Rattle.tables.specs.Others.{KeepsOthers};
 
@@ -22,34 +24,61 @@ use sqlite::Alter;
 use tables_sql::failure::Failure;
 
 impl<S: Alter> Tables<S> {
-    /// Puts a path at a number that a profile hasn't, which becomes current. The profile is made if it isn't there.
-    pub fn put_generation(
+    /// Makes a number the current one of a profile, and puts a path at a number that it hasn't, if they are given. With them the
+    /// profile is made if it isn't there.
+    pub fn put_profile(
+        &mut self,
+        owner: &str,
+        name: &str,
+        generation: Option<(u32, &StorePath)>,
+        current: u32,
+    ) -> Result<(), Failure>
+        requires new { IfSome generation (λ e.
+            finite.get (profile_of self.old.outline (owner.now, name.now)).generations e.0 ≡ None) }
+        requires there { IfNone generation
+            (IsTrue (finite.contains_key self.old.outline.profiles (owner.now, name.now))) }
+        requires sound { StaysSound S.Store self.old
+            (with_numbers (owner.now, name.now) (option_map (λ e. (e.0, e.1.now)) generation) current) }
+        ensures { CommitsChange S.Store self.old self.new result
+            (with_numbers (owner.now, name.now) (option_map (λ e. (e.0, e.1.now)) generation.entry) current) }
+    {
+        match generation {
+            Some((number, target)) => self.put_generation(owner, name, number, target, current),
+            None => self.switch_generation(owner, name, current),
+        }
+    }
+
+    /// Puts a path at a number that a profile hasn't, and makes a number current. The profile is made if it isn't there.
+    pub(crate) fn put_generation(
         &mut self,
         owner: &str,
         name: &str,
         number: u32,
         target: &StorePath,
+        current: u32,
     ) -> Result<(), Failure>
         requires new { finite.get (profile_of self.old.outline (owner.now, name.now)).generations number ≡ None }
-        requires sound { (w : World) → Tells S.Store self.old w → IsSound self.old.dir (record w { profiles = finite.insert w.profiles (owner.now, name.now) (put_at (profile_at w (owner.now, name.now)) number target.now) }) }
+        requires sound { (w : World) → Tells S.Store self.old w → IsSound self.old.dir (record w { profiles = finite.insert w.profiles (owner.now, name.now) (switched (put_at (profile_at w (owner.now, name.now)) number target.now) current) }) }
         ensures dir { self.new.dir ≡ self.old.dir }
-        ensures done { OnOk result ((w : World) → Tells S.Store self.old w → Tells S.Store self.new (record w { profiles = finite.insert w.profiles (owner.now, name.now) (put_at (profile_at w (owner.now, name.now)) number target.now) })) }
+        ensures done { OnOk result ((w : World) → Tells S.Store self.old w → Tells S.Store self.new (record w { profiles = finite.insert w.profiles (owner.now, name.now) (switched (put_at (profile_at w (owner.now, name.now)) number target.now) current) })) }
         ensures others { HasCleanDisk (state S.Store self.new.connection) → OnOk result (KeepsOthers (state S.Store self.old.connection).now (state S.Store self.new.connection).now) }
         ensures failed { OnErr result ((w : World) → Tells S.Store self.old w → Tells S.Store self.new w) }
         ensures durable { OnOk result (IsTrue (state S.Store self.new.connection).is_open → IsDurable (state S.Store self.new.connection)) }
         ensures was_open { HasCleanDisk (state S.Store self.new.connection) → OnOk result (IsTrue (state S.Store self.old.connection).is_open × IsTrue (state S.Store self.new.connection).is_open) }
         ensures survives { (w : World) → Tells S.Store self.old w → Survives (state S.Store self.old.connection) (state S.Store self.new.connection)
-            (λ db. LeavesWorld self.old.dir (state S.Store self.old.connection).now db (record w { profiles = finite.insert w.profiles (owner.now, name.now) (put_at (profile_at w (owner.now, name.now)) number target.now) })) }
+            (λ db. LeavesWorld self.old.dir (state S.Store self.old.connection).now db (record w { profiles = finite.insert w.profiles (owner.now, name.now) (switched (put_at (profile_at w (owner.now, name.now)) number target.now) current) })) }
     {
         let key = owned(self.alloc, owner, name)?;
         let again = owned(self.alloc, owner, name)?;
         let value = target.clone()?;
         let had = self.index.put_generation(self.alloc, key, number, value)?;
+        self.index.switch_generation(&again, current);
         let put = AddGeneration {
             owner,
             name,
             number,
             target: target.as_str(),
+            current,
         };
         match change::commit(&mut self.connection, &put) {
             Ok(()) => Ok(()),
@@ -62,7 +91,7 @@ impl<S: Alter> Tables<S> {
 
     /// Sets a profile to a path, whose number in it is given: the highest generation becomes current if it is the path's, else a new
     /// one is made and becomes current. The profile is made if it isn't there.
-    pub fn put_profile(
+    pub fn set_profile(
         &mut self,
         owner: &str,
         name: &str,
@@ -84,7 +113,7 @@ impl<S: Alter> Tables<S> {
         if self.index.has_generation(&key, number) {
             self.switch_generation(owner, name, number)
         } else {
-            self.put_generation(owner, name, number, target)
+            self.put_generation(owner, name, number, target, number)
         }
     }
 

@@ -6,10 +6,12 @@ mod beside;
 mod change;
 mod cutting;
 mod earlier;
+mod entries;
 mod files;
 mod generations;
 mod keeping;
 mod laws;
+mod named_roots;
 mod objects;
 mod opening;
 mod permanent;
@@ -28,7 +30,16 @@ mod texts;
 mod user_roots;
 
 pub use adopting::adopt;
+pub use entries::{Object, Snapshot};
 pub use files::open;
 pub use keeping::Tables;
 pub use laws::{no_store_is_the_rest, open_tables_have_a_world};
+pub use named_roots::RootName;
 pub use refusing::{Cause, Unadopted, Unopened};
+
+// What callers name besides, so that they need no library but this one and `paths`.
+pub use sqlite::{Alter, Connection, MemStore, Start, Unknown};
+pub use streams::Pieces;
+pub use tables_listing::{Kind, Root};
+pub use tables_outline::{Index, Profile, Summary};
+pub use tables_sql::failure::Failure;

@@ -73,13 +73,14 @@ impl<'a> Change for DropGeneration<'a> {
     }
 }
 
-/// A profile gets a generation that it hadn't, which becomes current. It is made if it isn't there.
+/// A profile gets a generation that it hadn't, and a current number. It is made if it isn't there.
 #[derive(Drop)]
 pub(crate) struct AddGeneration<'a> {
     pub(crate) owner: &'a str,
     pub(crate) name: &'a str,
     pub(crate) number: u32,
     pub(crate) target: &'a str,
+    pub(crate) current: u32,
 }
 
 impl<'a> Change for AddGeneration<'a> {
@@ -87,12 +88,12 @@ impl<'a> Change for AddGeneration<'a> {
     ghost use Rattle.std.specs.FinMap as finite;
     ghost use Rattle.tables.specs.Rewritten.{add_generation};
 
-    ghost change = { λ p c. add_generation (p.owner.now, p.name.now) p.number p.target.now c };
+    ghost change = { λ p c. add_generation (p.owner.now, p.name.now) p.number p.target.now p.current c };
 
     ghost fits = { λ p c. ⊤ };
 
     fn write<S: Alter>(&self, tx: &mut Transaction<'_, S>) -> Result<(), Failure> {
-        put_current(tx, self.owner, self.name, self.number)?;
+        put_current(tx, self.owner, self.name, self.current)?;
         generations::insert(tx, self.owner, self.name, self.number, self.target)
     }
 }

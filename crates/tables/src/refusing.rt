@@ -1,5 +1,8 @@
 //! Why a database isn't opened as a store.
 
+ghost use Rattle.std.specs.Prelude.{◌≡◌};
+ghost use Rattle.tables.specs.Causes.{cause_of};
+
 use sqlite::{Alter, Connection};
 use sqlite_disk::Disk;
 use tables_open::file;
@@ -25,10 +28,31 @@ pub struct Unadopted<S: Alter> {
     pub cause: Cause,
 }
 
-/// Why a file isn't opened as a store. `S` is the store of a connection, over files `D`.
+/// Why a file isn't opened as a store, and what is left of it. `cause` says why. `S` is the store of a connection, over files `D`.
 pub enum Unopened<S: Alter, D: Disk> {
     /// The file wasn't opened, or what it holds can't be read.
     File(file::Unopened<S, D>),
     /// What it holds isn't opened as a store.
     Store(Unadopted<S>),
+}
+
+impl<S: Alter, D: Disk> Unopened<S, D> {
+    /// Why the file isn't opened as a store. What isn't a database is no store: `BadSchema`.
+    pub fn cause(&self) -> Cause
+        ensures { result ≡ cause_of self.now }
+    {
+        match self {
+            Unopened::File(
+                file::Unopened::Refused {
+                    failure,
+                    left: _left,
+                },
+            ) => match failure {
+                Some(failure) => Cause::Failed(*failure),
+                None => Cause::BadSchema,
+            },
+            Unopened::File(file::Unopened::Untold(untold)) => Cause::Failed(untold.failure),
+            Unopened::Store(unadopted) => unadopted.cause,
+        }
+    }
 }

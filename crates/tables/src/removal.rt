@@ -8,12 +8,15 @@ ghost use Rattle.live.specs.Graph.{holds};
 ghost use Rattle.tables_schema.specs.Forms.{piece};
 ghost use Rattle.tables_sql.specs.Calls.{IsUnderWay, HasFurther, Changes};
 ghost use Rattle.tables_sql.specs.Contents.{contents_of};
+ghost use Rattle.tables.specs.Frames.{CommitsRows, MayCommit};
 ghost use Rattle.tables.specs.Rewritten.{Covers, without_object, without_objects};
 
 use crate::beside::{delete_outputs, delete_pieces, delete_references};
+use crate::change;
 use crate::change::Change;
 use paths::StorePath;
-use sqlite::{Alter, Transaction};
+use sqlite::{Alter, Connection, Transaction};
+use std::alloc::Global;
 use tables_outline::Index;
 use tables_rows::objects;
 use tables_sql::failure::Failure;
@@ -92,5 +95,42 @@ impl<'a> Change for RemoveObjects<'a> {
     fn write<S: Alter>(&self, tx: &mut Transaction<'_, S>) -> Result<(), Failure> {
         delete_object(tx, self.index, self.first)?;
         delete_objects(tx, self.index, self.rest)
+    }
+}
+
+/// No object goes. An object that isn't there is asked for, which succeeds only over an open connection.
+#[derive(Drop)]
+pub(crate) struct RemoveNone {
+    pub(crate) alloc: Global,
+}
+
+impl Change for RemoveNone {
+    ghost use Rattle.std.specs.Prelude.{⊤};
+
+    ghost change = { λ o c. c };
+
+    ghost fits = { λ o c. ⊤ };
+
+    fn write<S: Alter>(&self, tx: &mut Transaction<'_, S>) -> Result<(), Failure> {
+        let _none = objects::get_within(self.alloc, tx, "")?;
+        Ok(())
+    }
+}
+
+/// Removes the rows of some objects in one transaction. The index is that of the rows before.
+pub(crate) fn delete_rows<S: Alter>(
+    alloc: Global,
+    conn: &mut Connection<S>,
+    index: &Index,
+    paths: &[StorePath],
+) -> Result<(), Failure>
+    requires frame { MayCommit S.Store conn.old }
+    requires covers { HasCleanDisk (state S.Store conn.old) → IsTrue (state S.Store conn.old).is_open
+        → Covers index.now (contents_of (state S.Store conn.old).now) }
+    ensures { CommitsRows S.Store conn.old conn.new result (without_objects paths.now) }
+{
+    match paths.split_first() {
+        Some((first, rest)) => change::commit(conn, &RemoveObjects { index, first, rest }),
+        None => change::commit(conn, &RemoveNone { alloc }),
     }
 }

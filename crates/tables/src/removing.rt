@@ -1,6 +1,6 @@
 //! Objects are removed, one transaction a call.
 
-ghost use Rattle.std.specs.Prelude.{◌≡◌, ◌<◌, IsTrue, OnOk, OnErr, length, not};
+ghost use Rattle.std.specs.Prelude.{◌≡◌, IsTrue, OnOk, OnErr, not};
 ghost use Rattle.std.specs.FinMap as finite;
 ghost use Rattle.sqlite.specs.State.{HasCleanDisk, Survives};
 ghost use Rattle.sqlite.specs.Held.{state};
@@ -11,22 +11,20 @@ ghost use Rattle.model.specs.Sound.{IsSound};
 ghost use Rattle.tables.specs.Kept.{Tells, LeavesWorld};
 ghost use Rattle.tables.specs.Others.{KeepsOthers};
 
-use crate::change;
 use crate::keeping::Tables;
-use crate::removal::{RemoveObjects, remove_all};
+use crate::removal::{delete_rows, remove_all};
 use paths::StorePath;
 use sqlite::Alter;
 use tables_sql::failure::Failure;
 
 impl<S: Alter> Tables<S> {
-    /// Removes the objects of these paths, those that are there; one path at least is given. That the world is sound then is the
-    /// caller's condition: what stays refers to none of them, and no root is on one.
+    /// Removes the objects of these paths, those that are there. That the world is sound then is the caller's condition: what stays
+    /// refers to none of them, and no root is on one.
     ///
     /// # Errors
     ///
     /// Memory was refused or the disk failed, and then nothing has changed.
     pub fn remove_objects(&mut self, paths: &[StorePath]) -> Result<(), Failure>
-        requires some { 0 < length paths.now }
         requires sound { (w : World) → Tells S.Store self.old w → IsSound self.old.dir (record w { objects = finite.retain_keys w.objects (λ p. not (holds paths.now p)) }) }
         ensures dir { self.new.dir ≡ self.old.dir }
         ensures done { OnOk result ((w : World) → Tells S.Store self.old w → Tells S.Store self.new (record w { objects = finite.retain_keys w.objects (λ p. not (holds paths.now p)) })) }
@@ -37,15 +35,7 @@ impl<S: Alter> Tables<S> {
         ensures survives { (w : World) → Tells S.Store self.old w → Survives (state S.Store self.old.connection) (state S.Store self.new.connection)
             (λ db. LeavesWorld self.old.dir (state S.Store self.old.connection).now db (record w { objects = finite.retain_keys w.objects (λ p. not (holds paths.now p)) })) }
     {
-        let Some((first, rest)) = paths.split_first() else {
-            unreachable!()
-        };
-        let removal = RemoveObjects {
-            index: &self.index,
-            first,
-            rest,
-        };
-        match change::commit(&mut self.connection, &removal) {
+        match delete_rows(self.alloc, &mut self.connection, &self.index, paths) {
             Ok(()) => {
                 remove_all(&mut self.index, paths);
                 Ok(())

@@ -8,9 +8,9 @@ use Rattle.live.specs.Keeping.{keep_view}
 use Rattle.live.specs.Numbering.{path_at}
 use Rattle.live.specs.declared.numbered.rows.Row.{Row as Handed}
 use Rattle.model.specs.World.{roots_of}
-use Rattle.store_removal.specs.Rooted.{rooted}
+use Rattle.tables_listing.specs.Rooted.{rooted}
 use Rattle.store_removal.specs.Sizes.{size_in}
-use Rattle.store_removal.specs.View.{root_view}
+use Rattle.tables_listing.specs.View.{root_view}
 use Rattle.store_removal.proofs.Limited.{limited_told, sized}
 use Rattle.store_removal.proofs.Marked.{handed_rise, valid_rise, valid_targets}
 use Rattle.store_removal.proofs.Valid.{aims_well}

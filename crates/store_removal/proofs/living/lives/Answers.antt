@@ -5,8 +5,8 @@ use Rattle.std.proofs.lemmas.Result.{IfOk-weaker}
 use Rattle.live.specs.Handed.{roots_view, row_view, rows_view}
 use Rattle.live.specs.Keeping.{keep_view}
 use Rattle.model.specs.World.{roots_of}
-use Rattle.store_removal.specs.Rooted.{rooted}
-use Rattle.store_removal.specs.View.{root_view}
+use Rattle.tables_listing.specs.Rooted.{rooted}
+use Rattle.tables_listing.specs.View.{root_view}
 use Rattle.store_removal.proofs.Marked.{handed_rise, lives_marked, valid_rise, valid_targets}
 use Rattle.store_removal.proofs.Valid.{aims_well}
 use Rattle.store_removal.proofs.living.lives.Goals as goal

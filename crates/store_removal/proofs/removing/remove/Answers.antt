@@ -1,5 +1,4 @@
-use Rattle.std.proofs.Common.{◌<◌, List, Result, length, refl, sym, ap, subst, ◌∙◌}
-use Rattle.model.specs.World.{Path}
+use Rattle.std.proofs.Common.{Result, refl, sym, ap, subst, ◌∙◌}
 use Rattle.store_types.specs.declared.replies.Answer.{Answer}
 use Rattle.store_types.specs.declared.replies.Answer.TheVariants.{Freed}
 use Rattle.store_types.specs.declared.replies.Stop.{Stop}
@@ -15,13 +14,10 @@ returns-then-is_nothing g c s caller q removes =
     met_by_none g.S.Store s caller q c.args.tables.now gone.paths.items gone.bytes (Freed gone.paths gone.bytes) refl removes
     (sym c.deref.ensures.value ∙ c.is_nothing.ensures.none c.if-is_nothing.true)
 
-pub remove_objects-requires-clause-some : goal.remove_objects-requires-clause-some
-remove_objects-requires-clause-some g c =
-    subst (λ (l : List Path). 0 < length l) (c.deref.ensures.value ∙ sym c.deref-2.ensures.value) (c.is_nothing.ensures.some c.if-is_nothing.false)
-
-pub remove_objects-requires-clause-sound : goal.remove_objects-requires-clause-sound
-remove_objects-requires-clause-sound g c =
-    sound_as g.S.Store c.args.tables.now (λ w. without w c.deref-2.result.now) (λ w. without w c.args.gone.paths.items) (λ w t. ap (without w) c.deref-2.ensures.value) c.requires
+pub remove_objects-requires : goal.remove_objects-requires
+remove_objects-requires g c = record {
+  sound = sound_as g.S.Store c.args.tables.now (λ w. without w c.deref-2.result.now) (λ w. without w c.args.gone.paths.items) (λ w t. ap (without w) c.deref-2.ensures.value) c.requires;
+}
 
 pub returns : goal.returns
 returns g c s caller q removes =

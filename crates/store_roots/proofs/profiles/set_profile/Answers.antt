@@ -15,14 +15,14 @@ use Rattle.store_roots.proofs.ProfileChanges.{same_owned, changed_as}
 use Rattle.store_steps.proofs.Fits.{no_settings, profile_fits}
 use Rattle.store_roots.proofs.profiles.set_profile.Goals as goal
 
-pub put_profile-requires-clause-number : goal.put_profile-requires-clause-number
-put_profile-requires-clause-number g c =
+pub set_profile-requires-clause-number : goal.set_profile-requires-clause-number
+set_profile-requires-clause-number g c =
     c.in-Ok.ensures.number
     ∙ ap₂ (λ (o : Outline) (p : Pair). number_for (profile_of o p) c.args.path) c.index.ensures
     (sym (same_owned (string_bytes c.args.owned.0) (string_bytes c.args.owned.1) c.as_str.result.now c.as_str-in-Ok.result.now c.as_str.ensures.value c.as_str-in-Ok.ensures.value))
 
-pub put_profile-requires-clause-sound : goal.put_profile-requires-clause-sound
-put_profile-requires-clause-sound g c =
+pub set_profile-requires-clause-sound : goal.set_profile-requires-clause-sound
+set_profile-requires-clause-sound g c =
     let owner = string_bytes c.args.owned.0 in
     let name = string_bytes c.args.owned.1 in
     let owned : Pair = (c.as_str.result.now, c.as_str-in-Ok.result.now) in
@@ -36,12 +36,12 @@ returns-in-Ok g c s caller =
     let name = string_bytes c.args.owned.1 in
     let owned : Pair = (c.as_str.result.now, c.as_str-in-Ok.result.now) in
     let asked = set_profile owner name c.args.path in
-    subst (λ (r : Result Answer Stop). IsMet g.S.Store s caller asked r c.args.tables.now c.put_profile.new.self) (sym c.answered.ensures)
-    (met_by_writing g.S.Store s caller asked c.args.tables.now c.put_profile.new.self (λ w. with_profile w owned (set_to (profile_at w owned) c.args.path)) (Generation c.in-Ok.number)
+    subst (λ (r : Result Answer Stop). IsMet g.S.Store s caller asked r c.args.tables.now c.set_profile.new.self) (sym c.answered.ensures)
+    (met_by_writing g.S.Store s caller asked c.args.tables.now c.set_profile.new.self (λ w. with_profile w owned (set_to (profile_at w owned) c.args.path)) (Generation c.in-Ok.number)
     (λ w is. (c.in-Ok.ensures.told s w (is ∙ sym c.index.ensures)).0)
     (λ w is. ap generation (c.in-Ok.ensures.told s w (is ∙ sym c.index.ensures)).1)
     (λ w is. changed_as owner name c.as_str.result.now c.as_str-in-Ok.result.now c.as_str.ensures.value c.as_str-in-Ok.ensures.value (λ p. set_to p c.args.path) w)
-    c.put_profile.ensures.dir c.put_profile.ensures.survives c.put_profile.result c.put_profile.ensures.done c.put_profile.ensures.failed c.put_profile.ensures.durable c.put_profile.ensures.was_open)
+    c.set_profile.ensures.dir c.set_profile.ensures.survives c.set_profile.result c.set_profile.ensures.done c.set_profile.ensures.failed c.set_profile.ensures.durable c.set_profile.ensures.was_open)
 
 pub returns : goal.returns
 returns g c s caller =

@@ -1,0 +1,10 @@
+use Rattle.sqlite.specs.Held.{state}
+use Rattle.tables_sql.proofs.Steps.{clean_before}
+use Rattle.tables_make.proofs.Steps.{changes_nothing}
+use Rattle.tables.proofs.removal.RemoveNoneChange.write.Goals as goal
+
+pub returns-clause-done : goal.returns-clause-done
+returns-clause-done g c clean =
+    let a = state g.S.Store c.args.tx.now.conn.now in
+    let b = state g.S.Store c.get_within.new.tx.conn.now in
+    changes_nothing a b (c.requires.under_way (clean_before a b _ c.get_within.ensures.frame.survives clean)) (c.in_ok-_none.ensures.reads clean).0

@@ -1,0 +1,21 @@
+-- Why a file isn't opened as a store.
+use Rattle.std.specs.Prelude.{Option}
+use Rattle.std.specs.Option.{option_map_or}
+use Rattle.sqlite_disk.specs.declared.Disk as disk
+use Rattle.tables_open.specs.declared.file.Unopened.{Unopened as NoFile}
+use Rattle.tables_open.specs.declared.file.Unopened.TheVariants as file
+use Rattle.tables.specs.declared.refusing.Cause.{Cause}
+use Rattle.tables.specs.declared.refusing.Cause.TheVariants.{BadSchema, Failed}
+use Rattle.tables.specs.declared.refusing.Unopened.{Unopened}
+use Rattle.tables.specs.declared.refusing.Unopened.TheVariants.{File, Store}
+
+module _ {S D : Type 0} {g : disk.Ghosts D} where
+  -- no connection was opened: what isn't a database is no store
+  abbrev pub file_cause : NoFile S D g → Cause
+  file_cause (file.Refused failure left) = option_map_or Failed failure BadSchema
+  file_cause (file.Untold it) = Failed it.failure
+
+  -- or one was, and it isn't opened as a store
+  abbrev pub cause_of : Unopened S D g → Cause
+  cause_of (File e) = file_cause e
+  cause_of (Store e) = e.cause

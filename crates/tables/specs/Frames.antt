@@ -1,0 +1,54 @@
+-- What each write requires of the tables, and what it promises of them, by the change that it makes of a world.
+use Rattle.std.specs.Prelude.{◌≡◌, false, Result, IsTrue, OnOk, OnErr}
+use Rattle.sqlite_trees.specs.declared.store.Store.{Ghosts}
+use Rattle.sqlite.specs.State.{HasCleanDisk, Survives}
+use Rattle.sqlite.specs.Held.{Held, state}
+use Rattle.tables_sql.specs.Contents.{Contents, contents_of}
+use Rattle.tables_sql.specs.Calls.{IsDurable, IsReady, IsWhole, KeepsShown, Leaves}
+use Rattle.model.specs.World.{World}
+use Rattle.model.specs.Sound.{IsSound}
+use Rattle.tables.specs.Kept.{Kept, Tells, IsWritten, LeavesWorld}
+use Rattle.tables.specs.Others.{KeepsOthers}
+
+module _ {S : Type 0} (g : Ghosts S) where
+  -- ---- a write of rows, over a connection
+
+  -- no transaction is under way, and unless a fault has shut the connection all of the store's tables are there and committed
+  pub record MayCommit (old : Held S) : Type 0 where
+    pub alone : old.in_transaction ≡ false
+    pub ready : HasCleanDisk (state g old) → IsTrue (state g old).is_open → IsReady (state g old)
+    pub whole : HasCleanDisk (state g old) → IsTrue (state g old).is_open → IsWhole (state g old).now
+
+  -- The change is committed in one transaction, or nothing is. It ends outside a transaction.
+  pub record CommitsRows {T E : Type 0} (old new : Held S) (result : Result T E) (change : Contents → Contents) : Type 0 where
+    pub alone : new.in_transaction ≡ false
+    pub done : HasCleanDisk (state g new) → OnOk result (IsWritten (state g old) (state g new) change)
+    pub others : HasCleanDisk (state g new) → OnOk result (KeepsOthers (state g old).now (state g new).now)
+    pub failed : HasCleanDisk (state g new) → OnErr result (KeepsShown (state g old) (state g new))
+    pub durable : OnOk result (IsTrue (state g new).is_open → IsDurable (state g new))
+    pub was_open : HasCleanDisk (state g new) → OnOk result (IsTrue (state g old).is_open × IsTrue (state g new).is_open)
+    pub survives : Survives (state g old) (state g new) (λ db. IsTrue (state g old).is_open × Leaves (state g old).now db (change (contents_of (state g old).now)))
+
+  -- ---- a write, over tables
+
+  -- the change leaves each world of the tables sound
+  abbrev pub StaysSound : Kept S → (World → World) → Type 0
+  StaysSound old change = (w : World) → Tells g old w → IsSound old.dir (change w)
+
+  -- The change is made in one transaction and in memory, or not at all.
+  pub record CommitsChange {T E : Type 0} (old new : Kept S) (result : Result T E) (change : World → World) : Type 0 where
+    -- the store directory stays
+    pub dir : new.dir ≡ old.dir
+    -- each world that the tables had is changed
+    pub done : OnOk result ((w : World) → Tells g old w → Tells g new (change w))
+    -- tables of other programs are as they were
+    pub others : HasCleanDisk (state g new.connection) → OnOk result (KeepsOthers (state g old.connection).now (state g new.connection).now)
+    -- a write that fails changes nothing
+    pub failed : OnErr result ((w : World) → Tells g old w → Tells g new w)
+    -- after one that is done, a crash leaves nothing else while the connection is open
+    pub durable : OnOk result (IsTrue (state g new.connection).is_open → IsDurable (state g new.connection))
+    -- once a fault has shut the connection, no write is done
+    pub was_open : HasCleanDisk (state g new.connection) → OnOk result (IsTrue (state g old.connection).is_open × IsTrue (state g new.connection).is_open)
+    -- a crash leaves what it could leave before, or sound rows of the changed world
+    pub survives : (w : World) → Tells g old w → Survives (state g old.connection) (state g new.connection)
+        (λ db. LeavesWorld old.dir (state g old.connection).now db (change w))

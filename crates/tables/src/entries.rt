@@ -1,0 +1,120 @@
+//! What the tables hold, as a caller asks for it.
+
+ghost use Rattle.std.specs.Prelude.{◌≡◌, IfOk, IsTrue, is_some, map, option_map};
+ghost use Rattle.std.specs.FinMap as finite;
+ghost use Rattle.sqlite.specs.State.{HasCleanDisk, Survives};
+ghost use Rattle.sqlite.specs.Held.{state};
+ghost use Rattle.tables_sql.specs.Calls.{KeepsShown};
+ghost use Rattle.model.specs.World.{World, roots_of};
+ghost use Rattle.tables_outline.specs.Index.{profile_view};
+ghost use Rattle.tables_outline.specs.Outline.{outlined};
+ghost use Rattle.tables_listing.specs.View.{root_view};
+ghost use Rattle.tables.specs.Entries.{object_view};
+ghost use Rattle.tables.specs.Kept.{Tells};
+
+use crate::keeping::Tables;
+use crate::user_roots::owned;
+use paths::StorePath;
+use sqlite::Alter;
+use std::alloc::{AllocError, Global};
+use std::collections::BTreeMap;
+use streams::Pieces;
+use tables_listing::{Root, root_list};
+use tables_outline::{Profile, Summary};
+use tables_sql::failure::Failure;
+
+/// An object: its archive, and all else that is known of it.
+#[derive(Drop)]
+pub struct Object {
+    /// The bytes of the archive.
+    pub nar: Pieces,
+    /// Its references, deriver, content address and outputs, and the size and the SHA-256 of the archive.
+    pub summary: Summary,
+}
+
+/// All objects and roots.
+#[derive(Drop)]
+pub struct Snapshot<'a> {
+    /// Each object but the bytes of its archive, by its path, in order. They are lent.
+    pub objects: &'a BTreeMap<StorePath, Summary>,
+    /// Each root, in the order of roots.
+    pub roots: Vec<Root>,
+}
+
+/// A path that is kept, if there is one.
+fn copied_path(path: Option<&StorePath>) -> Result<Option<StorePath>, AllocError>
+    ensures { IfOk result (λ copy. copy ≡ option_map (λ q. q.now) path.entry) }
+{
+    match path {
+        Some(path) => Ok(Some(path.clone()?)),
+        None => Ok(None),
+    }
+}
+
+/// A summary that is kept.
+fn copied(alloc: Global, object: &Summary) -> Result<Summary, AllocError>
+    ensures { IfOk result (λ copy. copy ≡ object.now) }
+{
+    let references = object.references().to_vec(alloc)?;
+    let deriver = copied_path(object.deriver())?;
+    let names = object.names().to_vec(alloc)?;
+    let outputs = object.outputs().to_vec(alloc)?;
+    Ok(Summary::new(
+        object.size(),
+        *object.hash(),
+        references,
+        deriver,
+        object.ca(),
+        names,
+        outputs,
+    ))
+}
+
+impl<S: Alter> Tables<S> {
+    /// All objects and roots. The only error is that memory was refused.
+    pub fn snapshot(&self) -> Result<Snapshot<'_>, AllocError>
+        ensures objects { IfOk result (λ it. (w : World) → Tells S.Store self.now w
+            → it.objects.now.entries ≡ map (λ e. (e.0, outlined e.1)) (finite.entries w.objects)) }
+        ensures roots { IfOk result (λ it. (w : World) → Tells S.Store self.now w
+            → map root_view it.roots.items ≡ roots_of w) }
+    {
+        let roots = root_list(self.alloc, &self.index)?;
+        let objects = self.index.objects();
+        Ok(Snapshot { objects, roots })
+    }
+
+    /// The object of a path, if it has one. Its archive is read from the disk, the rest from memory. Nothing changes.
+    ///
+    /// # Errors
+    ///
+    /// Memory was refused or the disk failed.
+    pub fn object(&mut self, path: &StorePath) -> Result<Option<Object>, Failure>
+        ensures dir { self.new.dir ≡ self.old.dir }
+        ensures found { HasCleanDisk (state S.Store self.new.connection) → IfOk result (λ o. (w : World)
+            → Tells S.Store self.old w → option_map object_view o ≡ finite.get w.objects path.now) }
+        ensures same { (w : World) → Tells S.Store self.old w → Tells S.Store self.new w }
+        ensures was_open { HasCleanDisk (state S.Store self.new.connection) → IfOk result (λ o. IsTrue (is_some o)
+            → IsTrue (state S.Store self.old.connection).is_open × IsTrue (state S.Store self.new.connection).is_open) }
+        ensures shown { HasCleanDisk (state S.Store self.new.connection)
+            → KeepsShown (state S.Store self.old.connection) (state S.Store self.new.connection) }
+        ensures survives { Survives (state S.Store self.old.connection) (state S.Store self.new.connection) (λ _. ⊥) }
+    {
+        let Some(nar) = self.archive(path)? else {
+            return Ok(None);
+        };
+        let Some(object) = self.index.object(path) else {
+            return Ok(None);
+        };
+        let summary = copied(self.alloc, object)?;
+        Ok(Some(Object { nar, summary }))
+    }
+
+    /// The profile of an owner and a name, if there is one. The only error is that memory was refused.
+    pub fn profile(&self, owner: &str, name: &str) -> Result<Option<&Profile>, AllocError>
+        ensures { IfOk result (λ p. (w : World) → Tells S.Store self.now w
+            → option_map (λ q. profile_view q.now) p ≡ finite.get w.profiles (owner.now, name.now)) }
+    {
+        let key = owned(self.alloc, owner, name)?;
+        Ok(self.index.profile(&key))
+    }
+}

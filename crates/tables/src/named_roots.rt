@@ -1,0 +1,50 @@
+//! Permanent and user roots, put and dropped by their names.
+
+ghost use Rattle.tables.specs.Entries.{with_root, without_root};
+ghost use Rattle.tables.specs.Frames.{CommitsChange, StaysSound};
+
+use crate::keeping::Tables;
+use paths::StorePath;
+use sqlite::Alter;
+use tables_sql::failure::Failure;
+
+/// The name of a root that stays until it is dropped.
+#[derive(Clone, Copy)]
+pub enum RootName<'a> {
+    /// A permanent root, by its name.
+    Permanent(&'a str),
+    /// A root of a user, by its owner and its name.
+    User(&'a str, &'a str),
+}
+
+impl<S: Alter> Tables<S> {
+    /// Puts a root, whether one of this name was there or not. That the world is sound then is the caller's condition.
+    ///
+    /// # Errors
+    ///
+    /// Memory was refused, a row is too large, or the disk failed, and then nothing has changed.
+    pub fn put_root(&mut self, name: RootName<'_>, target: &StorePath) -> Result<(), Failure>
+        requires { StaysSound S.Store self.old (with_root name target.now) }
+        ensures { CommitsChange S.Store self.old self.new result (with_root name.entry target.now) }
+    {
+        match name {
+            RootName::Permanent(name) => self.put_permanent(name, target),
+            RootName::User(owner, name) => self.put_user_root(owner, name, target),
+        }
+    }
+
+    /// Drops a root, if it is there. That the world is sound then is the caller's condition.
+    ///
+    /// # Errors
+    ///
+    /// Memory was refused or the disk failed, and then nothing has changed.
+    pub fn drop_root(&mut self, name: RootName<'_>) -> Result<(), Failure>
+        requires { StaysSound S.Store self.old (without_root name) }
+        ensures { CommitsChange S.Store self.old self.new result (without_root name.entry) }
+    {
+        match name {
+            RootName::Permanent(name) => self.drop_permanent(name),
+            RootName::User(owner, name) => self.drop_user_root(owner, name),
+        }
+    }
+}

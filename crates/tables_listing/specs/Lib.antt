@@ -1,0 +1,3 @@
+pub mod Gaining
+pub mod Rooted
+pub mod View
