@@ -5,7 +5,8 @@ use Rattle.policy.specs.Caller.{Caller}
 use Rattle.model.specs.World.{World}
 use Rattle.policy.specs.declared.kinds.Rule.{Rule}
 use Rattle.model.specs.Request.{Request}
-use Rattle.model.specs.Reply.{Reply, done, denied, refused, Refusal}
+use Rattle.model.specs.Reply.{Reply, done, denied, refused}
+use Rattle.model.specs.declared.refusal.Refusal.{Refusal}
 use Rattle.model.specs.Verdict.{verdict, shown}
 use Rattle.model.specs.Tests.{refusal}
 use Rattle.model.specs.Effects.{effect}

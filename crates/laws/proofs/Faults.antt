@@ -10,7 +10,9 @@ use Rattle.policy.specs.Settings.{Settings}
 use Rattle.policy.specs.Caller.{Caller}
 use Rattle.model.specs.World.{Path, World, has}
 use Rattle.model.specs.Request.{Request, set_permanent, drop_permanent, set_user_root, drop_user_root, set_profile, rollback, switch, delete_generation, add_temp, end_session}
-use Rattle.model.specs.Reply.{Reply, Refusal, bad_root_name, bad_session, not_valid, no_profile, done, denied, refused, failed}
+use Rattle.model.specs.Reply.{Reply, done, denied, refused, failed}
+use Rattle.model.specs.declared.refusal.Refusal.{Refusal}
+use Rattle.model.specs.declared.refusal.Refusal.TheVariants.{BadRootName, BadSession, NotValid, NoProfile}
 use Rattle.model.specs.Profiles.{has_profile}
 use Rattle.model.specs.Tests.{unless, first_failing, refusal}
 use Rattle.model.specs.Step.{Step}
@@ -36,26 +38,26 @@ module _ (s : Settings) (w : World) (c : Caller) (owner : List ℕ) (session : �
   kept_for p e = by (is_plain_name owner) (is_session session) (has w p) refl refl refl e
     where
       by : (a b d : Bool) → is_plain_name owner ≡ a → is_session session ≡ b → has w p ≡ d
-          → first_failing (unless a bad_root_name ∷ unless b bad_session ∷ unless d not_valid ∷ []) ≡ None → IsSessionOf owner session × IsTrue (has w p)
+          → first_failing (unless a BadRootName ∷ unless b BadSession ∷ unless d NotValid ∷ []) ≡ None → IsSessionOf owner session × IsTrue (has w p)
       by true true true x y z h = (record { owner_ = x; number = in_bounds session y }, z)
       by false b d x y z h = absurd (false≢true (sym (ap is_some h)))
       by true false d x y z h = absurd (false≢true (sym (ap is_some h)))
       by true true false x y z h = absurd (false≢true (sym (ap is_some h)))
 
-  not_kept_for : (p : Path) (r : Refusal) → refusal s w (add_temp owner session p) ≡ Some r → SessionFault owner session r ⊎ (IsSessionOf owner session × IsFalse (has w p) × (r ≡ not_valid))
+  not_kept_for : (p : Path) (r : Refusal) → refusal s w (add_temp owner session p) ≡ Some r → SessionFault owner session r ⊎ (IsSessionOf owner session × IsFalse (has w p) × (r ≡ NotValid))
   not_kept_for p r e = by (is_plain_name owner) (is_session session) (has w p) refl refl refl e
     where
       by : (a b d : Bool) → is_plain_name owner ≡ a → is_session session ≡ b → has w p ≡ d
-          → first_failing (unless a bad_root_name ∷ unless b bad_session ∷ unless d not_valid ∷ []) ≡ Some r → SessionFault owner session r ⊎ (IsSessionOf owner session × IsFalse (has w p) × (r ≡ not_valid))
+          → first_failing (unless a BadRootName ∷ unless b BadSession ∷ unless d NotValid ∷ []) ≡ Some r → SessionFault owner session r ⊎ (IsSessionOf owner session × IsFalse (has w p) × (r ≡ NotValid))
       by true true true x y z h = absurd (false≢true (ap is_some h))
-      by false b d x y z h = inl (owner_ x (some_is bad_root_name r h))
-      by true false d x y z h = inl (number x (out_of_bounds session y) (some_is bad_session r h))
-      by true true false x y z h = inr (record { owner_ = x; number = in_bounds session y }, z, some_is not_valid r h)
+      by false b d x y z h = inl (owner_ x (some_is BadRootName r h))
+      by true false d x y z h = inl (number x (out_of_bounds session y) (some_is BadSession r h))
+      by true true false x y z h = inr (record { owner_ = x; number = in_bounds session y }, z, some_is NotValid r h)
 
   ended : refusal s w (end_session owner session) ≡ None → IsSessionOf owner session
   ended e = by (is_plain_name owner) (is_session session) refl refl e
     where
-      by : (a b : Bool) → is_plain_name owner ≡ a → is_session session ≡ b → first_failing (unless a bad_root_name ∷ unless b bad_session ∷ []) ≡ None → IsSessionOf owner session
+      by : (a b : Bool) → is_plain_name owner ≡ a → is_session session ≡ b → first_failing (unless a BadRootName ∷ unless b BadSession ∷ []) ≡ None → IsSessionOf owner session
       by true true x y h = record { owner_ = x; number = in_bounds session y }
       by false b x y h = absurd (false≢true (sym (ap is_some h)))
       by true false x y h = absurd (false≢true (sym (ap is_some h)))
@@ -63,10 +65,10 @@ module _ (s : Settings) (w : World) (c : Caller) (owner : List ℕ) (session : �
   not_ended : (r : Refusal) → refusal s w (end_session owner session) ≡ Some r → SessionFault owner session r
   not_ended r e = by (is_plain_name owner) (is_session session) refl refl e
     where
-      by : (a b : Bool) → is_plain_name owner ≡ a → is_session session ≡ b → first_failing (unless a bad_root_name ∷ unless b bad_session ∷ []) ≡ Some r → SessionFault owner session r
+      by : (a b : Bool) → is_plain_name owner ≡ a → is_session session ≡ b → first_failing (unless a BadRootName ∷ unless b BadSession ∷ []) ≡ Some r → SessionFault owner session r
       by true true x y h = absurd (false≢true (ap is_some h))
-      by false b x y h = owner_ x (some_is bad_root_name r h)
-      by true false x y h = number x (out_of_bounds session y) (some_is bad_session r h)
+      by false b x y h = owner_ x (some_is BadRootName r h)
+      by true false x y h = number x (out_of_bounds session y) (some_is BadSession r h)
 
 pub session_faults_are_told : SessionFaultsAreTold
 session_faults_are_told s w c owner session = (
@@ -101,38 +103,38 @@ refused_with s w c q r e (done a) new h = absurd (false≢true (ap is_some (sym 
 refused_with s w c q r e (denied rule root) new h = tt
 refused_with s w c q r e (failed f) new h = tt
 
-bad_name : (s : Settings) (w : World) (q : Request) → HasBadName q → refusal s w q ≡ Some bad_root_name
-bad_name s w (set_permanent name p) h = first_fails (is_plain_name name) bad_root_name _ h
-bad_name s w (drop_permanent name) h = first_fails (is_plain_name name) bad_root_name _ h
-bad_name s w (set_user_root owner name p) h = first_fails (is_plain_name owner && is_plain_name name) bad_root_name _ (one_bad (is_plain_name owner) (is_plain_name name) h)
-bad_name s w (drop_user_root owner name) h = first_fails (is_plain_name owner && is_plain_name name) bad_root_name _ (one_bad (is_plain_name owner) (is_plain_name name) h)
-bad_name s w (set_profile owner name p) h = first_fails (is_plain_name owner && is_plain_name name) bad_root_name _ (one_bad (is_plain_name owner) (is_plain_name name) h)
-bad_name s w (rollback owner name) h = first_fails (is_plain_name owner && is_plain_name name) bad_root_name _ (one_bad (is_plain_name owner) (is_plain_name name) h)
-bad_name s w (switch owner name n) h = first_fails (is_plain_name owner && is_plain_name name) bad_root_name _ (one_bad (is_plain_name owner) (is_plain_name name) h)
-bad_name s w (delete_generation owner name n) h = first_fails (is_plain_name owner && is_plain_name name) bad_root_name _ (one_bad (is_plain_name owner) (is_plain_name name) h)
-bad_name s w (add_temp owner session p) h = first_fails (is_plain_name owner) bad_root_name _ h
-bad_name s w (end_session owner session) h = first_fails (is_plain_name owner) bad_root_name _ h
+bad_name : (s : Settings) (w : World) (q : Request) → HasBadName q → refusal s w q ≡ Some BadRootName
+bad_name s w (set_permanent name p) h = first_fails (is_plain_name name) BadRootName _ h
+bad_name s w (drop_permanent name) h = first_fails (is_plain_name name) BadRootName _ h
+bad_name s w (set_user_root owner name p) h = first_fails (is_plain_name owner && is_plain_name name) BadRootName _ (one_bad (is_plain_name owner) (is_plain_name name) h)
+bad_name s w (drop_user_root owner name) h = first_fails (is_plain_name owner && is_plain_name name) BadRootName _ (one_bad (is_plain_name owner) (is_plain_name name) h)
+bad_name s w (set_profile owner name p) h = first_fails (is_plain_name owner && is_plain_name name) BadRootName _ (one_bad (is_plain_name owner) (is_plain_name name) h)
+bad_name s w (rollback owner name) h = first_fails (is_plain_name owner && is_plain_name name) BadRootName _ (one_bad (is_plain_name owner) (is_plain_name name) h)
+bad_name s w (switch owner name n) h = first_fails (is_plain_name owner && is_plain_name name) BadRootName _ (one_bad (is_plain_name owner) (is_plain_name name) h)
+bad_name s w (delete_generation owner name n) h = first_fails (is_plain_name owner && is_plain_name name) BadRootName _ (one_bad (is_plain_name owner) (is_plain_name name) h)
+bad_name s w (add_temp owner session p) h = first_fails (is_plain_name owner) BadRootName _ h
+bad_name s w (end_session owner session) h = first_fails (is_plain_name owner) BadRootName _ h
 bad_name s w _ h = absurd h
 
 pub names_come_first : NamesComeFirst
-names_come_first s w c q reply new h bad = refused_with s w c q bad_root_name (bad_name s w q bad) reply new h
+names_come_first s w c q reply new h bad = refused_with s w c q BadRootName (bad_name s w q bad) reply new h
 
-no_such : (s : Settings) (w : World) (q : Request) → LacksProfile w q → refusal s w q ≡ Some no_profile
+no_such : (s : Settings) (w : World) (q : Request) → LacksProfile w q → refusal s w q ≡ Some NoProfile
 no_such s w (rollback owner name) h =
-    second_fails (is_plain_name owner && is_plain_name name) (has_profile w (owner, name)) bad_root_name no_profile _ (and_from (is_plain_name owner) (is_plain_name name) h.owner_ h.name_) h.none
+    second_fails (is_plain_name owner && is_plain_name name) (has_profile w (owner, name)) BadRootName NoProfile _ (and_from (is_plain_name owner) (is_plain_name name) h.owner_ h.name_) h.none
 no_such s w (switch owner name n) h =
-    second_fails (is_plain_name owner && is_plain_name name) (has_profile w (owner, name)) bad_root_name no_profile _ (and_from (is_plain_name owner) (is_plain_name name) h.owner_ h.name_) h.none
+    second_fails (is_plain_name owner && is_plain_name name) (has_profile w (owner, name)) BadRootName NoProfile _ (and_from (is_plain_name owner) (is_plain_name name) h.owner_ h.name_) h.none
 no_such s w (delete_generation owner name n) h =
-    second_fails (is_plain_name owner && is_plain_name name) (has_profile w (owner, name)) bad_root_name no_profile _ (and_from (is_plain_name owner) (is_plain_name name) h.owner_ h.name_) h.none
+    second_fails (is_plain_name owner && is_plain_name name) (has_profile w (owner, name)) BadRootName NoProfile _ (and_from (is_plain_name owner) (is_plain_name name) h.owner_ h.name_) h.none
 no_such s w _ h = absurd h
 
 pub profiles_come_next : ProfilesComeNext
-profiles_come_next s w c q reply new h none = refused_with s w c q no_profile (no_such s w q none) reply new h
+profiles_come_next s w c q reply new h none = refused_with s w c q NoProfile (no_such s w q none) reply new h
 
 pub paths_come_before_numbers : PathsComeBeforeNumbers
 paths_come_before_numbers s w c owner name p reply new h plain_owner plain_name none =
-    refused_with s w c (set_profile owner name p) not_valid
-    (second_fails (is_plain_name owner && is_plain_name name) (has w p) bad_root_name not_valid _ (and_from (is_plain_name owner) (is_plain_name name) plain_owner plain_name) none) reply new h
+    refused_with s w c (set_profile owner name p) NotValid
+    (second_fails (is_plain_name owner && is_plain_name name) (has w p) BadRootName NotValid _ (and_from (is_plain_name owner) (is_plain_name name) plain_owner plain_name) none) reply new h
 
 -- ---- deletions
 

@@ -16,7 +16,8 @@ use Rattle.policy.specs.declared.kinds.Class.{Class}
 use Rattle.model.specs.World.{Path, Pair, World, roots_of}
 use Rattle.model.specs.Sound.{IsSound}
 use Rattle.model.specs.Request.{drop_permanent, drop_user_root}
-use Rattle.model.specs.Reply.{Answer, roots, bad_root_name}
+use Rattle.model.specs.Reply.{Answer, roots}
+use Rattle.model.specs.declared.refusal.Refusal.TheVariants.{BadRootName}
 use Rattle.model.specs.Seen.{plain, is_hidden, hidden_label, censored, same_pair, each_once, seen_root, seen}
 use Rattle.model.specs.Tests.{tests}
 use Rattle.laws.specs.RootsTold.{Shows}
@@ -151,7 +152,7 @@ dropped_labels_are_not_told s w c mid next sound = record {
       });
   user_ = λ owner name a h.
       let x = drops_user_roots s w c owner name a mid h in
-      let plain = and_parts (is_plain_name owner) (is_plain_name name) (met (is_plain_name owner && is_plain_name name) bad_root_name (each_passed (tests s w (drop_user_root owner name)) h.1 _ (0, omega arith, refl))) in
+      let plain = and_parts (is_plain_name owner) (is_plain_name name) (met (is_plain_name owner && is_plain_name name) BadRootName (each_passed (tests s w (drop_user_root owner name)) h.1 _ (0, omega arith, refl))) in
       no_more s mid next (user_label owner name) (record {
         apart = λ r m. user_free s.store_dir w sound owner name r ((user_gone s.store_dir w mid sound owner name plain.0 x.3 x.2 r).0 m);
         shown = λ l. apart_bytes 123 103 refl (ap first_byte l);

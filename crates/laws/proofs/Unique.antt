@@ -6,7 +6,8 @@ use Rattle.policy.specs.Settings.{Settings}
 use Rattle.policy.specs.Caller.{Caller}
 use Rattle.policy.specs.declared.kinds.Rule.{Rule}
 use Rattle.model.specs.Request.{Request}
-use Rattle.model.specs.Reply.{Reply, Refusal, done, denied, refused, failed}
+use Rattle.model.specs.Reply.{Reply, done, denied, refused, failed}
+use Rattle.model.specs.declared.refusal.Refusal.{Refusal}
 use Rattle.model.specs.Verdict.{verdict, shown}
 use Rattle.model.specs.Tests.{refusal}
 use Rattle.model.specs.Step.{Step, Run}

@@ -3,7 +3,6 @@ use Rattle.std.specs.Prelude.{◌≡◌, ℕ, ◌<◌, ◌≤◌, Bool, List, le
 use Rattle.std.specs.FinMap as finite
 use Rattle.sha2.specs.Sha256.{sha256}
 use Rattle.nar.specs.declared.error.NarError.{NarError}
-use Rattle.nar.specs.declared.error.NarError.TheVariants.{TooLarge}
 use Rattle.nar.specs.Tree.{Tree, regular}
 use Rattle.nar.specs.Archive.{limit}
 use Rattle.nar.specs.Outcome.{outcome_of}
@@ -19,7 +18,10 @@ use Rattle.model.specs.Objects.{most_references}
 use Rattle.policy.specs.Settings.{Settings}
 use Rattle.policy.specs.Caller.{Caller}
 use Rattle.model.specs.Request.{Imported, Request, add_text, add_source, import_object}
-use Rattle.model.specs.Reply.{Reply, Refusal, archive, ca_mismatch, derivation, missing_reference, self_reference, too_many_references}
+use Rattle.model.specs.Reply.{Reply}
+use Rattle.model.specs.declared.refusal.Refusal.{Refusal}
+use Rattle.model.specs.declared.refusal.Refusal.TheVariants.{TooLarge, CaMismatch, MissingReference, SelfReference, TooManyReferences}
+use Rattle.model.specs.Faults.{archive_refusal, derivation_refusal}
 use Rattle.model.specs.Adds.{text_archive}
 use Rattle.model.specs.Step.{Step}
 use Rattle.laws.specs.Faults.{IsRefusedWith}
@@ -48,26 +50,29 @@ IsRightTree dir p t = (e : DrvError) → IsTrue (is_derivation p) → IsFaultyTr
 -- Of a source: too many references; what is wrong with the archive; a reference to itself; what is wrong with a derivation; and a
 -- missing reference. Each is reported where nothing before it is wrong.
 pub record SourceFaults (s : Settings) (w : World) (c : Caller) (name : List ℕ) (refs : List Path) (b : List ℕ) : Type 0 where
-  pub count : most_references < length refs → Refuses s w c (add_source name refs b) too_many_references
-  pub archive_ : length refs ≤ most_references → (e : NarError) → outcome_of b ≡ Err e → Refuses s w c (add_source name refs b) (archive e)
+  pub count : most_references < length refs → Refuses s w c (add_source name refs b) TooManyReferences
+  pub archive_ : length refs ≤ most_references → (e : NarError) (r : Refusal) → outcome_of b ≡ Err e → archive_refusal e ≡ Some r
+      → Refuses s w c (add_source name refs b) r
   pub itself : length refs ≤ most_references → (t : Tree) → outcome_of b ≡ Ok t → Contains refs (source_path s.store_dir name refs b)
-      → Refuses s w c (add_source name refs b) self_reference
+      → Refuses s w c (add_source name refs b) SelfReference
   pub tree : length refs ≤ most_references → (t : Tree) → outcome_of b ≡ Ok t → (Contains refs (source_path s.store_dir name refs b) → ⊥)
-      → IsTrue (is_derivation (source_path s.store_dir name refs b)) → (e : DrvError) → IsFaultyTree s.store_dir t e → Refuses s w c (add_source name refs b) (derivation e)
+      → IsTrue (is_derivation (source_path s.store_dir name refs b)) → (e : DrvError) (r : Refusal) → IsFaultyTree s.store_dir t e → derivation_refusal e ≡ Some r
+      → Refuses s w c (add_source name refs b) r
   pub reference : length refs ≤ most_references → (t : Tree) → outcome_of b ≡ Ok t → (Contains refs (source_path s.store_dir name refs b) → ⊥)
-      → IsRightTree s.store_dir (source_path s.store_dir name refs b) t → Lacks w (source_path s.store_dir name refs b) refs → Refuses s w c (add_source name refs b) missing_reference
+      → IsRightTree s.store_dir (source_path s.store_dir name refs b) t → Lacks w (source_path s.store_dir name refs b) refs → Refuses s w c (add_source name refs b) MissingReference
 
 -- Of a text the same, with the size of its archive for what may be wrong with it.
 pub record TextFaults (s : Settings) (w : World) (c : Caller) (name : List ℕ) (refs : List Path) (contents : List ℕ) : Type 0 where
-  pub count : most_references < length refs → Refuses s w c (add_text name refs contents) too_many_references
-  pub size : length refs ≤ most_references → limit < length (text_archive contents) → Refuses s w c (add_text name refs contents) (archive TooLarge)
+  pub count : most_references < length refs → Refuses s w c (add_text name refs contents) TooManyReferences
+  pub size : length refs ≤ most_references → limit < length (text_archive contents) → Refuses s w c (add_text name refs contents) TooLarge
   pub itself : length refs ≤ most_references → length (text_archive contents) ≤ limit → Contains refs (text_path s.store_dir name refs contents)
-      → Refuses s w c (add_text name refs contents) self_reference
+      → Refuses s w c (add_text name refs contents) SelfReference
   pub tree : length refs ≤ most_references → length (text_archive contents) ≤ limit → (Contains refs (text_path s.store_dir name refs contents) → ⊥)
-      → IsTrue (is_derivation (text_path s.store_dir name refs contents)) → (e : DrvError) → outputs_of s.store_dir contents ≡ Err e → Refuses s w c (add_text name refs contents) (derivation e)
+      → IsTrue (is_derivation (text_path s.store_dir name refs contents)) → (e : DrvError) (r : Refusal) → outputs_of s.store_dir contents ≡ Err e
+      → derivation_refusal e ≡ Some r → Refuses s w c (add_text name refs contents) r
   pub reference : length refs ≤ most_references → length (text_archive contents) ≤ limit → (Contains refs (text_path s.store_dir name refs contents) → ⊥)
       → ((e : DrvError) → IsTrue (is_derivation (text_path s.store_dir name refs contents)) → outputs_of s.store_dir contents ≡ Err e → ⊥)
-      → Lacks w (text_path s.store_dir name refs contents) refs → Refuses s w c (add_text name refs contents) missing_reference
+      → Lacks w (text_path s.store_dir name refs contents) refs → Refuses s w c (add_text name refs contents) MissingReference
 
 -- an archive that is read and has the digest that is given, with few enough references
 pub record IsAsGiven (i : Imported) (t : Tree) : Type 0 where
@@ -84,15 +89,16 @@ pub record IsAsAddressed (dir : List ℕ) (i : Imported) : Type 0 where
 -- then, under an address, a reference to itself, and an address that doesn't verify; what is wrong with a derivation; and a missing
 -- reference.
 pub record ImportFaults (s : Settings) (w : World) (c : Caller) (i : Imported) : Type 0 where
-  pub count : most_references < length i.refs → Refuses s w c (import_object i) too_many_references
-  pub archive_ : length i.refs ≤ most_references → (e : NarError) → outcome_of i.nar ≡ Err e → Refuses s w c (import_object i) (archive e)
-  pub itself : (t : Tree) → IsAsGiven i t → (a : ContentAddress) → i.ca ≡ Some a → Contains i.refs i.path → Refuses s w c (import_object i) self_reference
+  pub count : most_references < length i.refs → Refuses s w c (import_object i) TooManyReferences
+  pub archive_ : length i.refs ≤ most_references → (e : NarError) (r : Refusal) → outcome_of i.nar ≡ Err e → archive_refusal e ≡ Some r
+      → Refuses s w c (import_object i) r
+  pub itself : (t : Tree) → IsAsGiven i t → (a : ContentAddress) → i.ca ≡ Some a → Contains i.refs i.path → Refuses s w c (import_object i) SelfReference
   pub address : (t : Tree) → IsAsGiven i t → (a : ContentAddress) → i.ca ≡ Some a → (Contains i.refs i.path → ⊥)
-      → IsFalse (verifies a s.store_dir i.path (finite.keys (set_of bytes_cmp i.refs)) i.nar) → Refuses s w c (import_object i) ca_mismatch
-  pub tree : (t : Tree) → IsAsGiven i t → IsAsAddressed s.store_dir i → IsTrue (is_derivation i.path) → (e : DrvError) → IsFaultyTree s.store_dir t e
-      → Refuses s w c (import_object i) (derivation e)
+      → IsFalse (verifies a s.store_dir i.path (finite.keys (set_of bytes_cmp i.refs)) i.nar) → Refuses s w c (import_object i) CaMismatch
+  pub tree : (t : Tree) → IsAsGiven i t → IsAsAddressed s.store_dir i → IsTrue (is_derivation i.path) → (e : DrvError) (r : Refusal) → IsFaultyTree s.store_dir t e
+      → derivation_refusal e ≡ Some r → Refuses s w c (import_object i) r
   pub reference : (t : Tree) → IsAsGiven i t → IsAsAddressed s.store_dir i → IsRightTree s.store_dir i.path t → Lacks w i.path i.refs
-      → Refuses s w c (import_object i) missing_reference
+      → Refuses s w c (import_object i) MissingReference
 
 abbrev pub SourceFaultsInOrder : Type 0
 SourceFaultsInOrder = (s : Settings) (w : World) (c : Caller) (name : List ℕ) (refs : List Path) (b : List ℕ) → SourceFaults s w c name refs b

@@ -5,7 +5,9 @@ use Rattle.model.specs.World.{Path, World, has}
 use Rattle.policy.specs.Settings.{Settings}
 use Rattle.policy.specs.Caller.{Caller}
 use Rattle.model.specs.Request.{Request, set_permanent, drop_permanent, set_user_root, drop_user_root, set_profile, rollback, switch, delete_generation, add_temp, end_session, delete}
-use Rattle.model.specs.Reply.{Reply, Answer, Refusal, bad_root_name, bad_session, not_valid, no_profile, done, denied, refused, failed}
+use Rattle.model.specs.Reply.{Reply, Answer, done, denied, refused, failed}
+use Rattle.model.specs.declared.refusal.Refusal.{Refusal}
+use Rattle.model.specs.declared.refusal.Refusal.TheVariants.{BadRootName, BadSession, NotValid, NoProfile}
 use Rattle.model.specs.Profiles.{has_profile}
 use Rattle.model.specs.Step.{Step}
 
@@ -18,8 +20,8 @@ pub record IsInBounds (session : ℕ) : Type 0 where
 
 -- the first fault of a request on a session: an owner that isn't a plain name, or a number that no session has
 pub data SessionFault (owner : List ℕ) (session : ℕ) (r : Refusal) : Type 0 where
-  owner_ : IsFalse (is_plain_name owner) → r ≡ bad_root_name → SessionFault owner session r
-  number : IsTrue (is_plain_name owner) → (IsInBounds session → ⊥) → r ≡ bad_session → SessionFault owner session r
+  owner_ : IsFalse (is_plain_name owner) → r ≡ BadRootName → SessionFault owner session r
+  number : IsTrue (is_plain_name owner) → (IsInBounds session → ⊥) → r ≡ BadSession → SessionFault owner session r
 
 -- no such fault
 pub record IsSessionOf (owner : List ℕ) (session : ℕ) : Type 0 where
@@ -31,7 +33,7 @@ pub record IsSessionOf (owner : List ℕ) (session : ℕ) : Type 0 where
 pub record TellsTemporaryFault (s : Settings) (w : World) (c : Caller) (owner : List ℕ) (session : ℕ) (p : Path) : Type 0 where
   pub done_ : (a : Answer) (new : World) → Step s w c (add_temp owner session p) (done a) new → IsSessionOf owner session × IsTrue (has w p)
   pub refused_ : (r : Refusal) (new : World) → Step s w c (add_temp owner session p) (refused r) new
-      → SessionFault owner session r ⊎ (IsSessionOf owner session × IsFalse (has w p) × (r ≡ not_valid))
+      → SessionFault owner session r ⊎ (IsSessionOf owner session × IsFalse (has w p) × (r ≡ NotValid))
 
 -- a session is ended where nothing is wrong with it, whether it kept anything or not
 pub record TellsSessionFault (s : Settings) (w : World) (c : Caller) (owner : List ℕ) (session : ℕ) : Type 0 where
@@ -80,16 +82,16 @@ IsRefusedWith r (failed f) = Unit {0}
 
 -- a name that isn't plain is reported before any other fault
 abbrev pub NamesComeFirst : Type 0
-NamesComeFirst = (s : Settings) (w : World) (c : Caller) (q : Request) (reply : Reply) (new : World) → Step s w c q reply new → HasBadName q → IsRefusedWith bad_root_name reply
+NamesComeFirst = (s : Settings) (w : World) (c : Caller) (q : Request) (reply : Reply) (new : World) → Step s w c q reply new → HasBadName q → IsRefusedWith BadRootName reply
 
 -- a profile that isn't there is reported before any fault of a generation
 abbrev pub ProfilesComeNext : Type 0
-ProfilesComeNext = (s : Settings) (w : World) (c : Caller) (q : Request) (reply : Reply) (new : World) → Step s w c q reply new → LacksProfile w q → IsRefusedWith no_profile reply
+ProfilesComeNext = (s : Settings) (w : World) (c : Caller) (q : Request) (reply : Reply) (new : World) → Step s w c q reply new → LacksProfile w q → IsRefusedWith NoProfile reply
 
 -- of a profile a path that isn't valid is reported before a number that is beyond the greatest
 abbrev pub PathsComeBeforeNumbers : Type 0
 PathsComeBeforeNumbers = (s : Settings) (w : World) (c : Caller) (owner name : List ℕ) (p : Path) (reply : Reply) (new : World) → Step s w c (set_profile owner name p) reply new
-    → IsTrue (is_plain_name owner) → IsTrue (is_plain_name name) → IsFalse (has w p) → IsRefusedWith not_valid reply
+    → IsTrue (is_plain_name owner) → IsTrue (is_plain_name name) → IsFalse (has w p) → IsRefusedWith NotValid reply
 
 -- ---- deletions
 

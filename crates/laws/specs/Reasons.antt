@@ -2,7 +2,7 @@
 use Rattle.std.specs.Prelude.{◌≡◌, ℕ, ◌<◌, ◌≤◌, ◌++◌, Bool, List, ◌∷◌, length, Option, Some, Ok, Err, IsTrue, IsFalse, Contains}
 use Rattle.std.specs.FinMap as finite
 use Rattle.sha2.specs.Sha256.{sha256}
-use Rattle.nar.specs.declared.error.NarError.TheVariants.{TooLarge}
+use Rattle.nar.specs.declared.error.NarError.{NarError}
 use Rattle.nar.specs.Tree.{Tree}
 use Rattle.nar.specs.Outcome.{outcome_of}
 use Rattle.paths.specs.Names.{is_plain_name}
@@ -11,6 +11,7 @@ use Rattle.paths.specs.Root.{Root, bytes_cmp, set_of, is_runtime_label}
 use Rattle.paths.specs.Path.{text_path, source_path}
 use Rattle.paths.specs.ContentAddress.{ContentAddress, verifies}
 use Rattle.drv.specs.declared.error.DrvError.{DrvError}
+use Rattle.drv.specs.declared.error.DrvError.TheVariants as text
 use Rattle.drv.specs.Outcome.{outputs_of}
 use Rattle.live.specs.Live.{IsFirstRoot}
 use Rattle.policy.specs.Settings.{Settings}
@@ -19,7 +20,10 @@ use Rattle.policy.specs.Class.{class_of}
 use Rattle.policy.specs.declared.kinds.Rule.TheVariants.{Live}
 use Rattle.model.specs.World.{Path, Pair, World, has, roots_of}
 use Rattle.model.specs.Request.{Request, add_text, add_source, import_object, info, nar, ls, list_roots_of, set_permanent, drop_permanent, set_user_root, drop_user_root, set_profile, rollback, switch, delete_generation, replace_runtime, add_temp, end_session, delete}
-use Rattle.model.specs.Reply.{Answer, Refusal, archive, ca_mismatch, derivation, not_valid, missing_reference, nar_hash_mismatch, self_reference, no_root, no_profile, no_generation, current_generation, no_older_generation, generation_limit, too_many_references, bad_root_name, bad_label, bad_session, done, denied, refused}
+use Rattle.model.specs.Reply.{Answer, done, denied, refused}
+use Rattle.model.specs.declared.refusal.Refusal.{Refusal}
+use Rattle.model.specs.declared.refusal.Refusal.TheVariants.{TooLarge, CaMismatch, BadDerivation, DoubleOutput, NotValid, MissingReference, NarHashMismatch, SelfReference, NoRoot, NoProfile, NoGeneration, CurrentGeneration, NoOlderGeneration, GenerationLimit, TooManyReferences, BadRootName, BadLabel, BadSession}
+use Rattle.model.specs.Faults.{archive_refusal}
 use Rattle.model.specs.Liveness.{graph_of, keep_of, lives}
 use Rattle.model.specs.Seen.{seen_root}
 use Rattle.model.specs.Profiles.{profile_at, has_profile, has_generation}
@@ -37,66 +41,73 @@ pub record IsNoAddressOf (dir path : List ℕ) (refs : List Path) (nar : List �
   pub is : ca ≡ Some given
   pub fails : IsFalse (verifies given dir path (finite.keys (set_of bytes_cmp refs)) nar)
 
--- the path's name ends in `.drv`, and the tree of the archive isn't that of a derivation
-pub record IsNoDerivation (dir path nar : List ℕ) (r : Refusal) : Type 0 where
+-- the bytes are no archive, and this refusal is that of their fault
+pub record IsNoArchive (nar : List ℕ) (r : Refusal) : Type 0 where
+  pub fault : NarError
+  pub read : outcome_of nar ≡ Err fault
+  pub reported : archive_refusal fault ≡ Some r
+
+-- the path's name ends in `.drv`, and the tree of the archive has this fault as that of a derivation
+pub record IsNoDerivation (dir path nar : List ℕ) (fault : DrvError) : Type 0 where
   pub named : IsTrue (is_derivation path)
   pub tree : Tree
   pub read : outcome_of nar ≡ Ok tree
-  pub fault : DrvError
-  pub is : r ≡ derivation fault
   pub faulty : IsFaultyTree dir tree fault
 
 -- The fault of a request that a refusal reports, a line each: no request has any other.
 abbrev pub HasFault : Settings → World → Request → Refusal → Type 0
-HasFault s w (info p) not_valid = IsFalse (has w p)
-HasFault s w (nar p) not_valid = IsFalse (has w p)
-HasFault s w (ls p) not_valid = IsFalse (has w p)
-HasFault s w (list_roots_of p) not_valid = IsFalse (has w p)
-HasFault s w (set_permanent name p) bad_root_name = IsFalse (is_plain_name name)
-HasFault s w (set_permanent name p) not_valid = IsFalse (has w p)
-HasFault s w (drop_permanent name) bad_root_name = IsFalse (is_plain_name name)
-HasFault s w (drop_permanent name) no_root = IsFalse (finite.contains_key w.permanent name)
-HasFault s w (set_user_root owner name p) bad_root_name = HasBadName (set_user_root owner name p)
-HasFault s w (set_user_root owner name p) not_valid = IsFalse (has w p)
-HasFault s w (drop_user_root owner name) bad_root_name = HasBadName (drop_user_root owner name)
-HasFault s w (drop_user_root owner name) no_root = IsFalse (finite.contains_key w.user_roots (owner, name))
-HasFault s w (set_profile owner name p) bad_root_name = HasBadName (set_profile owner name p)
-HasFault s w (set_profile owner name p) not_valid = IsFalse (has w p)
-HasFault s w (set_profile owner name p) generation_limit = (n : ℕ) × IsNumberFor (profile_at w (owner, name)) p n × (9999 < n)
-HasFault s w (rollback owner name) bad_root_name = HasBadName (rollback owner name)
-HasFault s w (rollback owner name) no_profile = IsFalse (has_profile w (owner, name))
-HasFault s w (rollback owner name) no_older_generation = (n : ℕ) → IsTrue (has_generation (profile_at w (owner, name)) n) → (profile_at w (owner, name)).current ≤ n
-HasFault s w (switch owner name n) bad_root_name = HasBadName (switch owner name n)
-HasFault s w (switch owner name n) no_profile = IsFalse (has_profile w (owner, name))
-HasFault s w (switch owner name n) no_generation = IsFalse (has_generation (profile_at w (owner, name)) n)
-HasFault s w (delete_generation owner name n) bad_root_name = HasBadName (delete_generation owner name n)
-HasFault s w (delete_generation owner name n) no_profile = IsFalse (has_profile w (owner, name))
-HasFault s w (delete_generation owner name n) no_generation = IsFalse (has_generation (profile_at w (owner, name)) n)
-HasFault s w (delete_generation owner name n) current_generation = (profile_at w (owner, name)).current ≡ n
-HasFault s w (replace_runtime pairs) bad_label = (pair : Pair) × Contains pairs pair × IsFalse (is_runtime_label pair.0)
-HasFault s w (add_temp owner session p) bad_root_name = IsFalse (is_plain_name owner)
-HasFault s w (add_temp owner session p) bad_session = IsInBounds session → ⊥
-HasFault s w (add_temp owner session p) not_valid = IsFalse (has w p)
-HasFault s w (end_session owner session) bad_root_name = IsFalse (is_plain_name owner)
-HasFault s w (end_session owner session) bad_session = IsInBounds session → ⊥
-HasFault s w (delete named ignores) not_valid = (p : Path) × Contains named p × IsFalse (has w p)
-HasFault s w (add_text name refs contents) too_many_references = 4096 < length refs
-HasFault s w (add_text name refs contents) (archive e) = (e ≡ TooLarge) × (16777216 < length (text_archive contents))
-HasFault s w (add_text name refs contents) self_reference = Contains refs (text_path s.store_dir name refs contents)
-HasFault s w (add_text name refs contents) (derivation e) = IsTrue (is_derivation (text_path s.store_dir name refs contents)) × (outputs_of s.store_dir contents ≡ Err e)
-HasFault s w (add_text name refs contents) missing_reference = Lacks w (text_path s.store_dir name refs contents) refs
-HasFault s w (add_source name refs b) too_many_references = 4096 < length refs
-HasFault s w (add_source name refs b) (archive e) = outcome_of b ≡ Err e
-HasFault s w (add_source name refs b) self_reference = Contains refs (source_path s.store_dir name refs b)
-HasFault s w (add_source name refs b) (derivation e) = IsNoDerivation s.store_dir (source_path s.store_dir name refs b) b (derivation e)
-HasFault s w (add_source name refs b) missing_reference = Lacks w (source_path s.store_dir name refs b) refs
-HasFault s w (import_object i) too_many_references = 4096 < length i.refs
-HasFault s w (import_object i) (archive e) = outcome_of i.nar ≡ Err e
-HasFault s w (import_object i) nar_hash_mismatch = sha256 i.nar ≡ i.nar_hash → ⊥
-HasFault s w (import_object i) self_reference = ((a : ContentAddress) × (i.ca ≡ Some a)) × Contains i.refs i.path
-HasFault s w (import_object i) ca_mismatch = IsNoAddressOf s.store_dir i.path i.refs i.nar i.ca
-HasFault s w (import_object i) (derivation e) = IsNoDerivation s.store_dir i.path i.nar (derivation e)
-HasFault s w (import_object i) missing_reference = Lacks w i.path i.refs
+HasFault s w (info p) NotValid = IsFalse (has w p)
+HasFault s w (nar p) NotValid = IsFalse (has w p)
+HasFault s w (ls p) NotValid = IsFalse (has w p)
+HasFault s w (list_roots_of p) NotValid = IsFalse (has w p)
+HasFault s w (set_permanent name p) BadRootName = IsFalse (is_plain_name name)
+HasFault s w (set_permanent name p) NotValid = IsFalse (has w p)
+HasFault s w (drop_permanent name) BadRootName = IsFalse (is_plain_name name)
+HasFault s w (drop_permanent name) NoRoot = IsFalse (finite.contains_key w.permanent name)
+HasFault s w (set_user_root owner name p) BadRootName = HasBadName (set_user_root owner name p)
+HasFault s w (set_user_root owner name p) NotValid = IsFalse (has w p)
+HasFault s w (drop_user_root owner name) BadRootName = HasBadName (drop_user_root owner name)
+HasFault s w (drop_user_root owner name) NoRoot = IsFalse (finite.contains_key w.user_roots (owner, name))
+HasFault s w (set_profile owner name p) BadRootName = HasBadName (set_profile owner name p)
+HasFault s w (set_profile owner name p) NotValid = IsFalse (has w p)
+HasFault s w (set_profile owner name p) GenerationLimit = (n : ℕ) × IsNumberFor (profile_at w (owner, name)) p n × (9999 < n)
+HasFault s w (rollback owner name) BadRootName = HasBadName (rollback owner name)
+HasFault s w (rollback owner name) NoProfile = IsFalse (has_profile w (owner, name))
+HasFault s w (rollback owner name) NoOlderGeneration = (n : ℕ) → IsTrue (has_generation (profile_at w (owner, name)) n) → (profile_at w (owner, name)).current ≤ n
+HasFault s w (switch owner name n) BadRootName = HasBadName (switch owner name n)
+HasFault s w (switch owner name n) NoProfile = IsFalse (has_profile w (owner, name))
+HasFault s w (switch owner name n) NoGeneration = IsFalse (has_generation (profile_at w (owner, name)) n)
+HasFault s w (delete_generation owner name n) BadRootName = HasBadName (delete_generation owner name n)
+HasFault s w (delete_generation owner name n) NoProfile = IsFalse (has_profile w (owner, name))
+HasFault s w (delete_generation owner name n) NoGeneration = IsFalse (has_generation (profile_at w (owner, name)) n)
+HasFault s w (delete_generation owner name n) CurrentGeneration = (profile_at w (owner, name)).current ≡ n
+HasFault s w (replace_runtime pairs) BadLabel = (pair : Pair) × Contains pairs pair × IsFalse (is_runtime_label pair.0)
+HasFault s w (add_temp owner session p) BadRootName = IsFalse (is_plain_name owner)
+HasFault s w (add_temp owner session p) BadSession = IsInBounds session → ⊥
+HasFault s w (add_temp owner session p) NotValid = IsFalse (has w p)
+HasFault s w (end_session owner session) BadRootName = IsFalse (is_plain_name owner)
+HasFault s w (end_session owner session) BadSession = IsInBounds session → ⊥
+HasFault s w (delete named ignores) NotValid = (p : Path) × Contains named p × IsFalse (has w p)
+HasFault s w (add_text name refs contents) TooManyReferences = 4096 < length refs
+HasFault s w (add_text name refs contents) TooLarge = 16777216 < length (text_archive contents)
+HasFault s w (add_text name refs contents) SelfReference = Contains refs (text_path s.store_dir name refs contents)
+HasFault s w (add_text name refs contents) BadDerivation = IsTrue (is_derivation (text_path s.store_dir name refs contents)) × (outputs_of s.store_dir contents ≡ Err text.BadDerivation)
+HasFault s w (add_text name refs contents) DoubleOutput = IsTrue (is_derivation (text_path s.store_dir name refs contents)) × (outputs_of s.store_dir contents ≡ Err text.DoubleOutput)
+HasFault s w (add_text name refs contents) MissingReference = Lacks w (text_path s.store_dir name refs contents) refs
+HasFault s w (add_source name refs b) TooManyReferences = 4096 < length refs
+HasFault s w (add_source name refs b) SelfReference = Contains refs (source_path s.store_dir name refs b)
+HasFault s w (add_source name refs b) BadDerivation = IsNoDerivation s.store_dir (source_path s.store_dir name refs b) b text.BadDerivation
+HasFault s w (add_source name refs b) DoubleOutput = IsNoDerivation s.store_dir (source_path s.store_dir name refs b) b text.DoubleOutput
+HasFault s w (add_source name refs b) MissingReference = Lacks w (source_path s.store_dir name refs b) refs
+HasFault s w (add_source name refs b) r = IsNoArchive b r
+HasFault s w (import_object i) TooManyReferences = 4096 < length i.refs
+HasFault s w (import_object i) NarHashMismatch = sha256 i.nar ≡ i.nar_hash → ⊥
+HasFault s w (import_object i) SelfReference = ((a : ContentAddress) × (i.ca ≡ Some a)) × Contains i.refs i.path
+HasFault s w (import_object i) CaMismatch = IsNoAddressOf s.store_dir i.path i.refs i.nar i.ca
+HasFault s w (import_object i) BadDerivation = IsNoDerivation s.store_dir i.path i.nar text.BadDerivation
+HasFault s w (import_object i) DoubleOutput = IsNoDerivation s.store_dir i.path i.nar text.DoubleOutput
+HasFault s w (import_object i) MissingReference = Lacks w i.path i.refs
+HasFault s w (import_object i) r = IsNoArchive i.nar r
 HasFault s w _ _ = ⊥
 
 -- a request that is refused has the fault that is reported

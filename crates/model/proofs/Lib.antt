@@ -6,6 +6,7 @@ pub mod Limited
 pub mod MapMembers
 pub mod Passed
 pub mod Pins
+pub mod Read
 pub mod SoundAdds
 pub mod SoundParts
 pub mod SoundProfiles

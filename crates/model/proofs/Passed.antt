@@ -4,7 +4,7 @@ use Rattle.std.specs.Prelude.{Contains, is_none}
 use Rattle.std.specs.List.{list_all}
 use Rattle.std.proofs.lemmas.Bool.{and_parts, false≢true}
 use Rattle.live.proofs.Members.{cases, no_member}
-use Rattle.model.specs.Reply.{Refusal}
+use Rattle.model.specs.declared.refusal.Refusal.{Refusal}
 use Rattle.model.specs.Tests.{unless, first_failing}
 
 pub passed : (t : Option Refusal) (ts : List (Option Refusal)) → first_failing (t ∷ ts) ≡ None → (t ≡ None) × (first_failing ts ≡ None)

@@ -1,6 +1,6 @@
 -- A sound world with an object more.
 use Rattle.std.proofs.Common.{◌≡◌, ℕ, ◌+◌, ◌≤◌, List, [], ◌∷◌, ◌++◌, length, Bool, true, false, not, ◌||◌, cond, Some, None, Option, Ok, Err, Result, refl, sym, ap, arith, ◌∙◌, IsTrue, subst, inl, inr, ◌⊎◌}
-use Rattle.std.specs.Prelude.{is_some, is_none, IsOk, nat_le, if◌then◌else◌, codes}
+use Rattle.std.specs.Prelude.{is_some, is_none, nat_le, if◌then◌else◌, codes}
 use Rattle.std.specs.List.{list_all}
 use Rattle.std.specs.Cmp.Lexicographic.{nat_list_cmp_total}
 use Rattle.std.specs.FinMap as finite
@@ -26,19 +26,20 @@ use Rattle.live.proofs.Reach.{same_is}
 use Rattle.live.proofs.Order.{contains_key-set_of, same_set}
 use Rattle.policy.specs.Settings.{Settings}
 use Rattle.paths.specs.ContentAddress.{ContentAddress, verifies, text_address, source_address}
-use Rattle.drv.specs.declared.error.DrvError.{DrvError}
 use Rattle.drv.specs.Outcome.{outputs_of}
 use Rattle.model.specs.World.{Path, Object, World, has}
 use Rattle.model.specs.Objects.{most_references}
 use Rattle.model.specs.Sound.{IsDerivation, IsSoundObject, IsSound}
 use Rattle.model.specs.Request.{Imported, add_text, add_source, import_object}
-use Rattle.model.specs.Reply.{Refusal, archive, ca_mismatch, missing_reference, self_reference, too_many_references}
+use Rattle.model.specs.declared.refusal.Refusal.{Refusal}
+use Rattle.model.specs.declared.refusal.Refusal.TheVariants.{CaMismatch, MissingReference, SelfReference, TooManyReferences}
 use Rattle.model.specs.Adds.{Added, added_at, text_archive, text_archive_size, added_text, added_source, added_import}
 use Rattle.model.specs.Tests.{archive_fault, outputs_fault, tree_fault, if_derivation, is_verified, is_complete, text_tests, source_tests, import_tests, refusal}
 use Rattle.model.specs.Effects.{with_object}
 use Rattle.model.specs.Soundness.{IsWellFormedImport}
 use Rattle.model.proofs.MapMembers.{bytes_antisymmetric, inserted_entry, still_contains, contains_key-inserted, set_member}
 use Rattle.model.proofs.Passed.{met, each_passed, all_member}
+use Rattle.model.proofs.Read.{archive_is_read, outputs_are_read}
 use Rattle.model.proofs.SoundParts.{object_in, profile_in}
 
 -- ---- the world grows
@@ -101,19 +102,8 @@ complete_has w a refs absent full r c = elim (or_cases (has w a.path) (list_all 
 
 -- ---- archives and derivation texts
 
-some_refusal : (r : Refusal) → Some r ≡ None → ⊥
-some_refusal r e = false≢true (ap is_none e)
-
 read_tree : (nar : List ℕ) → IsBytes nar → archive_fault (outcome_of nar) ≡ None → (t : Tree) × IsArchive t nar
-read_tree nar bytes e = by (outcome_of nar) refl e
-  where
-    by : (r : Result Tree NarError) → outcome_of nar ≡ r → archive_fault r ≡ None → (t : Tree) × IsArchive t nar
-    by (Ok t) is e = (t, (outcome_archive nar t bytes).0 is)
-    by (Err f) is e = absurd (some_refusal (archive f) e)
-
-outputs_sound : (r : Result (List (List ℕ × Path)) DrvError) → outputs_fault r ≡ None → IsOk r
-outputs_sound (Ok outputs) e = refl
-outputs_sound (Err f) e = absurd (false≢true (ap is_none e))
+read_tree nar bytes e = let read = archive_is_read nar e in (read.0, (outcome_archive nar read.0 bytes).0 read.1)
 
 asked : (p : Path) (fault : Option Refusal) → if_derivation p fault ≡ None → IsTrue (is_derivation p) → fault ≡ None
 asked p fault e h = sym (ap (λ b. if b then fault else None) h) ∙ e
@@ -126,7 +116,7 @@ read_derivation dir nar bytes e = by (outcome_of nar) refl e
       executable = executable;
       contents = contents;
       is_regular = (outcome_archive nar (regular executable contents) bytes).0 is;
-      has_outputs = outputs_sound (outputs_of dir contents) e;
+      has_outputs = outputs_are_read dir contents e;
     }
     by (Ok (symlink target)) is e = absurd (false≢true (ap is_none e))
     by (Ok (directory es)) is e = absurd (false≢true (ap is_none e))
@@ -223,15 +213,15 @@ module _ (s : Settings) (w : World) (sound : IsSound s.store_dir w) where
         tree = regular false contents;
         archive = text_is_archive contents bytes fits;
         base_deriver = none_deriver;
-        few = met (nat_le (length refs) most_references) too_many_references (each_passed ts e _ (0, omega arith, refl));
-        full = met (is_complete w p refs) missing_reference (each_passed ts e _ (4, omega arith, refl));
-        no_self = λ a is. not-true (holds refs p) (met (not (holds refs p)) self_reference (each_passed ts e _ (2, omega arith, refl)));
+        few = met (nat_le (length refs) most_references) TooManyReferences (each_passed ts e _ (0, omega arith, refl));
+        full = met (is_complete w p refs) MissingReference (each_passed ts e _ (4, omega arith, refl));
+        no_self = λ a is. not-true (holds refs p) (met (not (holds refs p)) SelfReference (each_passed ts e _ (2, omega arith, refl)));
         address = λ a is. subst (λ (x : ContentAddress). IsTrue (verifies x s.store_dir p (finite.keys (set_of bytes_cmp refs)) (text_archive contents))) (same_Some (text_address contents) a is) (text_verified s.store_dir name refs contents bytes fits);
         derivation = λ d. record {
           executable = false;
           contents = contents;
           is_regular = text_is_archive contents bytes fits;
-          has_outputs = outputs_sound (outputs_of s.store_dir contents) (asked p (outputs_fault (outputs_of s.store_dir contents)) (each_passed ts e _ (3, omega arith, refl)) d);
+          has_outputs = outputs_are_read s.store_dir contents (asked p (outputs_fault (outputs_of s.store_dir contents)) (each_passed ts e _ (3, omega arith, refl)) d);
         };
       }) sound
 
@@ -246,9 +236,9 @@ module _ (s : Settings) (w : World) (sound : IsSound s.store_dir w) where
         tree = read.0;
         archive = read.1;
         base_deriver = none_deriver;
-        few = met (nat_le (length refs) most_references) too_many_references (each_passed ts e _ (0, omega arith, refl));
-        full = met (is_complete w p refs) missing_reference (each_passed ts e _ (4, omega arith, refl));
-        no_self = λ a is. not-true (holds refs p) (met (not (holds refs p)) self_reference (each_passed ts e _ (2, omega arith, refl)));
+        few = met (nat_le (length refs) most_references) TooManyReferences (each_passed ts e _ (0, omega arith, refl));
+        full = met (is_complete w p refs) MissingReference (each_passed ts e _ (4, omega arith, refl));
+        no_self = λ a is. not-true (holds refs p) (met (not (holds refs p)) SelfReference (each_passed ts e _ (2, omega arith, refl)));
         address = λ a is. subst (λ (x : ContentAddress). IsTrue (verifies x s.store_dir p (finite.keys (set_of bytes_cmp refs)) b)) (same_Some (source_address b) a is) (source_verified s.store_dir name refs b);
         derivation = λ d. read_derivation s.store_dir b bytes (asked p (tree_fault s.store_dir (outcome_of b)) (each_passed ts e _ (3, omega arith, refl)) d);
       }) sound
@@ -262,10 +252,10 @@ module _ (s : Settings) (w : World) (sound : IsSound s.store_dir w) where
         tree = read.0;
         archive = read.1;
         base_deriver = formed.deriver;
-        few = met (nat_le (length i.refs) most_references) too_many_references (each_passed ts e _ (0, omega arith, refl));
-        full = met (is_complete w i.path i.refs) missing_reference (each_passed ts e _ (6, omega arith, refl));
-        no_self = λ a is. not-true (holds i.refs i.path) (addressed a is (met (is_none i.ca || not (holds i.refs i.path)) self_reference (each_passed ts e _ (3, omega arith, refl))));
-        address = λ a is. subst (λ (x : Option ContentAddress). IsTrue (is_verified s.store_dir i.path (added_import s.store_dir i).object x)) is (met (is_verified s.store_dir i.path (added_import s.store_dir i).object i.ca) ca_mismatch (each_passed ts e _ (4, omega arith, refl)));
+        few = met (nat_le (length i.refs) most_references) TooManyReferences (each_passed ts e _ (0, omega arith, refl));
+        full = met (is_complete w i.path i.refs) MissingReference (each_passed ts e _ (6, omega arith, refl));
+        no_self = λ a is. not-true (holds i.refs i.path) (addressed a is (met (is_none i.ca || not (holds i.refs i.path)) SelfReference (each_passed ts e _ (3, omega arith, refl))));
+        address = λ a is. subst (λ (x : Option ContentAddress). IsTrue (is_verified s.store_dir i.path (added_import s.store_dir i).object x)) is (met (is_verified s.store_dir i.path (added_import s.store_dir i).object i.ca) CaMismatch (each_passed ts e _ (4, omega arith, refl)));
         derivation = λ d. read_derivation s.store_dir i.nar formed.nar (asked i.path (tree_fault s.store_dir (outcome_of i.nar)) (each_passed ts e _ (5, omega arith, refl)) d);
       }) sound
     where

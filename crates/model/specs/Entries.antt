@@ -1,5 +1,5 @@
 -- Each entry of a table of roots is a root, and no other root is.
-use Rattle.std.specs.Prelude.{◌≡◌, ℕ, List, [], Some, IsTrue, Contains}
+use Rattle.std.specs.Prelude.{◌≡◌, ℕ, List, Some, IsTrue, Contains}
 use Rattle.std.specs.FinMap as finite
 use Rattle.paths.specs.Root.{Root}
 use Rattle.model.specs.World.{Path, Pair, Profile, Temporary, World, permanent_root, user_root, generation_root, runtime_root, temporary_root, roots_of}

@@ -3,6 +3,7 @@ pub mod Answers
 pub mod Collection
 pub mod Effects
 pub mod Entries
+pub mod Faults
 pub mod Liveness
 pub mod Lives
 pub mod Objects

@@ -1,5 +1,5 @@
 -- What is live, and the first root that keeps it.
-use Rattle.std.specs.Prelude.{◌≡◌, ◌↔◌, ◌⊎◌, ℕ, [], slice_get, option_map, IsTrue, Contains}
+use Rattle.std.specs.Prelude.{◌≡◌, ◌↔◌, ◌⊎◌, slice_get, option_map, IsTrue, Contains}
 use Rattle.paths.specs.Root.{Root}
 use Rattle.live.specs.Live.{IsLive, IsDead}
 use Rattle.live.specs.Laws.{HasFirstRoot}

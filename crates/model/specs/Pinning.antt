@@ -1,5 +1,5 @@
 -- A root keeps what it reaches.
-use Rattle.std.specs.Prelude.{◌≡◌, ℕ, ◌+◌, ◌++◌, List, [], ◌∷◌, Contains}
+use Rattle.std.specs.Prelude.{◌≡◌, ◌++◌, List, [], ◌∷◌, Contains}
 use Rattle.std.specs.FinMap as finite
 use Rattle.paths.specs.Root.{Root}
 use Rattle.live.specs.Reach.{Reaches}

@@ -1,44 +1,9 @@
 -- What a store replies.
 use Rattle.std.specs.Prelude.{ℕ, List, Option}
-use Rattle.nar.specs.declared.error.NarError.{NarError}
-use Rattle.drv.specs.declared.error.DrvError.{DrvError}
 use Rattle.paths.specs.ContentAddress.{ContentAddress}
 use Rattle.model.specs.World.{Path, Pair}
+use Rattle.model.specs.declared.refusal.Refusal.{Refusal}
 use Rattle.policy.specs.declared.kinds.Rule.{Rule}
-use Rattle.std.specs.Prelude.{[]}
-
--- why a request is refused
-pub data Refusal : Type 0 where
-  -- what is wrong with an archive
-  archive : NarError → Refusal
-  -- an archive or a path that isn't that of the content address
-  ca_mismatch : Refusal
-  -- what is wrong with a derivation text
-  derivation : DrvError → Refusal
-  -- a path that isn't valid
-  not_valid : Refusal
-  -- a reference that isn't valid
-  missing_reference : Refusal
-  -- an archive of another digest than the given one
-  nar_hash_mismatch : Refusal
-  -- a content-addressed object that refers to itself
-  self_reference : Refusal
-  no_root : Refusal
-  no_profile : Refusal
-  no_generation : Refusal
-  -- the current generation isn't deleted
-  current_generation : Refusal
-  -- no generation below the current one
-  no_older_generation : Refusal
-  -- no number is left for a generation
-  generation_limit : Refusal
-  too_many_references : Refusal
-  -- a user, root or profile name that isn't a plain name
-  bad_root_name : Refusal
-  -- a label that isn't a runtime label
-  bad_label : Refusal
-  -- a number that no session has
-  bad_session : Refusal
 
 -- what a call may want
 pub data Failure : Type 0 where
@@ -87,6 +52,7 @@ pub data Reply : Type 0 where
   done : Answer → Reply
   -- the rule; for `Live` the label and the target of a root that keeps a path
   denied : Rule → Option Pair → Reply
+  -- what the first test that fails is refused with
   refused : Refusal → Reply
   failed : Failure → Reply
 

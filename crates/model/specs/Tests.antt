@@ -8,20 +8,20 @@ use Rattle.paths.specs.StorePath.{is_derivation}
 use Rattle.paths.specs.Root.{is_runtime_label, is_session}
 use Rattle.live.specs.Graph.{same, holds}
 use Rattle.nar.specs.declared.error.NarError.{NarError}
-use Rattle.nar.specs.declared.error.NarError.TheVariants.{TooLarge}
 use Rattle.nar.specs.Tree.{Tree, regular}
 use Rattle.nar.specs.Archive.{limit}
 use Rattle.nar.specs.Outcome.{outcome_of}
 use Rattle.paths.specs.Path.{text_path, source_path}
 use Rattle.paths.specs.ContentAddress.{ContentAddress, verifies}
 use Rattle.drv.specs.declared.error.DrvError.{DrvError}
-use Rattle.drv.specs.declared.error.DrvError.TheVariants.{BadDerivation}
 use Rattle.drv.specs.Outcome.{outputs_of}
 use Rattle.model.specs.World.{Path, Object, World, has}
 use Rattle.model.specs.Objects.{most_references}
 use Rattle.policy.specs.Settings.{Settings}
 use Rattle.model.specs.Request.{Imported, Request, add_text, add_source, import_object, info, nar, ls, list, list_live, list_dead, list_roots, list_roots_of, set_permanent, drop_permanent, set_user_root, drop_user_root, set_profile, rollback, switch, delete_generation, replace_runtime, add_temp, end_session, collect, delete, report}
-use Rattle.model.specs.Reply.{Refusal, archive, ca_mismatch, derivation, not_valid, missing_reference, nar_hash_mismatch, self_reference, no_root, no_profile, no_generation, current_generation, no_older_generation, generation_limit, too_many_references, bad_root_name, bad_label, bad_session}
+use Rattle.model.specs.declared.refusal.Refusal.{Refusal}
+use Rattle.model.specs.declared.refusal.Refusal.TheVariants.{TooLarge, CaMismatch, BadDerivation, NotValid, MissingReference, NarHashMismatch, SelfReference, NoRoot, NoProfile, NoGeneration, CurrentGeneration, NoOlderGeneration, GenerationLimit, TooManyReferences, BadRootName, BadLabel, BadSession}
+use Rattle.model.specs.Faults.{archive_refusal, derivation_refusal}
 use Rattle.model.specs.Adds.{added_import, text_archive_size}
 use Rattle.model.specs.Profiles.{last_number, profile_at, has_profile, has_generation, number_for, previous}
 
@@ -41,17 +41,17 @@ first_failing (Some r ∷ tests) = Some r
 -- what is wrong with an archive
 abbrev pub archive_fault : Result Tree NarError → Option Refusal
 archive_fault (Ok t) = None
-archive_fault (Err e) = Some (archive e)
+archive_fault (Err e) = archive_refusal e
 
 -- what is wrong with a derivation text
 abbrev pub outputs_fault : Result (List (List ℕ × Path)) DrvError → Option Refusal
 outputs_fault (Ok outputs) = None
-outputs_fault (Err e) = Some (derivation e)
+outputs_fault (Err e) = derivation_refusal e
 
 -- what is wrong with a tree as a derivation: any other node than a regular file has no text
 abbrev pub tree_fault : List ℕ → Result Tree NarError → Option Refusal
 tree_fault dir (Ok (regular executable contents)) = outputs_fault (outputs_of dir contents)
-tree_fault dir _ = Some (derivation BadDerivation)
+tree_fault dir _ = Some BadDerivation
 
 -- asked where the name ends in `.drv`
 abbrev pub if_derivation : Path → Option Refusal → Option Refusal
@@ -68,31 +68,31 @@ is_complete w p refs = has w p || list_all (λ r. has w r || same r p) refs
 
 abbrev pub text_tests : List ℕ → World → Path → List Path → List ℕ → List (Option Refusal)
 text_tests dir w p refs contents =
-    unless (nat_le (length refs) most_references) too_many_references
-    ∷ unless (nat_le (text_archive_size contents) limit) (archive TooLarge)
-    ∷ unless (not (holds refs p)) self_reference
+    unless (nat_le (length refs) most_references) TooManyReferences
+    ∷ unless (nat_le (text_archive_size contents) limit) TooLarge
+    ∷ unless (not (holds refs p)) SelfReference
     ∷ if_derivation p (outputs_fault (outputs_of dir contents))
-    ∷ unless (is_complete w p refs) missing_reference
+    ∷ unless (is_complete w p refs) MissingReference
     ∷ []
 
 abbrev pub source_tests : List ℕ → World → Path → List Path → List ℕ → List (Option Refusal)
 source_tests dir w p refs b =
-    unless (nat_le (length refs) most_references) too_many_references
+    unless (nat_le (length refs) most_references) TooManyReferences
     ∷ archive_fault (outcome_of b)
-    ∷ unless (not (holds refs p)) self_reference
+    ∷ unless (not (holds refs p)) SelfReference
     ∷ if_derivation p (tree_fault dir (outcome_of b))
-    ∷ unless (is_complete w p refs) missing_reference
+    ∷ unless (is_complete w p refs) MissingReference
     ∷ []
 
 abbrev pub import_tests : List ℕ → World → Imported → List (Option Refusal)
 import_tests dir w i =
-    unless (nat_le (length i.refs) most_references) too_many_references
+    unless (nat_le (length i.refs) most_references) TooManyReferences
     ∷ archive_fault (outcome_of i.nar)
-    ∷ unless (same (sha256 i.nar) i.nar_hash) nar_hash_mismatch
-    ∷ unless (is_none i.ca || not (holds i.refs i.path)) self_reference
-    ∷ unless (is_verified dir i.path (added_import dir i).object i.ca) ca_mismatch
+    ∷ unless (same (sha256 i.nar) i.nar_hash) NarHashMismatch
+    ∷ unless (is_none i.ca || not (holds i.refs i.path)) SelfReference
+    ∷ unless (is_verified dir i.path (added_import dir i).object i.ca) CaMismatch
     ∷ if_derivation i.path (tree_fault dir (outcome_of i.nar))
-    ∷ unless (is_complete w i.path i.refs) missing_reference
+    ∷ unless (is_complete w i.path i.refs) MissingReference
     ∷ []
 
 -- ---- each request
@@ -102,63 +102,63 @@ abbrev pub tests : Settings → World → Request → List (Option Refusal)
 tests s w (add_text name refs contents) = text_tests s.store_dir w (text_path s.store_dir name refs contents) refs contents
 tests s w (add_source name refs b) = source_tests s.store_dir w (source_path s.store_dir name refs b) refs b
 tests s w (import_object i) = import_tests s.store_dir w i
-tests s w (info p) = unless (has w p) not_valid ∷ []
-tests s w (nar p) = unless (has w p) not_valid ∷ []
-tests s w (ls p) = unless (has w p) not_valid ∷ []
+tests s w (info p) = unless (has w p) NotValid ∷ []
+tests s w (nar p) = unless (has w p) NotValid ∷ []
+tests s w (ls p) = unless (has w p) NotValid ∷ []
 tests s w list = []
 tests s w list_live = []
 tests s w list_dead = []
 tests s w list_roots = []
-tests s w (list_roots_of p) = unless (has w p) not_valid ∷ []
+tests s w (list_roots_of p) = unless (has w p) NotValid ∷ []
 tests s w (set_permanent name p) =
-    unless (is_plain_name name) bad_root_name
-    ∷ unless (has w p) not_valid
+    unless (is_plain_name name) BadRootName
+    ∷ unless (has w p) NotValid
     ∷ []
 tests s w (drop_permanent name) =
-    unless (is_plain_name name) bad_root_name
-    ∷ unless (finite.contains_key w.permanent name) no_root
+    unless (is_plain_name name) BadRootName
+    ∷ unless (finite.contains_key w.permanent name) NoRoot
     ∷ []
 tests s w (set_user_root owner name p) =
-    unless (is_plain_name owner && is_plain_name name) bad_root_name
-    ∷ unless (has w p) not_valid
+    unless (is_plain_name owner && is_plain_name name) BadRootName
+    ∷ unless (has w p) NotValid
     ∷ []
 tests s w (drop_user_root owner name) =
-    unless (is_plain_name owner && is_plain_name name) bad_root_name
-    ∷ unless (finite.contains_key w.user_roots (owner, name)) no_root
+    unless (is_plain_name owner && is_plain_name name) BadRootName
+    ∷ unless (finite.contains_key w.user_roots (owner, name)) NoRoot
     ∷ []
 tests s w (set_profile owner name p) =
-    unless (is_plain_name owner && is_plain_name name) bad_root_name
-    ∷ unless (has w p) not_valid
-    ∷ unless (nat_le (number_for (profile_at w (owner, name)) p) last_number) generation_limit
+    unless (is_plain_name owner && is_plain_name name) BadRootName
+    ∷ unless (has w p) NotValid
+    ∷ unless (nat_le (number_for (profile_at w (owner, name)) p) last_number) GenerationLimit
     ∷ []
 tests s w (rollback owner name) =
-    unless (is_plain_name owner && is_plain_name name) bad_root_name
-    ∷ unless (has_profile w (owner, name)) no_profile
-    ∷ unless (is_some (previous (profile_at w (owner, name)))) no_older_generation
+    unless (is_plain_name owner && is_plain_name name) BadRootName
+    ∷ unless (has_profile w (owner, name)) NoProfile
+    ∷ unless (is_some (previous (profile_at w (owner, name)))) NoOlderGeneration
     ∷ []
 tests s w (switch owner name n) =
-    unless (is_plain_name owner && is_plain_name name) bad_root_name
-    ∷ unless (has_profile w (owner, name)) no_profile
-    ∷ unless (has_generation (profile_at w (owner, name)) n) no_generation
+    unless (is_plain_name owner && is_plain_name name) BadRootName
+    ∷ unless (has_profile w (owner, name)) NoProfile
+    ∷ unless (has_generation (profile_at w (owner, name)) n) NoGeneration
     ∷ []
 tests s w (delete_generation owner name n) =
-    unless (is_plain_name owner && is_plain_name name) bad_root_name
-    ∷ unless (has_profile w (owner, name)) no_profile
-    ∷ unless (has_generation (profile_at w (owner, name)) n) no_generation
-    ∷ unless (not ((profile_at w (owner, name)).current == n)) current_generation
+    unless (is_plain_name owner && is_plain_name name) BadRootName
+    ∷ unless (has_profile w (owner, name)) NoProfile
+    ∷ unless (has_generation (profile_at w (owner, name)) n) NoGeneration
+    ∷ unless (not ((profile_at w (owner, name)).current == n)) CurrentGeneration
     ∷ []
-tests s w (replace_runtime pairs) = unless (list_all (λ p. is_runtime_label p.0) pairs) bad_label ∷ []
+tests s w (replace_runtime pairs) = unless (list_all (λ p. is_runtime_label p.0) pairs) BadLabel ∷ []
 tests s w (add_temp owner session p) =
-    unless (is_plain_name owner) bad_root_name
-    ∷ unless (is_session session) bad_session
-    ∷ unless (has w p) not_valid
+    unless (is_plain_name owner) BadRootName
+    ∷ unless (is_session session) BadSession
+    ∷ unless (has w p) NotValid
     ∷ []
 tests s w (end_session owner session) =
-    unless (is_plain_name owner) bad_root_name
-    ∷ unless (is_session session) bad_session
+    unless (is_plain_name owner) BadRootName
+    ∷ unless (is_session session) BadSession
     ∷ []
 tests s w (collect ignores limit) = []
-tests s w (delete named ignores) = unless (list_all (has w) named) not_valid ∷ []
+tests s w (delete named ignores) = unless (list_all (has w) named) NotValid ∷ []
 tests s w report = []
 
 -- the refusal of a request: that of its first test that fails

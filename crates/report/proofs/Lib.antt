@@ -1,4 +1,3 @@
-pub mod InTable
 pub mod Joined
 pub mod Labels
 pub mod Lacking

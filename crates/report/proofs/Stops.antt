@@ -1,6 +1,5 @@
 -- In a sound world every reply that isn't done is one line.
 use Rattle.std.proofs.Common.{◌≡◌, ℕ, List, ◌++◌, true, false, cond, codes, Some, None, Option, option_map, find, refl, sym, IsTrue, subst}
-use Rattle.std.specs.Option.{option_map_or}
 use Rattle.std.specs.Prelude.{Contains}
 use Rattle.paths.specs.StorePath.{full_path}
 use Rattle.paths.specs.Root.{Kind, permanent, user, profile, runtime, temporary, Root, in_order}
@@ -22,24 +21,18 @@ use Rattle.model.specs.Reply.{done, denied, refused, failed, Failure, memory, si
 use Rattle.model.specs.Liveness.{graph_of, keep_of, first_root_of, lives}
 use Rattle.model.specs.Seen.{censored, seen_root}
 use Rattle.model.specs.Verdict.{named_in, root_of_first, shown}
-use Rattle.report.specs.declared.refusal.Refusal.{Refusal}
-use Rattle.report.specs.Refusals.{refusal_line}
-use Rattle.report.specs.Stops.{root_text, shown_text, denial_text, failure_text, entry}
+use Rattle.report.specs.Stops.{root_text, shown_text, denial_text, failure_text}
 use Rattle.report.specs.Laws.{lacks, IsLine, StopsAreLines}
 use Rattle.report.proofs.Lacking.{lacks_both}
 use Rattle.report.proofs.Table.{are_lines}
 use Rattle.report.proofs.Labels.{Unbroken, unbroken}
 
--- ---- failures and refusals
+-- ---- failures
 
 failure_line : (f : Failure) → IsLine (failure_text f)
 failure_line memory = record { front = codes "failed: memory"; ends = refl; one = refl }
 failure_line size = record { front = codes "failed: size"; ends = refl; one = refl }
 failure_line disk = record { front = codes "failed: disk"; ends = refl; one = refl }
-
-entry_line : (o : Option Refusal) → IsLine (option_map_or refusal_line o (failure_text memory))
-entry_line None = failure_line memory
-entry_line (Some r) = are_lines r
 
 -- ---- denials
 
@@ -112,5 +105,5 @@ pub stops : StopsAreLines
 stops s w c q (done a) new whole sound step not_done = absurd (not_done tt)
 stops s w c q (denied rule root) new whole sound step not_done =
     subst (λ o. IsLine (denial_text s.store_dir rule o)) (sym step.1) (denial_line s.store_dir whole rule (shown s w c q rule) (shown_plain s w sound c q rule))
-stops s w c q (refused r) new whole sound step not_done = entry_line (entry r)
+stops s w c q (refused r) new whole sound step not_done = are_lines r
 stops s w c q (failed f) new whole sound step not_done = failure_line f

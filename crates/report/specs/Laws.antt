@@ -1,5 +1,5 @@
 -- Laws of the texts.
-use Rattle.std.specs.Prelude.{◌≡◌, ℕ, Bool, not, ◌&&◌, ◌==◌, List, [], ◌∷◌, ◌++◌, codes, IsTrue, is_some}
+use Rattle.std.specs.Prelude.{◌≡◌, ℕ, Bool, not, ◌&&◌, ◌==◌, List, [], ◌∷◌, ◌++◌, codes, IsTrue}
 use Rattle.std.specs.List.{list_all}
 use Rattle.model.specs.World.{Path, Pair, World, no_world}
 use Rattle.model.specs.Sound.{IsSound}
@@ -7,15 +7,13 @@ use Rattle.policy.specs.Settings.{Settings}
 use Rattle.policy.specs.Caller.{Caller}
 use Rattle.policy.specs.declared.error.KeyWord.TheVariants.{Syntax}
 use Rattle.model.specs.Request.{Request, report}
-use Rattle.model.specs.Reply.{Refusal as Refused, Reply, refused}
+use Rattle.model.specs.Reply.{Reply}
 use Rattle.model.specs.Answers.{answer}
 use Rattle.model.specs.Step.{Step}
 use Rattle.model.specs.Reply.{IsDone}
-use Rattle.model.specs.Soundness.{IsWellFormed}
-use Rattle.report.specs.declared.refusal.Refusal.{Refusal}
-use Rattle.report.specs.declared.refusal.Refusal.TheVariants.{Truncated, BadTag, BadPadding, BadName, NotSorted, TooDeep, Trailing, TooLarge, BadDigit, BadLength, Overflow, BadStoreName, BadStoreDir, BadStorePath, BadCa, CaMismatch, BadDerivation, DoubleOutput, BadConfig, BadCaller, BadSchema, OtherStoreDir, NotValid, MissingReference, NarHashMismatch, SelfReference, NoRoot, NoProfile, NoGeneration, CurrentGeneration, NoOlderGeneration, GenerationLimit, TooManyReferences, BadRootName, BadLabel, BadHead, BadBodyLength, BodyTooLarge, NoRoute, BadMethod, BadBodyHead, BadSession}
+use Rattle.model.specs.declared.refusal.Refusal.{Refusal}
+use Rattle.model.specs.declared.refusal.Refusal.TheVariants.{Truncated, BadTag, BadPadding, BadName, NotSorted, TooDeep, Trailing, TooLarge, BadDigit, BadLength, Overflow, BadStoreName, BadStoreDir, BadStorePath, BadCa, CaMismatch, BadDerivation, DoubleOutput, BadConfig, BadCaller, BadSchema, OtherStoreDir, NotValid, MissingReference, NarHashMismatch, SelfReference, NoRoot, NoProfile, NoGeneration, CurrentGeneration, NoOlderGeneration, GenerationLimit, TooManyReferences, BadRootName, BadLabel, BadHead, BadBodyLength, BodyTooLarge, NoRoute, BadMethod, BadBodyHead, BadSession}
 use Rattle.report.specs.Refusals.{refusal_line}
-use Rattle.report.specs.Stops.{entry}
 use Rattle.report.specs.Replies.{paths_text, roots_text, answer_text, reply_text}
 
 -- ---- the table
@@ -70,11 +68,6 @@ refusals =
 -- two refusals with one line are the same
 abbrev pub RefusalsDiffer : Type 0
 RefusalsDiffer = (a b : Refusal) → refusal_line a ≡ refusal_line b → a ≡ b
-
--- Every refusal of a step is in the table: none is out of memory.
-abbrev pub RefusalsAreInTheTable : Type 0
-RefusalsAreInTheTable = (s : Settings) (w : World) (c : Caller) (q : Request) (r : Refused) (new : World)
-    → IsWellFormed q → Step s w c q (refused r) new → IsTrue (is_some (entry r))
 
 -- ---- lines
 

@@ -1,8 +1,8 @@
 -- The one table of refusals: the number and the name of each, and its line.
 use Rattle.std.specs.Prelude.{ℕ, ◌==◌, List, [], ◌++◌, codes, cond, decimal}
 use Rattle.policy.specs.Words.{key_word}
-use Rattle.report.specs.declared.refusal.Refusal.{Refusal}
-use Rattle.report.specs.declared.refusal.Refusal.TheVariants.{Truncated, BadTag, BadPadding, BadName, NotSorted, TooDeep, Trailing, TooLarge, BadDigit, BadLength, Overflow, BadStoreName, BadStoreDir, BadStorePath, BadCa, CaMismatch, BadDerivation, DoubleOutput, BadConfig, BadCaller, BadSchema, OtherStoreDir, NotValid, MissingReference, NarHashMismatch, SelfReference, NoRoot, NoProfile, NoGeneration, CurrentGeneration, NoOlderGeneration, GenerationLimit, TooManyReferences, BadRootName, BadLabel, BadHead, BadBodyLength, BodyTooLarge, NoRoute, BadMethod, BadBodyHead, BadSession}
+use Rattle.model.specs.declared.refusal.Refusal.{Refusal}
+use Rattle.model.specs.declared.refusal.Refusal.TheVariants.{Truncated, BadTag, BadPadding, BadName, NotSorted, TooDeep, Trailing, TooLarge, BadDigit, BadLength, Overflow, BadStoreName, BadStoreDir, BadStorePath, BadCa, CaMismatch, BadDerivation, DoubleOutput, BadConfig, BadCaller, BadSchema, OtherStoreDir, NotValid, MissingReference, NarHashMismatch, SelfReference, NoRoot, NoProfile, NoGeneration, CurrentGeneration, NoOlderGeneration, GenerationLimit, TooManyReferences, BadRootName, BadLabel, BadHead, BadBodyLength, BodyTooLarge, NoRoute, BadMethod, BadBodyHead, BadSession}
 
 -- the number and the name of a refusal
 abbrev pub number_and_name : Refusal → ℕ × List ℕ

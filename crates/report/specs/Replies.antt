@@ -4,7 +4,8 @@ use Rattle.std.specs.List.{flat_map}
 use Rattle.paths.specs.StorePath.{full_path}
 use Rattle.model.specs.World.{Path, Pair}
 use Rattle.model.specs.Reply.{Answer, path, record_of, archive_of, listing_of, paths, roots, changed, generation, runtime_count, temporary_count, freed, usage, Reply, done, denied, refused, failed}
-use Rattle.report.specs.Stops.{root_text, denial_text, refused_text, failure_text}
+use Rattle.report.specs.Refusals.{refusal_line}
+use Rattle.report.specs.Stops.{root_text, denial_text, failure_text}
 use Rattle.report.specs.Narinfo.{narinfo}
 use Rattle.report.specs.Usage.{usage_text}
 
@@ -43,5 +44,5 @@ answer_text dir (usage live dead total) = usage_text live dead total
 abbrev pub reply_text : List ℕ → Reply → List ℕ
 reply_text dir (done a) = answer_text dir a
 reply_text dir (denied rule root) = denial_text dir rule root
-reply_text dir (refused r) = refused_text r
+reply_text dir (refused r) = refusal_line r
 reply_text dir (failed f) = failure_text f

@@ -1,12 +1,13 @@
 -- Worked texts, line by line.
-use Rattle.std.specs.Prelude.{◌≡◌, ℕ, List, [], ◌∷◌, codes, Some, None}
-use Rattle.nar.specs.declared.error.NarError.TheVariants.{Truncated, BadTag, BadPadding, BadName, NotSorted, TooDeep, Trailing, TooLarge}
-use Rattle.drv.specs.declared.error.DrvError.TheVariants.{BadDerivation, DoubleOutput}
+use Rattle.std.specs.Prelude.{◌≡◌, ℕ, List, [], ◌∷◌, codes, Some, None, option_map}
+use Rattle.nar.specs.declared.error.NarError.TheVariants as archives
+use Rattle.drv.specs.declared.error.DrvError.TheVariants as derivations
 use Rattle.paths.specs.declared.content_address.Method.TheVariants.{Source, Text}
 use Rattle.policy.specs.declared.error.KeyWord.TheVariants.{StoreDir}
 use Rattle.policy.specs.declared.kinds.Rule.TheVariants.{Connect, Live}
-use Rattle.model.specs.Reply.{path, record_of, archive_of, listing_of, paths, roots, changed, generation, runtime_count, temporary_count, freed, usage, done, denied, refused, failed, archive, ca_mismatch, derivation, not_valid, missing_reference, nar_hash_mismatch, self_reference, no_root, no_profile, no_generation, current_generation, no_older_generation, generation_limit, too_many_references, bad_root_name, bad_label, bad_session, memory, size, disk}
-use Rattle.report.specs.declared.refusal.Refusal.TheVariants.{BadConfig, BadHead, BadBodyLength}
+use Rattle.model.specs.Reply.{path, record_of, archive_of, listing_of, paths, roots, changed, generation, runtime_count, temporary_count, freed, usage, done, denied, refused, failed, memory, size, disk}
+use Rattle.model.specs.declared.refusal.Refusal.TheVariants.{CaMismatch, NotValid, MissingReference, NarHashMismatch, SelfReference, NoRoot, NoProfile, NoGeneration, CurrentGeneration, NoOlderGeneration, GenerationLimit, TooManyReferences, BadRootName, BadLabel, BadSession, BadConfig, BadHead, BadBodyLength}
+use Rattle.model.specs.Faults.{archive_refusal, derivation_refusal}
 use Rattle.report.specs.Refusals.{refusal_line}
 use Rattle.report.specs.Narinfo.{narinfo}
 use Rattle.report.specs.Replies.{reply_text}
@@ -27,33 +28,33 @@ pub record HasWorkedDenials : Type 0 where
   pub hidden : reply_text dir (denied Live (Some (codes "{censored}", x))) ≡ codes "denied: live {censored} /nix/store/11111111111111111111111111111111-x\n"
   pub seen : reply_text dir (denied Live (Some (codes "/proc/2/exe", x))) ≡ codes "denied: live /proc/2/exe /nix/store/11111111111111111111111111111111-x\n"
 
--- each refusal of a request, some refusals of other kinds, and the failures
+-- what is wrong with an archive and with a derivation, the other refusals of a request, some of other kinds, and the failures
 pub record HasWorkedRefusals : Type 0 where
-  pub truncated : reply_text dir (refused (archive Truncated)) ≡ codes "refused: 1 truncated\n"
-  pub bad_tag : reply_text dir (refused (archive BadTag)) ≡ codes "refused: 2 bad-tag\n"
-  pub bad_padding : reply_text dir (refused (archive BadPadding)) ≡ codes "refused: 3 bad-padding\n"
-  pub bad_name : reply_text dir (refused (archive BadName)) ≡ codes "refused: 4 bad-name\n"
-  pub not_sorted : reply_text dir (refused (archive NotSorted)) ≡ codes "refused: 5 not-sorted\n"
-  pub too_deep : reply_text dir (refused (archive TooDeep)) ≡ codes "refused: 6 too-deep\n"
-  pub trailing : reply_text dir (refused (archive Trailing)) ≡ codes "refused: 7 trailing\n"
-  pub too_large : reply_text dir (refused (archive TooLarge)) ≡ codes "refused: 8 too-large\n"
-  pub ca_mismatch : reply_text dir (refused ca_mismatch) ≡ codes "refused: 16 ca-mismatch\n"
-  pub malformed : reply_text dir (refused (derivation BadDerivation)) ≡ codes "refused: 17 bad-derivation\n"
-  pub doubled : reply_text dir (refused (derivation DoubleOutput)) ≡ codes "refused: 18 double-output\n"
-  pub not_valid : reply_text dir (refused not_valid) ≡ codes "refused: 23 not-valid\n"
-  pub reference : reply_text dir (refused missing_reference) ≡ codes "refused: 24 missing-reference\n"
-  pub hash : reply_text dir (refused nar_hash_mismatch) ≡ codes "refused: 25 nar-hash-mismatch\n"
-  pub self_reference : reply_text dir (refused self_reference) ≡ codes "refused: 26 self-reference\n"
-  pub no_root : reply_text dir (refused no_root) ≡ codes "refused: 27 no-root\n"
-  pub no_profile : reply_text dir (refused no_profile) ≡ codes "refused: 28 no-profile\n"
-  pub no_generation : reply_text dir (refused no_generation) ≡ codes "refused: 29 no-generation\n"
-  pub current : reply_text dir (refused current_generation) ≡ codes "refused: 30 current-generation\n"
-  pub no_older : reply_text dir (refused no_older_generation) ≡ codes "refused: 31 no-older-generation\n"
-  pub limit : reply_text dir (refused generation_limit) ≡ codes "refused: 32 generation-limit\n"
-  pub references : reply_text dir (refused too_many_references) ≡ codes "refused: 33 too-many-references\n"
-  pub root_name : reply_text dir (refused bad_root_name) ≡ codes "refused: 34 bad-root-name\n"
-  pub label : reply_text dir (refused bad_label) ≡ codes "refused: 35 bad-label\n"
-  pub session : reply_text dir (refused bad_session) ≡ codes "refused: 42 bad-session\n"
+  pub truncated : option_map refusal_line (archive_refusal archives.Truncated) ≡ Some (codes "refused: 1 truncated\n")
+  pub bad_tag : option_map refusal_line (archive_refusal archives.BadTag) ≡ Some (codes "refused: 2 bad-tag\n")
+  pub bad_padding : option_map refusal_line (archive_refusal archives.BadPadding) ≡ Some (codes "refused: 3 bad-padding\n")
+  pub bad_name : option_map refusal_line (archive_refusal archives.BadName) ≡ Some (codes "refused: 4 bad-name\n")
+  pub not_sorted : option_map refusal_line (archive_refusal archives.NotSorted) ≡ Some (codes "refused: 5 not-sorted\n")
+  pub too_deep : option_map refusal_line (archive_refusal archives.TooDeep) ≡ Some (codes "refused: 6 too-deep\n")
+  pub trailing : option_map refusal_line (archive_refusal archives.Trailing) ≡ Some (codes "refused: 7 trailing\n")
+  pub too_large : option_map refusal_line (archive_refusal archives.TooLarge) ≡ Some (codes "refused: 8 too-large\n")
+  pub ca_mismatch : reply_text dir (refused CaMismatch) ≡ codes "refused: 16 ca-mismatch\n"
+  pub malformed : option_map refusal_line (derivation_refusal derivations.BadDerivation) ≡ Some (codes "refused: 17 bad-derivation\n")
+  pub doubled : option_map refusal_line (derivation_refusal derivations.DoubleOutput) ≡ Some (codes "refused: 18 double-output\n")
+  pub not_valid : reply_text dir (refused NotValid) ≡ codes "refused: 23 not-valid\n"
+  pub reference : reply_text dir (refused MissingReference) ≡ codes "refused: 24 missing-reference\n"
+  pub hash : reply_text dir (refused NarHashMismatch) ≡ codes "refused: 25 nar-hash-mismatch\n"
+  pub self_reference : reply_text dir (refused SelfReference) ≡ codes "refused: 26 self-reference\n"
+  pub no_root : reply_text dir (refused NoRoot) ≡ codes "refused: 27 no-root\n"
+  pub no_profile : reply_text dir (refused NoProfile) ≡ codes "refused: 28 no-profile\n"
+  pub no_generation : reply_text dir (refused NoGeneration) ≡ codes "refused: 29 no-generation\n"
+  pub current : reply_text dir (refused CurrentGeneration) ≡ codes "refused: 30 current-generation\n"
+  pub no_older : reply_text dir (refused NoOlderGeneration) ≡ codes "refused: 31 no-older-generation\n"
+  pub limit : reply_text dir (refused GenerationLimit) ≡ codes "refused: 32 generation-limit\n"
+  pub references : reply_text dir (refused TooManyReferences) ≡ codes "refused: 33 too-many-references\n"
+  pub root_name : reply_text dir (refused BadRootName) ≡ codes "refused: 34 bad-root-name\n"
+  pub label : reply_text dir (refused BadLabel) ≡ codes "refused: 35 bad-label\n"
+  pub session : reply_text dir (refused BadSession) ≡ codes "refused: 42 bad-session\n"
   pub configuration : refusal_line (BadConfig StoreDir) ≡ codes "refused: 19 bad-config store-dir\n"
   pub head : refusal_line BadHead ≡ codes "refused: 36 bad-head\n"
   pub body : refusal_line BadBodyLength ≡ codes "refused: 37 bad-length\n"

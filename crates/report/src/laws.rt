@@ -5,7 +5,6 @@ ghost use Rattle.report.specs.Refusals.{number};
 ghost use Rattle.report.specs.Laws.{
   ANewStoreUsesNothing,
   ListingsDiffer,
-  RefusalsAreInTheTable,
   RefusalsAreLines,
   RefusalsDiffer,
   StopsAreLines,
@@ -29,11 +28,6 @@ pub fn numbers_are_one_to_forty_two()
 pub fn refusals_differ()
     ensures line { RefusalsAreLines }
     ensures own { RefusalsDiffer }
-{}
-
-/// Each refusal of a step is in the table.
-pub fn refusals_are_in_the_table()
-    ensures { RefusalsAreInTheTable }
 {}
 
 /// In a sound world a denial, a refusal or a failure is one line.

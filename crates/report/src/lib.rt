@@ -7,7 +7,6 @@ mod laws;
 mod lists;
 mod numbers;
 mod records;
-mod refusal;
 mod refusals;
 mod replies;
 mod usage;
@@ -15,14 +14,13 @@ mod usage;
 pub use answers::answer_text;
 pub use denials::denial_line;
 pub use laws::{
-    a_new_store_uses_nothing, listings_lose_nothing, numbers_are_one_to_forty_two,
-    refusals_are_in_the_table, refusals_differ, stops_are_lines, worked_lines, worked_narinfo,
-    worked_usage,
+    a_new_store_uses_nothing, listings_lose_nothing, numbers_are_one_to_forty_two, refusals_differ,
+    stops_are_lines, worked_lines, worked_narinfo, worked_usage,
 };
 pub use lists::{path_line, paths_text, roots_text};
+pub use model::Refusal;
 pub use numbers::refusal_text;
 pub use records::{Info, narinfo};
-pub use refusal::Refusal;
-pub use refusals::{archive_entry, failure_line, refusal_entry, refusal_line};
+pub use refusals::{failure_line, refusal_line};
 pub use replies::{reply_pieces, reply_text};
 pub use usage::usage_text;

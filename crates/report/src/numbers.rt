@@ -1,9 +1,10 @@
 //! Refusals by their numbers.
 ghost use Rattle.std.specs.Prelude.{◌≡◌, ◌≤◌, ◌++◌, OnErr, OnOk};
-ghost use Rattle.report.specs.declared.refusal.Refusal.{Refusal as TheRefusal};
+ghost use Rattle.model.specs.declared.refusal.Refusal.{Refusal as TheRefusal};
 ghost use Rattle.report.specs.Refusals.{number as number_of, known_text};
 
-use crate::refusal::Refusal;
+use crate::refusals::refusal_line;
+use model::Refusal;
 use policy::KeyWord;
 use std::alloc::AllocError;
 
@@ -73,7 +74,7 @@ fn known_line(number: usize) -> &'static str
     if number == BAD_CONFIG {
         "refused: 19 bad-config"
     } else {
-        refusal.line()
+        refusal_line(refusal)
     }
 }
 

@@ -1,75 +1,75 @@
-//! Refusals and failures of a store, as the table of refusals has them.
+//! The lines of refusals and of failures, without memory.
 ghost use Rattle.std.specs.Prelude.{◌≡◌};
-ghost use Rattle.report.specs.Stops as spec;
-ghost use Rattle.report.specs.Stops.{failure_text, refused_text};
-ghost use Rattle.store_types.specs.View.{failure_view, refusal_view};
+ghost use Rattle.report.specs.Refusals as spec;
+ghost use Rattle.report.specs.Stops.{failure_text};
+ghost use Rattle.store_types.specs.View.{failure_view};
 
-use crate::refusal::Refusal as Entry;
-use drv::DrvError;
-use nar::NarError;
-use store_types::Refusal;
+use model::Refusal;
+use policy::KeyWord;
 use tables_sql::failure::Failure;
 
-/// The row of the table of a fault of an archive: none where memory ran out, which is no fault of an archive.
-pub fn archive_entry(fault: NarError) -> Option<Entry>
-    ensures { result ≡ spec.archive_entry fault }
-{
-    match fault {
-        NarError::Truncated => Some(Entry::Truncated),
-        NarError::BadTag => Some(Entry::BadTag),
-        NarError::BadPadding => Some(Entry::BadPadding),
-        NarError::BadName => Some(Entry::BadName),
-        NarError::NotSorted => Some(Entry::NotSorted),
-        NarError::TooDeep => Some(Entry::TooDeep),
-        NarError::Trailing => Some(Entry::Trailing),
-        NarError::TooLarge => Some(Entry::TooLarge),
-        NarError::Memory => None,
-    }
-}
-
-/// The row of the table of a fault of a derivation text.
-fn derivation_entry(fault: DrvError) -> Option<Entry>
-    ensures { result ≡ spec.derivation_entry fault }
-{
-    match fault {
-        DrvError::BadDerivation => Some(Entry::BadDerivation),
-        DrvError::DoubleOutput => Some(Entry::DoubleOutput),
-        DrvError::Memory => None,
-    }
-}
-
-/// The row of the table of a refusal of a store; none, where it is out of memory.
-pub fn refusal_entry(refusal: Refusal) -> Option<Entry>
-    ensures { result ≡ spec.entry (refusal_view refusal) }
+/// The line of a refusal: its number and its name, for a configuration the key word, and a line feed.
+pub fn refusal_line(refusal: Refusal) -> &'static str
+    ensures { result.now ≡ spec.refusal_line refusal }
 {
     match refusal {
-        Refusal::Archive(fault) => archive_entry(fault),
-        Refusal::Derivation(fault) => derivation_entry(fault),
-        Refusal::CaMismatch => Some(Entry::CaMismatch),
-        Refusal::NotValid => Some(Entry::NotValid),
-        Refusal::MissingReference => Some(Entry::MissingReference),
-        Refusal::NarHashMismatch => Some(Entry::NarHashMismatch),
-        Refusal::SelfReference => Some(Entry::SelfReference),
-        Refusal::NoRoot => Some(Entry::NoRoot),
-        Refusal::NoProfile => Some(Entry::NoProfile),
-        Refusal::NoGeneration => Some(Entry::NoGeneration),
-        Refusal::CurrentGeneration => Some(Entry::CurrentGeneration),
-        Refusal::NoOlderGeneration => Some(Entry::NoOlderGeneration),
-        Refusal::GenerationLimit => Some(Entry::GenerationLimit),
-        Refusal::TooManyReferences => Some(Entry::TooManyReferences),
-        Refusal::BadRootName => Some(Entry::BadRootName),
-        Refusal::BadLabel => Some(Entry::BadLabel),
-        Refusal::BadSession => Some(Entry::BadSession),
+        Refusal::Truncated => "refused: 1 truncated\n",
+        Refusal::BadTag => "refused: 2 bad-tag\n",
+        Refusal::BadPadding => "refused: 3 bad-padding\n",
+        Refusal::BadName => "refused: 4 bad-name\n",
+        Refusal::NotSorted => "refused: 5 not-sorted\n",
+        Refusal::TooDeep => "refused: 6 too-deep\n",
+        Refusal::Trailing => "refused: 7 trailing\n",
+        Refusal::TooLarge => "refused: 8 too-large\n",
+        Refusal::BadDigit => "refused: 9 bad-digit\n",
+        Refusal::BadLength => "refused: 10 bad-length\n",
+        Refusal::Overflow => "refused: 11 overflow\n",
+        Refusal::BadStoreName => "refused: 12 bad-store-name\n",
+        Refusal::BadStoreDir => "refused: 13 bad-store-dir\n",
+        Refusal::BadStorePath => "refused: 14 bad-store-path\n",
+        Refusal::BadCa => "refused: 15 bad-ca\n",
+        Refusal::CaMismatch => "refused: 16 ca-mismatch\n",
+        Refusal::BadDerivation => "refused: 17 bad-derivation\n",
+        Refusal::DoubleOutput => "refused: 18 double-output\n",
+        Refusal::BadConfig(word) => bad_config_line(word),
+        Refusal::BadCaller => "refused: 20 bad-caller\n",
+        Refusal::BadSchema => "refused: 21 bad-schema\n",
+        Refusal::OtherStoreDir => "refused: 22 other-store-dir\n",
+        Refusal::NotValid => "refused: 23 not-valid\n",
+        Refusal::MissingReference => "refused: 24 missing-reference\n",
+        Refusal::NarHashMismatch => "refused: 25 nar-hash-mismatch\n",
+        Refusal::SelfReference => "refused: 26 self-reference\n",
+        Refusal::NoRoot => "refused: 27 no-root\n",
+        Refusal::NoProfile => "refused: 28 no-profile\n",
+        Refusal::NoGeneration => "refused: 29 no-generation\n",
+        Refusal::CurrentGeneration => "refused: 30 current-generation\n",
+        Refusal::NoOlderGeneration => "refused: 31 no-older-generation\n",
+        Refusal::GenerationLimit => "refused: 32 generation-limit\n",
+        Refusal::TooManyReferences => "refused: 33 too-many-references\n",
+        Refusal::BadRootName => "refused: 34 bad-root-name\n",
+        Refusal::BadLabel => "refused: 35 bad-label\n",
+        Refusal::BadHead => "refused: 36 bad-head\n",
+        Refusal::BadBodyLength => "refused: 37 bad-length\n",
+        Refusal::BodyTooLarge => "refused: 38 too-large\n",
+        Refusal::NoRoute => "refused: 39 no-route\n",
+        Refusal::BadMethod => "refused: 40 bad-method\n",
+        Refusal::BadBodyHead => "refused: 41 bad-body-head\n",
+        Refusal::BadSession => "refused: 42 bad-session\n",
     }
 }
 
-/// The line of a refusal of a store, with its line feed; that of running out of memory, where it is that.
-pub fn refusal_line(refusal: Refusal) -> &'static str
-    ensures { result.now ≡ refused_text (refusal_view refusal) }
+fn bad_config_line(word: KeyWord) -> &'static str
+    ensures { result.now ≡ spec.refusal_line (Refusal.BadConfig word) }
 {
-    match refusal_entry(refusal) {
-        Some(entry) => entry.line(),
-        None => failure_line(Failure::Memory),
+    match word {
+        KeyWord::Syntax => "refused: 19 bad-config syntax\n",
+        KeyWord::UnknownKey => "refused: 19 bad-config unknown-key\n",
+        KeyWord::StoreDir => "refused: 19 bad-config store-dir\n",
+        KeyWord::AllowedUsers => "refused: 19 bad-config allowed-users\n",
+        KeyWord::TrustedUsers => "refused: 19 bad-config trusted-users\n",
+        KeyWord::KeepOutputs => "refused: 19 bad-config keep-outputs\n",
+        KeyWord::KeepDerivations => "refused: 19 bad-config keep-derivations\n",
+        KeyWord::Groups => "refused: 19 bad-config groups\n",
     }
 }
 

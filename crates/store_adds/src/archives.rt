@@ -6,13 +6,11 @@ ghost use Rattle.nar.specs.Archive.{limit};
 ghost use Rattle.nar.specs.View.{tree_of};
 ghost use Rattle.model.specs.Adds as adds;
 ghost use Rattle.model.specs.Adds.{text_archive_size};
-ghost use Rattle.model.specs.Reply as replied;
 ghost use Rattle.model.specs.Tests.{unless};
 ghost use Rattle.store_types.specs.Tested.{Tested};
-ghost use Rattle.nar.specs.declared.error.NarError.TheVariants.{TooLarge as too_large};
 
 use intake::Intake;
-use nar::{NarError, Node};
+use nar::Node;
 use sha2::{Digest, Sha256};
 use std::alloc::{AllocError, Global};
 use store_types::{Refusal, Stop};
@@ -30,12 +28,12 @@ pub(crate) fn plain(contents: &[u8]) -> Node<'_>
 
 /// Tests that the archive of a text is small enough.
 pub(crate) fn has_archive(contents: &[u8]) -> Result<(), Stop>
-    ensures told { Tested result (unless (nat_le (text_archive_size contents.now) limit) (replied.archive too_large)) }
+    ensures told { Tested result (unless (nat_le (text_archive_size contents.now) limit) Refusal.TooLarge) }
     ensures fits { OnOk result (text_archive_size contents.now ≤ limit) }
 {
     let file = plain(contents);
     if !nar::is_writable(&file) {
-        return Err(Stop::Refused(Refusal::Archive(NarError::TooLarge)));
+        return Err(Stop::Refused(Refusal::TooLarge));
     }
     Ok(())
 }

@@ -10,8 +10,7 @@ ghost use Rattle.intake.specs.Told.{IsTold};
 ghost use Rattle.store_types.specs.Tested.{Tested};
 
 use intake::{Arrived, Intake};
-use nar::NarError;
-use store_types::{Refusal, Stop};
+use store_types::Stop;
 use tables_sql::failure::Failure;
 
 /// An archive at its end. Where memory was refused as it came, the call fails.
@@ -34,7 +33,6 @@ pub(crate) fn is_archive(nar: &Arrived) -> Result<(), Stop>
 {
     match nar.fault {
         None => Ok(()),
-        Some(NarError::Memory) => Err(Stop::Failed(Failure::Memory)),
-        Some(fault) => Err(Stop::Refused(Refusal::Archive(fault))),
+        Some(fault) => Err(Stop::from(fault)),
     }
 }

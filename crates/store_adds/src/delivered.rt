@@ -8,7 +8,6 @@ ghost use Rattle.paths.specs.Facts.{TellsFor};
 ghost use Rattle.live.specs.Graph.{holds as is_held, same};
 ghost use Rattle.model.specs.World.{Path as PathOf};
 ghost use Rattle.model.specs.Adds.{added_import};
-ghost use Rattle.model.specs.Reply as replied;
 ghost use Rattle.model.specs.Tests as tests;
 ghost use Rattle.model.specs.Tests.{unless};
 ghost use Rattle.store_types.specs.Tested.{Tested};
@@ -86,7 +85,7 @@ impl Delivered {
     /// Tests that the archive has the given digest.
     pub(crate) fn has_digest(&self) -> Result<(), Stop>
         requires { IsTold self.now.nar }
-        ensures { Tested result (unless (same (sha256 (delivered_view self.now).nar) (delivered_view self.now).nar_hash) replied.nar_hash_mismatch) }
+        ensures { Tested result (unless (same (sha256 (delivered_view self.now).nar) (delivered_view self.now).nar_hash) Refusal.NarHashMismatch) }
     {
         if !is_same(&self.nar.nar_hash, &self.nar_hash) {
             return Err(Stop::Refused(Refusal::NarHashMismatch));
@@ -96,7 +95,7 @@ impl Delivered {
 
     /// Tests that it doesn't refer to itself, if it has a content address.
     pub(crate) fn refers_to_others(&self) -> Result<(), Stop>
-        ensures { Tested result (unless (is_none (delivered_view self.now).ca || not (is_held (delivered_view self.now).refs (delivered_view self.now).path)) replied.self_reference) }
+        ensures { Tested result (unless (is_none (delivered_view self.now).ca || not (is_held (delivered_view self.now).refs (delivered_view self.now).path)) Refusal.SelfReference) }
     {
         if self.ca.is_none() {
             return Ok(());
@@ -107,7 +106,7 @@ impl Delivered {
     /// Tests that its content address verifies, if it has one.
     pub(crate) fn is_verified(&self, alloc: Global, dir: &StoreDir) -> Result<(), Stop>
         requires { IsTold self.now.nar }
-        ensures { Tested result (unless (tests.is_verified dir.now (delivered_view self.now).path (added_import dir.now (delivered_view self.now)).object (delivered_view self.now).ca) replied.ca_mismatch) }
+        ensures { Tested result (unless (tests.is_verified dir.now (delivered_view self.now).path (added_import dir.now (delivered_view self.now)).object (delivered_view self.now).ca) Refusal.CaMismatch) }
     {
         let Some(ca) = &self.ca else {
             return Ok(());

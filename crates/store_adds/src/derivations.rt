@@ -12,7 +12,6 @@ ghost use Rattle.model.specs.Tests.{if_derivation, outputs_fault, tree_fault};
 ghost use Rattle.store_types.specs.Tested.{Gives};
 ghost use Rattle.store_adds.specs.Parts.{outputs_view};
 
-use drv::DrvError;
 use intake::file_contents;
 use nar::Node;
 use paths::{StoreDir, StorePath};
@@ -47,8 +46,7 @@ fn outputs_of(
 {
     match drv::outputs(alloc, text, dir) {
         Ok(found) => Ok(by_name(alloc, found)?),
-        Err(DrvError::Memory) => Err(Stop::Failed(Failure::Memory)),
-        Err(fault) => Err(Stop::Refused(Refusal::Derivation(fault))),
+        Err(fault) => Err(Stop::from(fault)),
     }
 }
 
@@ -62,7 +60,7 @@ fn outputs_in(
 {
     match node {
         Node::Regular { contents, .. } => outputs_of(alloc, dir, contents),
-        _ => Err(Stop::Refused(Refusal::Derivation(DrvError::BadDerivation))),
+        _ => Err(Stop::Refused(Refusal::BadDerivation)),
     }
 }
 
@@ -76,7 +74,7 @@ fn outputs_from(
 {
     match file_contents(alloc, nar) {
         Ok(Some(text)) => outputs_of(alloc, dir, text),
-        Ok(None) => Err(Stop::Refused(Refusal::Derivation(DrvError::BadDerivation))),
+        Ok(None) => Err(Stop::Refused(Refusal::BadDerivation)),
         Err(_) => Err(Stop::Failed(Failure::Memory)),
     }
 }

@@ -7,7 +7,6 @@ ghost use Rattle.live.specs.Graph as graph;
 ghost use Rattle.model.specs.World.{World};
 ghost use Rattle.model.specs.Objects.{most_references};
 ghost use Rattle.tables_outline.specs.Outline.{outline_of};
-ghost use Rattle.model.specs.Reply as replied;
 ghost use Rattle.model.specs.Tests as tests;
 ghost use Rattle.model.specs.Tests.{unless};
 ghost use Rattle.store_types.specs.Tested.{Tested};
@@ -22,7 +21,7 @@ const MOST_REFERENCES: usize = 4096;
 
 /// Tests that there aren't too many references, repeats counted.
 pub(crate) fn are_few(refs: &[StorePath]) -> Result<(), Stop>
-    ensures { Tested result (unless (nat_le (length refs.now) most_references) replied.too_many_references) }
+    ensures { Tested result (unless (nat_le (length refs.now) most_references) Refusal.TooManyReferences) }
 {
     if refs.len() > MOST_REFERENCES {
         return Err(Stop::Refused(Refusal::TooManyReferences));
@@ -39,7 +38,7 @@ fn holds(refs: &[StorePath], path: &StorePath) -> bool
 
 /// Tests that a path isn't among the references.
 pub(crate) fn are_others(refs: &[StorePath], path: &StorePath) -> Result<(), Stop>
-    ensures { Tested result (unless (not (graph.holds refs.now path.now)) replied.self_reference) }
+    ensures { Tested result (unless (not (graph.holds refs.now path.now)) Refusal.SelfReference) }
 {
     if holds(refs, path) {
         return Err(Stop::Refused(Refusal::SelfReference));
@@ -69,7 +68,7 @@ fn is_complete(index: &Index, path: &StorePath, refs: &[StorePath]) -> bool
 
 /// Tests that each reference of a path is valid or that path, or the path is valid already.
 pub(crate) fn are_there(index: &Index, path: &StorePath, refs: &[StorePath]) -> Result<(), Stop>
-    ensures { (w : World) → outline_of w ≡ index.now → Tested result (unless (tests.is_complete w path.now refs.now) replied.missing_reference) }
+    ensures { (w : World) → outline_of w ≡ index.now → Tested result (unless (tests.is_complete w path.now refs.now) Refusal.MissingReference) }
 {
     if !is_complete(index, path, refs) {
         return Err(Stop::Refused(Refusal::MissingReference));

@@ -5,7 +5,9 @@ use Rattle.std.specs.List.{list_all}
 use Rattle.policy.specs.Settings.{Settings}
 use Rattle.policy.specs.Caller.{Caller}
 use Rattle.model.specs.World.{Path, World, has}
-use Rattle.model.specs.Reply.{Refusal, not_valid, freed}
+use Rattle.model.specs.Reply.{freed}
+use Rattle.model.specs.declared.refusal.Refusal.{Refusal}
+use Rattle.model.specs.declared.refusal.Refusal.TheVariants.{NotValid}
 use Rattle.model.specs.Request.{delete}
 use Rattle.model.specs.Liveness.{deleted_paths, bytes_in}
 use Rattle.model.specs.Tests.{first_failing, unless}
@@ -23,17 +25,17 @@ alone (Some r) = refl
 
 module _ (named handed : List Path) (same : handed ≡ named) (w : World) where
   -- what stops it
-  pub stopped_as : (s : Settings) (ignores : Bool) (stop : Stop) → Stops stop (unless (list_all (has w) handed) not_valid) → Stops stop (first_failing (unless (list_all (has w) named) not_valid ∷ []))
-  stopped_as s ignores stop h = subst (Stops stop) (ap (λ (ps : List Path). unless (list_all (has w) ps) not_valid) same ∙ sym (alone (unless (list_all (has w) named) not_valid))) h
+  pub stopped_as : (s : Settings) (ignores : Bool) (stop : Stop) → Stops stop (unless (list_all (has w) handed) NotValid) → Stops stop (first_failing (unless (list_all (has w) named) NotValid ∷ []))
+  stopped_as s ignores stop h = subst (Stops stop) (ap (λ (ps : List Path). unless (list_all (has w) ps) NotValid) same ∙ sym (alone (unless (list_all (has w) named) NotValid))) h
 
-  module _ (f : Found) (found : (unless (list_all (has w) handed) not_valid ≡ None) × (found_view f ≡ (deleted_paths w handed, bytes_in w (deleted_paths w handed)))) where
+  module _ (f : Found) (found : (unless (list_all (has w) handed) NotValid ≡ None) × (found_view f ≡ (deleted_paths w handed, bytes_in w (deleted_paths w handed)))) where
     pub found_paths : f.paths.items ≡ deleted_paths w named
     found_paths = ap (λ (x : List Path × _). x.0) found.1 ∙ ap (deleted_paths w) same
 
     -- the paths that it finds go, and nothing else
     pub deleted_as : (s : Settings) (c : Caller) (ignores : Bool) → Removes s w c (delete named ignores) f.paths.items f.bytes
     deleted_as s c ignores = record {
-      passes = alone (unless (list_all (has w) named) not_valid) ∙ ap (λ (ps : List Path). unless (list_all (has w) ps) not_valid) (sym same) ∙ found.0;
+      passes = alone (unless (list_all (has w) named) NotValid) ∙ ap (λ (ps : List Path). unless (list_all (has w) ps) NotValid) (sym same) ∙ found.0;
       answers = ap (λ (x : List Path × _). freed x.0 x.1) found.1 ∙ ap (λ (ps : List Path). freed (deleted_paths w ps) (bytes_in w (deleted_paths w ps))) same;
       becomes = others_left w named f.paths.items found_paths;
     }

@@ -8,7 +8,7 @@ ghost use Rattle.live.specs.Numbering.{Rise, graph_of, path_at, paths_of};
 ghost use Rattle.live.specs.Reach.{refers_to_any};
 ghost use Rattle.model.specs.World.{Path, World, has};
 ghost use Rattle.tables_outline.specs.Outline.{outline_of};
-ghost use Rattle.model.specs.Reply.{not_valid};
+ghost use Rattle.model.specs.declared.refusal.Refusal.TheVariants.{NotValid};
 ghost use Rattle.model.specs.Tests.{unless};
 ghost use Rattle.store_removal.specs.Found.{IsDenial, found_view};
 ghost use Rattle.store_types.specs.Tested.{Gives};
@@ -112,7 +112,7 @@ pub fn denial(
 /// The named paths and all that reach them by references, if the named are valid.
 pub fn find_deleted(alloc: Global, index: &Index, named: &[StorePath]) -> Result<Found, Stop>
     ensures { (w : World) → outline_of w ≡ index.now → Gives found_view result
-        (unless (list_all (has w) named.now) not_valid) (spec.deleted_paths w named.now, spec.bytes_in w (spec.deleted_paths w named.now)) }
+        (unless (list_all (has w) named.now) NotValid) (spec.deleted_paths w named.now, spec.bytes_in w (spec.deleted_paths w named.now)) }
 {
     are_valid(index, named)?;
     let paths = deleted_paths(alloc, index, named)?;

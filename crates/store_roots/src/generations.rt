@@ -5,7 +5,6 @@ ghost use Rattle.model.specs.World.{World};
 ghost use Rattle.model.specs.Profiles as profiles;
 ghost use Rattle.model.specs.Profiles.{last_number, number_for, previous, profile_at};
 ghost use Rattle.tables_outline.specs.Outline.{outline_of, profile_of};
-ghost use Rattle.model.specs.Reply as replied;
 ghost use Rattle.model.specs.Tests.{unless};
 ghost use Rattle.store_types.specs.Tested.{Gives, Tested};
 
@@ -16,7 +15,7 @@ use tables_outline::Index;
 /// Tests that a profile has a generation below the current one; gives the greatest number of one.
 pub(crate) fn has_older(index: &Index, owned: &(String, String)) -> Result<u32, Stop>
     ensures { (w : World) → outline_of w ≡ index.now → Gives (λ n. Some n) result
-        (unless (is_some (previous (profile_at w (string_bytes owned.now.0, string_bytes owned.now.1)))) replied.no_older_generation) (previous (profile_at w (string_bytes owned.now.0, string_bytes owned.now.1))) }
+        (unless (is_some (previous (profile_at w (string_bytes owned.now.0, string_bytes owned.now.1)))) Refusal.NoOlderGeneration) (previous (profile_at w (string_bytes owned.now.0, string_bytes owned.now.1))) }
 {
     match index.previous_generation(owned) {
         Some(older) => Ok(older),
@@ -30,7 +29,7 @@ pub(crate) fn has_generation(
     owned: &(String, String),
     number: u32,
 ) -> Result<(), Stop>
-    ensures { (w : World) → outline_of w ≡ index.now → Tested result (unless (profiles.has_generation (profile_at w (string_bytes owned.now.0, string_bytes owned.now.1)) number) replied.no_generation) }
+    ensures { (w : World) → outline_of w ≡ index.now → Tested result (unless (profiles.has_generation (profile_at w (string_bytes owned.now.0, string_bytes owned.now.1)) number) Refusal.NoGeneration) }
 {
     if !index.has_generation(owned, number) {
         return Err(Stop::Refused(Refusal::NoGeneration));
@@ -51,7 +50,7 @@ pub(crate) fn is_not_current(
     owned: &(String, String),
     number: u32,
 ) -> Result<(), Stop>
-    ensures { (w : World) → outline_of w ≡ index.now → Tested result (unless (not ((profile_at w (string_bytes owned.now.0, string_bytes owned.now.1)).current == number)) replied.current_generation) }
+    ensures { (w : World) → outline_of w ≡ index.now → Tested result (unless (not ((profile_at w (string_bytes owned.now.0, string_bytes owned.now.1)).current == number)) Refusal.CurrentGeneration) }
 {
     if is_current(index, owned, number) {
         return Err(Stop::Refused(Refusal::CurrentGeneration));
@@ -66,7 +65,7 @@ pub(crate) fn has_number_left(
     path: &StorePath,
 ) -> Result<u32, Stop>
     ensures told { (w : World) → outline_of w ≡ index.now → Gives (λ n. n) result
-        (unless (nat_le (number_for (profile_at w (string_bytes owned.now.0, string_bytes owned.now.1)) path.now) last_number) replied.generation_limit) (number_for (profile_at w (string_bytes owned.now.0, string_bytes owned.now.1)) path.now) }
+        (unless (nat_le (number_for (profile_at w (string_bytes owned.now.0, string_bytes owned.now.1)) path.now) last_number) Refusal.GenerationLimit) (number_for (profile_at w (string_bytes owned.now.0, string_bytes owned.now.1)) path.now) }
     ensures number { IfOk result (λ n. n ≡ number_for (profile_of index.now (string_bytes owned.now.0, string_bytes owned.now.1)) path.now) }
 {
     match index.number_left(owned, path) {

@@ -2,7 +2,6 @@
 
 ghost use Rattle.std.specs.Prelude.{◌≡◌, ◌&&◌, string_bytes};
 ghost use Rattle.paths.specs.Names.{is_plain_name};
-ghost use Rattle.model.specs.Reply as replied;
 ghost use Rattle.model.specs.Tests.{unless};
 ghost use Rattle.store_types.specs.Tested.{Tested};
 
@@ -11,7 +10,7 @@ use store_types::{Refusal, Stop};
 
 /// Tests that the name of a root, or of the owner of a session, is a plain name.
 pub(crate) fn is_named(name: &str) -> Result<(), Stop>
-    ensures { Tested result (unless (is_plain_name name.now) replied.bad_root_name) }
+    ensures { Tested result (unless (is_plain_name name.now) Refusal.BadRootName) }
 {
     if !is_plain_name(name) {
         return Err(Stop::Refused(Refusal::BadRootName));
@@ -28,7 +27,7 @@ fn are_plain(owner: &str, name: &str) -> bool
 
 /// Tests that the name of a user and that of what it owns are plain names.
 pub(crate) fn are_named(owned: &(String, String)) -> Result<(), Stop>
-    ensures { Tested result (unless (is_plain_name (string_bytes owned.now.0) && is_plain_name (string_bytes owned.now.1)) replied.bad_root_name) }
+    ensures { Tested result (unless (is_plain_name (string_bytes owned.now.0) && is_plain_name (string_bytes owned.now.1)) Refusal.BadRootName) }
 {
     if !are_plain(owned.0.as_str(), owned.1.as_str()) {
         return Err(Stop::Refused(Refusal::BadRootName));

@@ -10,7 +10,6 @@ ghost use Rattle.store_types.specs.Tested.{Tested};
 ghost use Rattle.policy.specs.Caller.{Caller};
 ghost use Rattle.store_steps.specs.Meets.{IsMet};
 ghost use Rattle.model.specs.Request as asked;
-ghost use Rattle.model.specs.Reply as replied;
 
 use crate::naming::is_named;
 use paths::StorePath;
@@ -33,7 +32,7 @@ fn is_session(number: u64) -> bool
 
 /// Tests that a session has this number; gives it.
 fn has_number(number: u64) -> Result<u32, Stop>
-    ensures told { Tested result (unless (is_session number) replied.bad_session) }
+    ensures told { Tested result (unless (is_session number) Refusal.BadSession) }
     ensures number { IfOk result (λ n. n ≡ number) }
 {
     if !is_session(number) {

@@ -1,6 +1,6 @@
 -- Tests one after another.
 use Rattle.std.proofs.Common.{◌≡◌, List, ◌∷◌, None, Option, ap}
-use Rattle.model.specs.Reply.{Refusal}
+use Rattle.model.specs.declared.refusal.Refusal.{Refusal}
 use Rattle.model.specs.Tests.{first_failing}
 
 -- a test that passes

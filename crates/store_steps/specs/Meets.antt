@@ -15,7 +15,7 @@ use Rattle.tables.specs.Kept.{Kept, Tells}
 use Rattle.store_types.specs.declared.replies.Answer.{Answer}
 use Rattle.store_types.specs.declared.replies.Stop.{Stop}
 use Rattle.store_types.specs.declared.replies.Stop.TheVariants.{Refused, Failed}
-use Rattle.store_types.specs.View.{answer_view, refusal_view, failure_view}
+use Rattle.store_types.specs.View.{answer_view, failure_view}
 use Rattle.store_steps.specs.Lasting.{Lasts}
 use Rattle.store_steps.specs.Leaving.{LeavesPassed}
 use Rattle.store_steps.specs.Disk.{reads_disk}
@@ -29,7 +29,7 @@ MeetsOver is_clean s w c q (Err stop) new = Meets s w c q (Err stop) new
 -- what is replied
 abbrev pub reply_to : Result Answer Stop → replied.Reply
 reply_to (Ok a) = replied.done (answer_view a)
-reply_to (Err (Refused r)) = replied.refused (refusal_view r)
+reply_to (Err (Refused r)) = replied.refused r
 reply_to (Err (Failed f)) = replied.failed (failure_view f)
 
 abbrev pub IsAnswered : Result Answer Stop → Type 0

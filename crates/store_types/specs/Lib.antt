@@ -1,3 +1,4 @@
 pub mod Meets
+pub mod Stops
 pub mod Tested
 pub mod View

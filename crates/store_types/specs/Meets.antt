@@ -11,12 +11,12 @@ use Rattle.model.specs.Answers.{answer}
 use Rattle.store_types.specs.declared.replies.Answer.{Answer}
 use Rattle.store_types.specs.declared.replies.Stop.{Stop}
 use Rattle.store_types.specs.declared.replies.Stop.TheVariants.{Refused, Failed}
-use Rattle.store_types.specs.View.{answer_view, refusal_view}
+use Rattle.store_types.specs.View.{answer_view}
 
 -- the answer and the effect where no test fails; the refusal of the first that does; and nothing changes where the call failed
 abbrev pub Meets : Settings → World → Caller → Request → Result Answer Stop → World → Type 0
 Meets s w c q (Ok a) new = (refusal s w q ≡ None) × (answer_view a ≡ answer s w c q) × (new ≡ effect s w q)
-Meets s w c q (Err (Refused r)) new = (refusal s w q ≡ Some (refusal_view r)) × (new ≡ w)
+Meets s w c q (Err (Refused r)) new = (refusal s w q ≡ Some r) × (new ≡ w)
 Meets s w c q (Err (Failed f)) new = new ≡ w
 
 -- a request that changes nothing, in each world of an outline

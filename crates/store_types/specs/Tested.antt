@@ -1,13 +1,12 @@
 -- What a test answers.
 use Rattle.std.specs.Prelude.{◌≡◌, Option, Some, None, Result, Ok, Err, ⊤}
-use Rattle.model.specs.Reply.{Refusal}
+use Rattle.model.specs.declared.refusal.Refusal.{Refusal}
 use Rattle.store_types.specs.declared.replies.Stop.{Stop}
 use Rattle.store_types.specs.declared.replies.Stop.TheVariants.{Refused, Failed}
-use Rattle.store_types.specs.View.{refusal_view}
 
 -- the refusal is reported; a failure says nothing
 abbrev pub Stops : Stop → Option Refusal → Type 0
-Stops (Refused r) fault = fault ≡ Some (refusal_view r)
+Stops (Refused r) fault = fault ≡ Some r
 Stops (Failed f) fault = ⊤
 
 -- a test passes, or its refusal is reported

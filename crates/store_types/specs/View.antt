@@ -14,8 +14,6 @@ use Rattle.store_types.specs.declared.replies.Info.{Info}
 use Rattle.store_types.specs.declared.replies.Usage.{Usage}
 use Rattle.store_types.specs.declared.replies.Answer.{Answer}
 use Rattle.store_types.specs.declared.replies.Answer.TheVariants.{Path, Record, Archive, Listing, Paths, Roots, Changed, Generation, RuntimeCount, TemporaryCount, Freed, Usage as UsageOf}
-use Rattle.store_types.specs.declared.replies.Refusal.{Refusal}
-use Rattle.store_types.specs.declared.replies.Refusal.TheVariants.{Archive as BadArchive, CaMismatch, Derivation, NotValid, MissingReference, NarHashMismatch, SelfReference, NoRoot, NoProfile, NoGeneration, CurrentGeneration, NoOlderGeneration, GenerationLimit, TooManyReferences, BadRootName, BadLabel, BadSession}
 use Rattle.store_types.specs.declared.replies.Reply.{Reply}
 use Rattle.store_types.specs.declared.replies.Reply.TheVariants.{Done, Denied, Refused, Failed}
 
@@ -76,25 +74,6 @@ answer_view (TemporaryCount n) = replied.temporary_count n
 answer_view (Freed ps n) = replied.freed ps.items n
 answer_view (UsageOf live dead total) = replied.usage (usage_view live) (usage_view dead) (usage_view total)
 
-abbrev pub refusal_view : Refusal → replied.Refusal
-refusal_view (BadArchive e) = replied.archive e
-refusal_view CaMismatch = replied.ca_mismatch
-refusal_view (Derivation e) = replied.derivation e
-refusal_view NotValid = replied.not_valid
-refusal_view MissingReference = replied.missing_reference
-refusal_view NarHashMismatch = replied.nar_hash_mismatch
-refusal_view SelfReference = replied.self_reference
-refusal_view NoRoot = replied.no_root
-refusal_view NoProfile = replied.no_profile
-refusal_view NoGeneration = replied.no_generation
-refusal_view CurrentGeneration = replied.current_generation
-refusal_view NoOlderGeneration = replied.no_older_generation
-refusal_view GenerationLimit = replied.generation_limit
-refusal_view TooManyReferences = replied.too_many_references
-refusal_view BadRootName = replied.bad_root_name
-refusal_view BadLabel = replied.bad_label
-refusal_view BadSession = replied.bad_session
-
 -- what a call wanted
 abbrev pub failure_view : Failure → replied.Failure
 failure_view Memory = replied.memory
@@ -104,5 +83,5 @@ failure_view Disk = replied.disk
 abbrev pub reply_view : Reply → replied.Reply
 reply_view (Done a) = replied.done (answer_view a)
 reply_view (Denied rule root) = replied.denied rule (option_map labelled_bytes root)
-reply_view (Refused r) = replied.refused (refusal_view r)
+reply_view (Refused r) = replied.refused r
 reply_view (Failed f) = replied.failed (failure_view f)

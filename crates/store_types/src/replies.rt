@@ -1,10 +1,12 @@
 //! What a store replies.
 
 ghost use Rattle.std.specs.Prelude.{◌≡◌};
+ghost use Rattle.store_types.specs.Stops.{archive_stop, derivation_stop};
 ghost use Rattle.store_types.specs.declared.replies.Stop.TheVariants.{Failed as failed};
 ghost use Rattle.tables_sql.specs.declared.failure.Failure.TheVariants.{Memory as memory};
 
 use drv::DrvError;
+use model::Refusal;
 use nar::NarError;
 use paths::{Ca, StorePath};
 use policy::Rule;
@@ -67,45 +69,6 @@ pub enum Answer {
     Usage(Usage, Usage, Usage),
 }
 
-/// Why a request is refused.
-#[derive(Clone, Copy, PartialEq, Eq, Debug)]
-pub enum Refusal {
-    /// What is wrong with an archive.
-    Archive(NarError),
-    /// The content address isn't that of the path, the references and the archive.
-    CaMismatch,
-    /// What is wrong with a derivation text.
-    Derivation(DrvError),
-    /// The path isn't valid.
-    NotValid,
-    /// A reference isn't valid.
-    MissingReference,
-    /// The archive has another digest than the given one.
-    NarHashMismatch,
-    /// A content-addressed object refers to itself.
-    SelfReference,
-    /// No root has this name.
-    NoRoot,
-    /// No profile has this owner and name.
-    NoProfile,
-    /// The profile has no generation of this number.
-    NoGeneration,
-    /// The current generation isn't deleted.
-    CurrentGeneration,
-    /// No generation is below the current one.
-    NoOlderGeneration,
-    /// No number is left for a generation.
-    GenerationLimit,
-    /// More than 4,096 references.
-    TooManyReferences,
-    /// A user, root or profile name isn't a plain name.
-    BadRootName,
-    /// A label isn't a runtime label.
-    BadLabel,
-    /// No session has this number.
-    BadSession,
-}
-
 /// What a store replies.
 #[derive(Drop)]
 pub enum Reply {
@@ -150,5 +113,27 @@ impl From<Failure> for Stop {
 
     fn from(failure: Failure) -> Stop {
         Stop::Failed(failure)
+    }
+}
+
+impl From<NarError> for Stop {
+    ghost from_gives = { λ fault e. e ≡ archive_stop fault };
+
+    fn from(fault: NarError) -> Stop {
+        match Refusal::of_archive(fault) {
+            Some(refusal) => Stop::Refused(refusal),
+            None => Stop::Failed(Failure::Memory),
+        }
+    }
+}
+
+impl From<DrvError> for Stop {
+    ghost from_gives = { λ fault e. e ≡ derivation_stop fault };
+
+    fn from(fault: DrvError) -> Stop {
+        match Refusal::of_derivation(fault) {
+            Some(refusal) => Stop::Refused(refusal),
+            None => Stop::Failed(Failure::Memory),
+        }
     }
 }

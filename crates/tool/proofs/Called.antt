@@ -10,8 +10,8 @@ use Rattle.tables.specs.Kept.{Kept, Tells}
 use Rattle.policy.specs.Settings.{Settings}
 use Rattle.policy.specs.Caller.{Caller}
 use Rattle.policy.specs.declared.error.KeyWord.{KeyWord}
-use Rattle.report.specs.declared.refusal.Refusal.{Refusal}
-use Rattle.report.specs.declared.refusal.Refusal.TheVariants.{BadCaller}
+use Rattle.model.specs.declared.refusal.Refusal.{Refusal}
+use Rattle.model.specs.declared.refusal.Refusal.TheVariants.{BadCaller}
 use Rattle.model.specs.Request.{Request}
 use Rattle.model.specs.Reply.{Reply}
 use Rattle.store_types.specs.declared.requests.Request.{Request as Made}

@@ -10,8 +10,8 @@ use Rattle.model.specs.Request.{Request}
 use Rattle.model.specs.Step.{Step}
 use Rattle.store_types.specs.declared.requests.Request.{Request as Made}
 use Rattle.store_types.specs.View.{request_view}
-use Rattle.report.specs.declared.refusal.Refusal.{Refusal}
-use Rattle.report.specs.declared.refusal.Refusal.TheVariants.{BadStoreName, BadStorePath}
+use Rattle.model.specs.declared.refusal.Refusal.{Refusal}
+use Rattle.model.specs.declared.refusal.Refusal.TheVariants.{BadStoreName, BadStorePath}
 use Rattle.std.specs.declared.alloc.AllocError.{AllocError}
 use Rattle.clap.specs.Walk.{Text}
 use Rattle.tool_words.specs.Asked.{Asked, unroot_view}

@@ -5,7 +5,7 @@ use Rattle.model.specs.Request.{Request}
 use Rattle.store_types.specs.declared.requests.Request.{Request as Made}
 use Rattle.wire_bodies.specs.declared.error.BodyError.{BodyError}
 use Rattle.wire_bodies.specs.declared.error.BodyError.TheVariants as body_error
-use Rattle.report.specs.declared.refusal.Refusal.{Refusal}
+use Rattle.model.specs.declared.refusal.Refusal.{Refusal}
 use Rattle.tool_pure.specs.declared.stops.Failure.TheVariants.{Memory, Input}
 use Rattle.tool_pure.specs.declared.stops.Stop.{Stop}
 use Rattle.tool_pure.specs.declared.stops.Stop.TheVariants.{Failed}

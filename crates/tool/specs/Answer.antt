@@ -8,7 +8,7 @@ use Rattle.paths.specs.StorePath.{base_of}
 use Rattle.policy.specs.Settings.{Settings}
 use Rattle.policy.specs.Toml.{config_of}
 use Rattle.policy.specs.declared.error.KeyWord.{KeyWord}
-use Rattle.report.specs.declared.refusal.Refusal.TheVariants.{BadConfig}
+use Rattle.model.specs.declared.refusal.Refusal.TheVariants.{BadConfig}
 use Rattle.tool_words.specs.declared.error.CommandError.{CommandError}
 use Rattle.tool_words.specs.declared.error.CommandError.TheVariants.{Usage, Misuse, Memory}
 use Rattle.tool_words.specs.Asked.{Asked, who, ls, text_path, source_path, serve}

@@ -5,7 +5,7 @@ use Rattle.model.specs.World.{no_world}
 use Rattle.policy.specs.Settings.{Settings}
 use Rattle.policy.specs.Caller.{Caller}
 use Rattle.model.specs.Reply.{Failure as Lack, failed}
-use Rattle.report.specs.declared.refusal.Refusal.TheVariants.{BadCaller}
+use Rattle.model.specs.declared.refusal.Refusal.TheVariants.{BadCaller}
 use Rattle.tool_pure.specs.Telling.{IsTold}
 use Rattle.tool_pure.specs.declared.stops.Failure.TheVariants.{Memory}
 use Rattle.tool_pure.specs.declared.stops.Stop.TheVariants.{Refused, Failed}

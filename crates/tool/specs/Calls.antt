@@ -9,7 +9,7 @@ use Rattle.model.specs.Request.{Request}
 use Rattle.model.specs.Reply.{Reply}
 use Rattle.model.specs.Step.{Step}
 use Rattle.store.specs.Standing.{Standing}
-use Rattle.report.specs.declared.refusal.Refusal.{Refusal}
+use Rattle.model.specs.declared.refusal.Refusal.{Refusal}
 use Rattle.store.specs.Calls.{Calls}
 use Rattle.tool_pure.specs.Telling.{IsTold}
 use Rattle.tool_pure.specs.declared.stops.Stop.TheVariants.{Refused}

@@ -21,7 +21,7 @@ use Rattle.tables.specs.declared.refusing.Cause.TheVariants.{BadSchema, OtherSto
 use Rattle.tables.specs.declared.refusing.Unopened.{Unopened}
 use Rattle.tables.specs.declared.refusing.Unopened.TheVariants.{File, Store}
 use Rattle.tables.specs.Opened.{IsUnopened, Opens}
-use Rattle.report.specs.declared.refusal.Refusal.TheVariants as refusal
+use Rattle.model.specs.declared.refusal.Refusal.TheVariants as refusal
 use Rattle.tool_pure.specs.Telling.{IsTold}
 use Rattle.wire.specs.Answers as message
 use Rattle.tool_pure.specs.declared.stops.Stop.TheVariants.{Refused}

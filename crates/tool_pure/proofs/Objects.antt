@@ -3,7 +3,7 @@ use Rattle.std.proofs.Common.{◌≡◌, ℕ, ◌<◌, ◌≤◌, true, false, L
 use Rattle.std.specs.List.{list_all}
 use Rattle.std.proofs.lemmas.Bool.{cases_lt, lt-ltb, le-ltb}
 use Rattle.paths.specs.Names.{is_store_name}
-use Rattle.report.specs.declared.refusal.Refusal.TheVariants.{BadStorePath, TooManyReferences}
+use Rattle.model.specs.declared.refusal.Refusal.TheVariants.{BadStorePath, TooManyReferences}
 use Rattle.tool_pure.specs.Object.{is_path_text, object_fault, text_path_answer, max_references, max_contents}
 
 pub bad_path : (dir name : List ℕ) (refs : List (List ℕ)) → is_store_name name ≡ true → list_all (is_path_text dir) refs ≡ false

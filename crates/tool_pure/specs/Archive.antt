@@ -5,7 +5,7 @@ use Rattle.nar.specs.declared.error.NarError.{NarError}
 use Rattle.nar.specs.Tree.{Tree}
 use Rattle.nar.specs.Outcome.{outcome_of}
 use Rattle.nar.specs.Listing.{listing}
-use Rattle.report.specs.Stops.{archive_entry}
+use Rattle.model.specs.Faults.{archive_refusal}
 use Rattle.tool_pure.specs.declared.stops.Failure.TheVariants.{Memory}
 use Rattle.tool_pure.specs.declared.stops.Stop.{Stop}
 use Rattle.tool_pure.specs.declared.stops.Stop.TheVariants.{Refused, Failed}
@@ -14,9 +14,9 @@ use Rattle.tool_pure.specs.declared.stops.Stop.TheVariants.{Refused, Failed}
 abbrev pub max_front : ℕ
 max_front = 16777224
 
--- what a fault of an archive ends a command with: its refusal, where it is in the table; else out of memory
+-- what a fault of an archive ends a command with: its refusal; out of memory, which is no fault of one, as a failure
 abbrev pub archive_stop : NarError → Stop
-archive_stop fault = option_map_or Refused (archive_entry fault) (Failed Memory)
+archive_stop fault = option_map_or Refused (archive_refusal fault) (Failed Memory)
 
 -- a text of the tree whose archive was read, or the stop of its fault
 abbrev pub by_outcome : Result Tree NarError → (Tree → List ℕ) → Result (List ℕ) Stop

@@ -5,8 +5,8 @@ use Rattle.paths.specs.Names.{is_store_name}
 use Rattle.paths.specs.StorePath.{is_base_name, base_of, full_path}
 use Rattle.paths.specs.Path.{text_path, source_path}
 use Rattle.nar.specs.Outcome.{outcome_of}
-use Rattle.report.specs.declared.refusal.Refusal.{Refusal}
-use Rattle.report.specs.declared.refusal.Refusal.TheVariants.{TooLarge, BadStoreName, BadStorePath, TooManyReferences}
+use Rattle.model.specs.declared.refusal.Refusal.{Refusal}
+use Rattle.model.specs.declared.refusal.Refusal.TheVariants.{TooLarge, BadStoreName, BadStorePath, TooManyReferences}
 use Rattle.tool_pure.specs.declared.stops.Stop.{Stop}
 use Rattle.tool_pure.specs.declared.stops.Stop.TheVariants.{Refused}
 use Rattle.tool_pure.specs.Archive.{by_outcome}

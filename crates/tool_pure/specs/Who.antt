@@ -9,7 +9,7 @@ use Rattle.policy.specs.Words.{class_word, rule_word}
 use Rattle.policy.specs.declared.error.KeyWord.{KeyWord}
 use Rattle.policy.specs.Operation.{plain}
 use Rattle.policy.specs.declared.kinds.Rule.{Rule}
-use Rattle.report.specs.declared.refusal.Refusal.TheVariants.{BadConfig, BadCaller}
+use Rattle.model.specs.declared.refusal.Refusal.TheVariants.{BadConfig, BadCaller}
 use Rattle.tool_pure.specs.declared.stops.Failure.TheVariants.{Memory}
 use Rattle.tool_pure.specs.declared.stops.Stop.{Stop}
 use Rattle.tool_pure.specs.declared.stops.Stop.TheVariants.{Refused, Failed}

@@ -16,16 +16,9 @@ pub const MOST_OF_ARCHIVE: usize = 16_777_224;
 fn stop_by(fault: NarError) -> Stop
     ensures { result ≡ archive_stop fault }
 {
-    match fault {
-        NarError::Truncated => Stop::Refused(Refusal::Truncated),
-        NarError::BadTag => Stop::Refused(Refusal::BadTag),
-        NarError::BadPadding => Stop::Refused(Refusal::BadPadding),
-        NarError::BadName => Stop::Refused(Refusal::BadName),
-        NarError::NotSorted => Stop::Refused(Refusal::NotSorted),
-        NarError::TooDeep => Stop::Refused(Refusal::TooDeep),
-        NarError::Trailing => Stop::Refused(Refusal::Trailing),
-        NarError::TooLarge => Stop::Refused(Refusal::TooLarge),
-        NarError::Memory => Stop::Failed(Failure::Memory),
+    match Refusal::of_archive(fault) {
+        Some(refusal) => Stop::Refused(refusal),
+        None => Stop::Failed(Failure::Memory),
     }
 }
 

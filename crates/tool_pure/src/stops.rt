@@ -2,7 +2,7 @@
 ghost use Rattle.std.specs.Prelude.{◌≡◌};
 ghost use Rattle.tool_pure.specs.Stop.{stop_text, stop_status, failure_text};
 
-use report::Refusal;
+use report::{Refusal, refusal_line};
 
 /// The world outside gave out.
 #[derive(Clone, Copy, PartialEq, Eq, Debug)]
@@ -46,7 +46,7 @@ impl Stop {
         ensures { result.now ≡ stop_text self }
     {
         match self {
-            Stop::Refused(refusal) => refusal.line(),
+            Stop::Refused(refusal) => refusal_line(refusal),
             Stop::Failed(failure) => failure.text(),
         }
     }

@@ -18,7 +18,7 @@ use Rattle.model.specs.Request.{Request}
 use Rattle.store_types.specs.View as views
 use Rattle.wire_requests.specs.Asks.{Asks, has_bad_path}
 use Rattle.report.specs.Stops.{denial_text}
-use Rattle.report.specs.declared.refusal.Refusal.TheVariants.{BadStorePath, BadCaller, NoRoute, BadMethod, BadBodyHead}
+use Rattle.model.specs.declared.refusal.Refusal.TheVariants.{BadStorePath, BadCaller, NoRoute, BadMethod, BadBodyHead}
 use Rattle.wire_server.specs.Responses as responses
 use Rattle.wire_server.specs.Responses.{Replied, replied, refused}
 use Rattle.wire.specs.declared.course.Course as code

@@ -1,18 +1,15 @@
 -- What a reply of the store is answered with.
 use Rattle.std.specs.Prelude.{ℕ, List, codes, None}
-use Rattle.std.specs.Option.{option_map_or}
 use Rattle.model.specs.Reply.{Reply, done, denied, refused, failed, archive_of}
 use Rattle.report.specs.Replies.{reply_text}
-use Rattle.report.specs.Stops.{entry}
 use Rattle.wire_server.specs.Responses as responses
 use Rattle.wire_server.specs.Responses.{Replied}
 
--- 200 for what is done, 403 for a denial, the status of a refusal in the table, 503 for a failure; and out of memory that
--- was reported as a refusal
+-- 200 for what is done, 403 for a denial, the status of a refusal, and 503 for a failure
 abbrev pub status_of : Reply → ℕ
 status_of (done a) = 200
 status_of (denied rule root) = 403
-status_of (refused r) = option_map_or responses.status_of (entry r) 503
+status_of (refused r) = responses.status_of r
 status_of (failed f) = 503
 
 -- an archive is sent as bytes, all else as text

@@ -7,7 +7,7 @@ ghost use Rattle.wire.specs.Replies.{response_to};
 
 use http::StatusCode;
 use paths::StoreDir;
-use report::{refusal_entry, reply_pieces};
+use report::reply_pieces;
 use std::alloc::{AllocError, Global};
 use store_types::{Answer, Reply};
 use wire_server::{Response, refusal_status};
@@ -19,10 +19,7 @@ fn status_of(reply: &Reply) -> StatusCode
     match reply {
         Reply::Done(_) => StatusCode::OK,
         Reply::Denied(_, _) => StatusCode::FORBIDDEN,
-        Reply::Refused(refusal) => match refusal_entry(*refusal) {
-            Some(entry) => refusal_status(entry),
-            None => StatusCode::SERVICE_UNAVAILABLE,
-        },
+        Reply::Refused(refusal) => refusal_status(*refusal),
         Reply::Failed(_) => StatusCode::SERVICE_UNAVAILABLE,
     }
 }

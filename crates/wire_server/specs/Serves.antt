@@ -7,8 +7,8 @@ use Rattle.wire_messages.specs.Messages.{IsMessage, IsFault}
 use Rattle.wire_messages.specs.Division.{Item, message, faulty, closes, Divides}
 use Rattle.wire_messages.specs.declared.error.Fault.{Fault}
 use Rattle.wire_messages.specs.declared.error.Fault.TheVariants.{BadHead, BadLength, TooLarge}
-use Rattle.report.specs.declared.refusal.Refusal.{Refusal}
-use Rattle.report.specs.declared.refusal.Refusal.TheVariants as refusals
+use Rattle.model.specs.declared.refusal.Refusal.{Refusal}
+use Rattle.model.specs.declared.refusal.Refusal.TheVariants as refusals
 use Rattle.wire_server.specs.Responses.{Replied, refused, reply_bytes}
 use Rattle.wire_server.specs.declared.error.WireError.{WireError}
 use Rattle.wire_server.specs.declared.error.WireError.TheVariants.{Read, Write, Memory}

@@ -6,7 +6,7 @@ ghost use Rattle.wire_server.specs.Responses.{replied, plain, refused};
 use crate::reply_head::{ReplyHead, write_reply_head};
 use crate::statuses::refusal_status;
 use http::StatusCode;
-use report::Refusal;
+use report::{Refusal, refusal_line};
 use std::alloc::{AllocError, Global};
 use streams::{Pieces, in_pieces};
 
@@ -62,7 +62,7 @@ impl Response {
             status: refusal_status(refusal),
             kind: "text/plain",
             allow,
-            text: in_pieces(alloc, refusal.line().as_bytes())?,
+            text: in_pieces(alloc, refusal_line(refusal).as_bytes())?,
         })
     }
 }

@@ -2,7 +2,7 @@
 use crate::stores::{push_text, store, tell_all};
 use paths::{StoreDir, StorePath};
 use policy::{Caller, Rule};
-use report::{Refusal, denial_line, path_line, paths_text, usage_text};
+use report::{Refusal, denial_line, path_line, paths_text, refusal_line, usage_text};
 use std::alloc::Global;
 use std::test::Fail;
 use store::{Reply, Request};
@@ -70,6 +70,6 @@ fn caller_of_texts(rt: HostRuntime) -> Result<(), Fail> {
     assert!(rt; paths_text(alloc, &dir, &[path])? == line);
     assert!(rt; usage_text(alloc, (1, 112), (1, 208), (2, 320))?.as_str() == USAGE);
     assert!(rt; denial_line(alloc, &dir, Rule::Connect, None)?.as_str() == "denied: connect\n");
-    assert!(rt; Refusal::NoRoute.line() == "refused: 39 no-route\n");
+    assert!(rt; refusal_line(Refusal::NoRoute) == "refused: 39 no-route\n");
     Ok(())
 }

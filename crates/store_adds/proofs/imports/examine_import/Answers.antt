@@ -4,7 +4,7 @@ use Rattle.model.specs.Objects.{most_references}
 use Rattle.sha2.specs.Sha256.{sha256}
 use Rattle.live.specs.Graph.{same}
 use Rattle.live.proofs.Reach.{same_is}
-use Rattle.model.specs.Reply.{missing_reference, nar_hash_mismatch, too_many_references}
+use Rattle.model.specs.declared.refusal.Refusal.TheVariants.{MissingReference, NarHashMismatch, TooManyReferences}
 use Rattle.model.proofs.Passed.{met}
 use Rattle.model.specs.Tests.{is_complete, unless}
 use Rattle.store_adds.specs.Delivered.{delivered_view}
@@ -14,10 +14,10 @@ use Rattle.store_adds.proofs.imports.examine_import.Goals as goal
 pub returns-clause-told : goal.returns-clause-told
 returns-clause-told c w is =
     let i = delivered_view c.args.import.now in
-    let few : unless (nat_le (length i.refs) most_references) too_many_references ≡ None =
-    ap (λ (r : List (List ℕ)). unless (nat_le (length r) most_references) too_many_references) (sym c.deref.ensures.value) ∙ c.in_ok-are_few.ensures in
-    let there : unless (is_complete w i.path i.refs) missing_reference ≡ None =
-    ap (λ (r : List (List ℕ)). unless (is_complete w i.path r) missing_reference) (sym c.deref-2.ensures.value) ∙ c.in_ok-are_there.ensures w is in (
+    let few : unless (nat_le (length i.refs) most_references) TooManyReferences ≡ None =
+    ap (λ (r : List (List ℕ)). unless (nat_le (length r) most_references) TooManyReferences) (sym c.deref.ensures.value) ∙ c.in_ok-are_few.ensures in
+    let there : unless (is_complete w i.path i.refs) MissingReference ≡ None =
+    ap (λ (r : List (List ℕ)). unless (is_complete w i.path r) MissingReference) (sym c.deref-2.ensures.value) ∙ c.in_ok-are_there.ensures w is in (
       pass _ _ few ∙ pass _ _ c.in_ok-is_archive.ensures ∙ pass _ _ c.in_ok-has_digest.ensures ∙ pass _ _ c.in_ok-refers_to_others.ensures ∙ pass _ _ c.in_ok-is_verified.ensures
           ∙ pass _ _ c.in_ok-outputs.ensures.0 ∙ pass _ _ there,
       c.in_ok-outputs.ensures.1,
@@ -33,4 +33,4 @@ returns-clause-formed c = record {
 pub returns-clause-hash : goal.returns-clause-hash
 returns-clause-hash c =
     let i = delivered_view c.args.import.now in
-    sym (same_is (sha256 i.nar) i.nar_hash (met (same (sha256 i.nar) i.nar_hash) nar_hash_mismatch c.in_ok-has_digest.ensures))
+    sym (same_is (sha256 i.nar) i.nar_hash (met (same (sha256 i.nar) i.nar_hash) NarHashMismatch c.in_ok-has_digest.ensures))

@@ -6,7 +6,7 @@ use Rattle.paths.specs.ContentAddress.{ContentAddress}
 use Rattle.model.specs.Objects.{outputs_at, most_references}
 use Rattle.tables_outline.specs.Outline.{Outlined}
 use Rattle.model.specs.Adds.{text_archive}
-use Rattle.model.specs.Reply.{too_many_references}
+use Rattle.model.specs.declared.refusal.Refusal.TheVariants.{TooManyReferences}
 use Rattle.model.specs.Tests.{first_failing, text_tests, unless}
 use Rattle.store_steps.proofs.Passing.{pass}
 use Rattle.store_adds.proofs.texts.prepare_text.Goals as goal
@@ -29,7 +29,7 @@ returns-clause-told c w is =
     let path_is : c.in_ok-path.path ≡ text_path dir c.args.name.now refs contents =
     c.in_ok-path.ensures.value contents c.in_ok-archive.ensures.contents ∙ ap (λ (r : List (List ℕ)). text_path dir c.args.name.now r contents) c.deref-2.ensures.value in (
       sym (ap (λ (p : List ℕ). first_failing (text_tests dir w p refs contents)) path_is)
-          ∙ pass _ _ (ap (λ (r : List (List ℕ)). unless (nat_le (length r) most_references) too_many_references) (sym c.deref.ensures.value) ∙ c.in_ok-are_few.ensures)
+          ∙ pass _ _ (ap (λ (r : List (List ℕ)). unless (nat_le (length r) most_references) TooManyReferences) (sym c.deref.ensures.value) ∙ c.in_ok-are_few.ensures)
           ∙ pass _ _ c.in_ok-has_archive.ensures.told
           ∙ ap (λ (r : List (List ℕ)). first_failing (drop 2 (text_tests dir w c.in_ok-path.path r contents))) (sym c.deref-3.ensures.value) ∙ examined.0,
       λ i. record {

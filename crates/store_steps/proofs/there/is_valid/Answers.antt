@@ -1,15 +1,15 @@
 use Rattle.std.proofs.Common.{sym, ap, ◌∙◌}
 use Rattle.std.specs.FinMap as finite
 use Rattle.tables_outline.specs.Outline.{Outline}
-use Rattle.model.specs.Reply.{not_valid}
+use Rattle.model.specs.declared.refusal.Refusal.TheVariants.{NotValid}
 use Rattle.model.specs.Tests.{unless}
 use Rattle.store_steps.proofs.Outlined.{has_outlined}
 use Rattle.store_steps.proofs.there.is_valid.Goals as goal
 
 pub returns-then-not-has : goal.returns-then-not-has
 returns-then-not-has c w is =
-    ap (λ b. unless b not_valid) (sym (has_outlined w c.args.path.now) ∙ ap (λ (o : Outline). finite.contains_key o.objects c.args.path.now) is ∙ sym c.has.ensures ∙ c.if-not-has.true)
+    ap (λ b. unless b NotValid) (sym (has_outlined w c.args.path.now) ∙ ap (λ (o : Outline). finite.contains_key o.objects c.args.path.now) is ∙ sym c.has.ensures ∙ c.if-not-has.true)
 
 pub returns : goal.returns
 returns c w is =
-    ap (λ b. unless b not_valid) (sym (has_outlined w c.args.path.now) ∙ ap (λ (o : Outline). finite.contains_key o.objects c.args.path.now) is ∙ sym c.has.ensures ∙ c.if-not-has.false)
+    ap (λ b. unless b NotValid) (sym (has_outlined w c.args.path.now) ∙ ap (λ (o : Outline). finite.contains_key o.objects c.args.path.now) is ∙ sym c.has.ensures ∙ c.if-not-has.false)

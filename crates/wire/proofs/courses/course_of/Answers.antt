@@ -1,6 +1,6 @@
 use Rattle.std.proofs.Common.{◌≡◌, Some, None, Err, refl, ap, ◌∙◌}
 use Rattle.policy.specs.declared.error.CallerError.TheVariants.{BadCaller}
-use Rattle.report.specs.declared.refusal.Refusal.TheVariants as refusals
+use Rattle.model.specs.declared.refusal.Refusal.TheVariants as refusals
 use Rattle.httparse.specs.Spans.{span_bytes}
 use Rattle.wire_server.specs.Responses.{refused}
 use Rattle.wire.specs.Courses.{replies, ByCaller, Takes, course_view}

@@ -1,6 +1,6 @@
 use Rattle.std.proofs.Common.{None, refl, inl, inr}
 use Rattle.store_types.specs.View as given
-use Rattle.report.specs.declared.refusal.Refusal.TheVariants.{BadStorePath, BadBodyHead}
+use Rattle.model.specs.declared.refusal.Refusal.TheVariants.{BadStorePath, BadBodyHead}
 use Rattle.wire_server.specs.Responses.{refused}
 use Rattle.wire.specs.Courses.{replies, Reads}
 use Rattle.wire.proofs.Along.{along}

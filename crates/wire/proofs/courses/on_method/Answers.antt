@@ -1,5 +1,5 @@
 use Rattle.std.proofs.Common.{◌≡◌, Some, IfOk, subst}
-use Rattle.report.specs.declared.refusal.Refusal.TheVariants.{BadMethod}
+use Rattle.model.specs.declared.refusal.Refusal.TheVariants.{BadMethod}
 use Rattle.wire_server.specs.Responses.{refused}
 use Rattle.wire.specs.Courses.{replies, ByMethod, course_view}
 use Rattle.wire.proofs.courses.on_method.Goals as goal

@@ -1,9 +1,9 @@
 use Rattle.std.proofs.Common.{sym, ap}
 use Rattle.std.specs.Fmt.{digits}
 use Rattle.policy.specs.declared.error.KeyWord.{KeyWord}
-use Rattle.report.specs.declared.refusal.Refusal.TheVariants.{BadConfig}
+use Rattle.model.specs.declared.refusal.Refusal.TheVariants.{BadConfig}
 use Rattle.report.specs.Refusals.{refusal_line}
-use Rattle.report.proofs.refusal.bad_config_line.Goals as goal
+use Rattle.report.proofs.refusals.bad_config_line.Goals as goal
 
 pub returns-in-Syntax : goal.returns-in-Syntax
 unfolding digits

@@ -1,7 +1,7 @@
 use Rattle.std.proofs.Common.{sym, ap}
 use Rattle.std.specs.Fmt.{digits}
 use Rattle.report.specs.Refusals.{refusal_line}
-use Rattle.report.proofs.refusal.Refusal.line.Goals as goal
+use Rattle.report.proofs.refusals.refusal_line.Goals as goal
 
 pub returns-in-Truncated : goal.returns-in-Truncated
 unfolding digits
