@@ -1,7 +1,9 @@
 -- What two writers were given, with an exit status.
-use Rattle.std.specs.Prelude.{◌≡◌, ◌⊎◌, ℕ, List, Option, codes}
+use Rattle.std.specs.Prelude.{◌≡◌, ◌⊎◌, ℕ, List, Option}
 use Rattle.std.specs.Io.KnownBytes.{Appends, Keeps}
 use Rattle.streams.specs.Sends.{AppendsFront}
+use Rattle.report.specs.declared.failures.Failure.TheVariants.{Memory, Output}
+use Rattle.report.specs.Failures.{failure_line}
 
 -- a text was written whole, with this status; or the writer failed: it got a prefix, with status 1
 abbrev pub Prints : List ℕ → ℕ → Option (List ℕ) → Option (List ℕ) → ℕ → Type 0
@@ -16,7 +18,7 @@ pub record Gives (text : List ℕ) (out out' err err' : Option (List ℕ)) (stat
 -- the first writer failed: it holds a prefix of the text, and the second has a line on that
 pub record GivesOut (text : List ℕ) (out out' err err' : Option (List ℕ)) (status : ℕ) : Type 0 where
   pub front : AppendsFront out out' text
-  pub told : Prints (codes "failed: output\n") 1 err err' status ⊎ Prints (codes "failed: memory\n") 1 err err' status
+  pub told : Prints (failure_line Output) 1 err err' status ⊎ Prints (failure_line Memory) 1 err err' status
 
 -- a text was given to the first writer, which took it or failed
 abbrev pub Offers : List ℕ → Option (List ℕ) → Option (List ℕ) → Option (List ℕ) → Option (List ℕ) → ℕ → Type 0
@@ -24,4 +26,4 @@ Offers text out out' err err' status = Gives text out out' err err' status ⊎ G
 
 -- there was no memory for a text, and the second writer has a line on that
 abbrev pub LacksMemory : Option (List ℕ) → Option (List ℕ) → Option (List ℕ) → Option (List ℕ) → ℕ → Type 0
-LacksMemory out out' err err' status = Keeps out out' × Prints (codes "failed: memory\n") 1 err err' status
+LacksMemory out out' err err' status = Keeps out out' × Prints (failure_line Memory) 1 err err' status

@@ -4,7 +4,8 @@ use Rattle.paths.specs.StorePath.{full_path}
 use Rattle.policy.specs.declared.kinds.Rule.{Rule}
 use Rattle.policy.specs.Words.{rule_word}
 use Rattle.model.specs.World.{Pair}
-use Rattle.model.specs.Reply.{Failure, memory, size, disk}
+use Rattle.model.specs.Reply.{Failure}
+use Rattle.report.specs.Failures.{failure_line, of_store}
 
 -- ---- denials
 
@@ -23,11 +24,6 @@ denial_text dir rule root = codes "denied: " ++ rule_word rule ++ shown_text dir
 
 -- ---- failures
 
-abbrev pub failure_word : Failure → List ℕ
-failure_word memory = codes "memory"
-failure_word size = codes "size"
-failure_word disk = codes "disk"
-
 -- the line of a failure
 abbrev pub failure_text : Failure → List ℕ
-failure_text f = codes "failed: " ++ failure_word f ++ codes "\n"
+failure_text f = failure_line (of_store f)

@@ -3,9 +3,11 @@
 
 mod answers;
 mod denials;
+mod failures;
 mod laws;
 mod lists;
 mod numbers;
+mod outputs;
 mod records;
 mod refusals;
 mod replies;
@@ -13,6 +15,7 @@ mod usage;
 
 pub use answers::answer_text;
 pub use denials::denial_line;
+pub use failures::Failure;
 pub use laws::{
     a_new_store_uses_nothing, listings_lose_nothing, numbers_are_one_to_forty_two, refusals_differ,
     stops_are_lines, worked_lines, worked_narinfo, worked_usage,
@@ -20,6 +23,7 @@ pub use laws::{
 pub use lists::{path_line, paths_text, roots_text};
 pub use model::Refusal;
 pub use numbers::refusal_text;
+pub use outputs::print;
 pub use records::{Info, narinfo};
 pub use refusals::{failure_line, refusal_line};
 pub use replies::{reply_pieces, reply_text};

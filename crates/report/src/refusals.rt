@@ -4,6 +4,7 @@ ghost use Rattle.report.specs.Refusals as spec;
 ghost use Rattle.report.specs.Stops.{failure_text};
 ghost use Rattle.store_types.specs.View.{failure_view};
 
+use crate::failures::Failure as Line;
 use model::Refusal;
 use policy::KeyWord;
 use tables_sql::failure::Failure;
@@ -77,9 +78,5 @@ fn bad_config_line(word: KeyWord) -> &'static str
 pub fn failure_line(failure: Failure) -> &'static str
     ensures { result.now ≡ failure_text (failure_view failure) }
 {
-    match failure {
-        Failure::Memory => "failed: memory\n",
-        Failure::Size => "failed: size\n",
-        Failure::Disk => "failed: disk\n",
-    }
+    Line::from(failure).line()
 }

@@ -98,7 +98,7 @@ impl<'a> Change for RemoveObjects<'a> {
     }
 }
 
-/// No object goes. An object that isn't there is asked for, which succeeds only over an open connection.
+/// No object is deleted. An object that isn't there is asked for, which succeeds only over an open connection.
 #[derive(Drop)]
 pub(crate) struct RemoveNone {
     pub(crate) alloc: Global,

@@ -20,13 +20,15 @@ use Rattle.store_types.specs.View.{request_view}
 use Rattle.store.proofs.Clean.{step_clean}
 use Rattle.store.specs.Calls.{Calls}
 use Rattle.tool_pure.specs.Telling.{IsTold}
-use Rattle.tool_pure.specs.declared.stops.Failure.TheVariants.{Memory, File, Input, Output}
+use Rattle.report.specs.declared.failures.Failure.{Failure}
+use Rattle.report.specs.declared.failures.Failure.TheVariants.{Memory, Size, Disk, File, Input, Output}
 use Rattle.tool_pure.specs.declared.stops.Stop.{Stop}
 use Rattle.tool_pure.specs.declared.stops.Stop.TheVariants.{Refused, Failed}
 use Rattle.tool.specs.Answer.{AnswersUnder}
 use Rattle.tool.specs.Callers.{Answering, AnswersCalled, AnswersNamed}
 use Rattle.tool.specs.Calls.{AnswersStep, AnswersRequest, AnswersWanted, AnswersIn, Serves}
-use Rattle.tool.specs.Requests.{Ask, IsAsked, IsAskedBy, StepsAs, Wants, caller_by, reads_input}
+use Rattle.tool.specs.Requests.{Ask, IsAsked, IsAskedBy, StepsAs, Wants, reads_input}
+use Rattle.tool_pure.specs.Who.{caller_by}
 use Rattle.tool_pure.specs.Stream.{Says}
 
 module _ {S : Type 0} (g : Ghosts S) (c : Caller) (out out' err err' : Option (List ℕ)) (status : ℕ) where
@@ -67,13 +69,11 @@ module _ (answered : Request → Type 0) (ask : Ask) (dir : List ℕ) (c : Calle
   was_read None is = is.1
   was_read (Some bytes) is = is
 
-  no_file : (known : Option (List ℕ)) → IsAskedBy ask dir c known (Err (Failed File)) → ⊥
-  no_file None is = is.1
-  no_file (Some bytes) is = is
-
-  no_output : (known : Option (List ℕ)) → IsAskedBy ask dir c known (Err (Failed Output)) → ⊥
-  no_output None is = is.1
-  no_output (Some bytes) is = is
+  -- neither memory nor the input gave out
+  no_other : (failure : Failure) (known : Option (List ℕ)) → ((bytes : List ℕ) → IsAsked (reads_input ask dir c) (Wants ask dir c bytes) (Err (Failed failure)) → ⊥)
+      → IsAskedBy ask dir c known (Err (Failed failure)) → ⊥
+  no_other failure None never is = never is.0 is.1
+  no_other failure (Some bytes) never is = never bytes is
 
   -- why there is no request was said
   pub stopped_over : (known : Option (List ℕ)) (stop : Stop) (out err err' : Option (List ℕ)) (status : ℕ) → IsAskedBy ask dir c known (Err stop)
@@ -81,8 +81,10 @@ module _ (answered : Request → Type 0) (ask : Ask) (dir : List ℕ) (c : Calle
   stopped_over known (Refused refusal) out err err' status is said = refused_over known refusal out err err' status is said
   stopped_over known (Failed Memory) out err err' status is said = inl (inl (Keeps-refl out, said))
   stopped_over known (Failed Input) out err err' status is said = inl (inr (was_read known is, (Keeps-refl out, said)))
-  stopped_over known (Failed File) out err err' status is said = absurd (no_file known is)
-  stopped_over known (Failed Output) out err err' status is said = absurd (no_output known is)
+  stopped_over known (Failed File) out err err' status is said = absurd (no_other File known (λ bytes h. h) is)
+  stopped_over known (Failed Output) out err err' status is said = absurd (no_other Output known (λ bytes h. h) is)
+  stopped_over known (Failed Size) out err err' status is said = absurd (no_other Size known (λ bytes h. h) is)
+  stopped_over known (Failed Disk) out err err' status is said = absurd (no_other Disk known (λ bytes h. h) is)
 
 -- each request that is answered so, is answered so too
 module _ (answered also : Request → Type 0) (each : (q : Request) → answered q → also q) (out out' err err' : Option (List ℕ)) (status : ℕ) where

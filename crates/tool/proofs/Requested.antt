@@ -1,8 +1,8 @@
 -- What is asked of a store, by the words and the input of a command line.
-use Rattle.std.proofs.Common.{◌≡◌, ◌⊎◌, ℕ, Bool, true, false, List, [], map, take, Option, Some, None, Result, Ok, Err, inl, inr, ap, ap₂, subst, refl, sym, ◌∙◌}
+use Rattle.std.proofs.Common.{◌≡◌, ◌⊎◌, ℕ, Bool, true, false, List, [], map, take, Option, Some, None, option_map, Result, Ok, Err, inl, inr, ap, ap₂, subst, refl, sym, ◌∙◌}
 use Rattle.std.specs.Prelude.{IfOk, IfErr, IfSome}
 use Rattle.std.specs.List.{list_all}
-use Rattle.paths.specs.Names.{is_store_name}
+use Rattle.std.specs.Option.{option_map_or}
 use Rattle.paths.specs.StorePath.{base_of}
 use Rattle.model.specs.World.{Path}
 use Rattle.policy.specs.Caller.{Caller}
@@ -11,16 +11,16 @@ use Rattle.model.specs.Step.{Step}
 use Rattle.store_types.specs.declared.requests.Request.{Request as Made}
 use Rattle.store_types.specs.View.{request_view}
 use Rattle.model.specs.declared.refusal.Refusal.{Refusal}
-use Rattle.model.specs.declared.refusal.Refusal.TheVariants.{BadStoreName, BadStorePath}
-use Rattle.std.specs.declared.alloc.AllocError.{AllocError}
+use Rattle.model.specs.declared.refusal.Refusal.TheVariants.{BadStorePath}
 use Rattle.clap.specs.Walk.{Text}
 use Rattle.tool_words.specs.Asked.{Asked, unroot_view}
 use Rattle.tool_words.specs.declared.line.Unrooted.{Unrooted}
 use Rattle.tool_words.specs.declared.line.Unrooted.TheVariants as unrooted
-use Rattle.tool_pure.specs.declared.stops.Failure.TheVariants.{Memory, File, Input, Output}
+use Rattle.report.specs.declared.failures.Failure.TheVariants.{Memory, Size, Disk, File, Input, Output}
 use Rattle.tool_pure.specs.declared.stops.Stop.{Stop}
 use Rattle.tool_pure.specs.declared.stops.Stop.TheVariants.{Refused, Failed}
-use Rattle.tool_pure.specs.Object.{is_path_text}
+use Rattle.tool_pure.specs.Object.{is_path_text, named_fault}
+use Rattle.tool_pure.specs.Stream.{IsStopBy}
 use Rattle.tool.specs.Requests.{Ask, Gives, IsAsked, IsAskedBy, IsAskedOver, StepsAs, asks, at_once, drop_root, on_object, on_path, on_paths, with_bytes}
 
 -- ---- requests that are made
@@ -39,6 +39,8 @@ unread reads asks (Err (Failed Memory)) is = tt
 unread reads asks (Err (Failed Input)) is = cc
 unread reads asks (Err (Failed File)) is = absurd is
 unread reads asks (Err (Failed Output)) is = absurd is
+unread reads asks (Err (Failed Size)) is = absurd is
+unread reads asks (Err (Failed Disk)) is = absurd is
 
 pub over : (reads : Bool) (ask : List ℕ → Result Request Refusal → Type 0) (known : Option (List ℕ)) (made : Result Made Stop) → ((bytes : List ℕ) → IsAsked false (ask bytes) made)
     → IsAskedOver reads ask known made
@@ -66,21 +68,23 @@ paths_refused dir named ask stop (inr bad) = subst (λ e. IsAsked false (Gives (
 -- ---- objects that are added
 
 module _ (dir : List ℕ) (o : Text × List Text) where
-  pub no_name : (stop : Stop) → (stop ≡ Failed Memory) ⊎ ((stop ≡ Refused BadStoreName) × (is_store_name o.0 ≡ false))
-      → (ask : List ℕ → List Path → List ℕ → Request) (bytes : List ℕ) → IsAsked false (Gives (with_bytes bytes (on_object dir o ask))) (Err stop)
-  no_name stop (inl memory) ask bytes = subst (λ e. IsAsked false (Gives (with_bytes bytes (on_object dir o ask))) (Err e)) (sym memory) tt
-  no_name stop (inr bad) ask bytes =
-      subst (λ e. IsAsked false (Gives (with_bytes bytes (on_object dir o ask))) (Err e)) (sym bad.0) (let wrong = bad.1 in rw wrong refl)
+  no_object_by : (fault : Option Refusal) (stop : Stop) (ask : List ℕ → List Path → List ℕ → Request) (bytes : List ℕ) → option_map Refused fault ≡ Some stop
+      → IsAsked false (Gives (with_bytes bytes (option_map_or Err fault (Ok (ask o.0 (map (base_of dir) o.1)))))) (Err stop)
+  no_object_by None stop ask bytes is = let no : ◌≡◌ {A = Option Stop} None (Some stop) = is in cc
+  no_object_by (Some refusal) stop ask bytes is =
+      let same : Refused refusal ≡ stop = cc in
+      subst (λ e. IsAsked false (Gives (Err refusal)) (Err e)) same refl
 
-  pub no_reference : (stop : Stop) → is_store_name o.0 ≡ true → (stop ≡ Failed Memory) ⊎ ((stop ≡ Refused BadStorePath) × (list_all (is_path_text dir) o.1 ≡ false))
-      → (ask : List ℕ → List Path → List ℕ → Request) (bytes : List ℕ) → IsAsked false (Gives (with_bytes bytes (on_object dir o ask))) (Err stop)
-  no_reference stop named (inl memory) ask bytes = subst (λ e. IsAsked false (Gives (with_bytes bytes (on_object dir o ask))) (Err e)) (sym memory) tt
-  no_reference stop named (inr bad) ask bytes =
-      subst (λ e. IsAsked false (Gives (with_bytes bytes (on_object dir o ask))) (Err e)) (sym bad.0) (let wrong = bad.1 in rw (named, wrong) refl)
+  -- why there is no object
+  pub no_object : (stop : Stop) → IsStopBy (named_fault dir o.0 o.1) stop → (ask : List ℕ → List Path → List ℕ → Request) (bytes : List ℕ)
+      → IsAsked false (Gives (with_bytes bytes (on_object dir o ask))) (Err stop)
+  no_object stop (inl memory) ask bytes = subst (λ e. IsAsked false (Gives (with_bytes bytes (on_object dir o ask))) (Err e)) (sym memory) tt
+  no_object stop (inr is) ask bytes = no_object_by (named_fault dir o.0 o.1) stop ask bytes is
 
-  pub object_is : (n : List ℕ) (bases : List Path) → is_store_name o.0 ≡ true → list_all (is_path_text dir) o.1 ≡ true → n ≡ o.0 → bases ≡ map (base_of dir) o.1
+  pub object_is : (n : List ℕ) (bases : List Path) → named_fault dir o.0 o.1 ≡ None → n ≡ o.0 → bases ≡ map (base_of dir) o.1
       → (ask : List ℕ → List Path → List ℕ → Request) → on_object dir o ask ≡ Ok (ask n bases)
-  object_is n bases named paths same based ask = rw (named, paths) (ap₂ (λ m rs. Ok (ask m rs)) (sym same) (sym based))
+  object_is n bases none same based ask =
+      ap (λ f. option_map_or Err f (Ok (ask o.0 (map (base_of dir) o.1)))) none ∙ ap₂ (λ m rs. Ok (ask m rs)) (sym same) (sym based)
 
   -- an object of a front of the input that does for all of it
   pub object_asked : (reads : Bool) (ask : List ℕ → List Path → List ℕ → Request) (known : Option (List ℕ)) (n : List ℕ) (bases : List Path) (front : List ℕ) (most : ℕ) (q : Made)
@@ -117,13 +121,9 @@ pub unroot_asks : (root : Unrooted) (name : Text) → asks (unroot_view root nam
 unroot_asks unrooted.Permanent name = refl
 unroot_asks (unrooted.User owner) name = refl
 
--- a request that was made of texts, or for which there was no memory
-pub made_asked : (wanted : Result Request Refusal) (r : Request) (built : Result Made AllocError) (result : Result Made Stop) → wanted ≡ Ok r
-    → IfOk built (λ q. request_view q ≡ r) → IfOk result (λ q. built ≡ Ok q) → IfErr result (λ e. e ≡ Failed Memory) → IsAsked false (Gives wanted) result
-made_asked wanted r built (Ok q) is view same none =
-    let found : request_view q ≡ r = subst (λ b. IfOk b (λ p. request_view p ≡ r)) same view in
-    (r, is, same_steps (request_view q) r found)
-made_asked wanted r built (Err stop) is view same none = subst (λ e. IsAsked false (Gives wanted) (Err e)) (sym none) tt
+-- a request that was made of texts
+pub asked_as : (wanted : Result Request Refusal) (r : Request) (q : Made) → wanted ≡ Ok r → request_view q ≡ r → IsAsked false (Gives wanted) (Ok q)
+asked_as wanted r q is made = (r, is, same_steps (request_view q) r made)
 
 pub path_is : (dir text : List ℕ) (ask : Path → Request) (p : Path) → p ≡ base_of dir text → is_path_text dir text ≡ true → on_path dir text ask ≡ Ok (ask p)
 path_is dir text ask p base is = rw is (ap (λ b. Ok (ask b)) (sym base))

@@ -4,7 +4,7 @@ use Rattle.clap.specs.Walk.{Text}
 use Rattle.policy.specs.Settings.{Settings}
 use Rattle.model.specs.Reply.{memory}
 use Rattle.tool_words.specs.declared.line.ServeArguments.{ServeArguments}
-use Rattle.tool_pure.specs.declared.stops.Failure.TheVariants.{Memory}
+use Rattle.report.specs.declared.failures.Failure.TheVariants.{Memory}
 use Rattle.tool_pure.specs.declared.stops.Stop.TheVariants.{Failed}
 use Rattle.tool_pure.specs.Stream.{Answers}
 use Rattle.tool.specs.Serving.{Serving, ServesIn}

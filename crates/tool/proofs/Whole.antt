@@ -1,17 +1,20 @@
 -- What a body on the input asks, of which all is read.
-use Rattle.std.proofs.Common.{◌≡◌, ◌⊎◌, ◌++◌, ℕ, ◌<◌, Bool, true, false, List, [], length, take, Option, Some, None, Result, Err, inl, inr, ap, subst, refl, sym, ◌∙◌, arith, take_all, length-take}
-use Rattle.std.specs.Prelude.{IfSome}
+use Rattle.std.proofs.Common.{◌≡◌, ◌⊎◌, ◌++◌, ℕ, ◌<◌, Bool, true, false, List, [], length, take, Option, Some, None, Result, Ok, Err, inl, inr, ap, subst, refl, sym, ◌∙◌, arith, take_all, length-take}
+use Rattle.std.specs.Prelude.{IfErr, IfOk, IfSome, IsOkAnd, is_ok}
+use Rattle.clap.specs.Walk.{Text}
+use Rattle.model.specs.World.{Path}
+use Rattle.store_types.specs.View.{request_view}
 use Rattle.model.specs.Request.{Request}
 use Rattle.store_types.specs.declared.requests.Request.{Request as Made}
 use Rattle.wire_bodies.specs.declared.error.BodyError.{BodyError}
 use Rattle.wire_bodies.specs.declared.error.BodyError.TheVariants as body_error
 use Rattle.model.specs.declared.refusal.Refusal.{Refusal}
-use Rattle.tool_pure.specs.declared.stops.Failure.TheVariants.{Memory, Input}
+use Rattle.report.specs.declared.failures.Failure.TheVariants.{Memory, Input}
 use Rattle.tool_pure.specs.declared.stops.Stop.{Stop}
 use Rattle.tool_pure.specs.declared.stops.Stop.TheVariants.{Failed}
 use Rattle.tool.specs.Bodies.{Said, body_stop}
-use Rattle.tool.specs.Requests.{IsAsked, IsAskedOver}
-use Rattle.tool.proofs.Requested.{unread}
+use Rattle.tool.specs.Requests.{Gives, IsAsked, IsAskedOver, StepsAs, on_object, with_bytes}
+use Rattle.tool.proofs.Requested.{object_asked, unread}
 
 -- more bytes than a `Vec` has there are not
 pub whole_is : (known : Option (List ℕ)) (bytes : List ℕ) → length bytes < 9223372036854775808 → IfSome known (λ all. bytes ≡ take 18446744073709551615 all)
@@ -47,3 +50,17 @@ pub body_refused : (says : Request → Type 0) (fault : BodyError) (stop : Stop)
     → IsAsked false (Said says) (Err stop)
 body_refused says body_error.BadBodyHead stop is none = subst (λ e. IsAsked false (Said says) (Err e)) (sym is) (refl, none refl)
 body_refused says body_error.Memory stop is none = subst (λ e. IsAsked false (Said says) (Err e)) (sym is) tt
+
+-- what an object asks by what came of the input, or that nothing came
+pub object_came : {A : Type 0} (dir : List ℕ) (o : Text × List Text) (ask : List ℕ → List Path → List ℕ → Request) (known : Option (List ℕ)) (n : List ℕ) (bases : List Path) (most : ℕ)
+    (bytes_of : A → List ℕ) (Good : A → Type 0) (came : Result A Stop) (made : Result Made Stop) → on_object dir o ask ≡ Ok (ask n bases)
+    → IfOk came (λ x. IsOkAnd made (λ q. request_view q ≡ ask n bases (bytes_of x))) → IfErr came (λ stop. made ≡ Err stop)
+    → IfOk came (λ x. IfSome known (λ all. bytes_of x ≡ take most all)) → IfErr came (λ e. (e ≡ Failed Memory) ⊎ (e ≡ Failed Input)) → IfOk came Good
+    → ((x : A) → Good x → (all : List ℕ) → bytes_of x ≡ take most all → StepsAs (ask n bases (bytes_of x)) (ask n bases all))
+    → IsAskedOver (is_ok (on_object dir o ask)) (λ bytes. Gives (with_bytes bytes (on_object dir o ask))) known made
+object_came dir o ask known n bases most bytes_of Good (Ok x) (Ok q) is view stopped front why good steps =
+    object_asked dir o (is_ok (on_object dir o ask)) ask known n bases (bytes_of x) most q is view front (steps x good)
+object_came dir o ask known n bases most bytes_of Good (Ok x) (Err stop) is view stopped front why good steps = absurd view
+object_came dir o ask known n bases most bytes_of Good (Err stop) made is view stopped front why good steps =
+    subst (λ m. IsAskedOver (is_ok (on_object dir o ask)) (λ bytes. Gives (with_bytes bytes (on_object dir o ask))) known m) (sym stopped)
+    (gone (is_ok (on_object dir o ask)) (λ bytes. Gives (with_bytes bytes (on_object dir o ask))) known stop (ap is_ok is) why)

@@ -1,8 +1,9 @@
 -- What a command line answers, by the text of its configuration.
-use Rattle.std.specs.Prelude.{◌≡◌, ◌⊎◌, ℕ, MatchOption, List, [], map, Option, None, IsSome, Result, Ok, Err}
+use Rattle.std.specs.Prelude.{◌≡◌, ◌⊎◌, ℕ, MatchOption, List, map, Option, None, is_some, Result, Ok, Err}
 use Rattle.std.specs.Io.KnownBytes.{Keeps}
 use Rattle.clap.specs.Values.{kind_of}
 use Rattle.clap.specs.Walk.{Text}
+use Rattle.clap.specs.declared.error.Error.{Error}
 use Rattle.clap.specs.declared.error.ErrorKind.TheVariants.{DisplayHelp, DisplayVersion}
 use Rattle.paths.specs.StorePath.{base_of}
 use Rattle.policy.specs.Settings.{Settings}
@@ -13,10 +14,11 @@ use Rattle.tool_words.specs.declared.error.CommandError.{CommandError}
 use Rattle.tool_words.specs.declared.error.CommandError.TheVariants.{Usage, Misuse, Memory}
 use Rattle.tool_words.specs.Asked.{Asked, who, ls, text_path, source_path, serve}
 use Rattle.tool_words.specs.Line.{Line}
-use Rattle.tool_pure.specs.declared.stops.Failure.TheVariants.{Memory as NoMemory, File}
+use Rattle.report.specs.declared.failures.Failure.TheVariants.{Memory as NoMemory}
 use Rattle.tool_pure.specs.declared.stops.Stop.{Stop}
 use Rattle.tool_pure.specs.declared.stops.Stop.TheVariants.{Refused, Failed}
 use Rattle.tool_pure.specs.Archive.{ls_answer}
+use Rattle.tool_pure.specs.Configuration.{Opened, IsConfig}
 use Rattle.tool.specs.Callers.{AnswersCaller, AnswersNamed}
 use Rattle.tool_pure.specs.Object.{object_fault, text_path_answer, source_path_answer}
 use Rattle.report.specs.Outputs.{Prints}
@@ -73,19 +75,21 @@ abbrev pub Stops : Asked → Stop → Option (List ℕ) → Option (List ℕ) �
 Stops who stop out out' err err' status = Says stop out out' status × Keeps err err'
 Stops _ stop out out' err err' status = Answers (Err stop) out out' err err' status
 
--- there is a file of the configuration, and memory or that file gave out before its text was there
-abbrev pub LacksFile : Line → Option (List ℕ) → Option (List ℕ) → Option (List ℕ) → Option (List ℕ) → ℕ → Type 0
-LacksFile line out out' err err' status =
-    IsSome line.config × (Stops line.asked (Failed NoMemory) out out' err err' status ⊎ Stops line.asked (Failed File) out out' err err' status)
+-- the answer by the text of the configuration, or by why there is none
+abbrev pub AnswersRead : OfFile → Line → Result (List ℕ) Stop → Option (List ℕ) → Option (List ℕ) → Option (List ℕ) → Option (List ℕ) → Option (List ℕ) → ℕ → Type 0
+AnswersRead of_file line (Ok config) known out out' err err' status = AnswersLine of_file config line known out out' err err' status
+AnswersRead of_file line (Err stop) known out out' err err' status = Stops line.asked stop out out' err err' status
 
--- the answer by some configuration, which is the empty one where no file is named; or there is none to answer by
-abbrev pub AnswersConfigured : OfFile → Line → Option (List ℕ) → Option (List ℕ) → Option (List ℕ) → Option (List ℕ) → Option (List ℕ) → ℕ → Type 0
-AnswersConfigured of_file line known out out' err err' status = LacksFile line out out' err err' status
-    ⊎ ((config : List ℕ) × (line.config ≡ None → config ≡ []) × AnswersLine of_file config line known out out' err err' status)
+-- the answer by what came of the configuration file
+abbrev pub AnswersOpened : OfFile → Line → Opened → Option (List ℕ) → Option (List ℕ) → Option (List ℕ) → Option (List ℕ) → Option (List ℕ) → ℕ → Type 0
+AnswersOpened of_file line opened known out out' err err' status =
+    (read : Result (List ℕ) Stop) × IsConfig opened read × AnswersRead of_file line read known out out' err err' status
 
--- what running a command line does: that; or memory gave out while the words were read
+-- what running a command line does: it answers by what came of the file that it names, if it names one; or memory gave out while the words were
+-- read. No contract says what a file holds, or why it can't be opened.
 abbrev pub RunsLine : OfFile → Line → Option (List ℕ) → Option (List ℕ) → Option (List ℕ) → Option (List ℕ) → Option (List ℕ) → ℕ → Type 0
-RunsLine of_file line known out out' err err' status = Answers (Err (Failed NoMemory)) out out' err err' status ⊎ AnswersConfigured of_file line known out out' err err' status
+RunsLine of_file line known out out' err err' status = Answers (Err (Failed NoMemory)) out out' err err' status
+    ⊎ ((opened : Opened) × (is_some opened ≡ is_some line.config) × AnswersOpened of_file line opened known out out' err err' status)
 
 -- the fault of the words is that they ask for help or for the version
 abbrev pub AsksHelp : CommandError → Type 0
@@ -97,9 +101,13 @@ AsksHelp Memory = ⊥
 abbrev pub Helps : Option (List ℕ) → Option (List ℕ) → Option (List ℕ) → Option (List ℕ) → ℕ → Type 0
 Helps out out' err err' status = (text : List ℕ) × Answers (Ok text) out out' err err' status
 
--- what is said of words that are no command line, by their fault: help, a usage fault, or out of memory
-abbrev pub Explains : CommandError → Option (List ℕ) → Option (List ℕ) → Option (List ℕ) → Option (List ℕ) → ℕ → Type 0
-Explains (Usage fault) out out' err err' status = Answers (Err (Failed NoMemory)) out out' err err' status
+-- what is said of a fault that `clap` words: help, a usage fault, or out of memory
+abbrev pub ExplainsUsage : Error → Option (List ℕ) → Option (List ℕ) → Option (List ℕ) → Option (List ℕ) → ℕ → Type 0
+ExplainsUsage fault out out' err err' status = Answers (Err (Failed NoMemory)) out out' err err' status
     ⊎ ((AsksHelp (Usage fault) → Helps out out' err err' status) × (¬ AsksHelp (Usage fault) → RefusesWords out out' err err' status))
+
+-- what is said of words that are no command line, by their fault
+abbrev pub Explains : CommandError → Option (List ℕ) → Option (List ℕ) → Option (List ℕ) → Option (List ℕ) → ℕ → Type 0
+Explains (Usage fault) out out' err err' status = ExplainsUsage fault out out' err err' status
 Explains (Misuse fault) out out' err err' status = RefusesWords out out' err err' status ⊎ Answers (Err (Failed NoMemory)) out out' err err' status
 Explains Memory out out' err err' status = Answers (Err (Failed NoMemory)) out out' err err' status

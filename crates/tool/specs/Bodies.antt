@@ -10,7 +10,7 @@ use Rattle.wire_bodies.specs.declared.import.ImportHead.{ImportHead}
 use Rattle.wire_requests.specs.View.{imported}
 use Rattle.model.specs.declared.refusal.Refusal.{Refusal}
 use Rattle.model.specs.declared.refusal.Refusal.TheVariants.{BadBodyHead}
-use Rattle.tool_pure.specs.declared.stops.Failure.TheVariants.{Memory}
+use Rattle.report.specs.declared.failures.Failure.TheVariants.{Memory}
 use Rattle.tool_pure.specs.declared.stops.Stop.{Stop}
 use Rattle.tool_pure.specs.declared.stops.Stop.TheVariants.{Refused, Failed}
 

@@ -7,10 +7,11 @@ use Rattle.policy.specs.Caller.{Caller}
 use Rattle.model.specs.Reply.{Failure as Lack, failed}
 use Rattle.model.specs.declared.refusal.Refusal.TheVariants.{BadCaller}
 use Rattle.tool_pure.specs.Telling.{IsTold}
-use Rattle.tool_pure.specs.declared.stops.Failure.TheVariants.{Memory}
+use Rattle.report.specs.declared.failures.Failure.TheVariants.{Memory}
 use Rattle.tool_pure.specs.declared.stops.Stop.TheVariants.{Refused, Failed}
 use Rattle.tool.specs.Calls.{AnswersIn, AnswersStep}
-use Rattle.tool.specs.Requests.{Ask, caller_by}
+use Rattle.tool.specs.Requests.{Ask}
+use Rattle.tool_pure.specs.Who.{caller_by}
 use Rattle.tool_pure.specs.Stream.{Answers}
 
 -- what a caller is answered, by what they ask and the bytes of the input

@@ -1,18 +1,18 @@
 -- What a subcommand asks of a store.
-use Rattle.std.specs.Prelude.{◌≡◌, ⊤, ℕ, Bool, true, false, not, is_ok, if◌then◌else◌, List, map, Option, Some, None, Result, Ok, Err}
+use Rattle.std.specs.Prelude.{◌≡◌, ⊤, ℕ, Bool, true, false, is_ok, if◌then◌else◌, List, map, Option, Some, None, Result, Ok, Err}
 use Rattle.std.specs.List.{list_all}
+use Rattle.std.specs.Option.{option_map_or}
 use Rattle.clap.specs.Walk.{Text}
-use Rattle.paths.specs.Names.{is_store_name}
 use Rattle.paths.specs.StorePath.{base_of}
 use Rattle.model.specs.World.{Path, World}
 use Rattle.policy.specs.Settings.{Settings}
-use Rattle.policy.specs.Caller.{Caller, caller_of, is_caller}
+use Rattle.policy.specs.Caller.{Caller}
 use Rattle.model.specs.Request as request
 use Rattle.model.specs.Request.{Request}
 use Rattle.model.specs.Reply.{Reply}
 use Rattle.model.specs.Step.{Step}
 use Rattle.model.specs.declared.refusal.Refusal.{Refusal}
-use Rattle.model.specs.declared.refusal.Refusal.TheVariants.{BadStoreName, BadStorePath}
+use Rattle.model.specs.declared.refusal.Refusal.TheVariants.{BadStorePath}
 use Rattle.tool_words.specs.Asked as asked
 use Rattle.tool_words.specs.Asked.{Asked, OnProfile, OnSession, add_source, add_text, cat_nar, delete, gc, import_object, info, list_dead, list_live, list_paths, optional_text, profile, report, root, roots, runtime, temp, unroot_permanent, unroot_user, why, serve}
 use Rattle.tool_words.specs.declared.line.Unrooted.{Unrooted}
@@ -21,16 +21,11 @@ use Rattle.tool_words.specs.declared.line.RootKind.{RootKind}
 use Rattle.tool_words.specs.declared.line.RootKind.TheVariants.{Permanent, User}
 use Rattle.store_types.specs.declared.requests.Request.{Request as Made}
 use Rattle.store_types.specs.View.{request_view}
-use Rattle.tool_pure.specs.declared.stops.Failure.TheVariants.{Memory, File, Input, Output}
+use Rattle.report.specs.declared.failures.Failure.TheVariants.{Memory, Input}
 use Rattle.tool_pure.specs.declared.stops.Stop.{Stop}
 use Rattle.tool_pure.specs.declared.stops.Stop.TheVariants.{Refused, Failed}
 use Rattle.tool.specs.Bodies.{Imports, Replaces}
-use Rattle.tool_pure.specs.Object.{is_path_text}
-
--- the caller of these names: one has to be named, and they have to be plain
-abbrev pub caller_by : Option (List ℕ) → Option (List ℕ) → Option Caller
-caller_by None group = None
-caller_by (Some name) group = if is_caller (caller_of name group) then Some (caller_of name group) else None
+use Rattle.tool_pure.specs.Object.{is_path_text, named_fault}
 
 -- a request on a path, where the text is one
 abbrev pub on_path : List ℕ → Text → (Path → Request) → Result Request Refusal
@@ -42,10 +37,7 @@ on_paths dir texts ask = if list_all (is_path_text dir) texts then Ok (ask (map 
 
 -- a request on a name, references and the bytes of the input, where the first two are such
 abbrev pub on_object : List ℕ → Text × List Text → (List ℕ → List Path → List ℕ → Request) → Result (List ℕ → Request) Refusal
-on_object dir o ask =
-    if not (is_store_name o.0) then Err BadStoreName
-    else if not (list_all (is_path_text dir) o.1) then Err BadStorePath
-    else Ok (ask o.0 (map (base_of dir) o.1))
+on_object dir o ask = option_map_or Err (named_fault dir o.0 o.1) (Ok (ask o.0 (map (base_of dir) o.1)))
 
 -- whose a root is: the caller's, where nobody is named
 abbrev pub owner_of : Caller → Option Text → List ℕ
@@ -151,8 +143,7 @@ IsAsked reads asks (Ok q) = (r : Request) × asks (Ok r) × StepsAs (request_vie
 IsAsked reads asks (Err (Refused r)) = asks (Err r)
 IsAsked reads asks (Err (Failed Memory)) = ⊤
 IsAsked reads asks (Err (Failed Input)) = reads ≡ true
-IsAsked reads asks (Err (Failed File)) = ⊥
-IsAsked reads asks (Err (Failed Output)) = ⊥
+IsAsked reads asks (Err (Failed _)) = ⊥
 
 -- the same by the bytes of the input: some bytes, where it doesn't say them
 abbrev pub IsAskedOver : Bool → (List ℕ → Result Request Refusal → Type 0) → Option (List ℕ) → Result Made Stop → Type 0

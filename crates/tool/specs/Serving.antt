@@ -10,7 +10,7 @@ use Rattle.wire_server.specs.Responses.{Replied}
 use Rattle.tool_pure.specs.Telling.{IsTold}
 use Rattle.wire.specs.Worlds.{AnswersFrom}
 use Rattle.wire.specs.Ends.{ServesPort, ServesStreams}
-use Rattle.tool_pure.specs.declared.stops.Failure.TheVariants.{Memory}
+use Rattle.report.specs.declared.failures.Failure.TheVariants.{Memory}
 use Rattle.tool_pure.specs.declared.stops.Stop.TheVariants.{Failed}
 use Rattle.tool_pure.specs.Stream.{Answers}
 use Rattle.tool_words.specs.declared.line.ServeArguments.{ServeArguments}

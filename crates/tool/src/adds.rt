@@ -1,18 +1,19 @@
 //! What is asked of a store to which an object is added.
-ghost use Rattle.std.specs.Prelude.{◌≡◌, IfOk, IfErr, Ok, Err, List, ℕ, false, is_ok};
+ghost use Rattle.std.specs.Prelude.{◌≡◌, IfOk, IfErr, IsOkAnd, Ok, Err, List, ℕ, false, is_ok};
+ghost use Rattle.intake.specs.Arriving.{bytes_in};
 ghost use Rattle.tool_words.specs.Asked.{object_view};
 ghost use Rattle.model.specs.Request as asked;
+ghost use Rattle.store_types.specs.View.{request_view};
 ghost use Rattle.streams.specs.Reads.{TakesAtMost};
 ghost use Rattle.tool_pure.specs.Archive.{max_front};
 ghost use Rattle.tool.specs.Requests.{Gives, IsAsked, IsAskedOver, on_object, with_bytes};
 
-use paths::{Name, StoreDir, StorePath};
+use intake::Intake;
+use paths::StoreDir;
 use std::alloc::Global;
 use std::io::Read;
 use store_types::Request;
-use tool_pure::{
-    MOST_OF_CONTENTS, Stop, parse_name, parse_references, read_input, receive_archive,
-};
+use tool_pure::{MOST_OF_CONTENTS, Object, Stop, parse_object, read_input, receive_archive};
 use tool_words::ObjectArguments;
 
 /// The name and the references of an object that is to be added.
@@ -20,18 +21,27 @@ fn parse_arguments(
     alloc: Global,
     dir: &StoreDir,
     object: &ObjectArguments<'_>,
-) -> Result<(Name, Vec<StorePath>), Stop>
-    ensures ok { IfOk result (λ o. (ask : List ℕ → List (List ℕ) → List ℕ → asked.Request) → on_object dir.now (object_view object.now) ask ≡ Ok (ask o.0 o.1.items)) }
-    ensures err { IfErr result (λ e. (ask : List ℕ → List (List ℕ) → List ℕ → asked.Request) (bytes : List ℕ) → IsAsked false (Gives (with_bytes bytes (on_object dir.now (object_view object.now) ask))) (Err e)) }
+) -> Result<Object, Stop>
+    ensures ok { IfOk result (λ o. (ask : List ℕ → List (List ℕ) → List ℕ → asked.Request)
+        → on_object dir.now (object_view object.now) ask ≡ Ok (ask o.name o.references.items)) }
+    ensures err { IfErr result (λ e. (ask : List ℕ → List (List ℕ) → List ℕ → asked.Request) (bytes : List ℕ)
+        → IsAsked false (Gives (with_bytes bytes (on_object dir.now (object_view object.now) ask))) (Err e)) }
 {
-    let name = match parse_name(alloc, object.name) {
-        Ok(name) => name,
-        Err(stop) => return Err(stop),
-    };
-    match parse_references(alloc, dir, object.references.as_slice()) {
-        Ok(references) => Ok((name, references)),
-        Err(stop) => Err(stop),
-    }
+    parse_object(alloc, dir, object.name, object.references.as_slice())
+}
+
+/// A text object with the contents that came is to be added; or why none came.
+fn text_of(object: Object, came: Result<Vec<u8>, Stop>) -> Result<Request, Stop>
+    ensures came { IfOk came
+        (λ bytes. IsOkAnd result (λ q. request_view q ≡ asked.add_text object.name object.references.items bytes.items)) }
+    ensures stopped { IfErr came (λ stop. result ≡ Err stop) }
+{
+    let contents = came?;
+    Ok(Request::AddText {
+        name: object.name,
+        refs: object.references,
+        contents,
+    })
 }
 
 /// A text is to be added. Nothing is read where the name or a reference is refused.
@@ -44,18 +54,22 @@ pub(crate) fn add_text<R: Read>(
     ensures asked { IsAskedOver (is_ok (on_object dir.now (object_view object.now) (λ name refs bytes. asked.add_text name refs bytes))) (λ bytes. Gives (with_bytes bytes (on_object dir.now (object_view object.now) (λ name refs bytes. asked.add_text name refs bytes)))) (R.remaining input.old) result }
     ensures reads { TakesAtMost max_front (R.remaining input.old) (R.remaining input.new) }
 {
-    let (name, references) = match parse_arguments(alloc, dir, object) {
-        Ok(arguments) => arguments,
-        Err(stop) => return Err(stop),
-    };
-    match read_input(alloc, input, MOST_OF_CONTENTS) {
-        Ok(contents) => Ok(Request::AddText {
-            name,
-            refs: references,
-            contents,
-        }),
-        Err(stop) => Err(stop),
-    }
+    let arguments = parse_arguments(alloc, dir, object)?;
+    text_of(arguments, read_input(alloc, input, MOST_OF_CONTENTS))
+}
+
+/// A source object with the archive that came is to be added; or why none came.
+fn source_of(object: Object, came: Result<Intake, Stop>) -> Result<Request, Stop>
+    ensures came { IfOk came
+        (λ nar. IsOkAnd result (λ q. request_view q ≡ asked.add_source object.name object.references.items (bytes_in nar))) }
+    ensures stopped { IfErr came (λ stop. result ≡ Err stop) }
+{
+    let nar = came?;
+    Ok(Request::AddSource {
+        name: object.name,
+        refs: object.references,
+        nar,
+    })
 }
 
 /// An archive is to be added, at its own path. Nothing is read where the name or a reference is refused.
@@ -68,16 +82,6 @@ pub(crate) fn add_source<R: Read>(
     ensures asked { IsAskedOver (is_ok (on_object dir.now (object_view object.now) (λ name refs bytes. asked.add_source name refs bytes))) (λ bytes. Gives (with_bytes bytes (on_object dir.now (object_view object.now) (λ name refs bytes. asked.add_source name refs bytes)))) (R.remaining input.old) result }
     ensures reads { TakesAtMost max_front (R.remaining input.old) (R.remaining input.new) }
 {
-    let (name, references) = match parse_arguments(alloc, dir, object) {
-        Ok(arguments) => arguments,
-        Err(stop) => return Err(stop),
-    };
-    match receive_archive(alloc, input) {
-        Ok(nar) => Ok(Request::AddSource {
-            name,
-            refs: references,
-            nar,
-        }),
-        Err(stop) => Err(stop),
-    }
+    let arguments = parse_arguments(alloc, dir, object)?;
+    source_of(arguments, receive_archive(alloc, input))
 }

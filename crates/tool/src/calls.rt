@@ -1,5 +1,5 @@
 //! Subcommands that ask something of a store.
-ghost use Rattle.std.specs.Prelude.{◌≡◌, ◌⊎◌, IfOk, IfErr, IsSome, Some, None, false};
+ghost use Rattle.std.specs.Prelude.{◌≡◌, IsSome, Some, false};
 ghost use Rattle.tool_words.specs.Asked.{asked_view, optional_text};
 ghost use Rattle.policy.specs.Toml.{config_of};
 ghost use Rattle.streams.specs.Reads.{TakesAtMost};
@@ -7,34 +7,17 @@ ghost use Rattle.tool.specs.Answer.{AnswersUnder};
 ghost use Rattle.tool_pure.specs.Archive.{max_front};
 ghost use Rattle.tool.specs.Callers.{AnswersCaller, AnswersNamed};
 ghost use Rattle.tool.specs.Files.{AnswersFile};
-ghost use Rattle.tool.specs.Requests.{Ask, asks, reads_all, caller_by};
+ghost use Rattle.tool.specs.Requests.{Ask, asks, reads_all};
 
 use crate::files::call_in_file;
 use crate::stores::call_in_memory;
-use policy::{Caller, CallerError, Config};
-use report::Refusal;
+use policy::{Caller, Config};
 use sqlite::{FileFrom, Start};
 use sqlite_disk::Disk;
-use std::alloc::Global;
 use std::io::{Read, Write};
 use std::rt::HostRuntime;
-use tool_pure::{Failure, Stop, say, settings};
+use tool_pure::{parse_caller, say, settings};
 use tool_words::{CommandLine, Task};
-
-/// The caller of these names.
-fn caller_of(alloc: Global, user: Option<&str>, group: Option<&str>) -> Result<Caller, Stop>
-    ensures ok { IfOk result (λ c. caller_by (optional_text user.entry) (optional_text group.entry) ≡ Some c) }
-    ensures err { IfErr result (λ e. (e ≡ Stop.Failed Failure.Memory) ⊎ ((e ≡ Stop.Refused Refusal.BadCaller) × (caller_by (optional_text user.entry) (optional_text group.entry) ≡ None))) }
-{
-    let Some(name) = user else {
-        return Err(Stop::Refused(Refusal::BadCaller));
-    };
-    match Caller::new(alloc, name, group) {
-        Ok(caller) => Ok(caller),
-        Err(CallerError::BadCaller) => Err(Stop::Refused(Refusal::BadCaller)),
-        Err(CallerError::Memory) => Err(Stop::Failed(Failure::Memory)),
-    }
-}
 
 /// Asks the store of a database file, or one in memory where none is named.
 #[tactic(auto, unfolding(crate::specs::Callers::AnswersCaller))]
@@ -80,7 +63,7 @@ pub(crate) fn call<F: Start, R: Read, W: Write, E: Write>(
         Ok(config) => config,
         Err(stop) => return say(stop, errors),
     };
-    match caller_of(rt.alloc(), line.user, line.group) {
+    match parse_caller(rt.alloc(), line.user, line.group) {
         Ok(caller) => call_in(
             rt, start, line.db, config, &caller, &line.task, input, output, errors,
         ),

@@ -18,11 +18,9 @@ pub(crate) fn delete_paths(
 ) -> Result<Request, Stop>
     ensures { IsAsked false (Gives (on_paths dir.now (texts deletion.now.paths.items) (λ named. asked.delete named deletion.now.ignore_liveness))) result }
 {
-    match parse_references(alloc, dir, deletion.paths.as_slice()) {
-        Ok(named) => Ok(Request::Delete {
-            paths: named,
-            ignore_liveness: deletion.ignore_liveness,
-        }),
-        Err(stop) => Err(stop),
-    }
+    let named = parse_references(alloc, dir, deletion.paths.as_slice())?;
+    Ok(Request::Delete {
+        paths: named,
+        ignore_liveness: deletion.ignore_liveness,
+    })
 }

@@ -17,10 +17,8 @@ fn read_whole<R: Read>(alloc: Global, input: &mut R) -> Result<Vec<u8>, Stop>
     ensures ok { IfOk result (λ bytes. IfSome (R.remaining input.old) (λ all. bytes.items ≡ all)) }
     ensures err { IfErr result (λ e. (e ≡ Stop.Failed Failure.Memory) ⊎ (e ≡ Stop.Failed Failure.Input)) }
 {
-    match read_input(alloc, input, usize::MAX) {
-        Ok(bytes) => Ok(bytes),
-        Err(stop) => Err(stop),
-    }
+    let bytes = read_input(alloc, input, usize::MAX)?;
+    Ok(bytes)
 }
 
 /// Why a body asks nothing.
@@ -58,10 +56,8 @@ pub(crate) fn import<R: Read>(alloc: Global, dir: &StoreDir, input: &mut R) -> R
     ensures { IsAskedOver true (spec.Imports dir.now) (R.remaining input.old) result }
 {
     let mut body = Body::parted(alloc);
-    match receive_input(input, &mut body) {
-        Ok(()) => parse_import(alloc, dir, body),
-        Err(stop) => Err(stop),
-    }
+    receive_input(input, &mut body)?;
+    parse_import(alloc, dir, body)
 }
 
 /// The runtime roots are to be those on the input.
@@ -72,8 +68,6 @@ pub(crate) fn replace_runtime<R: Read>(
 ) -> Result<Request, Stop>
     ensures { IsAskedOver true (spec.Replaces dir.now) (R.remaining input.old) result }
 {
-    match read_whole(alloc, input) {
-        Ok(body) => parse_runtime(alloc, dir, body.as_slice()),
-        Err(stop) => Err(stop),
-    }
+    let body = read_whole(alloc, input)?;
+    parse_runtime(alloc, dir, body.as_slice())
 }

@@ -1,27 +1,34 @@
 //! Runs a command line over any reader and two writers.
-ghost use Rattle.std.specs.Prelude.{◌≡◌, ◌≢◌, ℕ, List, map, true, false};
+ghost use Rattle.std.specs.Io.KnownBytes.{Keeps};
+ghost use Rattle.std.specs.Prelude.{◌≡◌, ◌≢◌, ℕ, IfOk, List, OnErr, Ok, Err, map, string_bytes, true, false};
 ghost use Rattle.std.specs.IoError.{error_kind};
-ghost use Rattle.tool.specs.Answer.{Explains, Helps, RefusesWords, RunsLine};
+ghost use Rattle.tool.specs.Answer.{AnswersOpened, Explains, ExplainsUsage, RunsLine};
 ghost use Rattle.tool.specs.Files.{by_file};
 ghost use Rattle.tool_pure.specs.Archive.{max_front};
 ghost use Rattle.tool_words.specs.Line.{IsLine, IsUsageFault, Line, line_view};
 ghost use Rattle.streams.specs.Reads.{TakesAtMost};
 ghost use Rattle.report.specs.Outputs.{Prints};
 ghost use Rattle.tool.specs.Requests.{reads_all};
-ghost use Rattle.tool_pure.specs.Stream.{Says};
+ghost use Rattle.tool_pure.specs.Configuration.{opened_by};
+ghost use Rattle.tool_pure.specs.Stream.{Answers, Says};
 ghost use Rattle.tool_words.specs.declared.error.CommandError.{CommandError};
+ghost use Rattle.tool_words.specs.declared.error.CommandError.TheVariants.{Misuse};
 
 use crate::answers::answer;
-use crate::usage::{USAGE, refuse};
+use clap::Error;
+use report::print;
 use sqlite::{FileFrom, Start};
 use sqlite_disk::Disk;
-use std::alloc::Global;
+use std::alloc::{AllocError, Global};
 use std::convert::AsStr;
 use std::io;
 use std::io::{ErrorKind, Read, Write};
 use std::rt::HostRuntime;
-use tool_pure::{Failure, Stop, config_text, give, print, say};
-use tool_words::{CommandError, CommandLine, Task, command};
+use tool_pure::{Failure, Stop, config_text, give, open_config, say};
+use tool_words::{CommandError, CommandLine, Task, UsageFault, command};
+
+/// The exit status of words that are no command line.
+const USAGE: u8 = 2;
 
 const NOT_UTF8: &str = "error: a word of the command line isn't UTF-8\n";
 
@@ -62,9 +69,30 @@ fn execute<F: Start, R: Read, W: Write, E: Write>(
     errors: &mut E,
 ) -> u8
     ensures answer { RunsLine (by_file F.Start ⟦<FileFrom<F> as Disk>⟧) (line_view line.now) (R.remaining input.old) (W.contents output.old) (W.contents output.new) (E.contents errors.old) (E.contents errors.new) result }
-    ensures reads { reads_all (line_view line.now).asked ≡ false → TakesAtMost max_front (R.remaining input.old) (R.remaining input.new) }
+    ensures reads { reads_all (line_view line.now).asked ≡ false → TakesAtMost max_front (R.remaining input.old)
+        (R.remaining input.new) }
 {
-    match config_text(rt, line.config) {
+    let file = open_config(rt, line.config);
+    answer_by(rt, start, file, line, input, output, errors)
+}
+
+/// Answers a command line by its configuration file, or by why that wasn't opened.
+fn answer_by<F: Start, C: Read + Drop, R: Read, W: Write, E: Write>(
+    rt: &HostRuntime,
+    start: F,
+    file: Option<io::Result<C>>,
+    line: &CommandLine<'_>,
+    input: &mut R,
+    output: &mut W,
+    errors: &mut E,
+) -> u8
+    ensures answer { AnswersOpened (by_file F.Start ⟦<FileFrom<F> as Disk>⟧) (line_view line.now)
+        (opened_by C.remaining file) (R.remaining input.old) (W.contents output.old) (W.contents output.new)
+        (E.contents errors.old) (E.contents errors.new) result }
+    ensures reads { reads_all (line_view line.now).asked ≡ false → TakesAtMost max_front (R.remaining input.old)
+        (R.remaining input.new) }
+{
+    match config_text(rt.alloc(), file) {
         Ok(text) => answer(rt, start, text.as_slice(), line, input, output, errors),
         Err(stop) => match line.task {
             Task::Who => say(stop, output),
@@ -83,25 +111,59 @@ fn explain<W: Write, E: Write>(
     ensures { Explains fault.now (W.contents output.old) (W.contents output.new) (E.contents errors.old) (E.contents errors.new) result }
 {
     match fault {
-        CommandError::Usage(fault) => match format!(in alloc; "{fault}") {
-            Ok(text) => explain_by(fault.use_stderr(), text, output, errors),
-            Err(_) => say(Stop::Failed(Failure::Memory), errors),
-        },
-        CommandError::Misuse(fault) => refuse(alloc, fault.text(), errors),
+        CommandError::Usage(fault) => explain_usage(alloc, fault, output, errors),
+        CommandError::Misuse(fault) => explain_misuse(alloc, *fault, output, errors),
         CommandError::Memory => say(Stop::Failed(Failure::Memory), errors),
     }
 }
 
-/// Gives a text as that of a usage fault, or as help.
-fn explain_by<W: Write, E: Write>(
-    is_fault: bool,
-    text: String,
+/// Says what is wrong with words in which `clap` finds no fault.
+fn explain_misuse<W: Write, E: Write>(
+    alloc: Global,
+    fault: UsageFault,
     output: &mut W,
     errors: &mut E,
 ) -> u8
-    ensures fault { is_fault ≡ true → RefusesWords (W.contents output.old) (W.contents output.new) (E.contents errors.old) (E.contents errors.new) result }
-    ensures help { is_fault ≡ false → Helps (W.contents output.old) (W.contents output.new) (E.contents errors.old) (E.contents errors.new) result }
+    ensures { Explains (Misuse fault) (W.contents output.old) (W.contents output.new) (E.contents errors.old)
+        (E.contents errors.new) result }
 {
+    match fault.error(alloc) {
+        Ok(error) => explain_usage(alloc, &error, output, errors),
+        Err(_) => say(Stop::Failed(Failure::Memory), errors),
+    }
+}
+
+/// Gives the text of a fault in the form of `clap`, or the help that words ask for.
+fn explain_usage<W: Write, E: Write>(
+    alloc: Global,
+    fault: &Error,
+    output: &mut W,
+    errors: &mut E,
+) -> u8
+    ensures { ExplainsUsage fault.now (W.contents output.old) (W.contents output.new) (E.contents errors.old)
+        (E.contents errors.new) result }
+{
+    let text = format!(in alloc; "{fault}");
+    explain_by(fault.use_stderr(), text, output, errors)
+}
+
+/// Gives the text of a usage fault, or of help; or says that there was no memory for it.
+fn explain_by<W: Write, E: Write>(
+    is_fault: bool,
+    text: Result<String, AllocError>,
+    output: &mut W,
+    errors: &mut E,
+) -> u8
+    ensures fault { is_fault ≡ true → IfOk text (λ t. Keeps (W.contents output.old) (W.contents output.new)
+        × Prints (string_bytes t) 2 (E.contents errors.old) (E.contents errors.new) result) }
+    ensures help { is_fault ≡ false → IfOk text
+        (λ t. Answers (Ok (string_bytes t)) (W.contents output.old) (W.contents output.new) (E.contents errors.old) (E.contents errors.new) result) }
+    ensures memory { OnErr text
+        (Answers (Err (Stop.Failed Failure.Memory)) (W.contents output.old) (W.contents output.new) (E.contents errors.old) (E.contents errors.new) result) }
+{
+    let Ok(text) = text else {
+        return say(Stop::Failed(Failure::Memory), errors);
+    };
     if is_fault {
         return print(text.as_str(), USAGE, errors);
     }

@@ -14,7 +14,6 @@ mod requests;
 mod serve;
 mod sessions;
 mod stores;
-mod usage;
 
 pub use answers::answer;
 pub use launch::{refuse_words, run};
@@ -26,3 +25,4 @@ pub use tool_words::{
     ProfileArguments, RootArguments, RootKind, ServeArguments, Task, TempAction, TempArguments,
     UnrootArguments, Unrooted, UsageFault, command,
 };
+pub use wire::serve_on;

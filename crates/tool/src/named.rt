@@ -1,5 +1,5 @@
 //! What is asked of roots that have names.
-ghost use Rattle.std.specs.Prelude.{◌≡◌, IfOk, IfErr, Ok, false, string_bytes};
+ghost use Rattle.std.specs.Prelude.{◌≡◌, IfOk, Ok, false, string_bytes};
 ghost use Rattle.tool_words.specs.Asked.{optional_text};
 ghost use Rattle.store_types.specs.View.{request_view};
 ghost use Rattle.tool.specs.Requests as spec;
@@ -9,19 +9,8 @@ use paths::{StoreDir, StorePath};
 use policy::Caller;
 use std::alloc::{AllocError, Global};
 use store_types::Request;
-use tool_pure::{Failure, Stop, parse_reference};
+use tool_pure::{Stop, parse_reference};
 use tool_words::{RootArguments, RootKind, UnrootArguments, Unrooted};
-
-/// A request that was made, or memory was refused.
-pub(crate) fn made(request: Result<Request, AllocError>) -> Result<Request, Stop>
-    ensures ok { IfOk result (λ q. request ≡ Ok q) }
-    ensures err { IfErr result (λ e. e ≡ Stop.Failed Failure.Memory) }
-{
-    match request {
-        Ok(request) => Ok(request),
-        Err(_) => Err(Stop::Failed(Failure::Memory)),
-    }
-}
 
 /// The owner who is named, else the caller.
 pub(crate) fn owner(
@@ -69,10 +58,8 @@ pub(crate) fn set_root(
 ) -> Result<Request, Stop>
     ensures { IsAsked false (Gives (on_path dir.now root.now.path.now (spec.set_root root.now.kind caller.now root.now.name.now))) result }
 {
-    match parse_reference(alloc, dir, root.path) {
-        Ok(path) => made(root_at(alloc, caller, root, path)),
-        Err(stop) => Err(stop),
-    }
+    let path = parse_reference(alloc, dir, root.path)?;
+    Ok(root_at(alloc, caller, root, path)?)
 }
 
 /// A root that is dropped.
@@ -101,5 +88,5 @@ pub(crate) fn drop_root(
 ) -> Result<Request, Stop>
     ensures { IsAsked false (Gives (Ok (spec.drop_root root.now.root caller.now root.now.name.now))) result }
 {
-    made(dropped(alloc, caller, root))
+    Ok(dropped(alloc, caller, root)?)
 }

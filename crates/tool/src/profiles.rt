@@ -6,7 +6,7 @@ ghost use Rattle.store_types.specs.View.{request_view};
 ghost use Rattle.tool.specs.Requests as spec;
 ghost use Rattle.tool.specs.Requests.{Gives, IsAsked, owner_of};
 
-use crate::named::{made, owner};
+use crate::named::owner;
 use paths::{StoreDir, StorePath};
 use policy::Caller;
 use std::alloc::{AllocError, Global};
@@ -104,12 +104,12 @@ pub(crate) fn change_profile(
     ensures { IsAsked false (Gives (spec.change_profile dir.now (owner_of caller.now (optional_text profile.now.owner)) profile.now.name.now (on_profile_view profile.now.action))) result }
 {
     match profile.action {
-        ProfileAction::Set(text) => match parse_reference(alloc, dir, text) {
-            Ok(path) => made(set(alloc, caller, profile, path)),
-            Err(stop) => Err(stop),
-        },
-        ProfileAction::Rollback => made(rollback(alloc, caller, profile)),
-        ProfileAction::Switch(number) => made(switch(alloc, caller, profile, number)),
-        ProfileAction::Delete(number) => made(delete(alloc, caller, profile, number)),
+        ProfileAction::Set(text) => {
+            let path = parse_reference(alloc, dir, text)?;
+            Ok(set(alloc, caller, profile, path)?)
+        }
+        ProfileAction::Rollback => Ok(rollback(alloc, caller, profile)?),
+        ProfileAction::Switch(number) => Ok(switch(alloc, caller, profile, number)?),
+        ProfileAction::Delete(number) => Ok(delete(alloc, caller, profile, number)?),
     }
 }

@@ -37,30 +37,24 @@ pub(crate) fn is_asked(task: &Task<'_>) -> bool
 fn why(alloc: Global, dir: &StoreDir, text: &str) -> Result<Request, Stop>
     ensures { IsAsked false (Gives (on_path dir.now text.now asked.list_roots_of)) result }
 {
-    match parse_reference(alloc, dir, text) {
-        Ok(path) => Ok(Request::RootsOf(path)),
-        Err(stop) => Err(stop),
-    }
+    let path = parse_reference(alloc, dir, text)?;
+    Ok(Request::RootsOf(path))
 }
 
 /// The record of an object is asked for.
 fn info(alloc: Global, dir: &StoreDir, text: &str) -> Result<Request, Stop>
     ensures { IsAsked false (Gives (on_path dir.now text.now asked.info)) result }
 {
-    match parse_reference(alloc, dir, text) {
-        Ok(path) => Ok(Request::Info(path)),
-        Err(stop) => Err(stop),
-    }
+    let path = parse_reference(alloc, dir, text)?;
+    Ok(Request::Info(path))
 }
 
 /// The archive of an object is asked for.
 fn cat_nar(alloc: Global, dir: &StoreDir, text: &str) -> Result<Request, Stop>
     ensures { IsAsked false (Gives (on_path dir.now text.now asked.nar)) result }
 {
-    match parse_reference(alloc, dir, text) {
-        Ok(path) => Ok(Request::Nar(path)),
-        Err(stop) => Err(stop),
-    }
+    let path = parse_reference(alloc, dir, text)?;
+    Ok(Request::Nar(path))
 }
 
 /// What a subcommand asks of a store.

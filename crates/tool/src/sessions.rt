@@ -6,7 +6,7 @@ ghost use Rattle.store_types.specs.View.{request_view};
 ghost use Rattle.tool.specs.Requests as spec;
 ghost use Rattle.tool.specs.Requests.{Gives, IsAsked, owner_of};
 
-use crate::named::{made, owner};
+use crate::named::owner;
 use paths::{StoreDir, StorePath};
 use policy::Caller;
 use std::alloc::{AllocError, Global};
@@ -52,10 +52,10 @@ pub(crate) fn change_session(
     ensures { IsAsked false (Gives (spec.change_session dir.now (owner_of caller.now (optional_text session.now.owner)) session.now.session (on_session_view session.now.action))) result }
 {
     match session.action {
-        TempAction::Add(text) => match parse_reference(alloc, dir, text) {
-            Ok(path) => made(add(alloc, caller, session, path)),
-            Err(stop) => Err(stop),
-        },
-        TempAction::End => made(end(alloc, caller, session)),
+        TempAction::Add(text) => {
+            let path = parse_reference(alloc, dir, text)?;
+            Ok(add(alloc, caller, session, path)?)
+        }
+        TempAction::End => Ok(end(alloc, caller, session)?),
     }
 }

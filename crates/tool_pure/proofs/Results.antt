@@ -2,7 +2,7 @@
 use Rattle.std.proofs.Common.{◌≡◌, ℕ, ◌⊎◌, ◌≤◌, Bool, List, [], arith, take, Option, Some, None, Result, Ok, Err, String, Global, ap, sym, subst, inl, inr}
 use Rattle.std.specs.Prelude.{IfOk, IfErr, IfSome, is_none, string_bytes}
 use Rattle.model.specs.declared.refusal.Refusal.{Refusal}
-use Rattle.tool_pure.specs.declared.stops.Failure.TheVariants.{Memory, File, Input, Output}
+use Rattle.report.specs.declared.failures.Failure.TheVariants.{Memory, Size, Disk, File, Input, Output}
 use Rattle.tool_pure.specs.declared.stops.Stop.{Stop}
 use Rattle.tool_pure.specs.declared.stops.Stop.TheVariants.{Refused, Failed}
 use Rattle.streams.specs.Reads.{TakesAtMost}
@@ -26,6 +26,8 @@ gave_up reads (Err (Failed Memory)) out out' err err' status fails given = inl g
 gave_up reads (Err (Failed Input)) out out' err err' status fails given = inr (fails, given)
 gave_up reads (Err (Failed File)) out out' err err' status fails given = absurd fails
 gave_up reads (Err (Failed Output)) out out' err err' status fails given = absurd fails
+gave_up reads (Err (Failed Size)) out out' err err' status fails given = absurd fails
+gave_up reads (Err (Failed Disk)) out out' err err' status fails given = absurd fails
 
 pub answers_to : (fault : Option Refusal) (answer : List ℕ → Result (List ℕ) Stop) (known : Option (List ℕ)) (result : Result (List ℕ) Stop)
     → (out out' err err' : Option (List ℕ)) (status : ℕ) → IsFailure (is_none fault) result ⊎ IsResultOf fault answer known result → Answers result out out' err err' status

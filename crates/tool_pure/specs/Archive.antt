@@ -6,7 +6,7 @@ use Rattle.nar.specs.Tree.{Tree}
 use Rattle.nar.specs.Outcome.{outcome_of}
 use Rattle.nar.specs.Listing.{listing}
 use Rattle.model.specs.Faults.{archive_refusal}
-use Rattle.tool_pure.specs.declared.stops.Failure.TheVariants.{Memory}
+use Rattle.report.specs.declared.failures.Failure.TheVariants.{Memory}
 use Rattle.tool_pure.specs.declared.stops.Stop.{Stop}
 use Rattle.tool_pure.specs.declared.stops.Stop.TheVariants.{Refused, Failed}
 

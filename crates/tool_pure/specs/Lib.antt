@@ -1,4 +1,6 @@
 pub mod Archive
+pub mod Configuration
+pub mod Faults
 pub mod Object
 pub mod Stop
 pub mod Stream

@@ -1,6 +1,7 @@
 -- The answers that give an object its store path.
 use Rattle.std.specs.Prelude.{ℕ, ◌++◌, Bool, not, if◌then◌else◌, nat_lt, List, length, codes, Option, Some, None, Result, Ok, Err}
 use Rattle.std.specs.List.{list_all}
+use Rattle.std.specs.Option.{option_map_or}
 use Rattle.paths.specs.Names.{is_store_name}
 use Rattle.paths.specs.StorePath.{is_base_name, base_of, full_path}
 use Rattle.paths.specs.Path.{text_path, source_path}
@@ -23,13 +24,20 @@ max_references = 4096
 abbrev pub max_contents : ℕ
 max_contents = 16777104
 
--- why an object of this name with these references is refused, before its contents are looked at
-abbrev pub object_fault : List ℕ → List ℕ → List (List ℕ) → Option Refusal
-object_fault dir name refs =
+-- what is wrong with the name of an object, or with its references
+abbrev pub named_fault : List ℕ → List ℕ → List (List ℕ) → Option Refusal
+named_fault dir name refs =
     if not (is_store_name name) then Some BadStoreName
     else if not (list_all (is_path_text dir) refs) then Some BadStorePath
-    else if nat_lt max_references (length refs) then Some TooManyReferences
     else None
+
+-- whether the references are too many
+abbrev pub count_fault : List (List ℕ) → Option Refusal
+count_fault refs = if nat_lt max_references (length refs) then Some TooManyReferences else None
+
+-- why an object of this name with these references is refused, before its contents are looked at
+abbrev pub object_fault : List ℕ → List ℕ → List (List ℕ) → Option Refusal
+object_fault dir name refs = option_map_or Some (named_fault dir name refs) (count_fault refs)
 
 -- the line of a store path
 abbrev pub path_line : List ℕ → List ℕ → List ℕ

@@ -4,7 +4,7 @@ use Rattle.std.specs.Io.KnownBytes.{Keeps}
 use Rattle.std.specs.declared.alloc.Global.{Global}
 use Rattle.streams.specs.Reads.{TakesAtMost}
 use Rattle.model.specs.declared.refusal.Refusal.{Refusal}
-use Rattle.tool_pure.specs.declared.stops.Failure.TheVariants.{Memory, File, Input, Output}
+use Rattle.report.specs.declared.failures.Failure.TheVariants.{Memory, Input}
 use Rattle.tool_pure.specs.declared.stops.Stop.{Stop}
 use Rattle.tool_pure.specs.declared.stops.Stop.TheVariants.{Refused, Failed}
 use Rattle.report.specs.Outputs.{Offers, Prints}
@@ -51,10 +51,7 @@ AnswersTo fault answer known out out' err err' status = GivesUp (is_none fault) 
 abbrev pub IsFailure : Bool → Result (List ℕ) Stop → Type 0
 IsFailure reads (Err (Failed Memory)) = ⊤
 IsFailure reads (Err (Failed Input)) = reads ≡ true
-IsFailure reads (Err (Failed File)) = ⊥
-IsFailure reads (Err (Failed Output)) = ⊥
-IsFailure reads (Err (Refused refusal)) = ⊥
-IsFailure reads (Ok text) = ⊥
+IsFailure reads _ = ⊥
 
 -- a result by the fault that is there before the input is read, or by what its bytes say: some, where it doesn't say them
 abbrev pub IsResultOf : Option Refusal → (List ℕ → Result (List ℕ) Stop) → Option (List ℕ) → Result (List ℕ) Stop → Type 0

@@ -1,5 +1,6 @@
 -- What `who` answers: the class of the caller, and whether it may connect.
 use Rattle.std.specs.Prelude.{◌≡◌, ◌⊎◌, ℕ, List, ◌++◌, if◌then◌else◌, codes, Option, Some, None, Result, Ok, Err}
+use Rattle.std.specs.Option.{option_map_or}
 use Rattle.policy.specs.Settings.{Settings}
 use Rattle.policy.specs.Caller.{Caller, caller_of, is_caller}
 use Rattle.policy.specs.Class.{class_of}
@@ -10,7 +11,7 @@ use Rattle.policy.specs.declared.error.KeyWord.{KeyWord}
 use Rattle.policy.specs.Operation.{plain}
 use Rattle.policy.specs.declared.kinds.Rule.{Rule}
 use Rattle.model.specs.declared.refusal.Refusal.TheVariants.{BadConfig, BadCaller}
-use Rattle.tool_pure.specs.declared.stops.Failure.TheVariants.{Memory}
+use Rattle.report.specs.declared.failures.Failure.TheVariants.{Memory}
 use Rattle.tool_pure.specs.declared.stops.Stop.{Stop}
 use Rattle.tool_pure.specs.declared.stops.Stop.TheVariants.{Refused, Failed}
 use Rattle.tool_pure.specs.declared.verdicts.Verdict.{Verdict}
@@ -22,15 +23,15 @@ use Rattle.tool_pure.specs.Stream.{Says}
 abbrev pub verdict_on : Settings → Caller → Verdict
 verdict_on s c = record { class = class_of s c; denial = first_broken (class_of s c) c plain }
 
--- the verdict on a caller whose names are plain; any other is refused
-abbrev pub judged : Settings → Caller → Result Verdict Stop
-judged s c = if is_caller c then Ok (verdict_on s c) else Err (Refused BadCaller)
+-- the caller of these names: one has to be named, and they have to be plain
+abbrev pub caller_by : Option (List ℕ) → Option (List ℕ) → Option Caller
+caller_by None group = None
+caller_by (Some name) group = if is_caller (caller_of name group) then Some (caller_of name group) else None
 
--- the verdict by the configuration, then the caller, who must be named
+-- the verdict by the configuration, then the caller
 abbrev pub verdict_by : Result Settings KeyWord → Option (List ℕ) → Option (List ℕ) → Result Verdict Stop
 verdict_by (Err word) user group = Err (Refused (BadConfig word))
-verdict_by (Ok s) None group = Err (Refused BadCaller)
-verdict_by (Ok s) (Some name) group = judged s (caller_of name group)
+verdict_by (Ok s) user group = option_map_or (λ c. Ok (verdict_on s c)) (caller_by user group) (Err (Refused BadCaller))
 
 -- the verdict on the caller of these names under a configuration text
 abbrev pub verdict_of : List ℕ → Option (List ℕ) → Option (List ℕ) → Result Verdict Stop

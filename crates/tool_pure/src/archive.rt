@@ -3,24 +3,15 @@ ghost use Rattle.std.specs.Prelude.{◌≡◌, ◌≤◌, ◌⊎◌, length, IfO
 ghost use Rattle.nar.specs.Tree.{Tree};
 ghost use Rattle.nar.specs.Outcome.{outcome_of};
 ghost use Rattle.nar.specs.View.{tree_of};
-ghost use Rattle.tool_pure.specs.Archive.{archive_stop, by_outcome};
+ghost use Rattle.tool_pure.specs.Archive.{by_outcome};
 
-use crate::stops::{Failure, Stop};
-use nar::{NarError, Node};
-use report::Refusal;
+use crate::stops::Stop;
+use nar::Node;
+use report::Failure;
 use std::alloc::Global;
 
 /// How many bytes of an input decide whether it is an archive: 8 more than an archive has at most.
 pub const MOST_OF_ARCHIVE: usize = 16_777_224;
-
-fn stop_by(fault: NarError) -> Stop
-    ensures { result ≡ archive_stop fault }
-{
-    match Refusal::of_archive(fault) {
-        Some(refusal) => Stop::Refused(refusal),
-        None => Stop::Failed(Failure::Memory),
-    }
-}
 
 /// The tree of an archive.
 pub(crate) fn read_archive(alloc: Global, bytes: &[u8]) -> Result<Node<'_>, Stop>
@@ -28,8 +19,6 @@ pub(crate) fn read_archive(alloc: Global, bytes: &[u8]) -> Result<Node<'_>, Stop
     ensures fits { IfOk result (λ node. length bytes.now ≤ 16777216) }
     ensures err { IfErr result (λ e. (e ≡ Stop.Failed Failure.Memory) ⊎ ((text : Tree → List ℕ) → by_outcome (outcome_of bytes.now) text ≡ Err e)) }
 {
-    match nar::read(alloc, bytes) {
-        Ok(node) => Ok(node),
-        Err(fault) => Err(stop_by(fault)),
-    }
+    let node = nar::read(alloc, bytes)?;
+    Ok(node)
 }

@@ -1,40 +1,70 @@
 //! The configuration: its file, and its settings.
-ghost use Rattle.std.specs.Prelude.{◌≡◌, ◌⊎◌, IfOk, IfErr, OnErr, IsSome, Ok, None, []};
+ghost use Rattle.std.specs.Prelude.{◌≡◌, ◌⊎◌, IfOk, IfErr, IfSome, IsErrAnd, IsOkAnd, Ok, None, [], is_some, take};
 ghost use Rattle.policy.specs.Toml.{config_of};
+ghost use Rattle.tool_pure.specs.Stop.{StopsBy};
 ghost use Rattle.tool_pure.specs.Who.{StopsFor};
 
-use crate::stops::{Failure, Stop};
+use crate::stops::Stop;
 use crate::stream::stop_for;
-use policy::{Config, ConfigError, MAX_CONFIG_BYTES};
-use report::Refusal;
+use policy::{Config, MAX_CONFIG_BYTES};
+use report::Failure;
 use std::alloc::Global;
 use std::fs::File;
 use std::io;
+use std::io::Read;
 use std::rt::Files;
 use streams::read_at_most;
 
 /// One byte more than a configuration has at most.
 const MOST_READ: usize = MAX_CONFIG_BYTES + 1;
 
-/// The text of the configuration file, of which no more than one byte above the limit is read; the
-/// empty text where no file is named.
-pub fn config_text<Rt: Files + AllocGlobal>(rt: &Rt, path: Option<&str>) -> Result<Vec<u8>, Stop>
-    ensures none { IfOk result (λ text. path.entry ≡ None → text.items ≡ []) }
-    ensures err { IfErr result (λ e. (e ≡ Stop.Failed Failure.Memory) ⊎ (e ≡ Stop.Failed Failure.File)) }
-    ensures named { OnErr result (IsSome path.entry) }
+/// The configuration file of this path, opened, or why it wasn't; nothing where no path is given.
+pub fn open_config<Rt: Files>(rt: &Rt, path: Option<&str>) -> Option<io::Result<Rt::File>>
+    ensures { is_some result ≡ is_some path.entry }
 {
     match path {
-        None => Ok(Vec::new(rt.alloc())),
-        Some(path) => match file_text(rt, path) {
-            Ok(text) => Ok(text),
-            Err(fault) => Err(stop_for(&fault, Failure::File)),
-        },
+        Some(path) => Some(File::open(rt, path)),
+        None => None,
     }
 }
 
-fn file_text<Rt: Files + AllocGlobal>(rt: &Rt, path: &str) -> io::Result<Vec<u8>> {
-    let mut file = File::open(rt, path)?;
-    read_at_most(rt.alloc(), &mut file, MOST_READ)
+/// The text of a configuration file, of which no more than one byte above the limit is read.
+fn file_text<R: Read + Drop>(alloc: Global, file: io::Result<R>) -> Result<Vec<u8>, Stop>
+    ensures unopened { IfErr file (λ fault. IsErrAnd result (StopsBy fault Failure.File)) }
+    ensures text { IfOk file
+        (λ input. IfOk result (λ text. IfSome (R.remaining input) (λ all. text.items ≡ take 1048577 all))) }
+    ensures err { IfErr result (λ e. (e ≡ Stop.Failed Failure.Memory) ⊎ (e ≡ Stop.Failed Failure.File)) }
+{
+    let mut input = match file {
+        Ok(input) => input,
+        Err(fault) => return Err(stop_for(&fault, Failure::File)),
+    };
+    match read_at_most(alloc, &mut input, MOST_READ) {
+        Ok(text) => Ok(text),
+        Err(fault) => Err(stop_for(&fault, Failure::File)),
+    }
+}
+
+/// The text of the configuration by its file, of which no more than one byte above the limit is read; the
+/// empty text where there is no file.
+///
+/// # Errors
+///
+/// `File` where the file wasn't opened or can't be read; `Memory` where memory was refused.
+pub fn config_text<R: Read + Drop>(
+    alloc: Global,
+    file: Option<io::Result<R>>,
+) -> Result<Vec<u8>, Stop>
+    ensures none { file ≡ None → IsOkAnd result (λ text. text.items ≡ []) }
+    ensures unopened { IfSome file (λ opened. IfErr opened (λ fault. IsErrAnd result (StopsBy fault Failure.File))) }
+    ensures text { IfSome file
+        (λ opened. IfOk opened (λ input. IfOk result (λ text. IfSome (R.remaining input) (λ all. text.items ≡ take 1048577 all)))) }
+    ensures err { IfErr result (λ e. (e ≡ Stop.Failed Failure.Memory) ⊎ (e ≡ Stop.Failed Failure.File)) }
+{
+    match file {
+        Some(file) => file_text(alloc, file),
+        None => Ok(Vec::new(alloc)),
+    }
 }
 
 /// The settings of a configuration text.
@@ -42,9 +72,6 @@ pub fn settings(alloc: Global, text: &[u8]) -> Result<Config, Stop>
     ensures ok { IfOk result (λ c. config_of text.now ≡ Ok c) }
     ensures err { IfErr result (StopsFor (config_of text.now)) }
 {
-    match Config::from_toml(alloc, text) {
-        Ok(config) => Ok(config),
-        Err(ConfigError::Bad(word)) => Err(Stop::Refused(Refusal::BadConfig(word))),
-        Err(ConfigError::Memory) => Err(Stop::Failed(Failure::Memory)),
-    }
+    let config = Config::from_toml(alloc, text)?;
+    Ok(config)
 }

@@ -6,9 +6,10 @@ ghost use Rattle.tool_pure.specs.Archive.{max_front};
 ghost use Rattle.streams.specs.Reads.{TakesAtMost};
 
 use crate::archive::MOST_OF_ARCHIVE;
-use crate::stops::{Failure, Stop};
+use crate::stops::Stop;
 use crate::stream::stop_for;
 use intake::Intake;
+use report::Failure;
 use std::alloc::Global;
 use std::io::Read;
 use streams::{Sink, read_at_most, receive_at_most};

@@ -2,7 +2,9 @@
 #![tactic(auto)]
 
 mod archive;
+mod callers;
 mod configuration;
+mod faults;
 mod input;
 mod listings;
 mod object;
@@ -14,15 +16,16 @@ mod telling;
 mod texts;
 mod verdicts;
 
-pub use configuration::{config_text, settings};
+pub use callers::parse_caller;
+pub use configuration::{config_text, open_config, settings};
 pub use input::{read_input, receive_archive, receive_input};
 pub use listings::ls;
-pub use object::{parse_name, parse_reference, parse_references};
-pub use report::Refusal;
+pub use object::{Object, parse_object, parse_reference, parse_references};
+pub use report::{Failure, Refusal};
 pub use serving::serve;
 pub use sources::source_path;
-pub use stops::{Failure, Stop};
-pub use stream::{give, print, say};
+pub use stops::Stop;
+pub use stream::{give, say};
 pub use telling::tell;
 pub use texts::{MOST_OF_CONTENTS, text_path};
 pub use verdicts::{Verdict, judge, who};

@@ -6,8 +6,9 @@ ghost use Rattle.tool_pure.specs.Stream.{AnswersTo, IsFailure, IsResultOf, resul
 
 use crate::archive::{MOST_OF_ARCHIVE, read_archive};
 use crate::input::read_input;
-use crate::stops::{Failure, Stop};
+use crate::stops::Stop;
 use crate::stream::give;
+use report::Failure;
 use std::alloc::Global;
 use std::io::{Read, Write};
 
@@ -15,25 +16,18 @@ fn listing(alloc: Global, nar: &[u8]) -> Result<String, Stop>
     ensures ok { IfOk result (λ text. ls_answer nar.now ≡ Ok (string_bytes text)) }
     ensures err { IfErr result (λ e. (e ≡ Stop.Failed Failure.Memory) ⊎ (ls_answer nar.now ≡ Err e)) }
 {
-    let node = match read_archive(alloc, nar) {
-        Ok(node) => node,
-        Err(stop) => return Err(stop),
-    };
+    let node = read_archive(alloc, nar)?;
     let mut text = String::new(alloc);
-    match nar::list(alloc, &node, &mut text) {
-        Ok(()) => Ok(text),
-        Err(_) => Err(Stop::Failed(Failure::Memory)),
-    }
+    nar::list(alloc, &node, &mut text)?;
+    Ok(text)
 }
 
 fn ls_result<R: Read>(alloc: Global, input: &mut R) -> Result<String, Stop>
     ensures answer { IsFailure true (result_text result) ⊎ IsResultOf None ls_answer (R.remaining input.old) (result_text result) }
     ensures reads { TakesAtMost max_front (R.remaining input.old) (R.remaining input.new) }
 {
-    match read_input(alloc, input, MOST_OF_ARCHIVE) {
-        Ok(nar) => listing(alloc, nar.as_slice()),
-        Err(stop) => Err(stop),
-    }
+    let nar = read_input(alloc, input, MOST_OF_ARCHIVE)?;
+    listing(alloc, nar.as_slice())
 }
 
 /// Prints the listing of the archive that is read, and gives the exit status.

@@ -3,14 +3,14 @@ ghost use Rattle.std.specs.Prelude.{◌≡◌, ◌⊎◌, IfOk, IfErr, IfSome, N
 ghost use Rattle.std.specs.List.{list_all};
 ghost use Rattle.paths.specs.Names.{is_store_name};
 ghost use Rattle.paths.specs.StorePath.{base_of};
-ghost use Rattle.tool_pure.specs.Object.{is_path_text, object_fault};
+ghost use Rattle.tool_pure.specs.Object.{is_path_text, named_fault, object_fault};
 ghost use Rattle.tool_pure.specs.Object as spec;
 ghost use Rattle.tool_pure.specs.Stream.{IsStopAt, IsStopBy, ReadsFor};
 
 use crate::input::read_input;
-use crate::stops::{Failure, Stop};
-use paths::{Name, NameError, StoreDir, StorePath, StorePathError};
-use report::Refusal;
+use crate::stops::Stop;
+use paths::{Name, StoreDir, StorePath};
+use report::{Failure, Refusal};
 use std::alloc::{AllocError, Global};
 use std::convert::AsStr;
 use std::io::Read;
@@ -19,15 +19,12 @@ use std::io::Read;
 const MAX_REFERENCES: usize = 4_096;
 
 /// The name of a store object.
-pub fn parse_name(alloc: Global, text: &str) -> Result<Name, Stop>
+fn parse_name(alloc: Global, text: &str) -> Result<Name, Stop>
     ensures ok { IfOk result (λ n. (n ≡ text.now) × (is_store_name text.now ≡ true)) }
     ensures err { IfErr result (λ e. (e ≡ Stop.Failed Failure.Memory) ⊎ ((e ≡ Stop.Refused Refusal.BadStoreName) × (is_store_name text.now ≡ false))) }
 {
-    match Name::parse(alloc, text) {
-        Ok(name) => Ok(name),
-        Err(NameError::BadStoreName) => Err(Stop::Refused(Refusal::BadStoreName)),
-        Err(NameError::Memory) => Err(Stop::Failed(Failure::Memory)),
-    }
+    let name = Name::parse(alloc, text)?;
+    Ok(name)
 }
 
 /// The store path that a path text names.
@@ -35,11 +32,8 @@ pub fn parse_reference(alloc: Global, dir: &StoreDir, text: &str) -> Result<Stor
     ensures ok { IfOk result (λ p. (p ≡ base_of dir.now text.now) × (is_path_text dir.now text.now ≡ true)) }
     ensures err { IfErr result (λ e. (e ≡ Stop.Failed Failure.Memory) ⊎ ((e ≡ Stop.Refused Refusal.BadStorePath) × (is_path_text dir.now text.now ≡ false))) }
 {
-    match StorePath::parse(alloc, dir, text) {
-        Ok(path) => Ok(path),
-        Err(StorePathError::BadStorePath) => Err(Stop::Refused(Refusal::BadStorePath)),
-        Err(StorePathError::Memory) => Err(Stop::Failed(Failure::Memory)),
-    }
+    let path = StorePath::parse(alloc, dir, text)?;
+    Ok(path)
 }
 
 /// The store paths that path texts name, in the order given.
@@ -53,25 +47,43 @@ pub fn parse_references<S: AsStr>(
 {
     let mut paths = Vec::new(alloc);
     for text in texts {
-        let path = match parse_reference(alloc, dir, text.as_str()) {
-            Ok(path) => path,
-            Err(stop) => return Err(stop),
-        };
-        if paths.push(path).is_err() {
-            return Err(Stop::Failed(Failure::Memory));
-        }
+        let path = parse_reference(alloc, dir, text.as_str())?;
+        paths.push(path)?;
     }
     Ok(paths)
 }
 
 /// The name of a store object, and its references in the order given.
 #[derive(Drop)]
-pub(crate) struct Object {
-    pub(crate) name: Name,
-    pub(crate) references: Vec<StorePath>,
+pub struct Object {
+    /// Its name.
+    pub name: Name,
+    /// The paths of its references.
+    pub references: Vec<StorePath>,
 }
 
-fn parse_object<S: AsStr>(
+/// The object that a name and the path texts of its references say.
+///
+/// # Errors
+///
+/// `BadStoreName`, else `BadStorePath` where a reference is no path text; `Memory` where memory was refused.
+pub fn parse_object<S: AsStr>(
+    alloc: Global,
+    dir: &StoreDir,
+    name: &str,
+    references: &[S],
+) -> Result<Object, Stop>
+    ensures ok { IfOk result (λ o. (named_fault dir.now name.now (map S.text references.now) ≡ None) × (o.name ≡ name.now)
+        × (o.references.items ≡ map (base_of dir.now) (map S.text references.now))) }
+    ensures err { IfErr result (IsStopBy (named_fault dir.now name.now (map S.text references.now))) }
+{
+    let name = parse_name(alloc, name)?;
+    let references = parse_references(alloc, dir, references)?;
+    Ok(Object { name, references })
+}
+
+/// The object that a name and no more path texts of references say than an object may be passed with.
+fn parse_small<S: AsStr>(
     alloc: Global,
     dir: &StoreDir,
     name: &str,
@@ -81,18 +93,11 @@ fn parse_object<S: AsStr>(
         × (o.references.items ≡ map (base_of dir.now) (map S.text references.now))) }
     ensures err { IfErr result (IsStopBy (object_fault dir.now name.now (map S.text references.now))) }
 {
-    let name = match parse_name(alloc, name) {
-        Ok(name) => name,
-        Err(stop) => return Err(stop),
-    };
-    let references = match parse_references(alloc, dir, references) {
-        Ok(references) => references,
-        Err(stop) => return Err(stop),
-    };
-    if references.len() > MAX_REFERENCES {
+    let object = parse_object(alloc, dir, name, references)?;
+    if object.references.len() > MAX_REFERENCES {
         return Err(Stop::Refused(Refusal::TooManyReferences));
     }
-    Ok(Object { name, references })
+    Ok(object)
 }
 
 /// The object that the arguments name, and the bytes of the input, of which no more than `most` are
@@ -111,14 +116,9 @@ pub(crate) fn read_object<S: AsStr, R: Read>(
     ensures err { IfErr result (IsStopAt (object_fault dir.now name.now (map S.text references.now))) }
     ensures reads { ReadsFor (object_fault dir.now name.now (map S.text references.now)) most (R.remaining input.old) (R.remaining input.new) }
 {
-    let object = match parse_object(alloc, dir, name, references) {
-        Ok(object) => object,
-        Err(stop) => return Err(stop),
-    };
-    match read_input(alloc, input, most) {
-        Ok(bytes) => Ok((object, bytes)),
-        Err(stop) => Err(stop),
-    }
+    let object = parse_small(alloc, dir, name, references)?;
+    let bytes = read_input(alloc, input, most)?;
+    Ok((object, bytes))
 }
 
 /// The line of a store path.

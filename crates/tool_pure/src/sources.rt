@@ -7,9 +7,10 @@ ghost use Rattle.tool_pure.specs.Stream.{AnswersTo, ReadsFor, IsFailure, IsResul
 
 use crate::archive::{MOST_OF_ARCHIVE, read_archive};
 use crate::object::{Object, path_line, read_object};
-use crate::stops::{Failure, Stop};
+use crate::stops::Stop;
 use crate::stream::give;
 use paths::StoreDir;
+use report::Failure;
 use std::alloc::Global;
 use std::convert::AsStr;
 use std::io::{Read, Write};
@@ -19,17 +20,10 @@ fn source_line(alloc: Global, dir: &StoreDir, object: &Object, nar: &[u8]) -> Re
     ensures fits { IfOk result (λ line. length nar.now ≤ 16777216) }
     ensures err { IfErr result (λ e. (e ≡ Stop.Failed Failure.Memory) ⊎ (source_path_answer dir.now object.now.name object.now.references.items nar.now ≡ Err e)) }
 {
-    if let Err(stop) = read_archive(alloc, nar) {
-        return Err(stop);
-    }
+    read_archive(alloc, nar)?;
     let references = object.references.as_slice();
-    let Ok(path) = paths::source_path(alloc, dir, &object.name, references, nar) else {
-        return Err(Stop::Failed(Failure::Memory));
-    };
-    match path_line(alloc, dir, &path) {
-        Ok(line) => Ok(line),
-        Err(_) => Err(Stop::Failed(Failure::Memory)),
-    }
+    let path = paths::source_path(alloc, dir, &object.name, references, nar)?;
+    Ok(path_line(alloc, dir, &path)?)
 }
 
 fn source_path_result<S: AsStr, R: Read>(
@@ -43,10 +37,8 @@ fn source_path_result<S: AsStr, R: Read>(
         (source_path_answer dir.now name.now (map (base_of dir.now) (map S.text references.now))) (R.remaining input.old) (result_text result) }
     ensures reads { ReadsFor (object_fault dir.now name.now (map S.text references.now)) max_front (R.remaining input.old) (R.remaining input.new) }
 {
-    match read_object(alloc, dir, name, references, input, MOST_OF_ARCHIVE) {
-        Ok((object, nar)) => source_line(alloc, dir, &object, nar.as_slice()),
-        Err(stop) => Err(stop),
-    }
+    let (object, nar) = read_object(alloc, dir, name, references, input, MOST_OF_ARCHIVE)?;
+    source_line(alloc, dir, &object, nar.as_slice())
 }
 
 /// Prints the path of a source object, by its name, the path texts of its references and the archive

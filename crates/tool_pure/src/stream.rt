@@ -1,21 +1,30 @@
 //! An answer to the two outputs.
 ghost use Rattle.std.specs.Prelude.{◌≡◌, ◌⊎◌};
-ghost use Rattle.report.specs.Outputs.{Prints};
+ghost use Rattle.tool_pure.specs.Stop.{StopsBy};
 ghost use Rattle.tool_pure.specs.Stream.{Says, result_text, Answers};
 
-use crate::stops::{Failure, Stop};
+use crate::stops::Stop;
+use report::{Failure, print};
 use std::io;
 use std::io::{ErrorKind, Write};
 use streams::send_bytes;
 
 /// What a fault of a stream ends a command with: refused memory, or the failure of the stream.
 pub(crate) fn stop_for(fault: &io::Error, failure: Failure) -> Stop
-    ensures { (result ≡ Stop.Failed Failure.Memory) ⊎ (result ≡ Stop.Failed failure) }
+    ensures by { StopsBy fault.now failure result }
+    ensures either { (result ≡ Stop.Failed Failure.Memory) ⊎ (result ≡ Stop.Failed failure) }
 {
     Stop::Failed(match fault.kind() {
         ErrorKind::OutOfMemory => Failure::Memory,
         _ => failure,
     })
+}
+
+/// Says why a command ends without its result, and answers the exit status.
+pub fn say<W: Write>(stop: Stop, writer: &mut W) -> u8
+    ensures { Says stop (W.contents writer.old) (W.contents writer.new) result }
+{
+    print(stop.text(), stop.status(), writer)
 }
 
 /// Gives a text to standard output, or the line that says why there is none to standard error, and
@@ -32,22 +41,5 @@ pub fn give<W: Write, E: Write>(answer: Result<String, Stop>, output: &mut W, er
             Err(fault) => say(stop_for(&fault, Failure::Output), errors),
         },
         Err(stop) => say(stop, errors),
-    }
-}
-
-/// Says why a command ends without its result, and answers the exit status.
-pub fn say<W: Write>(stop: Stop, writer: &mut W) -> u8
-    ensures { Says stop (W.contents writer.old) (W.contents writer.new) result }
-{
-    print(stop.text(), stop.status(), writer)
-}
-
-/// Gives a text to a writer and answers its exit status, or 1 where the writer fails.
-pub fn print<W: Write>(text: &str, status: u8, writer: &mut W) -> u8
-    ensures { Prints text.now status (W.contents writer.old) (W.contents writer.new) result }
-{
-    match send_bytes(writer, text.as_bytes()) {
-        Ok(()) => status,
-        Err(_) => 1,
     }
 }

@@ -1,44 +1,22 @@
 //! A reply, told on two writers with an exit status.
-ghost use Rattle.std.specs.Prelude.{◌≡◌, ◌⊎◌, codes, option_map};
+ghost use Rattle.std.specs.Prelude.{◌≡◌, ◌⊎◌, option_map};
 ghost use Rattle.tables_outline.specs.Maps.{labelled_bytes};
 ghost use Rattle.report.specs.Stops.{denial_text};
 ghost use Rattle.report.specs.Replies as texts;
 ghost use Rattle.store_types.specs.View.{answer_view, reply_view};
 ghost use Rattle.report.specs.Outputs.{LacksMemory, Offers, Prints};
+ghost use Rattle.tool_pure.specs.Stream.{Says};
 ghost use Rattle.tool_pure.specs.Telling.{IsTold};
 
+use crate::stops::Stop;
+use crate::stream::{say, stop_for};
 use paths::{StoreDir, StorePath};
 use policy::Rule;
-use report::{answer_text, denial_line, failure_line, refusal_line};
+use report::{Failure, answer_text, denial_line, print, refusal_line};
 use std::alloc::Global;
-use std::io;
-use std::io::{ErrorKind, Write};
+use std::io::Write;
 use store_types::{Answer, Reply};
-use streams::{Pieces, send_bytes, send_pieces};
-
-const NO_MEMORY: &str = "failed: memory\n";
-
-const NO_OUTPUT: &str = "failed: output\n";
-
-/// Gives a text to a writer and answers its exit status, or 1 where the writer fails.
-fn print<W: Write>(text: &str, status: u8, writer: &mut W) -> u8
-    ensures { Prints text.now status (W.contents writer.old) (W.contents writer.new) result }
-{
-    match send_bytes(writer, text.as_bytes()) {
-        Ok(()) => status,
-        Err(_) => 1,
-    }
-}
-
-/// What is said of a first writer that failed, or that ran out of memory.
-fn output_line(fault: &io::Error) -> &'static str
-    ensures { (result.now ≡ codes "failed: output\n") ⊎ (result.now ≡ codes "failed: memory\n") }
-{
-    match fault.kind() {
-        ErrorKind::OutOfMemory => NO_MEMORY,
-        _ => NO_OUTPUT,
-    }
-}
+use streams::{Pieces, send_pieces};
 
 /// Writes a text to the first writer; where it fails, the second gets a line on that.
 fn offer<W: Write, E: Write>(text: &Pieces, output: &mut W, errors: &mut E) -> u8
@@ -46,7 +24,7 @@ fn offer<W: Write, E: Write>(text: &Pieces, output: &mut W, errors: &mut E) -> u
 {
     match send_pieces(output, text) {
         Ok(()) => 0,
-        Err(fault) => print(output_line(&fault), 1, errors),
+        Err(fault) => say(stop_for(&fault, Failure::Output), errors),
     }
 }
 
@@ -63,7 +41,7 @@ fn tell_answer<W: Write, E: Write>(
 {
     match answer_text(alloc, dir, answer) {
         Ok(text) => offer(&text, output, errors),
-        Err(_) => print(NO_MEMORY, 1, errors),
+        Err(_) => say(Stop::Failed(Failure::Memory), errors),
     }
 }
 
@@ -76,11 +54,11 @@ fn tell_denial<E: Write>(
     errors: &mut E,
 ) -> u8
     ensures { Prints (denial_text dir.now rule (option_map labelled_bytes root)) 4 (E.contents errors.old) (E.contents errors.new) result
-        ⊎ Prints (codes "failed: memory\n") 1 (E.contents errors.old) (E.contents errors.new) result }
+        ⊎ Says (Stop.Failed Failure.Memory) (E.contents errors.old) (E.contents errors.new) result }
 {
     match denial_line(alloc, dir, rule, root) {
         Ok(line) => print(line.as_str(), 4, errors),
-        Err(_) => print(NO_MEMORY, 1, errors),
+        Err(_) => say(Stop::Failed(Failure::Memory), errors),
     }
 }
 
@@ -102,6 +80,6 @@ pub fn tell<W: Write, E: Write>(
         Reply::Done(answer) => tell_answer(alloc, dir, answer, output, errors),
         Reply::Denied(rule, root) => tell_denial(alloc, dir, rule, root, errors),
         Reply::Refused(refusal) => print(refusal_line(refusal), 3, errors),
-        Reply::Failed(failure) => print(failure_line(failure), 1, errors),
+        Reply::Failed(failure) => say(Stop::Failed(Failure::from(failure)), errors),
     }
 }

@@ -5,10 +5,10 @@ ghost use Rattle.tool_pure.specs.Object.{max_contents, object_fault, text_path_a
 ghost use Rattle.tool_pure.specs.Stream.{AnswersTo, ReadsFor, IsFailure, IsResultOf, result_text};
 
 use crate::object::{Object, path_line, read_object};
-use crate::stops::{Failure, Stop};
+use crate::stops::Stop;
 use crate::stream::give;
 use paths::StoreDir;
-use report::Refusal;
+use report::{Failure, Refusal};
 use std::alloc::Global;
 use std::convert::AsStr;
 use std::io::{Read, Write};
@@ -32,13 +32,8 @@ fn text_line(
         return Err(Stop::Refused(Refusal::TooLarge));
     }
     let references = object.references.as_slice();
-    let Ok(path) = paths::text_path(alloc, dir, &object.name, references, contents) else {
-        return Err(Stop::Failed(Failure::Memory));
-    };
-    match path_line(alloc, dir, &path) {
-        Ok(line) => Ok(line),
-        Err(_) => Err(Stop::Failed(Failure::Memory)),
-    }
+    let path = paths::text_path(alloc, dir, &object.name, references, contents)?;
+    Ok(path_line(alloc, dir, &path)?)
 }
 
 fn text_path_result<S: AsStr, R: Read>(
@@ -52,10 +47,8 @@ fn text_path_result<S: AsStr, R: Read>(
         (text_path_answer dir.now name.now (map (base_of dir.now) (map S.text references.now))) (R.remaining input.old) (result_text result) }
     ensures reads { ReadsFor (object_fault dir.now name.now (map S.text references.now)) (max_contents + 1) (R.remaining input.old) (R.remaining input.new) }
 {
-    match read_object(alloc, dir, name, references, input, MOST_OF_CONTENTS) {
-        Ok((object, contents)) => text_line(alloc, dir, &object, contents.as_slice()),
-        Err(stop) => Err(stop),
-    }
+    let (object, contents) = read_object(alloc, dir, name, references, input, MOST_OF_CONTENTS)?;
+    text_line(alloc, dir, &object, contents.as_slice())
 }
 
 /// Prints the path of a text object, by its name, the path texts of its references and the contents

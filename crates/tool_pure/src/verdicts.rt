@@ -2,11 +2,12 @@
 ghost use Rattle.std.specs.Prelude.{◌≡◌, ◌++◌, OnOk, IfOk, IfErr, Ok, option_map, string_bytes};
 ghost use Rattle.tool_pure.specs.Who.{AnswersWho, StopsWho, verdict_of, verdict_text, denial_text, denial_status};
 
+use crate::callers::parse_caller;
 use crate::configuration::settings;
-use crate::stops::{Failure, Stop};
-use crate::stream::{print, say};
-use policy::{Caller, CallerError, Class, Op, Rule, class, decide};
-use report::Refusal;
+use crate::stops::Stop;
+use crate::stream::say;
+use policy::{Class, Op, Rule, class, decide};
+use report::{Failure, print};
 use std::alloc::{AllocError, Global};
 use std::io::Write;
 
@@ -71,18 +72,8 @@ pub fn judge(
     ensures ok { IfOk result (λ v. verdict_of config.now (option_map (λ s. s.now) user.entry) (option_map (λ s. s.now) group.entry) ≡ Ok v) }
     ensures err { IfErr result (StopsWho (verdict_of config.now (option_map (λ s. s.now) user.entry) (option_map (λ s. s.now) group.entry))) }
 {
-    let config = match settings(alloc, config) {
-        Ok(config) => config,
-        Err(stop) => return Err(stop),
-    };
-    let Some(name) = user else {
-        return Err(Stop::Refused(Refusal::BadCaller));
-    };
-    let caller = match Caller::new(alloc, name, group) {
-        Ok(caller) => caller,
-        Err(CallerError::BadCaller) => return Err(Stop::Refused(Refusal::BadCaller)),
-        Err(CallerError::Memory) => return Err(Stop::Failed(Failure::Memory)),
-    };
+    let config = settings(alloc, config)?;
+    let caller = parse_caller(alloc, user, group)?;
     let class = class(&config, &caller);
     let denial = decide(class, &caller, &Op::Plain);
     Ok(Verdict { class, denial })

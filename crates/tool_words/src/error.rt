@@ -1,8 +1,12 @@
 //! Why words are no command line.
-ghost use Rattle.std.specs.Prelude.{◌≡◌};
+ghost use Rattle.std.specs.Prelude.{◌≡◌, IfOk};
+ghost use Rattle.clap.specs.Values.{kind_of};
+ghost use Rattle.tool_words.specs.Usage.{usage_kind};
 ghost use Rattle.tool_words.specs.declared.error.CommandError.TheVariants.{Misuse, Memory};
 
-use std::alloc::AllocError;
+use crate::grammar::nixkeep;
+use clap::error::ErrorKind;
+use std::alloc::{AllocError, Global};
 
 /// What is wrong with words in which `clap` finds no fault.
 #[derive(Clone, Copy, PartialEq, Eq, Debug)]
@@ -24,8 +28,35 @@ pub enum UsageFault {
 }
 
 impl UsageFault {
-    /// A line that says to a person what is wrong, without its line feed.
-    pub fn text(self) -> &'static str {
+    /// The fault as `clap` reports one that it finds itself: what is wrong, and how the command is used.
+    ///
+    /// # Errors
+    ///
+    /// Memory was refused.
+    pub fn error(self, alloc: Global) -> Result<clap::Error, AllocError>
+        ensures { IfOk result (λ e. kind_of e ≡ usage_kind self) }
+    {
+        let mut command = nixkeep(alloc)?;
+        command.error(self.kind(), self.text())
+    }
+
+    /// What `clap` calls such a fault.
+    fn kind(self) -> ErrorKind
+        ensures { result ≡ usage_kind self }
+    {
+        match self {
+            UsageFault::NoSubcommand => ErrorKind::MissingSubcommand,
+            UsageFault::UnknownAction => ErrorKind::InvalidValue,
+            UsageFault::MissingValue => ErrorKind::MissingRequiredArgument,
+            UsageFault::ExtraValue => ErrorKind::TooManyValues,
+            UsageFault::OwnerOfPermanent => ErrorKind::ArgumentConflict,
+            UsageFault::BadLimit => ErrorKind::ValueValidation,
+            UsageFault::ConnectionsWithoutPort => ErrorKind::MissingRequiredArgument,
+        }
+    }
+
+    /// What is wrong, in a few words.
+    fn text(self) -> &'static str {
         match self {
             UsageFault::NoSubcommand => "no subcommand is named",
             UsageFault::UnknownAction => "there is no such ACTION",

@@ -45,10 +45,7 @@ fn read<'a>(alloc: Global, matches: &ArgMatches<'a>) -> Result<CommandLine<'a>, 
     ensures ok { IfOk result (λ c. line_from (rows matches.now) (subcommand_rows_of matches.now) ≡ Ok (line_view c)) }
     ensures err { IfErr result (Misses (line_from (rows matches.now) (subcommand_rows_of matches.now))) }
 {
-    let task = match subcommand(alloc, matches) {
-        Ok(task) => task,
-        Err(fault) => return Err(fault),
-    };
+    let task = subcommand(alloc, matches)?;
     Ok(CommandLine {
         db: optional(matches, "db"),
         config: optional(matches, "config"),
@@ -78,10 +75,7 @@ pub fn command<'a, S: AsStr>(alloc: Global, words: &'a [S]) -> Result<CommandLin
     ensures ok { IfOk result (λ c. IsLine (map S.text words.entry.now) (line_view c)) }
     ensures err { IfErr result (IsUsageFault (map S.text words.entry.now)) }
 {
-    let nixkeep = match nixkeep(alloc) {
-        Ok(nixkeep) => nixkeep,
-        Err(_) => return Err(CommandError::Memory),
-    };
+    let nixkeep = nixkeep(alloc)?;
     match nixkeep.try_get_matches_from(words) {
         Ok(matches) => read(alloc, &matches),
         Err(fault) => Err(refusal(fault)),

@@ -48,10 +48,8 @@ fn unroot<'a>(matches: &ArgMatches<'a>) -> Result<Task<'a>, UsageFault>
 {
     let permanent = is_given(matches, "permanent");
     let owner = optional(matches, "owner");
-    match unrooted(permanent, owner, required(matches, "name")) {
-        Ok(unroot) => Ok(Task::Unroot(unroot)),
-        Err(fault) => Err(fault),
-    }
+    let unroot = unrooted(permanent, owner, required(matches, "name"))?;
+    Ok(Task::Unroot(unroot))
 }
 
 fn profile<'a>(matches: &ArgMatches<'a>) -> Result<Task<'a>, UsageFault>
@@ -60,14 +58,12 @@ fn profile<'a>(matches: &ArgMatches<'a>) -> Result<Task<'a>, UsageFault>
 {
     let owner = optional(matches, "owner");
     let name = required(matches, "name");
-    match profile_action(required(matches, "action"), optional(matches, "value")) {
-        Ok(action) => Ok(Task::Profile(ProfileArguments {
-            owner,
-            name,
-            action,
-        })),
-        Err(fault) => Err(fault),
-    }
+    let action = profile_action(required(matches, "action"), optional(matches, "value"))?;
+    Ok(Task::Profile(ProfileArguments {
+        owner,
+        name,
+        action,
+    }))
 }
 
 fn temp<'a>(matches: &ArgMatches<'a>) -> Result<Task<'a>, UsageFault>
@@ -76,14 +72,12 @@ fn temp<'a>(matches: &ArgMatches<'a>) -> Result<Task<'a>, UsageFault>
 {
     let owner = optional(matches, "owner");
     let session = paths::numbers::session(required(matches, "session"));
-    match temp_action(required(matches, "action"), optional(matches, "path")) {
-        Ok(action) => Ok(Task::Temp(TempArguments {
-            owner,
-            session,
-            action,
-        })),
-        Err(fault) => Err(fault),
-    }
+    let action = temp_action(required(matches, "action"), optional(matches, "path"))?;
+    Ok(Task::Temp(TempArguments {
+        owner,
+        session,
+        action,
+    }))
 }
 
 fn gc<'a>(matches: &ArgMatches<'a>) -> Result<Task<'a>, UsageFault>
@@ -91,13 +85,11 @@ fn gc<'a>(matches: &ArgMatches<'a>) -> Result<Task<'a>, UsageFault>
     ensures err { IfErr result (λ f. asked_of Verb.Gc (rows matches.now) ≡ Err f) }
 {
     let ignore_liveness = is_given(matches, "ignore-liveness");
-    match limit(optional(matches, "max-freed")) {
-        Ok(max_freed) => Ok(Task::Gc(GcArguments {
-            ignore_liveness,
-            max_freed,
-        })),
-        Err(fault) => Err(fault),
-    }
+    let max_freed = limit(optional(matches, "max-freed"))?;
+    Ok(Task::Gc(GcArguments {
+        ignore_liveness,
+        max_freed,
+    }))
 }
 
 fn delete<'a>(alloc: Global, matches: &ArgMatches<'a>) -> Result<Task<'a>, AllocError>
@@ -114,10 +106,8 @@ fn serve<'a>(matches: &ArgMatches<'a>) -> Result<Task<'a>, UsageFault>
     ensures ok { IfOk result (λ t. asked_of Verb.Serve (rows matches.now) ≡ Ok (asked_view t)) }
     ensures err { IfErr result (λ f. asked_of Verb.Serve (rows matches.now) ≡ Err f) }
 {
-    match served(port(matches), connections(matches)) {
-        Ok(serve) => Ok(Task::Serve(serve)),
-        Err(fault) => Err(fault),
-    }
+    let serve = served(port(matches), connections(matches))?;
+    Ok(Task::Serve(serve))
 }
 
 /// The subcommand, with the values of its arguments.

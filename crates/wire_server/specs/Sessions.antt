@@ -1,7 +1,9 @@
 -- How a connection ended, and what was said of it.
-use Rattle.std.specs.Prelude.{◌≡◌, ℕ, List, codes, Option, Result, Ok, Err}
+use Rattle.std.specs.Prelude.{◌≡◌, ℕ, List, Option, Result, Ok, Err}
 use Rattle.std.specs.Io.KnownBytes.{Appends, Keeps}
 use Rattle.streams.specs.Sends.{AppendsFront}
+use Rattle.report.specs.Failures as lines
+use Rattle.report.specs.declared.failures.Failure.TheVariants as gone
 use Rattle.wire_server.specs.declared.error.WireError.{WireError}
 use Rattle.wire_server.specs.declared.error.WireError.TheVariants.{Read, Write, Memory}
 use Rattle.wire_server.specs.declared.sessions.End.{End}
@@ -9,9 +11,9 @@ use Rattle.wire_server.specs.declared.sessions.End.TheVariants.{Served, Told, Un
 
 -- the line that says why one failed
 abbrev pub failure_line : WireError → List ℕ
-failure_line Read = codes "failed: input\n"
-failure_line Write = codes "failed: output\n"
-failure_line Memory = codes "failed: memory\n"
+failure_line Read = lines.failure_line gone.Input
+failure_line Write = lines.failure_line gone.Output
+failure_line Memory = lines.failure_line gone.Memory
 
 -- what became of it
 abbrev pub result_of : End → Result ℕ WireError

@@ -7,6 +7,7 @@ ghost use Rattle.wire_server.specs.Closes.{Closes, Tells, failed};
 use crate::error::WireError;
 use crate::responder::Responder;
 use crate::serving::{Stop, run, serve};
+use report::Failure;
 use std::alloc::Global;
 use std::io::{Read, Write};
 use streams::send_bytes;
@@ -48,9 +49,9 @@ fn line_of(fault: WireError) -> &'static str
     ensures { result.now ≡ failure_line fault }
 {
     match fault {
-        WireError::Read => "failed: input\n",
-        WireError::Write => "failed: output\n",
-        WireError::Memory => "failed: memory\n",
+        WireError::Read => Failure::Input.line(),
+        WireError::Write => Failure::Output.line(),
+        WireError::Memory => Failure::Memory.line(),
     }
 }
 

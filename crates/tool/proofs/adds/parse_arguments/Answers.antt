@@ -1,35 +1,23 @@
-use Rattle.std.proofs.Common.{◌≡◌, true, map, ap, inl, inr, sym, ◌∙◌}
-use Rattle.std.specs.List.{list_all}
-use Rattle.std.proofs.lemmas.List.Folds.{list_all-map}
-use Rattle.std.proofs.lemmas.Simd.{map-map}
+use Rattle.std.proofs.Common.{◌≡◌, ℕ, List, None, map, ap, subst, ◌∙◌}
+use Rattle.std.proofs.lemmas.Result.{IfErr-weaker, IfOk-weaker}
 use Rattle.clap.specs.Walk.{texts}
-use Rattle.paths.specs.StorePath.{base_of}
 use Rattle.tool_words.specs.Asked.{object_view}
-use Rattle.tool_pure.specs.Object.{is_path_text}
-use Rattle.tool.proofs.Requested.{no_name, no_reference, object_is}
+use Rattle.paths.specs.StorePath.{base_of}
+use Rattle.tool_pure.specs.Object.{named_fault}
+use Rattle.tool_pure.specs.Stream.{IsStopBy}
+use Rattle.tool.proofs.Requested.{no_object, object_is}
 use Rattle.tool.proofs.adds.parse_arguments.Goals as goal
 
-pub returns-in-Err-clause-err : goal.returns-in-Err-clause-err
-returns-in-Err-clause-err c = λ ask bytes. no_name c.args.dir.now (object_view c.args.object.now) c.in-Err.stop c.in-Err.ensures.err ask bytes
+pub returns-clause-err : goal.returns-clause-err
+returns-clause-err c =
+    let o = c.args.object.now in
+    IfErr-weaker c.parse_object.result _ _ (λ stop is ask bytes. no_object c.args.dir.now (object_view o) stop
+    (subst (λ (ts : List (List ℕ)). IsStopBy (named_fault c.args.dir.now o.name.now ts) stop) (ap texts c.as_slice.ensures.value) is) ask bytes) c.parse_object.ensures.err
 
-pub returns-in-Err-parse_references-clause-err : goal.returns-in-Err-parse_references-clause-err
-returns-in-Err-parse_references-clause-err c = λ ask bytes.
+pub returns-clause-ok : goal.returns-clause-ok
+returns-clause-ok c =
+    let o = c.args.object.now in
     let dir = c.args.dir.now in
-    let items = c.args.object.now.references.items in
-    no_reference dir (object_view c.args.object.now) c.in-Err-parse_references.stop c.in-Ok.ensures.ok.1
-    (elim c.in-Err-parse_references.ensures.err [
-      | inl memory ↦ inl memory
-      | inr bad ↦ inr (bad.0, list_all-map (is_path_text dir) (λ t. t.now) items ∙ ap (list_all (λ t. is_path_text dir t.now)) (sym c.as_slice.ensures.value) ∙ bad.1)
-    ])
-    ask bytes
-
-pub returns-in-Ok-parse_references-clause-ok : goal.returns-in-Ok-parse_references-clause-ok
-returns-in-Ok-parse_references-clause-ok c = λ ask.
-    let dir = c.args.dir.now in
-    let items = c.args.object.now.references.items in
-    let found = c.in-Ok-parse_references.ensures.ok in
-    let paths : list_all (is_path_text dir) (texts items) ≡ true =
-    list_all-map (is_path_text dir) (λ t. t.now) items ∙ ap (list_all (λ t. is_path_text dir t.now)) (sym c.as_slice.ensures.value) ∙ found.1 in
-    let bases : c.in-Ok-parse_references.references.items ≡ map (base_of dir) (texts items) =
-    found.0 ∙ ap (map (λ t. base_of dir t.now)) c.as_slice.ensures.value ∙ sym (map-map (base_of dir) (λ t. t.now) items) in
-    object_is dir (object_view c.args.object.now) c.in-Ok.name c.in-Ok-parse_references.references.items c.in-Ok.ensures.ok.1 paths c.in-Ok.ensures.ok.0 bases ask
+    let same = ap texts c.as_slice.ensures.value in
+    IfOk-weaker c.parse_object.result _ _ (λ found is ask. object_is dir (object_view o) found.name found.references.items
+    (subst (λ (ts : List (List ℕ)). named_fault dir o.name.now ts ≡ None) same is.0) is.1 (is.2 ∙ ap (map (base_of dir)) same) ask) c.parse_object.ensures.ok

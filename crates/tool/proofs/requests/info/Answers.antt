@@ -4,5 +4,5 @@ use Rattle.store_types.specs.declared.requests.Request.TheVariants.{Info}
 use Rattle.tool.proofs.Requested.{path_asked}
 use Rattle.tool.proofs.requests.info.Goals as goal
 
-pub returns-in-Ok : goal.returns-in-Ok
-returns-in-Ok c = path_asked c.args.dir.now c.args.text.now request.info c.in-Ok.path (Info c.in-Ok.path) refl c.in-Ok.ensures.ok.0 c.in-Ok.ensures.ok.1
+pub returns : goal.returns
+returns c = path_asked c.args.dir.now c.args.text.now request.info c.in_ok-path.path (Info c.in_ok-path.path) refl c.in_ok-path.ensures.ok.0 c.in_ok-path.ensures.ok.1

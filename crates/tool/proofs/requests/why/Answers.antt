@@ -4,5 +4,5 @@ use Rattle.store_types.specs.declared.requests.Request.TheVariants.{RootsOf}
 use Rattle.tool.proofs.Requested.{path_asked}
 use Rattle.tool.proofs.requests.why.Goals as goal
 
-pub returns-in-Ok : goal.returns-in-Ok
-returns-in-Ok c = path_asked c.args.dir.now c.args.text.now request.list_roots_of c.in-Ok.path (RootsOf c.in-Ok.path) refl c.in-Ok.ensures.ok.0 c.in-Ok.ensures.ok.1
+pub returns : goal.returns
+returns c = path_asked c.args.dir.now c.args.text.now request.list_roots_of c.in_ok-path.path (RootsOf c.in_ok-path.path) refl c.in_ok-path.ensures.ok.0 c.in_ok-path.ensures.ok.1

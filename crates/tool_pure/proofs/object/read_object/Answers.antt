@@ -1,8 +1,11 @@
+use Rattle.std.proofs.lemmas.Result.{err_from_is_err_and}
 use Rattle.tool_pure.proofs.Results.{gone_at, unread}
 use Rattle.tool_pure.proofs.object.read_object.Goals as goal
 
-pub returns-in-Err-clause-reads : goal.returns-in-Err-clause-reads
-returns-in-Err-clause-reads g c = unread _ _ _
+pub returns-in_err-object-clause-reads : goal.returns-in_err-object-clause-reads
+returns-in_err-object-clause-reads g c = unread _ _ _
 
-pub returns-in-Err-read_input-clause-err : goal.returns-in-Err-read_input-clause-err
-returns-in-Err-read_input-clause-err g c = gone_at _ _ c.in-Ok.ensures.ok.0 c.in-Err-read_input.ensures.err
+pub returns-in_err-bytes-clause-err : goal.returns-in_err-bytes-clause-err
+returns-in_err-bytes-clause-err g c =
+    let p = err_from_is_err_and c.from_residual-in_err-bytes.result c.from_residual-in_err-bytes.ensures.1 in
+    rw (p.1, p.2) (gone_at _ _ c.in_ok-object.ensures.ok.0 c.in_err-bytes.ensures.err)

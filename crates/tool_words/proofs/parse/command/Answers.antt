@@ -34,30 +34,30 @@ refused words kinds (Usage fault) is h = rw (← is) h
 refused words kinds (Misuse fault) is h = absurd h
 refused words kinds Memory is h = tt
 
-pub returns-in-Ok-try_get_matches_from-clause-ok : goal.returns-in-Ok-try_get_matches_from-clause-ok
+pub returns-in-Ok-clause-ok : goal.returns-in-Ok-clause-ok
 unfolding line_of faults_of
-returns-in-Ok-try_get_matches_from-clause-ok g c =
+returns-in-Ok-clause-ok g c =
     let words = map g.S.AsStr.text c.args.words.now in
-    let free = ap is_simple_and_free c.in-Ok.ensures ∙ app_is_free in
-    let none = sym (ap (λ a. fault_of a words) c.in-Ok.ensures) ∙ c.in-Ok-try_get_matches_from.ensures.kinds free in
-    let stated = c.in-Ok-try_get_matches_from.ensures.matches (simple_if_free (app_of c.in-Ok.nixkeep) free) in
-    let line = ap₂ line_from (stated.0 ∙ ap (λ a. matches_of a words) c.in-Ok.ensures) (stated.1 ∙ ap (λ a. subcommand_of a words) c.in-Ok.ensures) in
+    let free = ap is_simple_and_free c.in_ok-nixkeep.ensures ∙ app_is_free in
+    let none = sym (ap (λ a. fault_of a words) c.in_ok-nixkeep.ensures) ∙ c.in-Ok.ensures.kinds free in
+    let stated = c.in-Ok.ensures.matches (simple_if_free (app_of c.in_ok-nixkeep.nixkeep) free) in
+    let line = ap₂ line_from (stated.0 ∙ ap (λ a. matches_of a words) c.in_ok-nixkeep.ensures) (stated.1 ∙ ap (λ a. subcommand_of a words) c.in_ok-nixkeep.ensures) in
     IfOk-weaker c.read.result _ _ (λ found stands. record { no_fault = none; stands = sym line ∙ stands }) c.read.ensures.ok
 
-pub returns-in-Ok-try_get_matches_from-clause-err : goal.returns-in-Ok-try_get_matches_from-clause-err
+pub returns-in-Ok-clause-err : goal.returns-in-Ok-clause-err
 unfolding line_of faults_of
-returns-in-Ok-try_get_matches_from-clause-err g c =
+returns-in-Ok-clause-err g c =
     let words = map g.S.AsStr.text c.args.words.now in
-    let free = ap is_simple_and_free c.in-Ok.ensures ∙ app_is_free in
-    let none = sym (ap (λ a. fault_of a words) c.in-Ok.ensures) ∙ c.in-Ok-try_get_matches_from.ensures.kinds free in
-    let stated = c.in-Ok-try_get_matches_from.ensures.matches (simple_if_free (app_of c.in-Ok.nixkeep) free) in
-    let line = ap₂ line_from (stated.0 ∙ ap (λ a. matches_of a words) c.in-Ok.ensures) (stated.1 ∙ ap (λ a. subcommand_of a words) c.in-Ok.ensures) in
+    let free = ap is_simple_and_free c.in_ok-nixkeep.ensures ∙ app_is_free in
+    let none = sym (ap (λ a. fault_of a words) c.in_ok-nixkeep.ensures) ∙ c.in-Ok.ensures.kinds free in
+    let stated = c.in-Ok.ensures.matches (simple_if_free (app_of c.in_ok-nixkeep.nixkeep) free) in
+    let line = ap₂ line_from (stated.0 ∙ ap (λ a. matches_of a words) c.in_ok-nixkeep.ensures) (stated.1 ∙ ap (λ a. subcommand_of a words) c.in_ok-nixkeep.ensures) in
     IfErr-weaker c.read.result _ _ (λ e misses. missing words _ e none line misses) c.read.ensures.err
 
-pub returns-in-Err-try_get_matches_from-clause-err : goal.returns-in-Err-try_get_matches_from-clause-err
+pub returns-in-Err-clause-err : goal.returns-in-Err-clause-err
 unfolding faults_of
-returns-in-Err-try_get_matches_from-clause-err g c =
+returns-in-Err-clause-err g c =
     let words = map g.S.AsStr.text c.args.words.now in
-    let free = ap is_simple_and_free c.in-Ok.ensures ∙ app_is_free in
-    let has = c.in-Err-try_get_matches_from.ensures.kinds free in
-    refused words _ _ (ap (λ a. fault_of a words) c.in-Ok.ensures) (c.refusal.ensures _ has)
+    let free = ap is_simple_and_free c.in_ok-nixkeep.ensures ∙ app_is_free in
+    let has = c.in-Err.ensures.kinds free in
+    refused words _ _ (ap (λ a. fault_of a words) c.in_ok-nixkeep.ensures) (c.refusal.ensures _ has)

@@ -1,0 +1,20 @@
+-- What gave out: the line that says so.
+use Rattle.std.specs.Prelude.{ℕ, List, codes}
+use Rattle.model.specs.Reply.{Failure as OfStore, memory, size, disk}
+use Rattle.report.specs.declared.failures.Failure.{Failure}
+use Rattle.report.specs.declared.failures.Failure.TheVariants.{Memory, Size, Disk, File, Input, Output}
+
+-- the line of a failure
+abbrev pub failure_line : Failure → List ℕ
+failure_line Memory = codes "failed: memory\n"
+failure_line Size = codes "failed: size\n"
+failure_line Disk = codes "failed: disk\n"
+failure_line File = codes "failed: file\n"
+failure_line Input = codes "failed: input\n"
+failure_line Output = codes "failed: output\n"
+
+-- a failure of a store, among all
+abbrev pub of_store : OfStore → Failure
+of_store memory = Memory
+of_store size = Size
+of_store disk = Disk

@@ -1,0 +1,51 @@
+//! What gave out.
+ghost use Rattle.std.specs.Prelude.{◌≡◌};
+ghost use Rattle.report.specs.Failures.{failure_line, of_store};
+ghost use Rattle.store_types.specs.View.{failure_view};
+
+use tables_sql::failure::Failure as StoreFailure;
+
+/// What gave out, so that there is neither a result nor a refusal. Users see its word.
+#[derive(Clone, Copy, PartialEq, Eq, Debug)]
+pub enum Failure {
+    /// Memory was refused.
+    Memory,
+    /// A row would be larger than a database can hold.
+    Size,
+    /// The disk of a database failed.
+    Disk,
+    /// The configuration file could not be read.
+    File,
+    /// Standard input or a connection could not be read, or a port could not be had.
+    Input,
+    /// Standard output or a connection could not be written.
+    Output,
+}
+
+impl Failure {
+    /// The line of the failure, with its line feed.
+    pub fn line(self) -> &'static str
+        ensures { result.now ≡ failure_line self }
+    {
+        match self {
+            Failure::Memory => "failed: memory\n",
+            Failure::Size => "failed: size\n",
+            Failure::Disk => "failed: disk\n",
+            Failure::File => "failed: file\n",
+            Failure::Input => "failed: input\n",
+            Failure::Output => "failed: output\n",
+        }
+    }
+}
+
+impl From<StoreFailure> for Failure {
+    ghost from_gives = { λ f failure. failure ≡ of_store (failure_view f) };
+
+    fn from(failure: StoreFailure) -> Failure {
+        match failure {
+            StoreFailure::Memory => Failure::Memory,
+            StoreFailure::Size => Failure::Size,
+            StoreFailure::Disk => Failure::Disk,
+        }
+    }
+}

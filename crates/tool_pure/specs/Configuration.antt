@@ -1,0 +1,30 @@
+-- The text of the configuration, by its file.
+use Rattle.std.specs.Prelude.{◌≡◌, ◌⊎◌, ℕ, List, [], Option, Some, None, IfSome, Result, Ok, Err, take}
+use Rattle.std.specs.declared.io.Error.{Error}
+use Rattle.report.specs.declared.failures.Failure.TheVariants.{Memory, File}
+use Rattle.tool_pure.specs.declared.stops.Stop.{Stop}
+use Rattle.tool_pure.specs.declared.stops.Stop.TheVariants.{Failed}
+use Rattle.tool_pure.specs.Stop.{StopsBy}
+
+-- what came of the configuration file: none is named; it wasn't opened; or it was, and has these bytes, where it says them
+abbrev pub Opened : Type 0
+Opened = Option (Result (Option (List ℕ)) Error)
+
+-- the same of a file of the code, by the bytes that it has
+abbrev pub opened_by : {R : Type 0} → (R → Option (List ℕ)) → Option (Result R Error) → Opened
+opened_by remaining None = None
+opened_by remaining (Some (Ok input)) = Some (Ok (remaining input))
+opened_by remaining (Some (Err fault)) = Some (Err fault)
+
+-- how many bytes of it are read: one more than a configuration has at most
+abbrev pub most_of_config : ℕ
+most_of_config = 1048577
+
+-- The text by that: the empty one where no file is named, and else the bytes of the file, no more of them than decide that they are too many; or
+-- why there is none.
+abbrev pub IsConfig : Opened → Result (List ℕ) Stop → Type 0
+IsConfig None read = read ≡ Ok []
+IsConfig (Some (Err fault)) (Ok text) = ⊥
+IsConfig (Some (Err fault)) (Err stop) = StopsBy fault File stop
+IsConfig (Some (Ok known)) (Ok text) = IfSome known (λ all. text ≡ take most_of_config all)
+IsConfig (Some (Ok known)) (Err stop) = (stop ≡ Failed Memory) ⊎ (stop ≡ Failed File)

@@ -1,0 +1,15 @@
+-- What `clap` calls the faults that it doesn't find itself.
+use Rattle.clap.specs.declared.error.ErrorKind.{ErrorKind}
+use Rattle.clap.specs.declared.error.ErrorKind.TheVariants.{MissingSubcommand, InvalidValue, MissingRequiredArgument, TooManyValues, ArgumentConflict, ValueValidation}
+use Rattle.tool_words.specs.declared.error.UsageFault.{UsageFault}
+use Rattle.tool_words.specs.declared.error.UsageFault.TheVariants.{NoSubcommand, UnknownAction, MissingValue, ExtraValue, OwnerOfPermanent, BadLimit, ConnectionsWithoutPort}
+
+-- the kind of a fault
+abbrev pub usage_kind : UsageFault → ErrorKind
+usage_kind NoSubcommand = MissingSubcommand
+usage_kind UnknownAction = InvalidValue
+usage_kind MissingValue = MissingRequiredArgument
+usage_kind ExtraValue = TooManyValues
+usage_kind OwnerOfPermanent = ArgumentConflict
+usage_kind BadLimit = ValueValidation
+usage_kind ConnectionsWithoutPort = MissingRequiredArgument
