@@ -1,15 +1,14 @@
 """How the programs of this folder are called, and how they report: each figure with its limit, where it has one."""
-import argparse
 import json
 import os
 import statistics
 import subprocess
 import sys
+import tempfile
 import time
 
-from tests.lib import program, report
+from tests.lib import report
 
-HERE = program.HERE
 ROUNDS = 5
 MIB = 1_048_576
 records = []
@@ -43,8 +42,6 @@ def line_of(it):
     """A figure that is kept, next to its peer's and its limit, as it is printed."""
     if "skipped" in it:
         return f"skipped: {it['skipped']}"
-    if "text" in it:
-        return f"{it['what']}: {it['text']}"
     ratio, unit = it.get("ratio"), it["unit"]
     peer = "" if ratio is None else f", {it['peer']} {shown(it['theirs'], unit)}: {ratio:.2f} times"
     verdict = f"limit: {it['limit']}; {'ok' if it['is_met'] else 'MISSED'}" if it["limit"] else "no limit"
@@ -155,7 +152,7 @@ def memory_of(words):
 
 def options(doc):
     """What each benchmark takes on its command line."""
-    asked = argparse.ArgumentParser(description=doc, formatter_class=argparse.RawDescriptionHelpFormatter)
+    asked = report.parser(doc)
     asked.add_argument("--records", metavar="FILE", help="writes the figures, for bench/run")
     return asked
 
@@ -168,19 +165,26 @@ def ended(words):
     sys.exit(1 if any(it.get("is_met") is False for it in records) else 0)
 
 
-def main(doc, run, parts=(), more=lambda asked: None):
-    """Runs a benchmark of the program, or some of its parts."""
+def program(words):
+    return Runs(report.program_file(words))
+
+
+def main(doc, parts, begin=program, more=lambda asked: None):
+    """Runs the parts of a benchmark, or some: functions of what `begin` gives once, of the words and of a folder."""
     asked = options(doc)
     asked.add_argument("--program", metavar="FILE", help="the program; else the one that bin/nixkeep proves and builds")
     asked.add_argument("--quick", action="store_true", help="a tenth of the objects")
-    asked.add_argument("parts", nargs="*", metavar="PART", help=f"{', '.join(parts)}; else all" if parts else "none")
+    asked.add_argument("parts", nargs="*", metavar="PART", help=f"{', '.join(parts)}; else all")
     more(asked)
     words = asked.parse_args()
     if unknown := [it for it in words.parts if it not in parts]:
         asked.error(f"no part {' '.join(unknown)}")
     words.parts = words.parts or [*parts]
-    try:
-        run(words)
-    except report.Failed as why:
-        sys.exit(str(why))
+    with tempfile.TemporaryDirectory() as words.folder:
+        try:
+            begun = begin(words)
+            for part in words.parts:
+                parts[part](begun, words, words.folder)
+        except report.Failed as why:
+            sys.exit(str(why))
     ended(words)

@@ -17,12 +17,13 @@ def on(processor, *words):
 
 class Load:
     """A run of wrk: requests a second, percentiles of the time of a reply in seconds, and replies that weren't 200
-    or didn't come."""
+    or didn't come. A script says itself what it asks, in two threads on any processors."""
 
-    def __init__(self, port, target, clients=1, seconds=3):
-        words = ["wrk", "-t1", f"-c{clients}", f"-d{seconds}s", "--latency", "--timeout", "10s"]
-        words += ["-H", "store-user: root", f"http://127.0.0.1:{port}{target}"]
-        ran = subprocess.run(on(CLIENT, *words), capture_output=True, text=True)
+    def __init__(self, port, target="", clients=1, seconds=3, script=None):
+        words = ["wrk", "-t2", "--timeout", "30s", "-s", script] if script else on(CLIENT, "wrk", "-t1")
+        words += [f"-c{clients}", f"-d{seconds}s", "--latency"]
+        words += [] if script else ["--timeout", "10s", "-H", "store-user: root"]
+        ran = subprocess.run([*words, f"http://127.0.0.1:{port}{target}"], capture_output=True, text=True)
         if ran.returncode:
             sys.exit(f"wrk: {ran.stdout}{ran.stderr}")
         self.rate = float(re.search(r"Requests/sec: +([\d.]+)", ran.stdout)[1])

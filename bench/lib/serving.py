@@ -1,28 +1,28 @@
 """A server over a store or over files, and a client of it on one connection that stays open."""
-import contextlib
 import signal
 import socket
 import subprocess
 import sys
 import time
+from pathlib import Path
 
 from bench.lib.figures import MIB
 from bench.lib.load import on
-from tests.lib.http import free_port
+from tests.lib.http import connected, free_port, message
 from tests.lib.pieces import unread
 
 
 class Client:
     """One connection that stays open."""
 
-    def __init__(self, connected):
-        self.socket, self.room = connected, memoryview(bytearray(17 * MIB))
+    def __init__(self, connection):
+        self.socket, self.room = connection, memoryview(bytearray(17 * MIB))
 
     @classmethod
-    def of_port(cls, port):
-        connected = socket.create_connection(("127.0.0.1", port))
-        connected.setsockopt(socket.IPPROTO_TCP, socket.TCP_NODELAY, 1)
-        return cls(connected)
+    def of_port(cls, port, started=None):
+        found = connected(port, started) or sys.exit(f"{started.args[0]} doesn't listen")
+        found.setsockopt(socket.IPPROTO_TCP, socket.TCP_NODELAY, 1)
+        return cls(found)
 
     def close(self):
         self.socket.close()
@@ -44,16 +44,12 @@ class Client:
             at += self.socket.recv_into(self.room[at:])
         return length
 
-    def ask(self, method, target, body=b""):
-        length = f"content-length: {len(body)}\r\n"
-        self.socket.sendall(
-            f"{method} {target} HTTP/1.1\r\nhost: a\r\nstore-user: root\r\n{length}\r\n".encode() + body
-        )
+    def ask(self, method, target, body=None):
+        self.socket.sendall(message("root", method, target, body))
         return self.reply()
 
     def get(self, target):
-        self.socket.sendall(f"GET {target} HTTP/1.1\r\nhost: a\r\nstore-user: root\r\n\r\n".encode())
-        return self.reply()
+        return self.ask("GET", target)
 
 
 class Serving:
@@ -62,12 +58,7 @@ class Serving:
     def __init__(self, port, *words, folder=None):
         self.port = port
         self.started = subprocess.Popen(words, cwd=folder, stdout=subprocess.DEVNULL, stderr=subprocess.DEVNULL)
-        for _ in range(600):
-            with contextlib.suppress(OSError):
-                self.client = Client.of_port(port)
-                return
-            time.sleep(0.1)
-        sys.exit(f"{words[0]} doesn't listen")
+        self.client = Client.of_port(port, self.started)
 
     def __enter__(self):
         return self.client
@@ -79,13 +70,11 @@ class Serving:
 
     def processor(self):
         """The seconds that its processor has spent on it."""
-        with open(f"/proc/{self.started.pid}/schedstat") as file:
-            return int(file.read().split()[0]) / 1e9
+        return int(Path(f"/proc/{self.started.pid}/schedstat").read_text().split()[0]) / 1e9
 
     def forget(self):
         """Lets `memory` tell from now on alone, over what it holds now."""
-        with open(f"/proc/{self.started.pid}/clear_refs", "w") as file:
-            file.write("5")
+        Path(f"/proc/{self.started.pid}/clear_refs").write_text("5")
 
     def memory(self):
         """The most memory in MiB that it held."""

@@ -5,8 +5,8 @@ import os
 import sqlite3
 import time
 
+from tests.lib.model.tables import PIECE
 from tests.lib.nar import archive
-from tests.lib.tables import PART
 
 OF_OBJECT = ("object", "refs", "outs", "piece")
 
@@ -31,8 +31,8 @@ def drop_pages(path):
 
 def insert(conn, name, nar, digest):
     """Puts an object: the first part of its archive in its row, the rest in pieces."""
-    conn.execute("INSERT INTO object (base, nar, hash) VALUES (?1, ?2, ?3)", (name, nar[:PART], digest))
-    pieces = [(name, at // PART, nar[at : at + PART]) for at in range(PART, len(nar), PART)]
+    conn.execute("INSERT INTO object (base, nar, hash) VALUES (?1, ?2, ?3)", (name, nar[:PIECE], digest))
+    pieces = [(name, at // PIECE, nar[at : at + PIECE]) for at in range(PIECE, len(nar), PIECE)]
     conn.executemany("INSERT INTO piece VALUES (?1, ?2, ?3)", pieces)
 
 

@@ -219,9 +219,7 @@ class Nix:
 
     def __call__(self, *words, given=b""):
         ran = self.run(*words, given=given)
-        if ran.returncode:
-            sys.exit(f"{' '.join(words)}: {ran.stderr.decode()}")
-        return ran.stdout.decode()
+        return ran.stdout.decode() if ran.returncode == 0 else sys.exit(f"{' '.join(words)}: {ran.stderr.decode()}")
 
     def archive(self, path):
         return self.run("nix-store", "--dump", self.root + path).stdout

@@ -30,6 +30,11 @@ runtime() {
   echo
 }
 
+# `rows FILE STATEMENT`: what SQLite finds in a file, a line for each row. `put FILE STATEMENTS`: it changes the file.
+rows() { python3 -c 'import sqlite3, sys
+for row in sqlite3.connect(sys.argv[1]).execute(sys.argv[2]): print(*row)' "$@"; }
+put() { python3 -c 'import sqlite3, sys; sqlite3.connect(sys.argv[1]).executescript(sys.argv[2])' "$@"; }
+
 # ---- HTTP
 
 # `message LINE..`: the head of a message.

@@ -24,7 +24,7 @@ static ssize_t allowed(size_t size) {
   counts()->taken = taken + 1;
   if (!strcmp(fault, "takes one byte")) return size ? 1 : 0;
   if (!strcmp(fault, "takes none")) return -1;
-  errno = strcmp(fault, "fails") ? EINTR : EIO;
+  errno = !strcmp(fault, "fails") ? EIO : !strcmp(fault, "runs out of memory") ? ENOMEM : EINTR;
   return -2;
 }
 

@@ -1,5 +1,6 @@
 """Wrong bodies: which of them the gate tries, and what a check's refusal of one is worth."""
 import re
+from pathlib import Path
 
 from tests.lib import program
 
@@ -13,24 +14,32 @@ ERROR = re.compile(r"^\./proofs/(\S+)/\w+\.antt:\d+:\d+: error: (.*(?:\n(?:  |\t
 
 def selected():
     """The edits that the gate tries: pairs of a crate and a name."""
-    with open(f"{program.HERE}/{SELECTION}") as file:
-        lines = [line.partition("#")[0].split() for line in file]
-    return [tuple(it) for it in lines if it]
+    lines = Path(f"{program.HERE}/{SELECTION}").read_text().splitlines()
+    return [tuple(it) for line in lines if (it := line.partition("#")[0].split())]
 
 
 def changes(path):
     """The changes of an edit: the file, the old text and the new."""
     found, file, old = [], None, None
-    with open(path, encoding="utf-8") as lines:
-        for line in lines.read().split("\n"):
-            kind, _, text = line.partition(": ")
-            if kind == "file":
-                file = text.strip()
-            elif kind == "old":
-                old = text
-            elif line.startswith("new:"):
-                found.append((file, old, text))
+    for line in Path(path).read_text(encoding="utf-8").split("\n"):
+        kind, _, text = line.partition(": ")
+        if kind == "file":
+            file = text.strip()
+        elif kind == "old":
+            old = text
+        elif line.startswith("new:"):
+            found.append((file, old, text))
     return found
+
+
+def laid(changed, texts):
+    """The texts with these changes, or None where an old text doesn't stand there once."""
+    made = dict(texts)
+    for file, old, new in changed:
+        if made.get(file, "").count(old) != 1:
+            return None
+        made[file] = made[file].replace(old, new)
+    return made
 
 
 def plain(name):
@@ -75,9 +84,8 @@ class Check:
     def why_not(self, function):
         """What was said of a function that isn't refused for what its body does."""
         errors = [it.split("\n")[0] for it in self.errors_of(function)]
-        return (
-            f"{function}: {self.said.get(function, 'nothing is said of it')}{''.join(f'; {it}' for it in errors[:2])}"
-        )
+        said = self.said.get(function, "nothing is said of it")
+        return f"{function}: {'; '.join([said, *errors[:2]])}"
 
 
 def is_of_meaning(error):

@@ -1,4 +1,5 @@
 """The cases of tests/cases: pages with commands and what they print. tests/README.md says how one is written."""
+import contextlib
 import difflib
 import os
 import re
@@ -6,6 +7,7 @@ import signal
 import subprocess
 import sys
 import tempfile
+from pathlib import Path
 
 CASES = os.path.join(os.path.dirname(os.path.dirname(os.path.realpath(__file__))), "cases")
 # What a case may take.
@@ -86,10 +88,8 @@ def difference(step, path):
     """What came of a step in place of what was wanted, or None."""
     if not os.path.exists(f"{path}.status"):
         return "the shell ended, or was stopped, before this step did"
-    with open(f"{path}.output", "rb") as output, open(f"{path}.errors", "rb") as errors:
-        with open(f"{path}.status") as status:
-            came = lines_of(output.read()), lines_of(errors.read()), int(status.read())
-    wanted = step.parts()
+    output, errors, status = (Path(f"{path}.{it}").read_bytes() for it in ("output", "errors", "status"))
+    wanted, came = step.parts(), (lines_of(output), lines_of(errors), int(status))
     if are_lines(wanted[0], came[0]) and are_lines(wanted[1], came[1]) and wanted[2] == came[2]:
         return None
     return "\n".join(difflib.unified_diff(shown(*wanted), shown(*came), "wanted", "came", lineterm=""))
@@ -114,20 +114,16 @@ def run_steps(steps, room, programs, seconds):
         os.symlink(file, f"{room}/bin/{name}")
     paths = [f"{room}/steps/{at:04}.step" for at in range(len(steps))]
     for step, path in zip(steps, paths):
-        with open(path, "w") as file:
-            file.write(step.command)
+        Path(path).write_text(step.command)
     where = {"cwd": f"{room}/work", "env": environment(room), "stdin": subprocess.DEVNULL, "start_new_session": True}
     shell = subprocess.Popen(["bash", "-c", SHELL], **where)
     try:
-        shell.wait(seconds)
-    except subprocess.TimeoutExpired:
-        pass
+        with contextlib.suppress(subprocess.TimeoutExpired):
+            shell.wait(seconds)
     finally:
         # (also what a step has left running)
-        try:
+        with contextlib.suppress(ProcessLookupError):
             os.killpg(shell.pid, signal.SIGKILL)
-        except ProcessLookupError:
-            pass
         shell.wait()
     return paths
 
@@ -135,8 +131,7 @@ def run_steps(steps, room, programs, seconds):
 def run_case(case, programs, seconds=SECONDS):
     """Runs a case with these programs by name, which come before the tools. Returns the number of steps, and those that
     came out otherwise, each with what differs."""
-    with open(case) as file:
-        steps = steps_of(file.read())
+    steps = steps_of(Path(case).read_text())
     if not steps:
         raise ValueError("it has no step")
     with tempfile.TemporaryDirectory(prefix="case-") as room:

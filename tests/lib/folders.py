@@ -1,23 +1,21 @@
 """Random files and folders, and what the JSON of Nix says of one."""
 import os
+from pathlib import Path
 
 
-def put(rng, path, depth, name, target, contents, counts=(1, 5)):
-    """Makes a folder with files, executable or not, links and folders, with these random names, targets and
-    contents."""
-    os.makedirs(path)
-    for at in range(rng.randrange(*counts)):
-        entry, kind = f"{path}/{name(at)}", rng.randrange(5)
-        if os.path.lexists(entry):
-            continue
-        if kind == 0 and depth:
-            put(rng, entry, depth - 1, name, target, contents, counts)
-        elif kind == 1:
-            os.symlink(target(), entry)
-        else:
-            with open(entry, "wb") as out:
-                out.write(contents())
-            os.chmod(entry, 0o755 if kind == 2 else 0o644)
+def grow(rng, path, depth, name, target, contents, counts=(0, 6), kind=None):
+    """Makes a random file, link or folder, or one of this kind, with random names, targets and contents."""
+    kind = kind or rng.choice(["file", "file", "link", "folder", "folder"][: None if depth else 3])
+    if kind == "folder":
+        os.makedirs(path)
+        for entry in [f"{path}/{name(at)}" for at in range(rng.randrange(*counts))]:
+            if not os.path.lexists(entry):
+                grow(rng, entry, depth - 1, name, target, contents, counts)
+    elif kind == "link":
+        os.symlink(target(), path)
+    else:
+        Path(path).write_bytes(contents())
+        os.chmod(path, rng.choice([0o644, 0o755, 0o600, 0o711]))
 
 
 def tree(path):

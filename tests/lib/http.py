@@ -1,6 +1,8 @@
 """Messages to the server of a store, and its replies."""
+import contextlib
 import re
 import socket
+import time
 
 from tests.lib import report
 
@@ -45,6 +47,18 @@ def all_replies(written, count):
 def told(written):
     """The replies to the messages of TOLD."""
     return all_replies(written, len(TOLD))
+
+
+def connected(port, ran=None, timeout=None, within=150):
+    """A connection to a port of this machine, as soon as something listens there; None where the process has ended, or
+    nothing listens within so many seconds."""
+    end = time.monotonic() + within
+    while time.monotonic() < end:
+        with contextlib.suppress(ConnectionRefusedError):
+            return socket.create_connection(("127.0.0.1", port), timeout)
+        if ran and ran.poll() is not None:
+            break
+        time.sleep(0.005)
 
 
 def free_port():

@@ -1,5 +1,6 @@
 """Numbers of what the repository still has of something, which may only be lowered: a file of tests/gate/ has them."""
 import re
+from pathlib import Path
 
 from tests.lib import program
 
@@ -9,16 +10,14 @@ class Lowered:
 
     def __init__(self, name):
         self.name, self.path = f"tests/gate/{name}", f"{program.HERE}/tests/gate/{name}"
-        with open(self.path, encoding="utf-8") as file:
-            self.text = file.read()
+        self.text = Path(self.path).read_text(encoding="utf-8")
         self.most = {name: float(number) for name, number in re.findall(r"^([\w ]+): ([\d.]+)$", self.text, re.M)}
 
     def lower(self, found):
         """Writes the numbers that are found where they are lower."""
         for name, number in found.items():
             self.text = re.sub(rf"^{name}: .*$", f"{name}: {min(self.most[name], number):g}", self.text, flags=re.M)
-        with open(self.path, "w", encoding="utf-8") as file:
-            file.write(self.text)
+        Path(self.path).write_text(self.text, encoding="utf-8")
 
     def check(self, name, number):
         """Whether a number is kept, and what to print."""

@@ -1,18 +1,26 @@
 """Real Nix over a throw-away store in a folder, with the usual directory in its paths."""
 import os
 import subprocess
+from pathlib import Path
 
 from tests.lib import report
 
 TOOLS = "nix", "nix-store", "nix-instantiate", "nix-hash"
+# Characters of names of store paths, any of which may be the first.
+NAME = "abcxyzABC019_+?="
+
+
+def literal(text):
+    """A string of the language of Nix."""
+    escapes = {'"': '\\"', "\\": "\\\\", "\n": "\\n", "\t": "\\t", "\r": "\\r", "$": "\\$"}
+    return '"' + "".join(escapes.get(it, it) for it in text) + '"'
 
 
 class Nix:
     def __init__(self, folder, features="nix-command"):
         self.root, self.state, self.folder = f"{folder}/root", f"{folder}/root/nix/var/nix", folder
         os.makedirs(f"{folder}/conf", exist_ok=True)
-        with open(f"{folder}/conf/nix.conf", "w") as out:
-            out.write(f"build-users-group =\nexperimental-features = {features}\n")
+        Path(f"{folder}/conf/nix.conf").write_text(f"build-users-group =\nexperimental-features = {features}\n")
         places = {"NIX_LOG_DIR": "log", "NIX_CONF_DIR": "conf", "XDG_CACHE_HOME": "cache"}
         self.env = {**os.environ, **{name: f"{folder}/{part}" for name, part in places.items()}}
         self.env["NIX_REMOTE"] = f"local?root={self.root}"
@@ -43,8 +51,7 @@ class Nix:
         return found
 
     def contents(self, path):
-        with open(self.place(path), "rb") as file:
-            return file.read()
+        return Path(self.place(path)).read_bytes()
 
     def clear(self):
         """Makes what is in the store removable."""

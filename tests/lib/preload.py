@@ -1,32 +1,43 @@
-"""Libraries that are loaded ahead of C's, each from a C program next to the script that uses it, and what they
-report."""
+"""The program with a library loaded ahead of C's, which is made of a C program next to the script that uses it."""
 import os
 import struct
 import subprocess
+from pathlib import Path
+
+from tests.lib import report
 
 HERE = os.path.dirname(os.path.realpath(__file__))
 
 
-class Library:
-    """A compiled library, for runs of a program; and the file in which it counts the calls of a run."""
+class Loaded:
+    """Runs of the program in a folder, with the library of a script, which counts its calls in a file."""
 
-    def __init__(self, source, folder):
-        name = os.path.splitext(os.path.basename(source))[0]
-        self.file = os.path.join(folder, f"{name}.so")
-        words = ["cc", "-shared", "-fPIC", "-O1", "-Wall", "-Wextra", "-Werror", "-I", HERE, "-o", self.file, source,
-                 "-ldl"]
-        subprocess.run(words, check=True)
+    def __init__(self, words, script):
+        self.words, self.file, self.folder = words, report.program_file(words), words.folder
+        self.library, self.counts = self.at("ahead.so"), self.at("counts")
+        made = ["cc", "-shared", "-fPIC", "-O1", "-Wall", "-Wextra", "-Werror", "-I", HERE, "-o", self.library]
+        subprocess.run([*made, f"{os.path.realpath(script)}.c", "-ldl"], check=True)
 
-    def env(self, counts, **settings):
-        """The environment of a run that counts in a file of this name."""
-        with open(counts, "wb") as out:
-            out.write(bytes(16))
-        return {**os.environ, "LD_PRELOAD": self.file, "COUNTS": counts,
+    def at(self, name):
+        return f"{self.folder}/{name}"
+
+    def put(self, name, text):
+        Path(self.at(name)).write_text(text)
+        return self.at(name)
+
+    def env(self, counts=None, **settings):
+        """The environment of a run that has these settings."""
+        counts = counts or self.counts
+        Path(counts).write_bytes(bytes(16))
+        return {**os.environ, "LD_PRELOAD": self.library, "COUNTS": counts,
                 **{name: str(it) for name, it in settings.items()}}
 
+    def run(self, words, given=b"", **settings):
+        """Status, output and errors of a run of the program."""
+        ran = subprocess.run([self.file, *words], input=given, capture_output=True, env=self.env(**settings))
+        return ran.returncode, ran.stdout, ran.stderr
 
-def counted(counts):
-    """How many calls were counted, and how many bytes had been taken when the fault came, one too many so that 0 is
-    none."""
-    with open(counts, "rb") as file:
-        return struct.unpack("<QQ", file.read())
+    def counted(self, counts=None):
+        """How many calls were counted, and how many bytes had been taken when the fault came, one too many so that 0 is
+        none."""
+        return struct.unpack("<QQ", Path(counts or self.counts).read_bytes())

@@ -14,6 +14,7 @@ import re
 import shutil
 import sys
 import tarfile
+from pathlib import Path
 
 HERE = os.path.dirname(os.path.dirname(os.path.dirname(os.path.realpath(__file__))))
 NAME = "nixkeep"
@@ -71,13 +72,11 @@ def files_of(crate):
 def sources(named, tops=(NAME,)):
     """A sum for each of these crates and those below them, lowest first, of its sources and of theirs."""
     found = {}
-    with open(f"{HERE}/HANDLES") as file:
-        handles = file.read()
+    handles = Path(f"{HERE}/HANDLES").read_text()
     for crate in dict.fromkeys(it for top in tops for it in with_below(top, named)):
         read = hashlib.sha256(repr((handles, named[crate], [found.get(it) for it in named[crate]])).encode())
         for path in files_of(crate):
-            with open(f"{HERE}/{path}", "rb") as file:
-                read.update(repr((path, file.read())).encode())
+            read.update(repr((path, Path(f"{HERE}/{path}").read_bytes())).encode())
         found[crate] = read.hexdigest()
     return found
 
@@ -100,16 +99,14 @@ def mark(file):
 def is_kept(crate, source, by):
     """Whether what was last made of a crate is there, of these sources, and by this toolchain where it is known."""
     try:
-        with open(record_of(crate)) as file:
-            lines = file.read().split("\n")
+        lines = Path(record_of(crate)).read_text().split("\n")
         return [lines[0], lines[2]] == [source, mark(made_by(crate))] and by in ("", lines[1])
     except (OSError, IndexError):
         return False
 
 
 def keep(crate, source, by):
-    with open(record_of(crate), "w") as file:
-        file.write(f"{source}\n{by}\n{mark(made_by(crate))}\n")
+    Path(record_of(crate)).write_text(f"{source}\n{by}\n{mark(made_by(crate))}\n")
 
 
 def keep_library(crate, folder, source, by):
@@ -132,8 +129,7 @@ def take_library(crate, room):
 def times():
     """What earlier runs measured of each crate: seconds, processor seconds (work), and bytes of memory."""
     try:
-        with open(TIMES) as file:
-            return json.load(file)
+        return json.loads(Path(TIMES).read_text())
     except (OSError, ValueError):
         return {}
 
@@ -148,8 +144,7 @@ def keep_times(crate, seconds, work, memory):
 def free():
     """The free memory in bytes, or what two checks may take where the system doesn't say."""
     try:
-        with open("/proc/meminfo") as file:
-            return 1024 * int(re.search(r"MemAvailable:\s+(\d+)", file.read())[1])
+        return 1024 * int(re.search(r"MemAvailable:\s+(\d+)", Path("/proc/meminfo").read_text())[1])
     except OSError:
         return 4_000_000_000
 

@@ -1,6 +1,6 @@
 """Words and input that are refused, for each refusal that an empty store in memory can tell; and denials."""
 from tests.lib.http import lines, message
-from tests.lib.nar import archive, derivation, directory, nar_hash, of_node, source_path, strings
+from tests.lib.nar import archive, derivation, nar_hash, of_node, source_path, strings
 
 PATH, OTHER = "0" * 32 + "-p", "1" * 32 + "-x"
 ANN, ROOT = ["--user", "ann"], ["--user", "root"]
@@ -8,15 +8,16 @@ ANN, ROOT = ["--user", "ann"], ["--user", "root"]
 
 def archives():
     """An archive with each fault, by the line that refuses it."""
-    empty, whole, deep = directory([]), archive(b"abc"), directory([])
+    empty, whole = ("directory", []), archive(b"abc")
+    deep, of_names = empty, lambda *names: of_node(("directory", [(it, empty) for it in names]))
     for _ in range(256):
-        deep = directory([(b"a", deep)])
+        deep = "directory", [(b"a", deep)]
     return {
         "1 truncated": whole[:-1],
-        "2 bad-tag": of_node(strings(b"(", b"type", b"folder", b")")),
+        "2 bad-tag": strings(b"nix-archive-1", b"(", b"type", b"folder", b")"),
         "3 bad-padding": whole.replace(b"abc\0", b"abc\1"),
-        "4 bad-name": of_node(directory([(b"a", empty), (b"..", empty)])),
-        "5 not-sorted": of_node(directory([(b"b", empty), (b"a", empty)])),
+        "4 bad-name": of_names(b"a", b".."),
+        "5 not-sorted": of_names(b"b", b"a"),
         "6 too-deep": of_node(deep),
         "7 trailing": whole + b"x",
         "8 too-large": b"\xff" * 8,

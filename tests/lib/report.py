@@ -39,6 +39,13 @@ def passes(count=1):
     passed += count
 
 
+def right(what, why=None, kept=None):
+    """Nothing is wrong with this; else why."""
+    if why:
+        fail(f"{what}: {why}", kept)
+    passes()
+
+
 def short(it, most=2000):
     return repr(it[:most] if isinstance(it, (bytes, str, list)) else it)
 
@@ -68,10 +75,9 @@ def needs(*tools):
 
 def skips(*tools):
     """Whether a tool isn't installed, and then it prints that this is skipped."""
-    why = missing(tools)
-    if why:
+    if why := missing(tools):
         tell(f"skipped: {why}")
-    return bool(why)
+    return why is not None
 
 
 def today():
@@ -79,9 +85,14 @@ def today():
     return int(time.time()) // 86_400
 
 
+def parser(doc):
+    """What reads the words of a command line, and whose help is this text."""
+    return argparse.ArgumentParser(description=doc, formatter_class=argparse.RawDescriptionHelpFormatter)
+
+
 def options(doc, count=None, more=lambda asked: None, parts=()):
     """The words of the command line: those that each script of tests/ takes, more, and the parts to run, or all."""
-    asked = argparse.ArgumentParser(description=doc, formatter_class=argparse.RawDescriptionHelpFormatter)
+    asked = parser(doc)
     asked.add_argument("--program", metavar="FILE", help="the program; else the one that bin/nixkeep proves and builds")
     asked.add_argument("--seed", metavar="N", type=int, default=today(), help="what chance begins with; else the day")
     asked.add_argument("--count", metavar="N", type=int, default=count,
@@ -91,10 +102,9 @@ def options(doc, count=None, more=lambda asked: None, parts=()):
         asked.add_argument("parts", nargs="*", metavar="PART", help=f"{', '.join(parts)}; else all")
     words = asked.parse_args()
     if parts:
-        unknown = [it for it in words.parts if it not in parts]
-        if unknown:
-            asked.error(f"the parts are {', '.join(parts)}")
         words.parts = words.parts or [*parts]
+        if not {*parts}.issuperset(words.parts):
+            asked.error(f"the parts are {', '.join(parts)}")
     return words
 
 
@@ -127,3 +137,19 @@ def main(run):
         failed = 1
     tell(f"{passed} passed, {failed} failed")
     sys.exit(1 if failed else 0)
+
+
+def script(doc, run, count=None, more=lambda asked: None, parts=(), need=(), skip=()):
+    """Runs a script with its words, and among these a folder of its own and what chance gives. It fails where a tool
+    that it needs isn't installed, and is skipped without one of the others."""
+
+    def tried():
+        words = options(doc, count, more, parts)
+        needs(*need)
+        if skips(*skip):
+            return 0
+        words.rng = random.Random(words.seed)
+        with tempfile.TemporaryDirectory() as words.folder:
+            return run(words)
+
+    main(tried)

@@ -1,8 +1,10 @@
 """Requests that meet one another, of every kind, and a store with a row of each kind: what is tried where something
 goes wrong meanwhile."""
 from tests.lib.http import lines
+from tests.lib.model.tables import PIECE
+from tests.lib.model.worlds import Profile
 from tests.lib.nar import archive, derivation, hidden, nar_hash, text_path
-from tests.lib.tables import PART, Model
+from tests.lib.tables import Built
 
 
 def path(it):
@@ -22,7 +24,7 @@ def imported(it, nar, *more):
 def requests():
     """Requests that meet one another, of every kind: one after another over one file."""
     drv, out, gone = "0" * 32 + "-d.drv", "1" * 32 + "-o", "7" * 32 + "-gone"
-    long = b"x" * (PART + 9)
+    long = b"x" * (PIECE + 9)
     added = text_path("long", long, [out])
     return [("ann", "GET", "/report"), imported(drv, archive(derivation({"out": out}))),
             imported(out, archive(b""), ("deriver", drv)), ("ann", "POST", "/text", text("long", long, out)),
@@ -68,14 +70,15 @@ LISTS = [("", requests), ("keep-outputs = true\nkeep-derivations = true\n", kept
 
 def some_store(schema):
     """A store with a row of each kind that a schema has, and an archive of more than a row."""
-    made, out = Model(), hidden("out")
-    made.add(out, archive(b"x" * (PART + 9)))
-    one = made.add_text("text", b"text", [out])
-    drv = made.add_text("made.drv", derivation({"out": out}), [one], {"out": out})
-    made.add_source("source", archive(b"source"), [one], drv)
-    made.permanent["ours"] = made.user["ann", "mine"] = one
-    made.profiles["ann", "tools"] = ({1: out, 2: one}, 2)
-    made.runtime.add(("/proc/1/exe", out))
+    made, out = Built(), hidden("out")
+    made.put(out, archive(b"x" * (PIECE + 9)))
+    one = made.put_text("text", b"text", [out])
+    drv = made.put_text("made.drv", derivation({"out": out}), [one])
+    made.put_source("source", archive(b"source"), [one], drv)
+    world = made.world
+    world.permanent["ours"] = world.user["ann", "mine"] = one
+    world.profiles["ann", "tools"] = Profile({1: out, 2: one}, 2)
+    world.runtime.add(("/proc/1/exe", out))
     if schema == 3:
-        made.temporary.add(("ann", 3, out))
+        world.temporary.add(("ann", 3, out))
     return made

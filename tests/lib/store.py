@@ -1,6 +1,8 @@
 """The program on a file, called by one user or another, and what a file of it is with its log."""
 import os
+import resource
 import shutil
+import signal
 import subprocess
 
 from tests.lib import report
@@ -24,6 +26,12 @@ class Store:
 
     def lines(self, *words, **more):
         return self(*words, **more).decode().splitlines()
+
+
+def small_files():
+    """Called in a child: no file of it grows above 1 MiB, and a write that would fails."""
+    signal.signal(signal.SIGXFSZ, signal.SIG_IGN)
+    resource.setrlimit(resource.RLIMIT_FSIZE, (1_048_576, 1_048_576))
 
 
 def copy(path, to, ends=("", "-wal")):

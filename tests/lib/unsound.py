@@ -1,8 +1,10 @@
 """What makes a sound store unsound, row by row; and schemas, which are a store's or not."""
 import random
 
+from tests.lib.model.tables import PIECE, TABLES, making
+from tests.lib.model.worlds import Profile
 from tests.lib.nar import archive, derivation, hidden, nar_hash, sha256
-from tests.lib.tables import AFTER, ALL, BEFORE, BETWEEN, FORMS, PART, Model, making
+from tests.lib.tables import AFTER, ALL, BEFORE, BETWEEN, Built
 
 
 def blob(data):
@@ -24,23 +26,22 @@ class Faulty:
     """A store with a row of each kind, and by name what spoils it."""
 
     def __init__(self):
-        made, self.gone, self.malformed = Model(), hidden("gone"), "not-a-path"
-        self.low = made.add_text("low", b"low")
-        self.top = made.add_text("top", b"top", [self.low])
-        out = hidden("out")
-        self.drv = made.add_text("made.drv", derivation({"out": out}), [self.low], {"out": out})
-        self.own, self.out = hidden("own"), out
-        made.add(self.own, archive(b"own"), [self.own, self.low], self.drv)
-        made.permanent["root"], made.user["ann", "root"] = self.top, self.low
-        made.profiles["ann", "profile"] = ({1: self.low, 2: self.top}, 2)
-        made.runtime.add(("/proc/1/exe", self.low))
-        made.temporary |= {("ann", 1, self.low), ("b" * 64, 4_194_304, self.low)}
+        made, self.gone, self.malformed, self.out = Built(), hidden("gone"), "not-a-path", hidden("out")
+        self.low = made.put_text("low", b"low")
+        self.top = made.put_text("top", b"top", [self.low])
+        self.drv = made.put_text("made.drv", derivation({"out": self.out}), [self.low])
+        self.own = made.put(own := hidden("own"), archive(b"own"), [own, self.low], self.drv)
+        world = made.world
+        world.permanent["root"], world.user["ann", "root"] = self.top, self.low
+        world.profiles["ann", "profile"] = Profile({1: self.low, 2: self.top}, 2)
+        world.runtime.add(("/proc/1/exe", self.low))
+        world.temporary |= {("ann", 1, self.low), ("b" * 64, 4_194_304, self.low)}
         # Archives of these bytes, which no address binds, so that nothing but the cutting can be at fault.
-        self.lengths = {"brim": PART, "over": PART + 8, "even": 2 * PART, "long": 2 * PART + 800}
+        self.lengths = {"brim": PIECE, "over": PIECE + 8, "even": 2 * PIECE, "long": 2 * PIECE + 800}
         some = random.Random(2)
         for name, length in self.lengths.items():
-            made.add(hidden(name), archive(some.randbytes(length - 112)))
-        self.model = made
+            made.put(hidden(name), archive(some.randbytes(length - 112)))
+        self.store = made
 
     def of_settings(self):
         return {
@@ -54,26 +55,21 @@ class Faulty:
 
     def of_objects(self):
         low, top, own, drv, out, gone = self.low, self.top, self.own, self.drv, self.out, self.gone
-        other = archive(b"other")
+        other, digest = blob(archive(b"other")), blob(sha256(archive(b"other")))
+        has = lambda base, what: update("object", what, f"base = '{base}'")
         return {
-            "a path of an object that is none": "INSERT INTO object VALUES "
-            f"('{self.malformed}', {blob(other)}, {blob(sha256(other))}, NULL, NULL);",
-            "an archive that is none": update("object", f"nar = x'00', hash = {blob(sha256(bytes(1)))}",
-                                              f"base = '{own}'"),
-            "an archive without bytes": update("object", f"nar = x'', hash = {blob(sha256(b''))}", f"base = '{own}'"),
-            "another digest": update("object", f"hash = {blob(sha256(b'x'))}", f"base = '{own}'"),
-            "a digest that is too short": update("object", "hash = x'00'", f"base = '{own}'"),
-            "another archive": update("object", f"nar = {blob(other)}", f"base = '{own}'"),
-            "another archive with its digest under an address": update(
-                "object", f"nar = {blob(other)}, hash = {blob(sha256(other))}", f"base = '{low}'"
-            ),
-            "an address that is none": update("object", "ca = 'x'", f"base = '{low}'"),
-            "an address of another's": update("object", f"ca = (SELECT ca FROM object WHERE base = '{top}')",
-                                              f"base = '{low}'"),
-            "an address of an object that refers to itself": update(
-                "object", f"ca = 'fixed:r:{nar_hash(archive(b'own'))}'", f"base = '{own}'"
-            ),
-            "a deriver that is no path": update("object", f"deriver = '{self.malformed}'", f"base = '{own}'"),
+            "a path of an object that is none": f"INSERT INTO object VALUES ('{self.malformed}', {other}, {digest}, "
+            "NULL, NULL);",
+            "an archive that is none": has(own, f"nar = x'00', hash = {blob(sha256(bytes(1)))}"),
+            "an archive without bytes": has(own, f"nar = x'', hash = {blob(sha256(b''))}"),
+            "another digest": has(own, f"hash = {blob(sha256(b'x'))}"),
+            "a digest that is too short": has(own, "hash = x'00'"),
+            "another archive": has(own, f"nar = {other}"),
+            "another archive with its digest under an address": has(low, f"nar = {other}, hash = {digest}"),
+            "an address that is none": has(low, "ca = 'x'"),
+            "an address of another's": has(low, f"ca = (SELECT ca FROM object WHERE base = '{top}')"),
+            "an address of an object that refers to itself": has(own, f"ca = 'fixed:r:{nar_hash(archive(b'own'))}'"),
+            "a deriver that is no path": has(own, f"deriver = '{self.malformed}'"),
             "a reference that isn't an object": f"INSERT INTO refs VALUES ('{own}', '{gone}');",
             "a reference that is no path": f"INSERT INTO refs VALUES ('{own}', '{self.malformed}');",
             "a reference of nobody": f"INSERT INTO refs VALUES ('{gone}', '{low}');",
@@ -108,16 +104,19 @@ class Faulty:
                 "a runtime root with a blank in its label": update("runtime", "label = 'a b'", "1"),
                 "a runtime root with a long label": update("runtime", f"label = '{'a' * 257}'", "1")}
 
+    def archive(self, base):
+        return self.store.world.objects[base].archive
+
     def cut(self, name, *parts, numbers=None):
         """The archive's row has the first of these bytes, and pieces the others, numbered from 1 or so."""
         return cut_at(hidden(name), parts, numbers or range(1, len(parts)))
 
     def of_pieces(self):
-        brim, over, even, long = (self.model.objects[hidden(name)]["nar"] for name in self.lengths)
-        first, second, rest = long[:PART], long[PART : 2 * PART], long[2 * PART :]
-        short = self.model.objects[self.own]["nar"]
+        brim, over, even, long = (self.archive(hidden(name)) for name in self.lengths)
+        first, second, rest = long[:PIECE], long[PIECE : 2 * PIECE], long[2 * PIECE :]
+        short = self.archive(self.own)
         huge = archive(bytes(16_777_224 - 112))
-        huge_parts = [huge[at : at + PART] for at in range(0, len(huge), PART)]
+        huge_parts = [huge[at : at + PIECE] for at in range(0, len(huge), PIECE)]
         return {
             "a piece of nobody": f"INSERT INTO piece VALUES ('{self.gone}', 1, x'00');",
             "a piece whose path is none": f"INSERT INTO piece VALUES ('{self.malformed}', 1, x'00');",
@@ -130,15 +129,15 @@ class Faulty:
             "a full row that is cut": self.cut("brim", brim[:-8], brim[-8:]),
             "a row that is too long": self.cut("over", over),
             "a row that is too long, and an empty piece": self.cut("over", over, b""),
-            "a row that is too short": self.cut("over", over[: PART - 1], over[PART - 1 :]),
-            "a row without its piece": self.cut("over", over[:PART]),
-            "a piece numbered 2": self.cut("over", over[:PART], over[PART:], numbers=[2]),
-            "a piece numbered 0": self.cut("over", over[:PART], over[PART:], numbers=[0]),
-            "a piece below 0": self.cut("over", over[:PART], over[PART:], numbers=[-1]),
-            "another byte in a piece": self.cut("over", over[:PART], over[PART:-1] + b"\1"),
-            "a byte too few in the last piece": self.cut("over", over[:PART], over[PART:-1]),
-            "an empty piece after a full one": self.cut("even", even[:PART], even[PART:], b""),
-            "a full piece that is cut": self.cut("even", even[:PART], even[PART:-1], even[-1:]),
+            "a row that is too short": self.cut("over", over[: PIECE - 1], over[PIECE - 1 :]),
+            "a row without its piece": self.cut("over", over[:PIECE]),
+            "a piece numbered 2": self.cut("over", over[:PIECE], over[PIECE:], numbers=[2]),
+            "a piece numbered 0": self.cut("over", over[:PIECE], over[PIECE:], numbers=[0]),
+            "a piece below 0": self.cut("over", over[:PIECE], over[PIECE:], numbers=[-1]),
+            "another byte in a piece": self.cut("over", over[:PIECE], over[PIECE:-1] + b"\1"),
+            "a byte too few in the last piece": self.cut("over", over[:PIECE], over[PIECE:-1]),
+            "an empty piece after a full one": self.cut("even", even[:PIECE], even[PIECE:], b""),
+            "a full piece that is cut": self.cut("even", even[:PIECE], even[PIECE:-1], even[-1:]),
             "a last piece that is too long": self.cut("long", first, second + rest),
             "pieces of other lengths": self.cut("long", first, second[:-1], second[-1:] + rest),
             "an empty piece in the middle": self.cut("long", first, b"", second, rest),
@@ -154,6 +153,8 @@ class Faulty:
 
     def of_sessions(self):
         put = lambda owner, session, target: f"INSERT INTO temp_root VALUES ('{owner}', {session}, '{target}');"
+        owners = {"nobody": "", "a bad owner": "-ann", "an owner with a blank": "a b", "an owner with a slash": "a/b",
+                  "a long owner": "a" * 65}
         return {
             "session 0": put("ann", 0, self.low),
             "a session below 0": put("ann", -1, self.low),
@@ -161,19 +162,15 @@ class Faulty:
             "a session far above": put("ann", 2**63 - 1, self.low),
             "a temporary root without its object": put("ann", 1, self.gone),
             "a temporary root of no path": put("ann", 1, self.malformed),
-            **{
-                f"a temporary root of {what}": put(owner, 1, self.low)
-                for what, owner in {"nobody": "", "a bad owner": "-ann", "an owner with a blank": "a b",
-                                    "an owner with a slash": "a/b", "a long owner": "a" * 65}.items()
-            },
+            **{f"a temporary root of {what}": put(owner, 1, self.low) for what, owner in owners.items()},
         }
 
     def of_tables(self):
         return {
-            "no rows at all": "".join(f"DELETE FROM {it};" for it in FORMS),
+            "no rows at all": "".join(f"DELETE FROM {it};" for it in TABLES),
             **{f"schema `{it}` with all tables": update("meta", f"val = '{it}'", "word = 'schema'")
                for it in ("1", "2")},
-            **{f"a {table} without its table": f"DROP TABLE {table};" for table in FORMS},
+            **{f"a {table} without its table": f"DROP TABLE {table};" for table in TABLES},
         }
 
     def whatever_the_schema(self):
@@ -189,84 +186,87 @@ TRIGGER = "CREATE TRIGGER on_{0} AFTER INSERT ON {0} BEGIN DELETE FROM note; END
 def changed(table, old, new):
     """All tables, one of them by another text."""
     assert old in making(table)
-    return "".join(making(it).replace(old, new) if it == table else making(it) for it in FORMS)
+    return "".join(making(it).replace(old, new) if it == table else making(it) for it in TABLES)
+
+
+def all_changed(by_table):
+    return [changed(table, *it) for table, pairs in by_table.items() for it in pairs]
+
+
+# Texts for an empty file, which is a store then that is made or opened, or is refused.
+MADE = ["", BEFORE + BETWEEN]
+# What a schema shows alike: a key's column is NOT NULL in a STRICT table, INT is INTEGER in one, and
+# ON CONFLICT isn't carried out here.
+OPENED_BY_TABLE = {
+    "refs": [("target TEXT NOT NULL", "target TEXT"), ("PRIMARY KEY", "CONSTRAINT whole PRIMARY KEY"),
+             ("(base, target)) ", "(base ASC, target)) ")],
+    "profile": [("cur INTEGER", "cur INT")],
+    "permanent": [("PRIMARY KEY (name)", "PRIMARY KEY (name) ON CONFLICT REPLACE")],
+    "meta": [("PRIMARY KEY (word)", "PRIMARY KEY (word), UNIQUE (word)")],
+    "object": [("deriver TEXT", "deriver TEXT DEFAULT NULL")],
+    "piece": [("num INTEGER", "num INT")],
+    "outs": [("name TEXT NOT NULL", "name TEXT NOT NULL COLLATE BINARY")],
+}
+OPENED = [
+    ALL,
+    BEFORE + ALL + BETWEEN + AFTER,
+    ALL + "CREATE UNIQUE INDEX again ON refs (base, target);",
+    ALL + "CREATE VIEW seen AS SELECT base FROM refs;",
+    ALL + BEFORE + "CREATE TRIGGER theirs AFTER INSERT ON note BEGIN DELETE FROM refs; END;",
+    ALL + "ANALYZE;",
+    ALL.replace("CREATE TABLE refs (", "create  table \"refs\"\n("),
+    ALL + "ALTER TABLE refs RENAME TO references_; ALTER TABLE references_ RENAME TO refs;",
+    ALL + "CREATE INDEX numbers ON piece (num); CREATE INDEX kept ON temp_root (target);",
+    *all_changed(OPENED_BY_TABLE),
+]
+REFUSED_BY_TABLE = {
+    "piece": [(" STRICT", ""), ("(base, num)) ", "(num, base)) "), ("PRIMARY KEY (base, num)", "PRIMARY KEY (base)"),
+              ("bytes BLOB NOT NULL", "bytes BLOB"), ("bytes BLOB", "bytes TEXT"), ("num INTEGER", "num TEXT"),
+              ("base TEXT NOT NULL", "base TEXT NOT NULL REFERENCES object (base)")],
+    "temp_root": [(" STRICT", ""), (") STRICT", ") STRICT, WITHOUT ROWID"), ("session INTEGER", "session TEXT"),
+                  ("(owner, session, target)) ", "(owner, target, session)) "),
+                  ("PRIMARY KEY (owner, session, target)", "PRIMARY KEY (owner, session)"),
+                  ("session INTEGER NOT NULL", "session INTEGER NOT NULL CHECK (session > 0)")],
+    "refs": [(" STRICT", ""), (") STRICT", ") STRICT, WITHOUT ROWID"), ("(base, target)) ", "(target, base)) "),
+             ("(base, target)) ", "(base DESC, target)) "), ("base TEXT", "base BLOB")],
+    "meta": [("val TEXT NOT NULL", "val TEXT"), ("val TEXT NOT NULL", "val TEXT NOT NULL CHECK (val <> '')"),
+             ("val TEXT NOT NULL", "val TEXT NOT NULL DEFAULT 'x'"),
+             ("word TEXT NOT NULL", "word TEXT NOT NULL COLLATE NOCASE")],
+    "profile": [("cur INTEGER", "cur ANY")],
+    "object": [("deriver TEXT", "deriver TEXT NOT NULL")],
+    "permanent": [("target TEXT NOT NULL", "target TEXT NOT NULL REFERENCES object (base)")],
+}
+REFUSED = [
+    # A table with an index that isn't understood can't be read here.
+    ALL + "CREATE INDEX some ON refs (target) WHERE base > 'a';",
+    ALL + "CREATE INDEX lowered ON refs (lower(target));",
+    making("refs"),
+    making("piece"),
+    making("temp_root"),
+    making("piece") + making("temp_root"),
+    "CREATE VIEW temp_root AS SELECT 1 AS owner, 2 AS session, 3 AS target;",
+    "CREATE TABLE t (a TEXT); CREATE INDEX piece ON t (a);",
+    ALL + "DROP TABLE piece; CREATE VIEW piece AS SELECT 1 AS base, 2 AS num, 3 AS bytes;",
+    ALL + "CREATE UNIQUE INDEX one ON piece (base);",
+    ALL + "CREATE UNIQUE INDEX one ON temp_root (session);",
+    ALL + "CREATE TABLE child (p TEXT REFERENCES piece (base));",
+    ALL + "ALTER TABLE piece ADD COLUMN more BLOB;",
+    ALL + "ALTER TABLE refs RENAME TO Refs_; ALTER TABLE Refs_ RENAME TO REFS;",
+    ALL + "ALTER TABLE meta ADD COLUMN more TEXT;",
+    ALL + "ALTER TABLE object DROP COLUMN ca;",
+    ALL + "DROP TABLE refs; CREATE VIEW refs AS SELECT 1 AS base, 2 AS target;",
+    "CREATE VIEW refs AS SELECT 1 AS base, 2 AS target;",
+    "CREATE TABLE t (a TEXT); CREATE INDEX outs ON t (a);",
+    "CREATE TABLE child (p TEXT REFERENCES refs (base));",
+    ALL + "CREATE TABLE child (p TEXT REFERENCES permanent (name));",
+    ALL + "CREATE UNIQUE INDEX one ON refs (target);",
+    ALL + "CREATE UNIQUE INDEX one ON refs (lower(target));",
+    ALL + "CREATE UNIQUE INDEX one ON runtime (label COLLATE NOCASE, target);",
+    *[ALL + BEFORE + TRIGGER.format(it) for it in TABLES],
+    *all_changed(REFUSED_BY_TABLE),
+]
 
 
 def schemas():
-    """Texts for an empty file, and whether it is a store then: opened, made, or refused."""
-    taken, made, refused = "opened", "made", "refused"
-    return [
-        ("", made),
-        (BEFORE + BETWEEN, made),
-        (ALL, taken),
-        (BEFORE + ALL + BETWEEN + AFTER, taken),
-        (ALL + "CREATE UNIQUE INDEX again ON refs (base, target);", taken),
-        (ALL + "CREATE VIEW seen AS SELECT base FROM refs;", taken),
-        (ALL + BEFORE + "CREATE TRIGGER theirs AFTER INSERT ON note BEGIN DELETE FROM refs; END;", taken),
-        (ALL + "ANALYZE;", taken),
-        (ALL.replace("CREATE TABLE refs (", "create  table \"refs\"\n("), taken),
-        (ALL + "ALTER TABLE refs RENAME TO references_; ALTER TABLE references_ RENAME TO refs;", taken),
-        # What a schema shows alike: a key's column is NOT NULL in a STRICT table, INT is INTEGER in one, and
-        # ON CONFLICT isn't carried out here.
-        (changed("refs", "target TEXT NOT NULL", "target TEXT"), taken),
-        (changed("profile", "cur INTEGER", "cur INT"), taken),
-        (changed("permanent", "PRIMARY KEY (name)", "PRIMARY KEY (name) ON CONFLICT REPLACE"), taken),
-        (changed("meta", "PRIMARY KEY (word)", "PRIMARY KEY (word), UNIQUE (word)"), taken),
-        (changed("refs", "PRIMARY KEY", "CONSTRAINT whole PRIMARY KEY"), taken),
-        (changed("refs", "(base, target)) ", "(base ASC, target)) "), taken),
-        (changed("object", "deriver TEXT", "deriver TEXT DEFAULT NULL"), taken),
-        (changed("piece", "num INTEGER", "num INT"), taken),
-        (ALL + "CREATE INDEX numbers ON piece (num); CREATE INDEX kept ON temp_root (target);", taken),
-        (changed("outs", "name TEXT NOT NULL", "name TEXT NOT NULL COLLATE BINARY"), taken),
-        # A table with an index that isn't understood can't be read here.
-        (ALL + "CREATE INDEX some ON refs (target) WHERE base > 'a';", refused),
-        (ALL + "CREATE INDEX lowered ON refs (lower(target));", refused),
-        (making("refs"), refused),
-        (making("piece"), refused),
-        (making("temp_root"), refused),
-        (making("piece") + making("temp_root"), refused),
-        ("CREATE VIEW temp_root AS SELECT 1 AS owner, 2 AS session, 3 AS target;", refused),
-        ("CREATE TABLE t (a TEXT); CREATE INDEX piece ON t (a);", refused),
-        (ALL + "DROP TABLE piece; CREATE VIEW piece AS SELECT 1 AS base, 2 AS num, 3 AS bytes;", refused),
-        (ALL + "CREATE UNIQUE INDEX one ON piece (base);", refused),
-        (ALL + "CREATE UNIQUE INDEX one ON temp_root (session);", refused),
-        (ALL + "CREATE TABLE child (p TEXT REFERENCES piece (base));", refused),
-        (ALL + "ALTER TABLE piece ADD COLUMN more BLOB;", refused),
-        (changed("piece", " STRICT", ""), refused),
-        (changed("piece", "(base, num)) ", "(num, base)) "), refused),
-        (changed("piece", "PRIMARY KEY (base, num)", "PRIMARY KEY (base)"), refused),
-        (changed("piece", "bytes BLOB NOT NULL", "bytes BLOB"), refused),
-        (changed("piece", "bytes BLOB", "bytes TEXT"), refused),
-        (changed("piece", "num INTEGER", "num TEXT"), refused),
-        (changed("piece", "base TEXT NOT NULL", "base TEXT NOT NULL REFERENCES object (base)"), refused),
-        (changed("temp_root", " STRICT", ""), refused),
-        (changed("temp_root", ") STRICT", ") STRICT, WITHOUT ROWID"), refused),
-        (changed("temp_root", "session INTEGER", "session TEXT"), refused),
-        (changed("temp_root", "(owner, session, target)) ", "(owner, target, session)) "), refused),
-        (changed("temp_root", "PRIMARY KEY (owner, session, target)", "PRIMARY KEY (owner, session)"), refused),
-        (changed("temp_root", "session INTEGER NOT NULL", "session INTEGER NOT NULL CHECK (session > 0)"), refused),
-        (ALL + "ALTER TABLE refs RENAME TO Refs_; ALTER TABLE Refs_ RENAME TO REFS;", refused),
-        (ALL + "ALTER TABLE meta ADD COLUMN more TEXT;", refused),
-        (ALL + "ALTER TABLE object DROP COLUMN ca;", refused),
-        (ALL + "DROP TABLE refs; CREATE VIEW refs AS SELECT 1 AS base, 2 AS target;", refused),
-        ("CREATE VIEW refs AS SELECT 1 AS base, 2 AS target;", refused),
-        ("CREATE TABLE t (a TEXT); CREATE INDEX outs ON t (a);", refused),
-        ("CREATE TABLE child (p TEXT REFERENCES refs (base));", refused),
-        (ALL + "CREATE TABLE child (p TEXT REFERENCES permanent (name));", refused),
-        (ALL + "CREATE UNIQUE INDEX one ON refs (target);", refused),
-        (ALL + "CREATE UNIQUE INDEX one ON refs (lower(target));", refused),
-        (ALL + "CREATE UNIQUE INDEX one ON runtime (label COLLATE NOCASE, target);", refused),
-        (changed("refs", " STRICT", ""), refused),
-        (changed("refs", ") STRICT", ") STRICT, WITHOUT ROWID"), refused),
-        (changed("refs", "(base, target)) ", "(target, base)) "), refused),
-        (changed("refs", "(base, target)) ", "(base DESC, target)) "), refused),
-        (changed("meta", "val TEXT NOT NULL", "val TEXT"), refused),
-        (changed("refs", "base TEXT", "base BLOB"), refused),
-        (changed("profile", "cur INTEGER", "cur ANY"), refused),
-        (changed("object", "deriver TEXT", "deriver TEXT NOT NULL"), refused),
-        (changed("meta", "val TEXT NOT NULL", "val TEXT NOT NULL CHECK (val <> '')"), refused),
-        (changed("meta", "val TEXT NOT NULL", "val TEXT NOT NULL DEFAULT 'x'"), refused),
-        (changed("meta", "word TEXT NOT NULL", "word TEXT NOT NULL COLLATE NOCASE"), refused),
-        (changed("permanent", "target TEXT NOT NULL", "target TEXT NOT NULL REFERENCES object (base)"), refused),
-        *[(ALL + BEFORE + TRIGGER.format(it), refused) for it in FORMS],
-    ]
+    """Each such text, and what comes of it."""
+    return [(it, word) for word, found in (("made", MADE), ("opened", OPENED), ("refused", REFUSED)) for it in found]

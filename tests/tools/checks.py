@@ -37,17 +37,16 @@ class Checks:
             report.tell(f"{what}:\n  came   {came if isinstance(came, str) else report.short(came)}")
 
 
-def run(doc, parts, needs=(), start=lambda program, folder: program):
+def script(doc, parts, skip=(), start=lambda program, folder: program):
     """Runs the functions of a test, by the names of its parts. Each gets what `start` makes, once, and the checks."""
-    words = report.options(doc, parts=[*parts])
-    if report.skips(*needs):
-        return 0
-    check = Checks()
-    with tempfile.TemporaryDirectory() as folder:
-        first = start(report.program_file(words), folder)
+
+    def run(words):
+        check, first = Checks(), start(report.program_file(words), words.folder)
         for part in words.parts:
             parts[part](first, check)
-    return check.failed
+        return check.failed
+
+    report.script(doc, run, parts=[*parts], skip=skip)
 
 
 def ran(command, given=b"", **more):

@@ -12,8 +12,9 @@ LIMIT = 16_777_216
 DEPTH = 256
 
 
-def spell(text):
-    return len(text).to_bytes(8, "little") + text + bytes(-len(text) % 8)
+def spell(*strings):
+    """Each string as an archive has it: its length in 8 bytes, least first, its bytes, and zeros to a multiple of 8."""
+    return b"".join(len(it).to_bytes(8, "little") + it + bytes(-len(it) % 8) for it in strings)
 
 
 class Reader:
@@ -100,26 +101,25 @@ def read(data):
 
 def node_bytes(node):
     if node[0] == "regular":
-        executable = [b"executable", b""] if node[1] else []
-        inner = b"".join(map(spell, [b"regular", *executable, b"contents", node[2]]))
+        inner = spell(b"regular", *[b"executable", b""] * node[1], b"contents", node[2])
     elif node[0] == "symlink":
-        inner = b"".join(map(spell, [b"symlink", b"target", node[1]]))
+        inner = spell(b"symlink", b"target", node[1])
     else:
         inner = spell(b"directory") + b"".join(entry_bytes(*entry) for entry in node[1])
-    return spell(b"(") + spell(b"type") + inner + spell(b")")
+    return spell(b"(", b"type") + inner + spell(b")")
 
 
 def entry_bytes(name, node):
-    return b"".join(map(spell, [b"entry", b"(", b"name", name, b"node"])) + node_bytes(node) + spell(b")")
+    return spell(b"entry", b"(", b"name", name, b"node") + node_bytes(node) + spell(b")")
 
 
 def write(node):
     return spell(b"nix-archive-1") + node_bytes(node)
 
 
-def file_archive(contents):
-    """The archive of a plain file with these contents."""
-    return write(("regular", False, contents))
+def file_archive(contents, is_executable=False):
+    """The archive of a regular file with these contents."""
+    return write(("regular", is_executable, contents))
 
 
 def plain_contents(node):

@@ -31,7 +31,7 @@ def literal(value):
 def statements(rows):
     """The statements that make the tables and their rows."""
     for name, found in rows.items():
-        yield tables.making(name) + ";"
+        yield tables.making(name)
         for row in sorted(found, key=repr):
             yield f"INSERT INTO {name} VALUES ({', '.join(map(literal, row))});"
 
@@ -79,9 +79,9 @@ def run_text(step, wanted):
 
 def rows_text(rows, others):
     """Steps that show the rows of those tables in which two databases differ."""
-    for name, (columns, key, _) in tables.TABLES.items():
+    for name, (_, key, _) in tables.TABLES.items():
         if rows.get(name) != others.get(name):
-            places = [[it.split()[0] for it in columns.split(", ")].index(it) for it in key.split(", ")]
+            places = [tables.columns_of(name).index(it) for it in key.split(", ")]
             found = sorted(rows.get(name, ()), key=lambda row: [row[at] for at in places])
             lines = "".join(",".join(map(literal, row)) + "\n" for row in found)
             command = f"sqlite3 -quote {FILE} 'SELECT * FROM {name} ORDER BY {key}'"

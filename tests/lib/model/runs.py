@@ -27,7 +27,7 @@ def make_file(path, rows):
             database.execute("BEGIN")
             for name, found in rows.items():
                 database.execute(tables.making(name))
-                marks = ", ".join("?" * (tables.TABLES[name][0].count(",") + 1))
+                marks = ", ".join("?" * len(tables.columns_of(name)))
                 database.executemany(f"INSERT INTO {name} VALUES ({marks})", sorted(found, key=repr))
             database.execute("COMMIT")
 

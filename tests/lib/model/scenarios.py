@@ -211,8 +211,7 @@ class Scenarios(Commands):
         return tables.TABLES[name][0].split(", ")[at].split(" ")[1]
 
     def has_key(self, name, row, other):
-        columns = [it.split(" ")[0] for it in tables.TABLES[name][0].split(", ")]
-        key = [columns.index(it) for it in tables.TABLES[name][1].split(", ")]
+        key = [tables.columns_of(name).index(it) for it in tables.TABLES[name][1].split(", ")]
         return [row[at] for at in key] == [other[at] for at in key]
 
     def changed(self, value, kind):

@@ -25,11 +25,16 @@ def tables_of(schema):
     return [name for name, (_, _, first) in TABLES.items() if first <= schema]
 
 
+def columns_of(name):
+    """The names of a table's columns."""
+    return [it.split()[0] for it in TABLES[name][0].split(", ")]
+
+
 def making(name):
     """The statement that makes a table."""
     columns, key, _ = TABLES[name]
     columns = [it[:-2] if it.endswith(" ?") else it + " NOT NULL" for it in columns.split(", ")]
-    return f"CREATE TABLE {name} ({', '.join(columns)}, PRIMARY KEY ({key})) STRICT"
+    return f"CREATE TABLE {name} ({', '.join(columns)}, PRIMARY KEY ({key})) STRICT;"
 
 
 def rows_of(world, store_dir, schema=3):

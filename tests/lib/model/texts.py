@@ -45,12 +45,12 @@ def unbase32(text, size):
     return number.to_bytes(size, "little")
 
 
-def fold(digest):
-    """Twenty bytes, each the exclusive or of the bytes of the digest that are twenty places apart."""
-    folded = [0] * 20
+def folded(digest, size=20):
+    """As many bytes, each the exclusive or of the bytes of the digest that are that many places apart."""
+    found = bytearray(size)
     for at, byte in enumerate(digest):
-        folded[at % 20] ^= byte
-    return bytes(folded)
+        found[at % size] ^= byte
+    return bytes(found)
 
 
 def is_plain_name(text):
@@ -91,7 +91,7 @@ def sha256(data):
 def path_of(kind, store_dir, name, references, inner):
     """The base name of what has this kind, name, references and inner digest."""
     kind = ":".join([kind, *(f"{store_dir}/{base}" for base in sorted(set(references)))])
-    return base32(fold(sha256(f"{kind}:sha256:{inner.hex()}:{store_dir}:{name}".encode()))) + "-" + name
+    return base32(folded(sha256(f"{kind}:sha256:{inner.hex()}:{store_dir}:{name}".encode()))) + "-" + name
 
 
 def text_path(store_dir, name, references, contents):

@@ -34,7 +34,7 @@ def spellings():
     yield texts.base32(b""), ""
     yield [refused(texts.unbase32, it, 1) for it in ("zz", "7e", "7")], [11, 9, 10]
     yield texts.unbase32("7z", 1), b"\xff"
-    folded = texts.fold(b"\x01" + bytes(19) + b"\xff" + bytes(11))
+    folded = texts.folded(b"\x01" + bytes(19) + b"\xff" + bytes(11))
     yield folded, b"\xfe" + bytes(19)
     yield texts.base32(folded), "0" * 30 + "7y"
     yield texts.base32(texts.sha256(b"")), "0mdqa9w1p6cmli6976v4wi0sw9r4p5prkj7lzfd1877wk11c9c73"
@@ -59,7 +59,7 @@ def paths():
     yield archives.file_archive(b"mycontent\n"), MINE
     yield texts.source_path("/nix/store", "myfile", [], MINE), MYFILE
     yield texts.text_path("/nix/store", "myfile", [], b"mycontent\n") == MYFILE, False
-    print_of = lambda kind: texts.base32(texts.fold(texts.sha256(kind.encode())))
+    print_of = lambda kind: texts.base32(texts.folded(texts.sha256(kind.encode())))
     digest = "ba7816bf8f01cfea414140de5dae2223b00361a396177a9cb410ff61f20015ad"
     wanted = print_of(f"text:/nix/store/{A}:/nix/store/{B}:sha256:{digest}:/nix/store:n") + "-n"
     yield texts.text_path("/nix/store", "n", [B, A, B], b"abc"), wanted
