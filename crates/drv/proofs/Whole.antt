@@ -5,7 +5,7 @@ use Rattle.std.specs.List.{AllZip}
 use Rattle.std.proofs.lemmas.List.{append-nil}
 use Rattle.drv.specs.Written.{Written, string}
 use Rattle.drv.specs.Derivation.{Input, Variable, Derivation, commas, tuple, list, output, input, variable, derivation, IsOutput, HasOutputs}
-use Rattle.drv.specs.Reading.{◌>>=◌, after, ◌>=>◌, further, string_end, list_at, list_end, variable_end, input_end, output_at, front_end, inputs_end, process_end, if_ended, listed}
+use Rattle.drv.specs.Reading.{◌>>=◌, after, ◌>=>◌, further, string_end, list_at, list_end, variable_end, input_end, output_at, after_derive, inputs_end, process_end, if_ended, listed}
 use Rattle.drv.proofs.Steps.{bind_some, Skips, Skips-then, Skips-byte, Skips-further}
 use Rattle.drv.proofs.Lists.{Reads-list, Skips-list}
 use Rattle.drv.proofs.Strings.{string_skips}
@@ -17,8 +17,8 @@ use Rattle.drv.proofs.OneOutput.{outputs_read, outputs_open}
 abbrev FrontParts : Type 0
 FrontParts = (((((Unit {0} × Unit {0}) × Unit {0}) × Unit {0}) × Unit {0}) × Unit {0}) × Unit {0}
 
-front_skips : Skips front_end (λ (z : FrontParts). codes "Derive(")
-unfolding front_end
+front_skips : Skips after_derive (λ (z : FrontParts). codes "Derive(")
+unfolding after_derive
 front_skips =
     Skips-then (after 68 >=> after 101 >=> after 114 >=> after 105 >=> after 118 >=> after 101) (after 40) _ _
     (Skips-then (after 68 >=> after 101 >=> after 114 >=> after 105 >=> after 118) (after 101) _ _
@@ -92,7 +92,7 @@ listed_again dir text all h =
     let behind : Listed → Option (List ℕ) → Option Listed = λ xs o. o >>= λ t. process_end t >>= λ rest. if_ended xs rest in
     let outputs : Option (List ℕ) → Option Listed = λ o. o >>= λ t. list_at (output_at dir) t >>= λ xs. behind xs.0 (inputs_end xs.1) in
     let lists = Reads-list (output_at dir) output (IsOutput dir) (outputs_read dir) outputs_open in
-    ap (λ (t : List ℕ). outputs (front_end t)) (h.written ∙ whole_is d)
+    ap (λ (t : List ℕ). outputs (after_derive t)) (h.written ∙ whole_is d)
     ∙ ap outputs (front_skips.again ((((((tt, tt), tt), tt), tt), tt), tt) (list (map output d.outputs) ++ (inputs ++ (process ++ []))))
     ∙ ap (λ (o : Option (Listed × List ℕ)). o >>= λ xs. behind xs.0 (inputs_end xs.1)) (lists.again d.outputs all (inputs ++ (process ++ [])) h.outputs_are)
     ∙ ap (behind all) (inputs_skip.again (d.inputs, d.sources) (process ++ []))
@@ -107,7 +107,7 @@ unfolding listed
 listed_takes dir text all e =
     let behind : Listed → List ℕ → Option Listed = λ xs t. inputs_end t >>= λ t. process_end t >>= λ rest. if_ended xs rest in
     let lists = Reads-list (output_at dir) output (IsOutput dir) (outputs_read dir) outputs_open in
-    let a = bind_some (front_end text) (λ t. list_at (output_at dir) t >>= λ xs. behind xs.0 xs.1) all e in
+    let a = bind_some (after_derive text) (λ t. list_at (output_at dir) t >>= λ xs. behind xs.0 xs.1) all e in
     let b = bind_some (list_at (output_at dir) a.0) (λ xs. behind xs.0 xs.1) all a.2 in
     let c = bind_some (inputs_end b.0.1) (λ t. process_end t >>= λ rest. if_ended b.0.0 rest) all b.2 in
     let g = bind_some (process_end c.0) (λ rest. if_ended b.0.0 rest) all c.2 in

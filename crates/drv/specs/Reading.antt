@@ -132,8 +132,8 @@ output_at dir text =
     hash_end path.1 >>= λ rest. Some ((name.0, path.0), rest)
 
 -- `Derive(`
-unfoldable pub front_end : List ℕ → Option (List ℕ)
-front_end = after 68 >=> after 101 >=> after 114 >=> after 105 >=> after 118 >=> after 101 >=> after 40
+unfoldable pub after_derive : List ℕ → Option (List ℕ)
+after_derive = after 68 >=> after 101 >=> after 114 >=> after 105 >=> after 118 >=> after 101 >=> after 40
 
 -- what comes after the outputs
 unfoldable pub inputs_end : List ℕ → Option (List ℕ)
@@ -150,5 +150,5 @@ if_ended x (b ∷ rest) = None
 -- the outputs of a whole text
 unfoldable pub listed : List ℕ → List ℕ → Option (List (List ℕ × Option (List ℕ)))
 listed dir text =
-    front_end text >>= λ t. list_at (output_at dir) t >>= λ outputs. inputs_end outputs.1 >>= λ t. process_end t >>= λ rest.
+    after_derive text >>= λ t. list_at (output_at dir) t >>= λ outputs. inputs_end outputs.1 >>= λ t. process_end t >>= λ rest.
     if_ended outputs.0 rest

@@ -7,7 +7,7 @@ ghost use Rattle.drv.specs.View.{views};
 
 use crate::error::DrvError;
 use crate::output::{Output, output_of};
-use crate::skipping::{skip_all_inputs, skip_front, skip_process};
+use crate::skipping::{skip_all_inputs, skip_derive, skip_process};
 use crate::string::after;
 use paths::StoreDir;
 use std::alloc::Global;
@@ -60,7 +60,7 @@ fn more_outputs<'a>(
 pub fn read(alloc: Global, text: &[u8], dir: &StoreDir) -> Result<Vec<Output>, DrvError>
     ensures { Gives (λ v. views v.items) result (listed dir.now text.now) }
 {
-    let list = skip_front(text).ok_or(DrvError::BadDerivation)?;
+    let list = skip_derive(text).ok_or(DrvError::BadDerivation)?;
     let (outputs, rest) = outputs_of(alloc, list, dir)?;
     let rest = skip_all_inputs(rest).ok_or(DrvError::BadDerivation)?;
     let rest = skip_process(rest).ok_or(DrvError::BadDerivation)?;

@@ -46,6 +46,18 @@ fn outcome(alloc: Global, text: &[u8], dir: &StoreDir) -> Result<Vec<(String, St
 /// bracket. The escapes in strings are `\"`, `\\`, `\n`, `\r` and `\t`, and no other. The name of an output is a
 /// store name, its path is empty or a full path in the store directory; other strings aren't examined.
 ///
+/// ```rust
+/// use paths::StoreDir;
+///
+/// let dir = StoreDir::parse(alloc, "/nix/store")?;
+/// let text =
+///     br#"Derive([("out","/nix/store/11111111111111111111111111111111-o","","")],[],[],"p","b",[],[])"#;
+/// for (name, path) in drv::outputs(alloc, text, &dir)? {
+///     assert_eq!(rt; name.as_str(), "out");
+///     assert_eq!(rt; path.as_str(), "11111111111111111111111111111111-o");
+/// }
+/// ```
+///
 /// # Errors
 ///
 /// `BadDerivation` exactly where the text isn't such a text, `DoubleOutput` exactly where it is and two outputs share

@@ -2,7 +2,7 @@
 
 ghost use Rattle.std.specs.Prelude.{◌≡◌, length};
 ghost use Rattle.std.specs.Option.{option_copied};
-ghost use Rattle.drv.specs.Reading.{alone, rest_of, more_at, string_end, list_end, further, variable_end, input_end, hash_end, front_end, inputs_end, process_end};
+ghost use Rattle.drv.specs.Reading.{alone, rest_of, more_at, string_end, list_end, further, variable_end, input_end, hash_end, after_derive, inputs_end, process_end};
 
 use crate::string::{after, skip_string};
 
@@ -126,9 +126,9 @@ pub fn skip_hash(text: &[u8]) -> Option<&[u8]>
 }
 
 /// What follows the word that a derivation begins with, and its bracket.
-#[tactic(auto, unfolding(crate::specs::Reading::front_end))]
-pub fn skip_front(text: &[u8]) -> Option<&[u8]>
-    ensures { option_copied result ≡ front_end text.now }
+#[tactic(auto, unfolding(crate::specs::Reading::after_derive))]
+pub fn skip_derive(text: &[u8]) -> Option<&[u8]>
+    ensures { option_copied result ≡ after_derive text.now }
 {
     let rest = after(text, b'D')?;
     let rest = after(rest, b'e')?;

@@ -7,7 +7,7 @@ use Rattle.std.proofs.lemmas.Bool.{cases_lt}
 use Rattle.std.proofs.lemmas.List.{take-append-le, drop-append-le, take-take, drop-take, drop_all, length-drop, length-take, append-nil}
 use Rattle.nar.specs.String.{length_at}
 use Rattle.nar.proofs.Feeding.{length_at-append}
-use Rattle.intake.specs.Contents.{plain_front, begins_plain, behind_front, contents_so_far}
+use Rattle.intake.specs.Contents.{plain_prefix, begins_plain, after_prefix, contents_so_far}
 
 -- ---- what a piece adds to a part of the whole
 
@@ -31,15 +31,15 @@ taken_behind d xs ys =
 
 none_yet : (bytes : List ℕ) → length bytes ≤ 96 → contents_so_far bytes ≡ []
 none_yet bytes short =
-    let gone : behind_front bytes ≡ [] = ap (take (length_at (drop 88 bytes))) (drop_all 96 bytes short) ∙ take-nil (length_at (drop 88 bytes)) in
-    by (begins_plain bytes) (behind_front bytes) gone
+    let gone : after_prefix bytes ≡ [] = ap (take (length_at (drop 88 bytes))) (drop_all 96 bytes short) ∙ take-nil (length_at (drop 88 bytes)) in
+    by (begins_plain bytes) (after_prefix bytes) gone
   where
     by : (b : Bool) (xs : List ℕ) → xs ≡ [] → cond b xs [] ≡ []
     by true xs e = e
     by false xs e = refl
 
 same_front : (old piece : List ℕ) → 96 ≤ length old → begins_plain (old ++ piece) ≡ begins_plain old
-same_front old piece long = ap (λ t. bytes_eq t plain_front) (take-append-le 88 old piece (omega arith))
+same_front old piece long = ap (λ t. bytes_eq t plain_prefix) (take-append-le 88 old piece (omega arith))
 
 same_length : (old piece : List ℕ) → 96 ≤ length old → length_at (drop 88 (old ++ piece)) ≡ length_at (drop 88 old)
 same_length old piece long =
@@ -51,7 +51,7 @@ had_plain old piece plain =
     elim (cases_lt (length old) 96) [
       | inl short ↦ none_yet old (omega arith) ∙ sym (ap (take (length_at (drop 88 (old ++ piece)))) (drop_all 96 old (omega arith)) ∙ take-nil (length_at (drop 88 (old ++ piece))))
       | inr long ↦
-          ap (λ b. cond b (behind_front old) []) (sym (same_front old piece long) ∙ plain)
+          ap (λ b. cond b (after_prefix old) []) (sym (same_front old piece long) ∙ plain)
           ∙ ap (λ n. take n (drop 96 old)) (sym (same_length old piece long))
     ]
 
@@ -59,13 +59,13 @@ pub had_none : (old piece : List ℕ) → begins_plain (old ++ piece) ≡ false 
 had_none old piece other =
     elim (cases_lt (length old) 96) [
       | inl short ↦ none_yet old (omega arith)
-      | inr long ↦ ap (λ b. cond b (behind_front old) []) (sym (same_front old piece long) ∙ other)
+      | inr long ↦ ap (λ b. cond b (after_prefix old) []) (sym (same_front old piece long) ∙ other)
     ]
 
 -- ---- by the first piece
 
 pub begins_by_first : (first bytes : List ℕ) → first ≡ take 65536 bytes → begins_plain first ≡ begins_plain bytes
-begins_by_first first bytes is = ap (λ t. bytes_eq t plain_front) (ap (take 88) is ∙ take-take 88 65536 bytes (omega arith))
+begins_by_first first bytes is = ap (λ t. bytes_eq t plain_prefix) (ap (take 88) is ∙ take-take 88 65536 bytes (omega arith))
 
 pub length_by_first : (first bytes : List ℕ) → first ≡ take 65536 bytes → length_at (drop 88 first) ≡ length_at (drop 88 bytes)
 length_by_first first bytes is =
@@ -85,7 +85,7 @@ too_short first old piece is short =
 pub no_plain : (first old piece : List ℕ) → first ≡ take 65536 (old ++ piece) → begins_plain first ≡ false → contents_so_far (old ++ piece) ≡ contents_so_far old ++ []
 no_plain first old piece is other =
     let none : begins_plain (old ++ piece) ≡ false = sym (begins_by_first first (old ++ piece) is) ∙ other in
-    ap (λ b. cond b (behind_front (old ++ piece)) []) none ∙ sym (had_none old piece none) ∙ sym (append-nil (contents_so_far old))
+    ap (λ b. cond b (after_prefix (old ++ piece)) []) none ∙ sym (had_none old piece none) ∙ sym (append-nil (contents_so_far old))
 
 -- what a piece adds, where its archive begins as that of a file
 pub more_contents : (first old piece : List ℕ) → first ≡ take 65536 (old ++ piece) → begins_plain first ≡ true
@@ -94,7 +94,7 @@ more_contents first old piece is plain =
     let all = old ++ piece in
     let plain_all : begins_plain all ≡ true = sym (begins_by_first first all is) ∙ plain in
     let n = length_at (drop 88 all) in
-    ap (λ b. cond b (behind_front all) []) plain_all
+    ap (λ b. cond b (after_prefix all) []) plain_all
     ∙ taken_behind n old piece
     ∙ ap (λ t. t ++ take (n - (length old - 96)) (drop (96 - length old) piece)) (sym (had_plain old piece plain_all))
     ∙ ap (λ k. contents_so_far old ++ take (k - (length old - 96)) (drop (96 - length old) piece)) (sym (length_by_first first all is))

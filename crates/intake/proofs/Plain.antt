@@ -16,21 +16,21 @@ use Rattle.nar.proofs.Files.{head, close, length-head, in_three, length-file}
 use Rattle.paths.specs.declared.facts.Facts.{Facts}
 use Rattle.paths.specs.ContentAddress.{plain, plain_contents}
 use Rattle.paths.specs.Facts.{hash_of, facts_of}
-use Rattle.intake.specs.Contents.{plain_front, begins_plain, behind_front, contents_so_far, hash_so_far}
+use Rattle.intake.specs.Contents.{plain_prefix, begins_plain, after_prefix, contents_so_far, hash_so_far}
 use Rattle.intake.specs.Arriving.{fault_of, appended}
 
-front_is : plain_front ≡ spelling head
-unfolding plain_front
+front_is : plain_prefix ≡ spelling head
+unfolding plain_prefix
 front_is = refl
 
 -- the archive of such a file begins so, and its contents stand behind
 file_begins : (c : List ℕ) → begins_plain (spelling (archive (regular false c))) ≡ true
 file_begins c =
-    ap (λ t. bytes_eq (take 88 t) plain_front) (in_three c)
-    ∙ ap (λ t. bytes_eq t plain_front) (take_at (spelling head) (string c ++ spelling close) 88 length-head)
-    ∙ (bytes_eq-Decides (spelling head) plain_front).1 (sym front_is)
+    ap (λ t. bytes_eq (take 88 t) plain_prefix) (in_three c)
+    ∙ ap (λ t. bytes_eq t plain_prefix) (take_at (spelling head) (string c ++ spelling close) 88 length-head)
+    ∙ (bytes_eq-Decides (spelling head) plain_prefix).1 (sym front_is)
 
-file_contents : (c : List ℕ) → length c < 2 ^ 64 → behind_front (spelling (archive (regular false c))) ≡ c
+file_contents : (c : List ℕ) → length c < 2 ^ 64 → after_prefix (spelling (archive (regular false c))) ≡ c
 unfolding string
 file_contents c small =
     let n = length c in
@@ -47,23 +47,23 @@ file_contents c small =
 
 -- any other archive begins otherwise
 executable_begins : (c : List ℕ) → begins_plain (spelling (archive (regular true c))) ≡ false
-unfolding plain_front string
+unfolding plain_prefix string
 executable_begins c = refl
 
 symlink_begins : (target : List ℕ) → begins_plain (spelling (archive (symlink target))) ≡ false
-unfolding plain_front string
+unfolding plain_prefix string
 symlink_begins target = refl
 
 directory_begins : (es : Entries) → begins_plain (spelling (archive (directory es))) ≡ false
-unfolding plain_front string
+unfolding plain_prefix string
 directory_begins es = refl
 
 by_file : (c bytes : List ℕ) → bytes ≡ spelling (archive (regular false c)) → length bytes ≤ limit → Some (sha256 c) ≡ hash_so_far bytes
 by_file c bytes is fits =
     let small : length c < 2 ^ 64 = omega (arith, length-file c, ap length is) in
     let begins : begins_plain bytes ≡ true = ap begins_plain is ∙ file_begins c in
-    sym (ap (λ b. cond b (Some (sha256 (cond b (behind_front bytes) []))) None) begins
-    ∙ ap (λ t. Some (sha256 t)) (ap behind_front is ∙ file_contents c small))
+    sym (ap (λ b. cond b (Some (sha256 (cond b (after_prefix bytes) []))) None) begins
+    ∙ ap (λ t. Some (sha256 t)) (ap after_prefix is ∙ file_contents c small))
 
 by_other : (bytes : List ℕ) → begins_plain bytes ≡ false → None ≡ hash_so_far bytes
 by_other bytes other = sym (ap (λ b. cond b (Some (sha256 (contents_so_far bytes))) None) other)
@@ -86,7 +86,7 @@ told_none (Err e) f is = refl
 
 -- ---- a text as an archive
 
-pub wrapped : (c front length' fill end : List ℕ) → front ≡ plain_front → length' ≡ to_le_bytes w64 (length c) → fill ≡ take ((8 - length c % 8) % 8) (replicate 8 0) → end ≡ spelling close
+pub wrapped : (c front length' fill end : List ℕ) → front ≡ plain_prefix → length' ≡ to_le_bytes w64 (length c) → fill ≡ take ((8 - length c % 8) % 8) (replicate 8 0) → end ≡ spelling close
     → (((front ++ length') ++ c) ++ fill) ++ end ≡ spelling (archive (regular false c))
 wrapped c front length' fill end f l p e =
     let text : ((front ++ length') ++ c) ++ fill ≡ front ++ string c = is_written front c length' (front ++ length') ((front ++ length') ++ c) (((front ++ length') ++ c) ++ fill) l refl refl (ap (λ t. ((front ++ length') ++ c) ++ t) p) in

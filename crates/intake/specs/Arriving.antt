@@ -16,7 +16,7 @@ MayHold (Some hasher) bytes = Holds256 hasher bytes
 
 -- The checker has taken these bytes, and wanted no memory. Of them each whole piece is hashed, and what it has of a file's
 -- contents, where they are asked for.
-pub record HasTaken (checker : Checker) (hasher : Sha256) (contents : Option Sha256) (bytes : List ℕ) : Type 0 where
+pub record HasAccepted (checker : Checker) (hasher : Sha256) (contents : Option Sha256) (bytes : List ℕ) : Type 0 where
   pub fed : HasBeenFed checker bytes
   pub sound : ¬ HasFailed checker Memory
   pub hashed : Holds256 hasher (take (65536 * (length bytes / 65536)) bytes)

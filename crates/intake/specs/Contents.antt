@@ -8,19 +8,19 @@ use Rattle.nar.specs.Tree.{Tree, regular, symlink, directory}
 use Rattle.nar.specs.Archive.{other, spelling}
 
 -- what the archive of such a file begins with, up to the length of its contents: 88 bytes
-unfoldable pub plain_front : List ℕ
-plain_front = spelling (other (codes "nix-archive-1") ∷ other (codes "(") ∷ other (codes "type") ∷ other (codes "regular") ∷ other (codes "contents") ∷ [])
+unfoldable pub plain_prefix : List ℕ
+plain_prefix = spelling (other (codes "nix-archive-1") ∷ other (codes "(") ∷ other (codes "type") ∷ other (codes "regular") ∷ other (codes "contents") ∷ [])
 
 abbrev pub begins_plain : List ℕ → Bool
-begins_plain bytes = bytes_eq (take 88 bytes) plain_front
+begins_plain bytes = bytes_eq (take 88 bytes) plain_prefix
 
 -- of the bytes after the length that follows the prefix, as many as it says
-abbrev pub behind_front : List ℕ → List ℕ
-behind_front bytes = take (length_at (drop 88 bytes)) (drop 96 bytes)
+abbrev pub after_prefix : List ℕ → List ℕ
+after_prefix bytes = take (length_at (drop 88 bytes)) (drop 96 bytes)
 
 -- the contents that have come: none, where the bytes don't begin so
 abbrev pub contents_so_far : List ℕ → List ℕ
-contents_so_far bytes = if begins_plain bytes then behind_front bytes else []
+contents_so_far bytes = if begins_plain bytes then after_prefix bytes else []
 
 -- SHA-256 of the contents that have come, where the bytes begin so
 abbrev pub hash_so_far : List ℕ → Option (List ℕ)

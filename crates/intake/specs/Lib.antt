@@ -1,3 +1,3 @@
 pub mod Arriving
 pub mod Contents
-pub mod Told
+pub mod Described

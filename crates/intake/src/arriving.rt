@@ -3,8 +3,8 @@
 ghost use Rattle.std.specs.Prelude.{◌≡◌, ◌++◌, [], OnOk};
 ghost use Rattle.nar.specs.Tree.{IsBytes};
 ghost use Rattle.paths.specs.Facts.{facts_of};
-ghost use Rattle.intake.specs.Arriving.{HasTaken};
-ghost use Rattle.intake.specs.Told.{IsTold};
+ghost use Rattle.intake.specs.Arriving.{HasAccepted};
+ghost use Rattle.intake.specs.Described.{DescribesBytes};
 
 use crate::checking::{fault_at_end, feed};
 use crate::digests::{SIZE, contents_up_to, finalized, hash_asked, hash_pieces, plain_hash};
@@ -32,7 +32,7 @@ impl Arrived {
     /// What is found of the bytes for a content address. Where they are the archive of a file that isn't executable, and
     /// the digest of its contents wasn't asked for, these are hashed here.
     pub fn facts(&self) -> Facts
-        ensures { IsTold self.now → result ≡ facts_of self.now.pieces }
+        ensures { DescribesBytes self.now → result ≡ facts_of self.now.pieces }
     {
         Facts {
             nar_hash: self.nar_hash,
@@ -55,17 +55,17 @@ pub struct Arriving {
 
 impl Model for Arriving {
     ghost use Rattle.std.specs.Prelude.{List, ℕ};
-    ghost use Rattle.intake.specs.Arriving.{HasTaken};
+    ghost use Rattle.intake.specs.Arriving.{HasAccepted};
 
     ghost Value = { List ℕ };
 
     ghost view = { λ a. a.pieces };
 
-    ghost invariant = { λ a. HasTaken a.checker a.hasher a.contents a.pieces };
+    ghost invariant = { λ a. HasAccepted a.checker a.hasher a.contents a.pieces };
 }
 
 /// Takes the next piece: what was known of the pieces so far is known of all. Where memory is refused, the parts no longer agree.
-fn take_in(
+fn accept_piece(
     checker: &mut Checker,
     hasher: &mut Sha256,
     contents: &mut Option<Sha256>,
@@ -73,7 +73,7 @@ fn take_in(
     piece: &[u8],
 ) -> Result<(), AllocError>
     ensures pieces { OnOk result (pieces.new ≡ pieces.old ++ piece.now) }
-    ensures taken { OnOk result (HasTaken checker.old hasher.old contents.old pieces.old → HasTaken checker.new hasher.new contents.new pieces.new) }
+    ensures taken { OnOk result (HasAccepted checker.old hasher.old contents.old pieces.old → HasAccepted checker.new hasher.new contents.new pieces.new) }
 {
     let whole = pieces.len() / SIZE;
     pieces.push(piece)?;
@@ -102,7 +102,7 @@ impl Arriving {
     pub fn push(&mut self, piece: &[u8]) -> Result<(), AllocError>
         ensures { OnOk result (self.new ≡ self.old ++ piece.now) }
     {
-        match take_in(
+        match accept_piece(
             &mut self.checker,
             &mut self.hasher,
             &mut self.contents,
@@ -137,7 +137,7 @@ impl Arriving {
     /// What is found at the end. Of the bytes it looks only at what isn't hashed yet.
     pub fn finish(self) -> Arrived
         ensures pieces { result.pieces ≡ self }
-        ensures told { IsTold result }
+        ensures told { DescribesBytes result }
     {
         let Arriving {
             checker,

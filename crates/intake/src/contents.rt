@@ -7,7 +7,7 @@ ghost use Rattle.intake.specs.Contents as spec;
 ghost use Rattle.intake.specs.Contents.{contents_so_far};
 
 /// What the archive of a regular file that isn't executable begins with, up to the length of its contents.
-pub const FRONT: &[u8] = b"\x0d\0\0\0\0\0\0\0nix-archive-1\0\0\0\
+pub const PREFIX: &[u8] = b"\x0d\0\0\0\0\0\0\0nix-archive-1\0\0\0\
 \x01\0\0\0\0\0\0\0(\0\0\0\0\0\0\0\
 \x04\0\0\0\0\0\0\0type\0\0\0\0\
 \x07\0\0\0\0\0\0\0regular\0\
@@ -24,11 +24,11 @@ pub fn begins_plain(archive: &[u8]) -> bool
     ensures { result ≡ spec.begins_plain archive.now }
 {
     let (front, _) = archive.split_at(88usize.min(archive.len()));
-    same_bytes(front, FRONT)
+    same_bytes(front, PREFIX)
 }
 
 /// The length that follows the prefix.
-fn length_behind_front(archive: &[u8]) -> u64
+fn length_after_prefix(archive: &[u8]) -> u64
     requires { 96 ≤ length archive.now }
     ensures { result ≡ length_at (drop 88 archive.now) }
 {
@@ -52,7 +52,7 @@ pub fn contents_in<'a>(first: &[u8], before: usize, piece: &'a [u8]) -> &'a [u8]
     let skipped = 96usize.saturating_sub(before);
     let (_, behind) = piece.split_at(skipped.min(piece.len()));
     let had = before.saturating_sub(96);
-    let left = (length_behind_front(first) as usize).saturating_sub(had);
+    let left = (length_after_prefix(first) as usize).saturating_sub(had);
     let (contents, _) = behind.split_at(left.min(behind.len()));
     contents
 }

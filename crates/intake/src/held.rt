@@ -1,7 +1,7 @@
 //! What is found of bytes that are held already.
 
 ghost use Rattle.std.specs.Prelude.{◌≡◌, IfOk};
-ghost use Rattle.intake.specs.Told.{IsTold};
+ghost use Rattle.intake.specs.Described.{DescribesBytes};
 
 use crate::arriving::Arrived;
 use crate::checking::{fault_at_end, feed};
@@ -19,7 +19,7 @@ impl Arrived {
     /// Memory was refused.
     pub fn of_pieces(alloc: Global, pieces: Pieces) -> Result<Arrived, AllocError>
         ensures pieces { IfOk result (λ a. a.pieces ≡ pieces) }
-        ensures told { IfOk result IsTold }
+        ensures told { IfOk result DescribesBytes }
     {
         let mut checker = Checker::new(alloc);
         let mut hasher = Sha256::new();

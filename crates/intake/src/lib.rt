@@ -7,9 +7,9 @@ mod contents;
 mod digests;
 mod held;
 mod reading;
-mod taking;
+mod receiving;
 mod text;
 
 pub use arriving::Arrived;
 pub use reading::{file_contents, list};
-pub use taking::Intake;
+pub use receiving::Intake;

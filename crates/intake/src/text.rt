@@ -4,8 +4,8 @@ ghost use Rattle.std.specs.Prelude.{◌≡◌, Some, false, IfOk};
 ghost use Rattle.nar.specs.Tree.{regular};
 ghost use Rattle.nar.specs.Archive.{archive, spelling};
 
-use crate::contents::FRONT;
-use crate::taking::Intake;
+use crate::contents::PREFIX;
+use crate::receiving::Intake;
 use std::alloc::{AllocError, Global};
 
 const CLOSE: &[u8] = b"\x01\0\0\0\0\0\0\0)\0\0\0\0\0\0\0";
@@ -22,7 +22,7 @@ impl Intake {
     {
         let padding = (8 - contents.len() % 8) % 8;
         let mut intake = Intake::new(alloc);
-        intake.push(FRONT)?;
+        intake.push(PREFIX)?;
         intake.push(&(contents.len() as u64).to_le_bytes())?;
         intake.push(contents)?;
         intake.push(&[0u8; 8][..padding])?;

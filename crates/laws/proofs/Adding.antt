@@ -17,17 +17,17 @@ use Rattle.model.specs.Reply.{path, done, denied, refused, failed}
 use Rattle.model.specs.Adds.{Added, added_at, added_import, text_archive}
 use Rattle.model.specs.Answers.{answer}
 use Rattle.model.specs.Effects.{with_object, effect}
-use Rattle.laws.specs.Changes.{HandedIn, with_text, with_source, with_import, IsAsHandedIn, Gains, AddsExactly}
+use Rattle.laws.specs.Changes.{Submitted, with_text, with_source, with_import, IsAsSubmitted, Gains, AddsExactly}
 use Rattle.model.proofs.MapMembers.{bytes_antisymmetric, set_member}
 use Rattle.laws.proofs.Changed.{at_inserted, beside_inserted}
 
-added_of : List ℕ → HandedIn → Added
+added_of : List ℕ → Submitted → Added
 added_of dir a = added_at dir a.path a.references a.deriver a.ca a.nar
 
 in_set : (refs : List Path) (r : Path) → Contains refs r → IsTrue (finite.contains_key (set_of bytes_cmp refs) r)
 in_set refs r c = contains_key-set_of nat_list_cmp_total refs r ∙ any_from (eq_by_cmp bytes_cmp r) refs r c (ap is_eq (tied_itself nat_list_cmp_total r))
 
-as_handed_in : (dir : List ℕ) (a : HandedIn) → IsAsHandedIn dir a (added_of dir a).object
+as_handed_in : (dir : List ℕ) (a : Submitted) → IsAsSubmitted dir a (added_of dir a).object
 unfolding added_of
 as_handed_in dir a = record {
   nar = refl;
@@ -37,11 +37,11 @@ as_handed_in dir a = record {
   outputs = refl;
 }
 
-pub import_as_handed_in : (dir : List ℕ) (i : Imported) → IsAsHandedIn dir (with_import i) (added_import dir i).object
+pub import_as_handed_in : (dir : List ℕ) (i : Imported) → IsAsSubmitted dir (with_import i) (added_import dir i).object
 unfolding added_of
 import_as_handed_in dir i = as_handed_in dir (with_import i)
 
-gained : (dir : List ℕ) (a : HandedIn) (w : World) → Gains dir a w (with_object w (added_of dir a))
+gained : (dir : List ℕ) (a : Submitted) (w : World) → Gains dir a w (with_object w (added_of dir a))
 unfolding added_of
 gained dir a w = by (has w a.path) refl
   where
@@ -59,7 +59,7 @@ gained dir a w = by (has w a.path) refl
       roots = record { permanent = refl; user_roots = refl; profiles = refl; runtime = refl; temporary = refl };
     }
 
-adds : (s : Settings) (q : Request) (a : HandedIn) → ((w : World) (c : Caller) → answer s w c q ≡ path a.path) → ((w : World) → effect s w q ≡ with_object w (added_of s.store_dir a)) → AddsExactly s q a
+adds : (s : Settings) (q : Request) (a : Submitted) → ((w : World) (c : Caller) → answer s w c q ≡ path a.path) → ((w : World) → effect s w q ≡ with_object w (added_of s.store_dir a)) → AddsExactly s q a
 adds s q a answers does w c (done x) new h d = (ap done (h.2 ∙ answers w c), subst (λ (u : World). Gains s.store_dir a w u) (sym (h.3 ∙ does w)) (gained s.store_dir a w))
 adds s q a answers does w c (denied rule root) new h d = absurd d
 adds s q a answers does w c (refused r) new h d = absurd d

@@ -19,9 +19,10 @@ use Rattle.paths.proofs.Addresses.{address-is, address-back}
 use Rattle.paths.proofs.Made.{verifying}
 use Rattle.tables_sql.specs.Contents.{Contents, Stored}
 use Rattle.model.specs.World.{Path}
-use Rattle.tables_world.specs.Rows.{Schema, archive_in, references_in, object_in, address_in}
-use Rattle.tables_world.specs.Told.{rows_of, IsSoundBy}
-use Rattle.laws.specs.CutArchives.{HasArchive, ArchivesAreTold}
+use Rattle.tables_world.specs.Rows.{archive_in, references_in, object_in, address_in}
+use Rattle.tables_schema.specs.declared.schema.Schema.{Schema}
+use Rattle.tables_world.specs.Worlds.{rows_of, IsSoundBy}
+use Rattle.laws.specs.CutArchives.{HasArchive, ArchivesAreReadWhole}
 use Rattle.laws.specs.FaultyRows.{AreReferences, ExcludesFaultyObject, FaultyObjectsAreUnsound}
 use Rattle.tables_world.proofs.Columns.{bytes_antisymmetric, object_at}
 use Rattle.tables_world.proofs.SoundParts.{some_key}
@@ -79,7 +80,7 @@ module _ (c : Contents) (p : Path) (o : Stored) (row : finite.get c.objects p â‰
 pub faulty_objects : FaultyObjectsAreUnsound
 faulty_objects c p o row = object_excludes c p o row
 
-pub archives_told : ArchivesAreTold
+pub archives_told : ArchivesAreReadWhole
 archives_told schema dir c sound p o nar row h = (
   object_in (rows_of c) p o,
   object_at (rows_of c) p âˆ™ ap (option_map (object_in (rows_of c) p)) row,

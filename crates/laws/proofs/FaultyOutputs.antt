@@ -16,8 +16,9 @@ use Rattle.drv.proofs.Outcomes.{one_outcome}
 use Rattle.tables_sql.specs.Contents.{Contents}
 use Rattle.model.specs.World.{Path}
 use Rattle.model.specs.Objects.{outputs_at}
-use Rattle.tables_world.specs.Rows.{Schema, archive_in}
-use Rattle.tables_world.specs.Told.{rows_of, IsSoundBy}
+use Rattle.tables_world.specs.Rows.{archive_in}
+use Rattle.tables_schema.specs.declared.schema.Schema.{Schema}
+use Rattle.tables_world.specs.Worlds.{rows_of, IsSoundBy}
 use Rattle.laws.specs.FaultyRows.{ExcludesFaultyOutputs, FaultyDerivationsAreUnsound}
 use Rattle.tables_world.proofs.Recorded.{outputs_are_recorded}
 use Rattle.tables_world.proofs.SoundParts.{some_key}

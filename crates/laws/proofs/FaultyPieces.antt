@@ -10,8 +10,10 @@ use Rattle.std.proofs.lemmas.Option.{same_Some}
 use Rattle.tables_sql.specs.Contents.{Contents, Stored}
 use Rattle.model.specs.World.{Path}
 use Rattle.tables_world.specs.Pieces.{piece_size, GoOn, IsCut}
-use Rattle.tables_world.specs.Rows.{Schema, has_pieces, pieces_in}
-use Rattle.tables_world.specs.Told.{rows_of, IsSoundBy}
+use Rattle.tables_world.specs.Rows.{pieces_in}
+use Rattle.tables_schema.specs.declared.schema.Schema.{Schema}
+use Rattle.tables_schema.specs.Schemas.{has_pieces}
+use Rattle.tables_world.specs.Worlds.{rows_of, IsSoundBy}
 use Rattle.laws.specs.FaultyPieces.{ExcludesFaultyPieces, FaultyCutsAreUnsound}
 use Rattle.tables_world.proofs.Cuts.{size}
 use Rattle.laws.proofs.FaultyRows.{no_key, at_front, past_front}

@@ -6,8 +6,9 @@ use Rattle.std.specs.FinMap as finite
 use Rattle.paths.specs.Root.{bytes_cmp}
 use Rattle.tables_sql.specs.Contents.{Contents}
 use Rattle.model.specs.World.{Path}
-use Rattle.tables_world.specs.Rows.{Schema, references_in}
-use Rattle.tables_world.specs.Told.{rows_of, IsSoundBy}
+use Rattle.tables_world.specs.Rows.{references_in}
+use Rattle.tables_schema.specs.declared.schema.Schema.{Schema}
+use Rattle.tables_world.specs.Worlds.{rows_of, IsSoundBy}
 use Rattle.laws.specs.FaultyRows.{ExcludesFaultyReferences}
 use Rattle.tables_world.proofs.Recorded.{at_head, behind}
 use Rattle.tables_world.proofs.SoundParts.{some_key}

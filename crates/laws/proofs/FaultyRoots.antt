@@ -8,8 +8,8 @@ use Rattle.std.proofs.lemmas.Int.{ints}
 use Rattle.paths.specs.Root.{is_label_byte, is_runtime_label}
 use Rattle.tables_sql.specs.Contents.{Contents}
 use Rattle.model.specs.World.{Path}
-use Rattle.tables_world.specs.Rows.{Schema}
-use Rattle.tables_world.specs.Told.{rows_of, IsSoundBy}
+use Rattle.tables_schema.specs.declared.schema.Schema.{Schema}
+use Rattle.tables_world.specs.Worlds.{rows_of, IsSoundBy}
 use Rattle.laws.specs.FaultyRoots.{FaultyPermanentAreUnsound, FaultyUserRootsAreUnsound, FaultyRuntimeAreUnsound, FaultyProfilesAreUnsound, FaultyGenerationsAreUnsound, FaultySessionsAreUnsound}
 use Rattle.laws.proofs.FaultyRows.{clash, no_key, parts_of}
 use Rattle.tables_world.proofs.Recorded.{cases, no_member}

@@ -15,8 +15,10 @@ use Rattle.paths.specs.Root.{bytes_cmp}
 use Rattle.tables_sql.specs.Contents.{Contents, Stored}
 use Rattle.model.specs.World.{Path}
 use Rattle.tables_world.specs.Pieces.{joined, GoOn}
-use Rattle.tables_world.specs.Rows.{Schema, schema_text, has_pieces, settings, pieces_in, archive_in, references_in, outputs_in, number_in}
-use Rattle.tables_world.specs.Told.{rows_of, IsSoundBy}
+use Rattle.tables_world.specs.Rows.{settings, pieces_in, archive_in, references_in, outputs_in, number_in}
+use Rattle.tables_schema.specs.declared.schema.Schema.{Schema}
+use Rattle.tables_schema.specs.Schemas.{schema_text, has_pieces}
+use Rattle.tables_world.specs.Worlds.{rows_of, IsSoundBy}
 use Rattle.tables_world.specs.Parts.{IsSoundRow, AreSoundParts}
 use Rattle.laws.specs.CutArchives.{FollowFrom, HasArchive}
 use Rattle.laws.specs.FaultyRows.{ExcludesFaultySettings}

@@ -19,9 +19,9 @@ use Rattle.policy.specs.Settings.{Settings}
 use Rattle.model.specs.World.{Path, Object, World, has, all_paths}
 use Rattle.model.specs.Request.{collect, delete}
 use Rattle.model.specs.Reply.{freed}
-use Rattle.model.specs.Liveness.{lives, goes_with, size_of, bytes_in, collected_paths}
+use Rattle.model.specs.Liveness.{lives, is_deleted_with, size_of, bytes_in, collected_paths}
 use Rattle.model.specs.Effects.{keeping}
-use Rattle.laws.specs.Changes.{Weigh, TellsWhatWent, FreesAsTold}
+use Rattle.laws.specs.Changes.{Weigh, ReportsDeleted, FreesAsReported}
 use Rattle.model.proofs.MapMembers.{bytes_antisymmetric, key_listed, listed_key}
 use Rattle.model.proofs.Filtered.{in_filtered, from_filtered}
 use Rattle.model.proofs.Worlds.{get-keeping, kept_if}
@@ -85,7 +85,7 @@ module _ (w : World) (test gone : Path → Bool) (opposite : (p : Path) → IsTr
       by true e k = e
       by false e k = absurd (false≢true k)
 
-  tells : TellsWhatWent w (keeping w test) (freed (filter gone (all_paths w)) (bytes_in w (filter gone (all_paths w))))
+  tells : ReportsDeleted w (keeping w test) (freed (filter gone (all_paths w)) (bytes_in w (filter gone (all_paths w))))
   tells = record {
     went = filter gone (all_paths w);
     bytes = bytes_in w (filter gone (all_paths w));
@@ -100,15 +100,15 @@ twice_not : (b : Bool) → b ≡ not (not b)
 twice_not true = refl
 twice_not false = refl
 
-pub collection_told : (s : Settings) (ignores : Bool) (limit : Option ℕ) → FreesAsTold s (collect ignores limit)
+pub collection_told : (s : Settings) (ignores : Bool) (limit : Option ℕ) → FreesAsReported s (collect ignores limit)
 collection_told s ignores None w c a new h =
-    subst (λ x. TellsWhatWent w new x) (sym h.2) (subst (λ (u : World). TellsWhatWent w u (freed (filter (λ p. not (lives s w p)) (all_paths w)) (bytes_in w (filter (λ p. not (lives s w p)) (all_paths w))))) (sym h.3)
+    subst (λ x. ReportsDeleted w new x) (sym h.2) (subst (λ (u : World). ReportsDeleted w u (freed (filter (λ p. not (lives s w p)) (all_paths w)) (bytes_in w (filter (λ p. not (lives s w p)) (all_paths w))))) (sym h.3)
     (tells w (lives s w) (λ p. not (lives s w p)) (λ p v. refl)))
 collection_told s ignores (Some limit) w c a new h =
-    subst (λ x. TellsWhatWent w new x) (sym h.2) (subst (λ (u : World). TellsWhatWent w u (freed (collected_paths s w (Some limit)) (bytes_in w (collected_paths s w (Some limit))))) (sym h.3)
-    (subst (λ (ps : List Path). TellsWhatWent w (keeping w (leaves s w limit)) (freed ps (bytes_in w ps))) (sym (told s w limit)) (tells w (leaves s w limit) (is_taken s w limit) (goes_or_stays s w limit))))
+    subst (λ x. ReportsDeleted w new x) (sym h.2) (subst (λ (u : World). ReportsDeleted w u (freed (collected_paths s w (Some limit)) (bytes_in w (collected_paths s w (Some limit))))) (sym h.3)
+    (subst (λ (ps : List Path). ReportsDeleted w (keeping w (leaves s w limit)) (freed ps (bytes_in w ps))) (sym (told s w limit)) (tells w (leaves s w limit) (is_taken s w limit) (goes_or_stays s w limit))))
 
-pub deletion_told : (s : Settings) (named : List Path) (ignores : Bool) → FreesAsTold s (delete named ignores)
+pub deletion_told : (s : Settings) (named : List Path) (ignores : Bool) → FreesAsReported s (delete named ignores)
 deletion_told s named ignores w c a new h =
-    subst (λ x. TellsWhatWent w new x) (sym h.2) (subst (λ (u : World). TellsWhatWent w u (freed (filter (goes_with w named) (all_paths w)) (bytes_in w (filter (goes_with w named) (all_paths w))))) (sym h.3)
-    (tells w (λ p. not (goes_with w named p)) (goes_with w named) (λ p v. twice_not (goes_with w named p))))
+    subst (λ x. ReportsDeleted w new x) (sym h.2) (subst (λ (u : World). ReportsDeleted w u (freed (filter (is_deleted_with w named) (all_paths w)) (bytes_in w (filter (is_deleted_with w named) (all_paths w))))) (sym h.3)
+    (tells w (λ p. not (is_deleted_with w named p)) (is_deleted_with w named) (λ p v. twice_not (is_deleted_with w named p))))

@@ -8,7 +8,7 @@ use Rattle.std.specs.declared.cmp.Ordering.TheVariants.{Less, Equal, Greater}
 use Rattle.std.specs.Ordering.{ordering_then, nat_cmp}
 use Rattle.paths.specs.Root.{set_of, Kind, permanent, user, profile, runtime, temporary, Root, place, root_cmp, in_order}
 use Rattle.live.proofs.Members.{cases, no_member}
-use Rattle.model.specs.World.{lasting_roots, runtime_roots, temporary_roots}
+use Rattle.model.specs.World.{explicit_roots, runtime_roots, temporary_roots}
 use Rattle.laws.specs.LabelsAndOrder.{AreLabelled, MayFollow, KindsInOrder}
 use Rattle.laws.proofs.Freed.{keys_rise}
 
@@ -70,4 +70,4 @@ rise xs = keys_rise root_cmp (set_of root_cmp xs)
 pub kinds_in_order : KindsInOrder
 kinds_in_order w front r back e next c =
     may_follow r.kind next.kind (not_greater (nat_cmp (place r.kind) (place next.kind)) _
-    (behind_is_more front r back (subst (λ (xs : List Root). IsStrictlySortedBy root_cmp xs) e (rise (lasting_roots w ++ runtime_roots w ++ temporary_roots w))) next c))
+    (behind_is_more front r back (subst (λ (xs : List Root). IsStrictlySortedBy root_cmp xs) e (rise (explicit_roots w ++ runtime_roots w ++ temporary_roots w))) next c))

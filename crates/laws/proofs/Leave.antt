@@ -17,8 +17,8 @@ use Rattle.model.specs.World.{World}
 use Rattle.model.specs.Request.{Request, add_text, add_source, import_object, info, nar, ls, list, list_live, list_dead, list_roots, list_roots_of, collect, delete, report}
 use Rattle.model.specs.Liveness.{lives}
 use Rattle.model.specs.Verdict.{operation_of, named_in, verdict}
-use Rattle.laws.specs.Tellings.{OnlyTells}
-use Rattle.laws.specs.Leave.{NobodyIgnoresLiveness, AllMayAsk}
+use Rattle.laws.specs.ReadOnly.{OnlyReads}
+use Rattle.laws.specs.Permissions.{NobodyIgnoresLiveness, AllMayAsk}
 
 module _ (s : Settings) (w : World) (c : Caller) where
   -- what the rules say to both classes but that of strangers, wherever what is named lives or not
@@ -31,7 +31,7 @@ module _ (s : Settings) (w : World) (c : Caller) where
   may : IsFalse (is_stranger (class_of s c)) → (q : Request) → operation_of q ≡ operations.plain → named_in q ≡ [] → verdict s w c q ≡ None
   may h q p n = known q false None (class_of s c) refl h (ap (list_any (lives s w)) n) (ap (λ op. policy.verdict Allowed c op false) p) (ap (λ op. policy.verdict Trusted c op false) p)
 
-  may_tell : IsFalse (is_stranger (class_of s c)) → (q : Request) → OnlyTells q → verdict s w c q ≡ None
+  may_tell : IsFalse (is_stranger (class_of s c)) → (q : Request) → OnlyReads q → verdict s w c q ≡ None
   may_tell h (info p) o = may h (info p) refl refl
   may_tell h (nar p) o = may h (nar p) refl refl
   may_tell h (ls p) o = may h (ls p) refl refl

@@ -2,7 +2,6 @@ pub mod AddFaults
 pub mod AddOrder
 pub mod Adding
 pub mod Answered
-pub mod Censored
 pub mod Changed
 pub mod Collecting
 pub mod Cycles
@@ -20,8 +19,6 @@ pub mod Kept
 pub mod LabelsAndOrder
 pub mod LabelsDiffer
 pub mod Leave
-pub mod Mirror
-pub mod MirrorRuns
 pub mod NamedLive
 pub mod NotTold
 pub mod Numbers
@@ -39,7 +36,6 @@ pub mod RootChanges
 pub mod RootsBeside
 pub mod RootsTold
 pub mod Schemas
-pub mod SeenInOrder
 pub mod Sights
 pub mod SoundSteps
 pub mod Sources
@@ -47,5 +43,4 @@ pub mod StepByStep
 pub mod Steps
 pub mod Tellings
 pub mod Unique
-pub mod Unseen
 pub mod Usages

@@ -20,8 +20,8 @@ use Rattle.model.specs.Reply.{Answer, roots}
 use Rattle.model.specs.declared.refusal.Refusal.TheVariants.{BadRootName}
 use Rattle.model.specs.Seen.{plain, is_hidden, hidden_label, censored, same_pair, each_once, seen_root, seen}
 use Rattle.model.specs.Tests.{tests}
-use Rattle.laws.specs.RootsTold.{Shows}
-use Rattle.laws.specs.Relisted.{StoodBeside, TellsNoMore, DroppedLabelsAreNotTold}
+use Rattle.laws.specs.ListedRoots.{Shows}
+use Rattle.laws.specs.Relisted.{CoexistedWith, ListsNoMore, DroppedLabelsAreNotListed}
 use Rattle.model.proofs.Filtered.{from_mapped, from_filtered}
 use Rattle.laws.proofs.LabelsDiffer.{plain_bytes}
 use Rattle.laws.proofs.RootsBeside.{kinds_apart, every, of_kind, runtimes}
@@ -90,7 +90,7 @@ module _ (s : Settings) (w : World) (c : Caller) (label : List ℕ) (free : IsFr
       let x = seen_of (class_of s c) rs (label, p) (subst (λ y. Shows y (label, p)) told h) in
       one p x.0 (stand x.0 x.1) x.2
 
-  pub no_more : TellsNoMore s w c label
+  pub no_more : ListsNoMore s w c label
   no_more = record {
     all = λ a new h p k. let x = (root_listings_tell s w c).all a new h in among p a x.shown x.told (λ r d. (x.exactly r).0 d) k;
     of = λ q a new h p k. let x = (root_listings_tell s w c).of q a new h in among p a x.shown x.told (λ r d. ((x.exactly r).0 d).0) k;
@@ -113,7 +113,7 @@ module _ (dir : List ℕ) (w : World) (sound : IsSound dir w) where
   user_rest owner name = append_assoc (codes "gcroots/per-user/" ++ owner) (codes "/") name ∙ append_assoc (codes "gcroots/per-user/") owner (codes "/" ++ name)
       ∙ ap (λ t. codes "gcroots/per-user/" ++ t) (sym (append_assoc owner (codes "/") name))
 
-  pub permanent_free : (name : List ℕ) → IsTrue (is_plain_name name) → (r : Root) → StoodBeside w permanent (permanent_label name) r → (r.kind ≡ runtime → ⊥) → r.label ≡ permanent_label name → ⊥
+  pub permanent_free : (name : List ℕ) → IsTrue (is_plain_name name) → (r : Root) → CoexistedWith w permanent (permanent_label name) r → (r.kind ≡ runtime → ⊥) → r.label ≡ permanent_label name → ⊥
   permanent_free name plain r b = every (λ x. (x.kind ≡ permanent → x.label ≡ permanent_label name → ⊥) → (x.kind ≡ runtime → ⊥) → x.label ≡ permanent_label name → ⊥) w (record {
     permanent_ = λ n t e other run l. other refl l;
     user_ = λ o t e other run l. no_slash name (o.0 ++ codes "/" ++ o.1) plain (append_cancel_left (codes "gcroots/") name (codes "per-user/" ++ (o.0 ++ codes "/" ++ o.1)) (sym l ∙ user_rest o.0 o.1));
@@ -122,7 +122,7 @@ module _ (dir : List ℕ) (w : World) (sound : IsSound dir w) where
     temporary_ = λ t h other run l. apart_bytes 123 103 refl (ap first_byte l);
   }) r b.stood b.other
 
-  pub user_free : (owner name : List ℕ) → (r : Root) → StoodBeside w user (user_label owner name) r → (r.kind ≡ runtime → ⊥) → r.label ≡ user_label owner name → ⊥
+  pub user_free : (owner name : List ℕ) → (r : Root) → CoexistedWith w user (user_label owner name) r → (r.kind ≡ runtime → ⊥) → r.label ≡ user_label owner name → ⊥
   user_free owner name r b = every (λ x. (x.kind ≡ user → x.label ≡ user_label owner name → ⊥) → (x.kind ≡ runtime → ⊥) → x.label ≡ user_label owner name → ⊥) w (record {
     permanent_ = λ n t e other run l. no_slash n (owner ++ codes "/" ++ name) (sound.permanent_name n (ap is_some e))
         (append_cancel_left (codes "gcroots/") n (codes "per-user/" ++ (owner ++ codes "/" ++ name)) (l ∙ user_rest owner name));
@@ -132,7 +132,7 @@ module _ (dir : List ℕ) (w : World) (sound : IsSound dir w) where
     temporary_ = λ t h other run l. apart_bytes 123 103 refl (ap first_byte l);
   }) r b.stood b.other
 
-  pub generation_free : (owner name : List ℕ) (n : ℕ) → (r : Root) → StoodBeside w profile (generation_label owner name n) r → (r.kind ≡ runtime → ⊥) → r.label ≡ generation_label owner name n → ⊥
+  pub generation_free : (owner name : List ℕ) (n : ℕ) → (r : Root) → CoexistedWith w profile (generation_label owner name n) r → (r.kind ≡ runtime → ⊥) → r.label ≡ generation_label owner name n → ⊥
   generation_free owner name n r b = every (λ x. (x.kind ≡ profile → x.label ≡ generation_label owner name n → ⊥) → (x.kind ≡ runtime → ⊥) → x.label ≡ generation_label owner name n → ⊥) w (record {
     permanent_ = λ m t e other run l. apart_bytes 103 112 refl (ap first_byte l);
     user_ = λ o t e other run l. apart_bytes 103 112 refl (ap first_byte l);
@@ -141,7 +141,7 @@ module _ (dir : List ℕ) (w : World) (sound : IsSound dir w) where
     temporary_ = λ t h other run l. apart_bytes 123 112 refl (ap first_byte l);
   }) r b.stood b.other
 
-pub dropped_labels_are_not_told : DroppedLabelsAreNotTold
+pub dropped_labels_are_not_told : DroppedLabelsAreNotListed
 dropped_labels_are_not_told s w c mid next sound = record {
   permanent_ = λ name a h.
       let x = drops_permanent s w c name a mid h in

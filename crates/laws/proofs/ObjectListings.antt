@@ -14,12 +14,12 @@ use Rattle.model.specs.Request.{Request, info, nar, ls, list, list_live, list_de
 use Rattle.model.specs.Reply.{listing_of, done, denied, refused, failed}
 use Rattle.model.specs.Answers.{archive_at, listing_at}
 use Rattle.model.specs.Effects.{effect}
-use Rattle.laws.specs.Tellings.{OnlyTells, TellingChangesNothing, ListingsAreTheObjects}
+use Rattle.laws.specs.ReadOnly.{OnlyReads, ReadingChangesNothing, ListingsAreTheObjects}
 use Rattle.model.proofs.Passed.{met, passed}
 
 -- ---- nothing changes
 
-unchanged : (s : Settings) (w : World) (q : Request) → OnlyTells q → effect s w q ≡ w
+unchanged : (s : Settings) (w : World) (q : Request) → OnlyReads q → effect s w q ≡ w
 unchanged s w (info p) h = refl
 unchanged s w (nar p) h = refl
 unchanged s w (ls p) h = refl
@@ -31,7 +31,7 @@ unchanged s w (list_roots_of p) h = refl
 unchanged s w report h = refl
 unchanged s w _ h = absurd h
 
-pub telling_changes_nothing : TellingChangesNothing
+pub telling_changes_nothing : ReadingChangesNothing
 telling_changes_nothing s w c q (done a) new step h = step.3 ∙ unchanged s w q h
 telling_changes_nothing s w c q (denied rule root) new step h = step.2
 telling_changes_nothing s w c q (refused r) new step h = step.2

@@ -11,7 +11,7 @@ use Rattle.std.proofs.lemmas.List.Kept.{IsStrictlySortedBy-filter}
 use Rattle.std.proofs.lemmas.List.Sums.{sum_by-append, sum_by-cons}
 use Rattle.std.proofs.lemmas.List.Elements.{Contains-append_left, Contains-append_right, Contains-append_cases}
 use Rattle.live.specs.Graph.{same, holds, references_alone, is_valid, is_edge}
-use Rattle.live.specs.Limited.{refers, is_referred_to, without, Takes, is_taken}
+use Rattle.live.specs.Limited.{refers, is_referred_to, without, DeletesGroups, is_taken}
 use Rattle.live.proofs.Groups.{in_filter, filter_in, held_is, is_held}
 use Rattle.live.proofs.Members.{at_head, behind, cases, no_member, any_from, some_of_any}
 use Rattle.live.proofs.Reach.{same_is, same_itself}
@@ -108,7 +108,7 @@ module _ (s : Settings) (w : World) (limit : ℕ) (size : Path → ℕ) (bytes :
   left_valid : (left : List Path) → ((p : Path) → Contains left p → IsTrue (has w p)) → (p : Path) → Contains left p → IsTrue (is_valid (graph_of w) p)
   left_valid left valid p c = valid_is w p ∙ valid p c
 
-  at_the_end : (gone left : List Path) (wanted : ℕ) → IsParted gone left wanted → Takes (graph_of w) dead size left wanted [] → Orders gone left []
+  at_the_end : (gone left : List Path) (wanted : ℕ) → IsParted gone left wanted → DeletesGroups (graph_of w) dead size left wanted [] → Orders gone left []
   at_the_end gone left wanted parted h = record {
     order = [];
     each = λ front back p e. absurd (nothing_more front back p e);
@@ -117,7 +117,7 @@ module _ (s : Settings) (w : World) (limit : ℕ) (size : Path → ℕ) (bytes :
     enough = λ n k. by h n (subst (λ ps. Weigh w ps n) (append-nil gone) k);
   }
     where
-      by : Takes (graph_of w) dead size left wanted [] → (n : ℕ) → Weigh w gone n → (limit ≤ n) ⊎ ((p : Path) → Contains left p → IsTrue (dead p) → Contains [] p)
+      by : DeletesGroups (graph_of w) dead size left wanted [] → (n : ℕ) → Weigh w gone n → (limit ≤ n) ⊎ ((p : Path) → Contains left p → IsTrue (dead p) → Contains [] p)
       by (inl none) n k = let is = weight gone n k in let rest = parted.wanted_is in inl (omega arith)
       by (inr none) n k = inr (λ p c d. absurd (none_left (graph_of w) dead (upward s w limit) acyclic left (left_valid left parted.valid) parted.rise none p c d))
 
@@ -162,12 +162,12 @@ module _ (s : Settings) (w : World) (limit : ℕ) (size : Path → ℕ) (bytes :
           rest.least front back q (ap tail e) x
           (subst (λ (ps : List Path). MayGo s w limit ps x) (sym (append_assoc gone (p ∷ []) front)) (subst (λ (z : Path). MayGo s w limit (gone ++ z ∷ front) x) (sym first) m)) less
 
-  orders : (groups : List (List Path)) (gone left : List Path) (wanted : ℕ) → IsParted gone left wanted → Takes (graph_of w) dead size left wanted groups → Orders gone left groups
+  orders : (groups : List (List Path)) (gone left : List Path) (wanted : ℕ) → IsParted gone left wanted → DeletesGroups (graph_of w) dead size left wanted groups → Orders gone left groups
   orders [] gone left wanted parted h = at_the_end gone left wanted parted h
   orders (group ∷ groups) gone left wanted parted h =
       let x = next_is_alone (graph_of w) dead (upward s w limit) acyclic left (left_valid left parted.valid) parted.rise group h.1 in
       let rest = orders groups (gone ++ x.path ∷ []) (without (x.path ∷ []) left) (wanted - sum_by size (x.path ∷ [])) (one_gone gone left wanted parted x.path x.listed)
-      (subst (λ (one : List Path). Takes (graph_of w) dead size (without one left) (wanted - sum_by size one) groups) x.is h.2) in
+      (subst (λ (one : List Path). DeletesGroups (graph_of w) dead size (without one left) (wanted - sum_by size one) groups) x.is h.2) in
       subst (λ (one : List Path). Orders gone left (one ∷ groups)) (sym x.is) (one_more gone left x.path groups (may_go gone left wanted parted h.0 x.path x.listed x.dead_ x.unreferred)
       (λ q m less. let at = is_left gone left wanted parted q m in x.least q at.0 at.1 at.2 less) rest)
 

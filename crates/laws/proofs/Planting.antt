@@ -14,13 +14,13 @@ use Rattle.model.specs.World.{Path, Object, World, has}
 use Rattle.model.specs.Sound.{IsSound}
 use Rattle.model.specs.Request.{Imported, Request, add_text, add_source, import_object, collect, delete}
 use Rattle.model.specs.Reply.{Reply, denied, refused, failed, done}
-use Rattle.model.specs.Liveness.{lives, goes_with}
+use Rattle.model.specs.Liveness.{lives, is_deleted_with}
 use Rattle.model.specs.Verdict.{verdict}
 use Rattle.model.specs.Adds.{Added, added_text, added_source, added_import}
 use Rattle.model.specs.Effects.{with_object, effect}
 use Rattle.model.specs.Step.{Step}
 use Rattle.model.specs.Soundness.{IsWellFormed}
-use Rattle.laws.specs.Changes.{with_import, IsAsHandedIn}
+use Rattle.laws.specs.Changes.{with_import, IsAsSubmitted}
 use Rattle.laws.specs.Planting.{Came, stood, addressed, imported, NobodyPlantsInRuns}
 use Rattle.model.proofs.MapMembers.{bytes_antisymmetric, inserted_entry}
 use Rattle.model.proofs.Limited.{leaves}
@@ -41,7 +41,7 @@ added_where w a p o fresh e = by (has w a.path) e
 
 -- a new object without an address was imported
 only_imported : (s : Settings) (w : World) (q : Request) (p : Path) (o : Object) → IsFalse (has w p) → finite.get (effect s w q).objects p ≡ Some o → o.ca ≡ None
-    → (i : Imported) × (q ≡ import_object i) × (i.path ≡ p) × IsAsHandedIn s.store_dir (with_import i) o
+    → (i : Imported) × (q ≡ import_object i) × (i.path ≡ p) × IsAsSubmitted s.store_dir (with_import i) o
 only_imported s w (add_text name refs contents) p o fresh e none =
     absurd (false≢true (sym (ap (λ (x : Object). is_some x.ca) (added_there w (added_text s.store_dir name refs contents) p o fresh e) ∙ ap is_some none)))
 only_imported s w (add_source name refs b) p o fresh e none =
@@ -50,11 +50,11 @@ only_imported s w (import_object i) p o fresh e none = (
   i,
   refl,
   sym (added_where w (added_import s.store_dir i) p o fresh e),
-  subst (λ (x : Object). IsAsHandedIn s.store_dir (with_import i) x) (added_there w (added_import s.store_dir i) p o fresh e) (import_as_handed_in s.store_dir i),
+  subst (λ (x : Object). IsAsSubmitted s.store_dir (with_import i) x) (added_there w (added_import s.store_dir i) p o fresh e) (import_as_handed_in s.store_dir i),
 )
 only_imported s w (collect ignores None) p o fresh e none = absurd (fresh_kept w (lives s w) p o fresh e)
 only_imported s w (collect ignores (Some limit)) p o fresh e none = absurd (fresh_kept w (leaves s w limit) p o fresh e)
-only_imported s w (delete named ignores) p o fresh e none = absurd (fresh_kept w (λ x. not (goes_with w named x)) p o fresh e)
+only_imported s w (delete named ignores) p o fresh e none = absurd (fresh_kept w (λ x. not (is_deleted_with w named x)) p o fresh e)
 only_imported s w _ p o fresh e none = absurd (false≢true (sym fresh ∙ ap is_some e))
 
 trusted_then : (s : Settings) (w : World) (c : Caller) (q : Request) → verdict s w c q ≡ None → (p : Path) (o : Object) → IsFalse (has w p) → finite.get (effect s w q).objects p ≡ Some o → o.ca ≡ None

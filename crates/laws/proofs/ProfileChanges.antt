@@ -11,7 +11,7 @@ use Rattle.model.specs.Reply.{generation}
 use Rattle.model.specs.Profiles.{profile_or_new, profile_at, has_profile, has_generation, highest, is_highest, number_for, previous, set_to, rolled_back, switched, without_generation}
 use Rattle.model.specs.Tests.{tests}
 use Rattle.model.specs.Effects.{with_profile}
-use Rattle.laws.specs.Generations.{ChangesProfile, SetsProfile, SetsAsTold, MovesTo, RollsBack, RollsBackAsTold, SwitchesAsTold, LosesGeneration, DeletesGenerations}
+use Rattle.laws.specs.Generations.{ChangesProfile, SetsProfile, SetsAsSpecified, MovesTo, RollsBack, RollsBackAsSpecified, SwitchesAsSpecified, LosesGeneration, DeletesGenerations}
 use Rattle.model.proofs.MapMembers.{nat_antisymmetric, pair_total, pair_antisymmetric}
 use Rattle.laws.proofs.Changed.{at_inserted, beside_inserted, at_removed, beside_removed}
 use Rattle.model.proofs.Passed.{met, each_passed}
@@ -53,7 +53,7 @@ is_set p t = by (is_highest p t) refl
       others = λ m apart. beside_inserted nat_cmp_total nat_antisymmetric p.generations (highest p + 1) t m apart;
     }
 
-pub sets : SetsAsTold
+pub sets : SetsAsSpecified
 sets s w c owner name t a new h =
     let p = profile_at w (owner, name) in
     let is = is_set p t in
@@ -89,14 +89,14 @@ goes_back w owned (Some n) e h some =
     let is = before (profile_at w owned) n e in
     record { number = n; told = refl; moves = moves w owned n h is.there; chosen = is }
 
-pub rolls_back : RollsBackAsTold
+pub rolls_back : RollsBackAsSpecified
 rolls_back s w c owner name a new h =
     subst (λ (u : World). RollsBack w (owner, name) a u) (sym h.3) (subst (λ x. RollsBack w (owner, name) x (with_profile w (owner, name) (rolled_back (profile_at w (owner, name))))) (sym h.2)
     (goes_back w (owner, name) (previous (profile_at w (owner, name))) refl
     (met (has_profile w (owner, name)) _ (each_passed (tests s w (rollback owner name)) h.1 _ (1, omega arith, refl)))
     (met (is_some (previous (profile_at w (owner, name)))) _ (each_passed (tests s w (rollback owner name)) h.1 _ (2, omega arith, refl)))))
 
-pub switches : SwitchesAsTold
+pub switches : SwitchesAsSpecified
 switches s w c owner name n a new h = (
   h.2,
   subst (λ (u : World). MovesTo w (owner, name) n u) (sym h.3) (moves w (owner, name) n

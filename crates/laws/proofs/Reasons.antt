@@ -33,7 +33,7 @@ use Rattle.model.specs.Faults.{archive_refusal, derivation_refusal}
 use Rattle.model.specs.Tests.{unless, first_failing, archive_fault, outputs_fault, tree_fault, if_derivation, is_verified, is_complete, refusal}
 use Rattle.laws.specs.Generations.{IsNumberFor}
 use Rattle.laws.specs.AddOrder.{Lacks, IsFaultyTree, text, other}
-use Rattle.laws.specs.Reasons.{IsNoAddressOf, IsNoDerivation, HasFault, RefusalsHaveReasons, ToldAreValid}
+use Rattle.laws.specs.Reasons.{IsNoAddressOf, IsNoDerivation, HasFault, RefusalsHaveReasons, MentionedAreValid}
 use Rattle.laws.proofs.Faults.{out_of_bounds}
 use Rattle.laws.proofs.AddFaults.{texts_are_measured}
 use Rattle.laws.proofs.Numbers.{chosen, none_below}
@@ -286,7 +286,7 @@ module _ (s : Settings) (w : World) where
 pub refusals_have_reasons : RefusalsHaveReasons
 refusals_have_reasons s w c q r new h = reason s w q r h.1
 
-pub told_are_valid : ToldAreValid
+pub told_are_valid : MentionedAreValid
 told_are_valid s w c p = record {
   info_ = λ a new h. met (has w p) _ (passed _ [] h.1).0;
   nar_ = λ a new h. met (has w p) _ (passed _ [] h.1).0;

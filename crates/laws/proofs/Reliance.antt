@@ -24,7 +24,7 @@ use Rattle.live.proofs.Reach.{same_is}
 use Rattle.model.specs.World.{Path, Pair, Object, Profile, Temporary, World, has}
 use Rattle.model.specs.Request.{Request, add_text, add_source, import_object, set_permanent, drop_permanent, set_user_root, drop_user_root, set_profile, rollback, switch, delete_generation, replace_runtime, add_temp, end_session, collect, delete}
 use Rattle.model.specs.Reply.{denied, refused, failed, done}
-use Rattle.model.specs.Liveness.{lives, goes_with}
+use Rattle.model.specs.Liveness.{lives, is_deleted_with}
 use Rattle.model.specs.Verdict.{operation_of, named_in, verdict, shown}
 use Rattle.model.specs.Adds.{Added, added_text, added_source, added_import}
 use Rattle.model.specs.Profiles.{profile_at, set_to, rolled_back, switched, without_generation}
@@ -70,7 +70,7 @@ effect_keeps s w (add_source name refs b) p v h = kept_by_add w (added_source s.
 effect_keeps s w (import_object i) p v h = kept_by_add w (added_import s.store_dir i) p v
 effect_keeps s w (collect ignores None) p v h = kept_where_there w (lives s w) p h
 effect_keeps s w (collect ignores (Some limit)) p v h = kept_where_there w (leaves s w limit) p h
-effect_keeps s w (delete named ignores) p v h = kept_where_there w (λ x. not (goes_with w named x)) p h
+effect_keeps s w (delete named ignores) p v h = kept_where_there w (λ x. not (is_deleted_with w named x)) p h
 effect_keeps s w _ p v h = refl
 
 pub nothing_replaced : NothingIsReplaced
@@ -122,7 +122,7 @@ has_address s w c (import_object i) v other p o fresh e =
     by false t f h = absurd (false≢true (sym f ∙ h))
 has_address s w c (collect ignores None) v other p o fresh e = absurd (fresh_kept w (lives s w) p o fresh e)
 has_address s w c (collect ignores (Some limit)) v other p o fresh e = absurd (fresh_kept w (leaves s w limit) p o fresh e)
-has_address s w c (delete named ignores) v other p o fresh e = absurd (fresh_kept w (λ x. not (goes_with w named x)) p o fresh e)
+has_address s w c (delete named ignores) v other p o fresh e = absurd (fresh_kept w (λ x. not (is_deleted_with w named x)) p o fresh e)
 has_address s w c _ v other p o fresh e = absurd (false≢true (sym fresh ∙ ap is_some e))
 
 pub nobody_plants : NobodyPlants

@@ -12,7 +12,7 @@ use Rattle.policy.specs.Caller.{Caller}
 use Rattle.model.specs.World.{Path, Pair, World, permanent_root, user_root, roots_of}
 use Rattle.model.specs.Sound.{IsSound}
 use Rattle.laws.specs.RootChanges.{ChangesPermanent, ChangesUserRoot}
-use Rattle.laws.specs.Relisted.{ListsRoots, StoodBeside}
+use Rattle.laws.specs.Relisted.{ListsRoots, CoexistedWith}
 use Rattle.model.proofs.MapMembers.{bytes_antisymmetric, pair_total, pair_antisymmetric}
 use Rattle.model.proofs.EveryRoot.{each_root}
 use Rattle.laws.proofs.Tellings.{root_listings_tell}
@@ -54,21 +54,21 @@ module _ (w new : World) (name : List ℕ) (k : ChangesPermanent w new name) whe
   }
 
   -- one of another name stood
-  stood : (n : List ℕ) (t : Path) → (n ≡ name → ⊥) → finite.get new.permanent n ≡ Some t → StoodBeside w permanent (permanent_label name) (permanent_root (n, t))
+  stood : (n : List ℕ) (t : Path) → (n ≡ name → ⊥) → finite.get new.permanent n ≡ Some t → CoexistedWith w permanent (permanent_label name) (permanent_root (n, t))
   stood n t apart e = record {
     stood = (each_root w).permanent n t (sym (k.others n apart) ∙ e);
     other = λ _ l. apart (same_permanent n name l);
   }
 
   -- and still stands
-  stands : (r : Root) → StoodBeside w permanent (permanent_label name) r → Contains (roots_of new) r
+  stands : (r : Root) → CoexistedWith w permanent (permanent_label name) r → Contains (roots_of new) r
   stands r s = of_kind permanent (Contains (roots_of new)) r
       (λ is. permanents w (λ x. (x.label ≡ permanent_label name → ⊥) → Contains (roots_of new) x)
       (λ n t e f. (each_root new).permanent n t (k.others n (λ same. f (ap permanent_label same)) ∙ e)) r s.stood is (s.other is))
       (λ f. moved permanent w new (turned permanent new w agree) r f s.stood)
 
   -- so the roots are those, and one of this name if there is
-  pub permanent_roots : (P : Root → Type 0) → ((r : Root) → StoodBeside w permanent (permanent_label name) r → P r)
+  pub permanent_roots : (P : Root → Type 0) → ((r : Root) → CoexistedWith w permanent (permanent_label name) r → P r)
       → ((t : Path) → finite.get new.permanent name ≡ Some t → P (permanent_root (name, t))) → (r : Root) → Contains (roots_of new) r → P r
   permanent_roots P f here r c = of_kind permanent P r
       (λ is. permanents new P (λ n t e. by n t e (same_or_not nat_list_cmp_total bytes_antisymmetric n name)) r c is)
@@ -78,16 +78,16 @@ module _ (w new : World) (name : List ℕ) (k : ChangesPermanent w new name) whe
       by n t e (inl same) = subst (λ (m : List ℕ). P (permanent_root (m, t))) (sym same) (here t (ap (finite.get new.permanent) (sym same) ∙ e))
       by n t e (inr apart) = f (permanent_root (n, t)) (stood n t apart e)
 
-  pub permanent_gone : finite.contains_key new.permanent name ≡ false → (r : Root) → Contains (roots_of new) r ↔ StoodBeside w permanent (permanent_label name) r
+  pub permanent_gone : finite.contains_key new.permanent name ≡ false → (r : Root) → Contains (roots_of new) r ↔ CoexistedWith w permanent (permanent_label name) r
   permanent_gone gone r = (
-    permanent_roots (StoodBeside w permanent (permanent_label name)) (λ x b. b) (λ t e. absurd (false≢true (sym gone ∙ ap is_some e))) r,
+    permanent_roots (CoexistedWith w permanent (permanent_label name)) (λ x b. b) (λ t e. absurd (false≢true (sym gone ∙ ap is_some e))) r,
     stands r,
   )
 
   pub permanent_there : (p : Path) → finite.get new.permanent name ≡ Some p
-      → (r : Root) → Contains (roots_of new) r ↔ ((r ≡ permanent_root (name, p)) ⊎ StoodBeside w permanent (permanent_label name) r)
+      → (r : Root) → Contains (roots_of new) r ↔ ((r ≡ permanent_root (name, p)) ⊎ CoexistedWith w permanent (permanent_label name) r)
   permanent_there p there r = (
-    permanent_roots (λ x. (x ≡ permanent_root (name, p)) ⊎ StoodBeside w permanent (permanent_label name) x) (λ x b. inr b)
+    permanent_roots (λ x. (x ≡ permanent_root (name, p)) ⊎ CoexistedWith w permanent (permanent_label name) x) (λ x b. inr b)
         (λ t e. inl (ap (λ (q : Path). permanent_root (name, q)) (same_Some t p (sym e ∙ there)))) r,
     λ h. elim h as (λ _. Contains (roots_of new) r) [
       | inl is ↦ subst (Contains (roots_of new)) (sym is) ((each_root new).permanent name p there)
@@ -107,7 +107,7 @@ module _ (dir : List ℕ) (w new : World) (sound : IsSound dir w) (owner name : 
     temporary_ = λ _. k.temporary;
   }
 
-  stood_user : (o : Pair) (t : Path) → (o ≡ (owner, name) → ⊥) → finite.get new.user_roots o ≡ Some t → StoodBeside w user (user_label owner name) (user_root (o, t))
+  stood_user : (o : Pair) (t : Path) → (o ≡ (owner, name) → ⊥) → finite.get new.user_roots o ≡ Some t → CoexistedWith w user (user_label owner name) (user_root (o, t))
   stood_user o t apart e = record {
     stood = (each_root w).user o t (sym (k.others o apart) ∙ e);
     other = λ _ l.
@@ -115,13 +115,13 @@ module _ (dir : List ℕ) (w new : World) (sound : IsSound dir w) (owner name : 
         apart (λ i. (both.0 i, both.1 i));
   }
 
-  stands_user : (r : Root) → StoodBeside w user (user_label owner name) r → Contains (roots_of new) r
+  stands_user : (r : Root) → CoexistedWith w user (user_label owner name) r → Contains (roots_of new) r
   stands_user r s = of_kind user (Contains (roots_of new)) r
       (λ is. users w (λ x. (x.label ≡ user_label owner name → ⊥) → Contains (roots_of new) x)
       (λ o t e f. (each_root new).user o t (k.others o (λ same. f (ap (λ (x : Pair). user_label x.0 x.1) same)) ∙ e)) r s.stood is (s.other is))
       (λ f. moved user w new (turned user new w agree_users) r f s.stood)
 
-  user_roots_now : (P : Root → Type 0) → ((r : Root) → StoodBeside w user (user_label owner name) r → P r)
+  user_roots_now : (P : Root → Type 0) → ((r : Root) → CoexistedWith w user (user_label owner name) r → P r)
       → ((t : Path) → finite.get new.user_roots (owner, name) ≡ Some t → P (user_root ((owner, name), t))) → (r : Root) → Contains (roots_of new) r → P r
   user_roots_now P f here r c = of_kind user P r
       (λ is. users new P (λ o t e. by o t e (same_or_not pair_total pair_antisymmetric o (owner, name))) r c is)
@@ -131,16 +131,16 @@ module _ (dir : List ℕ) (w new : World) (sound : IsSound dir w) (owner name : 
       by o t e (inl same) = subst (λ (x : Pair). P (user_root (x, t))) (sym same) (here t (ap (finite.get new.user_roots) (sym same) ∙ e))
       by o t e (inr apart) = f (user_root (o, t)) (stood_user o t apart e)
 
-  pub user_gone : finite.contains_key new.user_roots (owner, name) ≡ false → (r : Root) → Contains (roots_of new) r ↔ StoodBeside w user (user_label owner name) r
+  pub user_gone : finite.contains_key new.user_roots (owner, name) ≡ false → (r : Root) → Contains (roots_of new) r ↔ CoexistedWith w user (user_label owner name) r
   user_gone gone r = (
-    user_roots_now (StoodBeside w user (user_label owner name)) (λ x b. b) (λ t e. absurd (false≢true (sym gone ∙ ap is_some e))) r,
+    user_roots_now (CoexistedWith w user (user_label owner name)) (λ x b. b) (λ t e. absurd (false≢true (sym gone ∙ ap is_some e))) r,
     stands_user r,
   )
 
   pub user_there : (p : Path) → finite.get new.user_roots (owner, name) ≡ Some p
-      → (r : Root) → Contains (roots_of new) r ↔ ((r ≡ user_root ((owner, name), p)) ⊎ StoodBeside w user (user_label owner name) r)
+      → (r : Root) → Contains (roots_of new) r ↔ ((r ≡ user_root ((owner, name), p)) ⊎ CoexistedWith w user (user_label owner name) r)
   user_there p there r = (
-    user_roots_now (λ x. (x ≡ user_root ((owner, name), p)) ⊎ StoodBeside w user (user_label owner name) x) (λ x b. inr b)
+    user_roots_now (λ x. (x ≡ user_root ((owner, name), p)) ⊎ CoexistedWith w user (user_label owner name) x) (λ x b. inr b)
         (λ t e. inl (ap (λ (q : Path). user_root ((owner, name), q)) (same_Some t p (sym e ∙ there)))) r,
     λ h. elim h as (λ _. Contains (roots_of new) r) [
       | inl is ↦ subst (Contains (roots_of new)) (sym is) ((each_root new).user (owner, name) p there)

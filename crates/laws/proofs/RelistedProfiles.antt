@@ -13,7 +13,7 @@ use Rattle.model.proofs.Empty.{no_entry}
 use Rattle.model.specs.Reply.{Answer}
 use Rattle.model.specs.Profiles.{profile_or_new, profile_at, has_generation}
 use Rattle.laws.specs.Generations.{ChangesProfile, IsNumberFor, again, next, first, SetsProfile, MovesTo, LosesGeneration}
-use Rattle.laws.specs.Relisted.{StoodBeside}
+use Rattle.laws.specs.Relisted.{CoexistedWith}
 use Rattle.model.proofs.MapMembers.{nat_antisymmetric, pair_total, pair_antisymmetric}
 use Rattle.model.proofs.EveryRoot.{each_root}
 use Rattle.laws.proofs.LabelsDiffer.{same_generation}
@@ -130,22 +130,22 @@ module _ (dir : List ℕ) (w new : World) (sound : IsSound dir w) (owner name : 
       same_generation o.0 owner o.1 name m n theirs.owner mine.owner (omega (arith, small)) (omega (arith, low))
 
   apart_from : (o : Pair) (q : Profile) (m : ℕ) (t : Path) → finite.get w.profiles o ≡ Some q → finite.get q.generations m ≡ Some t → (o ≡ (owner, name) → m ≡ n → ⊥)
-      → StoodBeside w profile (generation_label owner name n) (generation_root o (m, t))
+      → CoexistedWith w profile (generation_label owner name n) (generation_root o (m, t))
   apart_from o q m t e g other = record {
     stood = (each_root w).generation o q m t e g;
     other = λ _ l. let is = label_apart o q m e (ap is_some g) l in other (λ i. (is.0 i, is.1 i)) is.2;
   }
 
-  pub generation_gone : (r : Root) → Contains (roots_of new) r ↔ StoodBeside w profile (generation_label owner name n) r
+  pub generation_gone : (r : Root) → Contains (roots_of new) r ↔ CoexistedWith w profile (generation_label owner name n) r
   generation_gone r = (
-    forward w new (owner, name) x.now x.change (StoodBeside w profile (generation_label owner name n)) (λ y c apart. beside w profile (generation_label owner name n) y c apart)
+    forward w new (owner, name) x.now x.change (CoexistedWith w profile (generation_label owner name n)) (λ y c apart. beside w profile (generation_label owner name n) y c apart)
         (λ o q m t apart e g. apart_from o q m t e g (λ same _. apart same))
         (λ m t e. left m t e (same_or_not nat_cmp_total nat_antisymmetric m n)) r,
     λ s. backward w new (owner, name) x.now x.change (λ y. (y.kind ≡ profile → y.label ≡ generation_label owner name n → ⊥) → Contains (roots_of new) y) (λ y d _. d)
         (λ q m t e g other. still m t (ap (λ (y : Profile). finite.get y.generations m) (same_Some x.was q (sym x.stood ∙ e)) ∙ g) (λ same. other refl (ap (generation_label owner name) same))) r s.stood s.other,
   )
     where
-      left : (m : ℕ) (t : Path) → finite.get x.now.generations m ≡ Some t → (m ≡ n) ⊎ (m ≡ n → ⊥) → StoodBeside w profile (generation_label owner name n) (generation_root (owner, name) (m, t))
+      left : (m : ℕ) (t : Path) → finite.get x.now.generations m ≡ Some t → (m ≡ n) ⊎ (m ≡ n → ⊥) → CoexistedWith w profile (generation_label owner name n) (generation_root (owner, name) (m, t))
       left m t e (inl same) = absurd (false≢true (sym x.gone ∙ ap (λ k. is_some (finite.get x.now.generations k)) (sym same) ∙ ap is_some e))
       left m t e (inr apart) = apart_from (owner, name) x.was m t x.stood (sym (x.others m apart) ∙ e) (λ _ is. apart is)
 

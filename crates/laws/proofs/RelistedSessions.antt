@@ -14,7 +14,7 @@ use Rattle.model.specs.Reply.{Answer, generation}
 use Rattle.model.specs.declared.refusal.Refusal.TheVariants.{BadRootName, BadSession}
 use Rattle.model.specs.Tests.{tests}
 use Rattle.laws.specs.RootChanges.{ReplacesRuntime, KeepsAllButTemporary, AddsTemporary, Ends}
-use Rattle.laws.specs.Relisted.{StoodBeside, IsGiven, IsKeptByAnother, DropsAreTold, SetsAreTold}
+use Rattle.laws.specs.Relisted.{CoexistedWith, IsGiven, IsKeptByAnother, DropsAreListed, SetsAreListed}
 use Rattle.model.proofs.MapMembers.{bytes_antisymmetric, nat_antisymmetric, temporary_total, temporary_antisymmetric}
 use Rattle.model.proofs.EveryRoot.{each_root}
 use Rattle.laws.proofs.LabelsDiffer.{same_session}
@@ -87,7 +87,7 @@ in_bounds n h = let most = leb-true n 4194304 (and_parts (nat_le 1 n) (nat_le n 
 
 module _ (dir : List ℕ) (w new : World) (sound : IsSound dir w) (owner : List ℕ) (session : ℕ) (bounds : IsTrue (is_session session)) (a : Answer) (k : Ends w owner session a new) where
   Stays : Root → Type 0
-  Stays r = IsKeptByAnother w owner session r ⊎ StoodBeside w temporary (temporary_label session) r
+  Stays r = IsKeptByAnother w owner session r ⊎ CoexistedWith w temporary (temporary_label session) r
 
   forth : (t : Temporary) → IsTrue (finite.contains_key new.temporary t) → Stays (temporary_root t)
   unfolding Stays
@@ -133,28 +133,28 @@ number_in : Answer → ℕ
 number_in (generation n) = n
 number_in _ = 0
 
-pub drops_are_told : DropsAreTold
+pub drops_are_told : DropsAreListed
 unfolding Stays
 drops_are_told s w c mid next sound = record {
-  permanent_ = λ name a h. let x = drops_permanent s w c name a mid h in relisted s mid next (StoodBeside w permanent (permanent_label name)) (permanent_gone w mid name x.3 x.2);
+  permanent_ = λ name a h. let x = drops_permanent s w c name a mid h in relisted s mid next (CoexistedWith w permanent (permanent_label name)) (permanent_gone w mid name x.3 x.2);
   user_ = λ owner name a h.
       let x = drops_user_roots s w c owner name a mid h in
       let plain = and_parts (is_plain_name owner) (is_plain_name name) (met (is_plain_name owner && is_plain_name name) BadRootName (each_passed (tests s w (drop_user_root owner name)) h.1 _ (0, omega arith, refl))) in
-      relisted s mid next (StoodBeside w user (user_label owner name)) (user_gone s.store_dir w mid sound owner name plain.0 x.3 x.2);
-  generation_ = λ owner name n a h. relisted s mid next (StoodBeside w profile (generation_label owner name n)) (generation_gone s.store_dir w mid sound owner name n (deletes_generations s w c owner name n a mid h).1);
+      relisted s mid next (CoexistedWith w user (user_label owner name)) (user_gone s.store_dir w mid sound owner name plain.0 x.3 x.2);
+  generation_ = λ owner name n a h. relisted s mid next (CoexistedWith w profile (generation_label owner name n)) (generation_gone s.store_dir w mid sound owner name n (deletes_generations s w c owner name n a mid h).1);
   runtime_ = λ pairs a h. relisted s mid next (λ r. IsGiven w pairs r ⊎ (Contains (roots_of w) r × (r.kind ≡ runtime → ⊥))) (runtime_now w mid pairs a (replaces s w c pairs a mid h));
   session_ = λ owner session a h.
-      relisted s mid next (λ r. IsKeptByAnother w owner session r ⊎ StoodBeside w temporary (temporary_label session) r) (ended_now s.store_dir w mid sound owner session (met (is_session session) BadSession (each_passed (tests s w (end_session owner session)) h.1 _ (1, omega arith, refl))) a (ends_sessions s w c owner session a mid h));
+      relisted s mid next (λ r. IsKeptByAnother w owner session r ⊎ CoexistedWith w temporary (temporary_label session) r) (ended_now s.store_dir w mid sound owner session (met (is_session session) BadSession (each_passed (tests s w (end_session owner session)) h.1 _ (1, omega arith, refl))) a (ends_sessions s w c owner session a mid h));
 }
 
-pub sets_are_told : SetsAreTold
+pub sets_are_told : SetsAreListed
 unfolding number_in
 sets_are_told s w c mid next sound = record {
-  permanent_ = λ name p a h. let x = sets_permanent s w c name p a mid h in relisted s mid next (λ r. (r ≡ permanent_root (name, p)) ⊎ StoodBeside w permanent (permanent_label name) r) (permanent_there w mid name x.2 p x.1);
+  permanent_ = λ name p a h. let x = sets_permanent s w c name p a mid h in relisted s mid next (λ r. (r ≡ permanent_root (name, p)) ⊎ CoexistedWith w permanent (permanent_label name) r) (permanent_there w mid name x.2 p x.1);
   user_ = λ owner name p a h.
       let x = sets_user_roots s w c owner name p a mid h in
       let plain = and_parts (is_plain_name owner) (is_plain_name name) (met (is_plain_name owner && is_plain_name name) BadRootName (each_passed (tests s w (set_user_root owner name p)) h.1 _ (0, omega arith, refl))) in
-      relisted s mid next (λ r. (r ≡ user_root ((owner, name), p)) ⊎ StoodBeside w user (user_label owner name) r) (user_there s.store_dir w mid sound owner name plain.0 x.2 p x.1);
+      relisted s mid next (λ r. (r ≡ user_root ((owner, name), p)) ⊎ CoexistedWith w user (user_label owner name) r) (user_there s.store_dir w mid sound owner name plain.0 x.2 p x.1);
   generation_ = λ owner name p n h.
       let x = sets s w c owner name p (generation n) mid h in
       relisted s mid next (λ r. (r ≡ generation_root (owner, name) (n, p)) ⊎ Contains (roots_of w) r) (subst (λ (m : ℕ). (r : Root) → Contains (roots_of mid) r ↔ ((r ≡ generation_root (owner, name) (m, p)) ⊎ Contains (roots_of w) r)) (sym (ap number_in x.told)) (generation_there w mid (owner, name) p (generation n) x));

@@ -17,7 +17,7 @@ use Rattle.model.specs.Request.{drop_permanent, drop_user_root}
 use Rattle.model.specs.Reply.{runtime_count, temporary_count}
 use Rattle.model.specs.Tests.{tests}
 use Rattle.model.specs.Effects.{valid_pairs, with_runtime, with_temporary, is_of_session, of_session, without_session}
-use Rattle.laws.specs.RootChanges.{SetsPermanent, DropsPermanent, SetsUserRoots, DropsUserRoots, ReplacesRuntime, ReplacesAsTold, AddsTemporary, AddsForSessions, Ends, EndsSessions, ChangesPermanent, ChangesUserRoot}
+use Rattle.laws.specs.RootChanges.{SetsPermanent, DropsPermanent, SetsUserRoots, DropsUserRoots, ReplacesRuntime, ReplacesAsSpecified, AddsTemporary, AddsForSessions, Ends, EndsSessions, ChangesPermanent, ChangesUserRoot}
 use Rattle.model.proofs.MapMembers.{bytes_antisymmetric, pair_total, pair_antisymmetric, temporary_total, temporary_antisymmetric, key_listed, listed_key, retained_key, contains_key-inserted, set_member}
 use Rattle.laws.proofs.Changed.{at_inserted, beside_inserted, at_removed, beside_removed}
 use Rattle.model.proofs.Filtered.{in_filtered, from_filtered}
@@ -106,7 +106,7 @@ module _ (w : World) (pairs : List Pair) where
     temporary = refl;
   }
 
-pub replaces : ReplacesAsTold
+pub replaces : ReplacesAsSpecified
 replaces s w c pairs a new h =
     subst (λ x. ReplacesRuntime w pairs x new) (sym h.2) (subst (λ (u : World). ReplacesRuntime w pairs (runtime_count (finite.len (valid_pairs w pairs))) u) (sym h.3) (replaced w pairs))
 

@@ -10,7 +10,7 @@ use Rattle.paths.specs.Root.{Kind, permanent, user, profile, runtime, temporary,
 use Rattle.live.proofs.Order.{same_kinds}
 use Rattle.model.specs.World.{Path, Pair, Profile, Temporary, World, permanent_root, user_root, generation_root, runtime_root, temporary_root, roots_of}
 use Rattle.model.specs.Entries.{IsEntry, of_permanent, of_user, of_generation, of_runtime, of_temporary}
-use Rattle.laws.specs.Relisted.{StoodBeside}
+use Rattle.laws.specs.Relisted.{CoexistedWith}
 use Rattle.model.proofs.EveryRoot.{each_root}
 use Rattle.model.proofs.MapMembers.{tied_is, nat_antisymmetric}
 
@@ -85,7 +85,7 @@ of_kind k P r here there = elim (same_or_not nat_cmp_total nat_antisymmetric (pl
   | inr apart ↦ there (λ is. apart (ap place is))
 ]
 
-pub beside : (w : World) (k : Kind) (label : List ℕ) (r : Root) → Contains (roots_of w) r → (r.kind ≡ k → ⊥) → StoodBeside w k label r
+pub beside : (w : World) (k : Kind) (label : List ℕ) (r : Root) → Contains (roots_of w) r → (r.kind ≡ k → ⊥) → CoexistedWith w k label r
 beside w k label r c f = record { stood = c; other = λ is l. f is }
 
 module _ (w : World) (P : Root → Type 0) where

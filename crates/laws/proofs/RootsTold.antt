@@ -16,7 +16,7 @@ use Rattle.model.specs.World.{Pair, Temporary, World, has, permanent_root, user_
 use Rattle.model.specs.Reply.{Answer, generation}
 use Rattle.model.specs.Liveness.{keep_of, graph_of, roots_that_keep}
 use Rattle.model.specs.Seen.{plain, censored, same_pair, each_once, seen_root, seen}
-use Rattle.laws.specs.RootsTold.{Shows, TellsRoot, TellsHidden, RootsSetAreTold}
+use Rattle.laws.specs.ListedRoots.{Shows, ListsRoot, ListsHidden, RootsSetAreListed}
 use Rattle.model.proofs.Filtered.{in_mapped, in_filtered}
 use Rattle.model.proofs.EveryRoot.{each_root}
 use Rattle.model.proofs.Worlds.{valid_is}
@@ -55,7 +55,7 @@ module _ (s : Settings) (w : World) (c : Caller) (r : Root) (stands : Contains (
   of_path v = in_filtered (λ (x : Root). reaches (keep_of s) (graph_of w) x.target r.target) (roots_of w) r stands (reaches_itself v)
 
   -- as the caller sees it
-  told : (pair : Pair) → seen_root (class_of s c) r ≡ pair → pair.1 ≡ r.target → TellsRoot s w c pair
+  told : (pair : Pair) → seen_root (class_of s c) r ≡ pair → pair.1 ≡ r.target → ListsRoot s w c pair
   told pair is target = record {
     all = λ a new h. subst (λ x. Shows x pair) (sym h.2) (subst (Contains (seen (class_of s c) (roots_of w))) is (is_seen (class_of s c) (roots_of w) r stands));
     of = λ a new h. subst (λ x. Shows x pair) (sym h.2) (subst (λ p. Contains (seen (class_of s c) (roots_that_keep s w p)) pair) (sym target)
@@ -63,14 +63,14 @@ module _ (s : Settings) (w : World) (c : Caller) (r : Root) (stands : Contains (
         (is_seen (class_of s c) (roots_that_keep s w r.target) r (of_path (ap (has w) (sym target) ∙ met (has w pair.1) _ (passed _ [] h.1).0)))));
   }
 
-  by_trusted : IsTrue (is_trusted (class_of s c)) → TellsRoot s w c (r.label, r.target)
+  by_trusted : IsTrue (is_trusted (class_of s c)) → ListsRoot s w c (r.label, r.target)
   by_trusted h = told (r.label, r.target) (ap (λ b. plain (if b then r else censored r)) h) refl
 
-  by_others : IsFalse (is_trusted (class_of s c)) → TellsRoot s w c (plain (censored r))
+  by_others : IsFalse (is_trusted (class_of s c)) → ListsRoot s w c (plain (censored r))
   by_others h = told (plain (censored r)) (ap (λ b. plain (if b then r else censored r)) h) refl
 
   -- a label that nobody hides is told to each caller
-  by_all : plain (censored r) ≡ (r.label, r.target) → TellsRoot s w c (r.label, r.target)
+  by_all : plain (censored r) ≡ (r.label, r.target) → ListsRoot s w c (r.label, r.target)
   by_all open_ = told (r.label, r.target) (by (is_trusted (class_of s c))) refl
     where
       by : (b : Bool) → plain (if b then r else censored r) ≡ (r.label, r.target)
@@ -78,17 +78,17 @@ module _ (s : Settings) (w : World) (c : Caller) (r : Root) (stands : Contains (
       by false = open_
 
   -- one that is hidden isn't
-  hidden : plain (censored r) ≡ (codes "{censored}", r.target) → TellsHidden s w c r.label r.target
+  hidden : plain (censored r) ≡ (codes "{censored}", r.target) → ListsHidden s w c r.label r.target
   hidden is = record {
     trusted = by_trusted;
-    others = λ h. subst (λ pair. TellsRoot s w c pair) is (by_others h);
+    others = λ h. subst (λ pair. ListsRoot s w c pair) is (by_others h);
   }
 
 number_in : Answer → ℕ
 number_in (generation n) = n
 number_in _ = 0
 
-pub roots_set_are_told : RootsSetAreTold
+pub roots_set_are_told : RootsSetAreListed
 unfolding number_in
 roots_set_are_told s w c mid next = record {
   permanent = λ name p a h. by_all s mid next (permanent_root (name, p)) ((each_root mid).permanent name p (sets_permanent s w c name p a mid h).1) refl;

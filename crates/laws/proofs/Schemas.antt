@@ -9,7 +9,10 @@ use Rattle.std.specs.FinMap as finite
 use Rattle.std.proofs.lemmas.Bool.{false≢true, and_parts, leb-true}
 use Rattle.tables_sql.specs.Contents.{Stored}
 use Rattle.tables_world.specs.Pieces.{GoOn}
-use Rattle.tables_world.specs.Rows.{Schema, one, two, three, schema_text, has_pieces, Rows, settings, pieces_in, IsSoundRows}
+use Rattle.tables_world.specs.Rows.{Rows, settings, pieces_in, IsSoundRows}
+use Rattle.tables_schema.specs.declared.schema.Schema.{Schema}
+use Rattle.tables_schema.specs.declared.schema.Schema.TheVariants.{V1, V2, V3}
+use Rattle.tables_schema.specs.Schemas.{schema_text, has_pieces}
 use Rattle.laws.specs.Schemas.{NamesSchema, SchemasDiffer, PiecesCountFromOne, SessionsKeepInBounds}
 use Rattle.tables_world.proofs.Columns.{piece_at}
 use Rattle.tables_world.proofs.SoundParts.{sound_by_parts}
@@ -32,9 +35,9 @@ names schema dir c sound = record {
 
 pub schemas_differ : (dir : List ℕ) (c : Rows) → SchemasDiffer dir c
 schemas_differ dir c = record {
-  first = λ sound. (names one dir c sound, sound.no_pieces refl, sound.no_temporary refl);
-  second = λ sound. (names two dir c sound, sound.no_temporary refl);
-  third = λ sound. names three dir c sound;
+  first = λ sound. (names V1 dir c sound, sound.no_pieces refl, sound.no_temporary refl);
+  second = λ sound. (names V2 dir c sound, sound.no_temporary refl);
+  third = λ sound. names V3 dir c sound;
 }
 
 -- ---- pieces

@@ -13,13 +13,13 @@ use Rattle.paths.specs.Root.{bytes_cmp, Root, root_cmp}
 use Rattle.live.specs.Reach.{reaches}
 use Rattle.live.proofs.Reach.{decided}
 use Rattle.policy.specs.Settings.{Settings}
-use Rattle.model.specs.World.{Path, Object, World, has, all_paths, lasting_roots, runtime_roots, temporary_roots, roots_of}
+use Rattle.model.specs.World.{Path, Object, World, has, all_paths, explicit_roots, runtime_roots, temporary_roots, roots_of}
 use Rattle.model.specs.Request.{Imported, Request, add_text, add_source, import_object}
 use Rattle.model.specs.Reply.{Answer, record_of, archive_of, usage}
 use Rattle.model.specs.Liveness.{graph_of, keep_of, lives, live_paths, dead_paths, bytes_in, usage_of}
 use Rattle.model.specs.Answers.{info_of, record_at, archive_at}
-use Rattle.laws.specs.Changes.{HandedIn, IsAsHandedIn, AddsExactly, with_text, with_source, with_import}
-use Rattle.laws.specs.Tellings.{TellsObject, RecordsTell, ArchivesAreTheObjects, TellsHandedIn, RecordsAdds, ListingsTell, RootListingsTell, ReportsTell}
+use Rattle.laws.specs.Changes.{Submitted, IsAsSubmitted, AddsExactly, with_text, with_source, with_import}
+use Rattle.laws.specs.ReadOnly.{ReportsObject, RecordsAreExact, ArchivesAreTheObjects, ReportsSubmitted, RecordsAdds, ListingsAreExact, RootListingsAreExact, ReportsAreExact}
 use Rattle.model.proofs.MapMembers.{bytes_antisymmetric, key_listed, listed_key}
 use Rattle.model.proofs.Filtered.{in_filtered, from_filtered}
 use Rattle.model.proofs.Worlds.{live_has}
@@ -31,7 +31,7 @@ use Rattle.laws.proofs.Usages.{adds_up}
 
 -- ---- objects
 
-tells : (p : Path) (o : Object) → TellsObject p o (record_of (info_of p o))
+tells : (p : Path) (o : Object) → ReportsObject p o (record_of (info_of p o))
 tells p o = record {
   record_ = info_of p o;
   told = refl;
@@ -44,12 +44,12 @@ tells p o = record {
   ca = refl;
 }
 
-pub records_tell : RecordsTell
+pub records_tell : RecordsAreExact
 records_tell s w c p a new h = by (finite.get w.objects p) refl (met (has w p) _ (passed _ [] h.1).0)
   where
-    by : (o : Option Object) → finite.get w.objects p ≡ o → IsTrue (is_some o) → (x : Object) × (finite.get w.objects p ≡ Some x) × TellsObject p x a
+    by : (o : Option Object) → finite.get w.objects p ≡ o → IsTrue (is_some o) → (x : Object) × (finite.get w.objects p ≡ Some x) × ReportsObject p x a
     by None e v = absurd (false≢true v)
-    by (Some o) e v = (o, e, subst (λ x. TellsObject p o x) (sym (h.2 ∙ ap (record_at p) e)) (tells p o))
+    by (Some o) e v = (o, e, subst (λ x. ReportsObject p o x) (sym (h.2 ∙ ap (record_at p) e)) (tells p o))
 
 pub archives_are_the_objects : ArchivesAreTheObjects
 archives_are_the_objects s w c p a new h = by (finite.get w.objects p) refl (met (has w p) _ (passed _ [] h.1).0)
@@ -58,7 +58,7 @@ archives_are_the_objects s w c p a new h = by (finite.get w.objects p) refl (met
     by None e v = absurd (false≢true v)
     by (Some o) e v = (o, e, h.2 ∙ ap (λ x. archive_of (archive_at x)) e)
 
-handed : (dir : List ℕ) (h : HandedIn) (o : Object) (a : Answer) → IsAsHandedIn dir h o → TellsObject h.path o a → TellsHandedIn h a
+handed : (dir : List ℕ) (h : Submitted) (o : Object) (a : Answer) → IsAsSubmitted dir h o → ReportsObject h.path o a → ReportsSubmitted h a
 handed dir h o a is t = record {
   record_ = t.record_;
   told = t.told;
@@ -71,12 +71,12 @@ handed dir h o a is t = record {
   ca = t.ca ∙ is.ca;
 }
 
-pub recorded : (s : Settings) (q : Request) (h : HandedIn) → AddsExactly s q h → RecordsAdds s q h
+pub recorded : (s : Settings) (q : Request) (h : Submitted) → AddsExactly s q h → RecordsAdds s q h
 recorded s q h adds w c reply mid step d fresh next a last told =
     let gained = (adds w c reply mid step d).1.fresh fresh in
     let x = records_tell s mid next h.path a last told in
     let one : x.0 ≡ gained.0 = same_Some x.0 gained.0 (sym x.1 ∙ gained.1) in
-    handed s.store_dir h gained.0 a gained.2 (subst (λ (o : Object). TellsObject h.path o a) one x.2)
+    handed s.store_dir h gained.0 a gained.2 (subst (λ (o : Object). ReportsObject h.path o a) one x.2)
 
 pub text_recorded : (s : Settings) (name : List ℕ) (refs : List Path) (contents : List ℕ) → RecordsAdds s (add_text name refs contents) (with_text s.store_dir name refs contents)
 text_recorded s name refs contents = recorded s (add_text name refs contents) (with_text s.store_dir name refs contents) (text_exact s name refs contents)
@@ -105,7 +105,7 @@ module _ (s : Settings) (w : World) where
     (λ h. in_filtered (λ x. not (lives s w x)) (all_paths w) p (key_listed bytes_antisymmetric w.objects p h.0) (ap not h.1)),
   )
 
-pub listings_tell : ListingsTell
+pub listings_tell : ListingsAreExact
 listings_tell s w c = record {
   all = λ a new h. record { listed = all_paths w; told = h.2; exactly = valid_listed s w; in_order = keys_rise bytes_cmp w.objects };
   live = λ a new h. record { listed = live_paths s w; told = h.2; exactly = live_listed s w; in_order = IsStrictlySortedBy-filter bytes_cmp (lives s w) (all_paths w) (keys_rise bytes_cmp w.objects) };
@@ -113,9 +113,9 @@ listings_tell s w c = record {
 }
 
 in_rise : (w : World) → IsStrictlySortedBy root_cmp (roots_of w)
-in_rise w = rise (lasting_roots w ++ runtime_roots w ++ temporary_roots w)
+in_rise w = rise (explicit_roots w ++ runtime_roots w ++ temporary_roots w)
 
-pub root_listings_tell : RootListingsTell
+pub root_listings_tell : RootListingsAreExact
 root_listings_tell s w c = record {
   all = λ a new h. record { shown = roots_of w; told = h.2; exactly = λ r. ((λ k. k), (λ k. k)); in_order = in_rise w };
   of = λ p a new h. record {
@@ -131,7 +131,7 @@ root_listings_tell s w c = record {
 
 -- ---- the report
 
-pub reports_tell : ReportsTell
+pub reports_tell : ReportsAreExact
 reports_tell s w c a new h =
     let sums = adds_up s w in
     record {

@@ -22,7 +22,7 @@ use Rattle.model.specs.Collection.{KeepsRoots}
 -- ---- adds
 
 -- what an add passes: a path, references in any order and perhaps twice, a deriver and an address if there are, an archive
-pub record HandedIn : Type 0 where
+pub record Submitted : Type 0 where
   pub path : Path
   pub references : List Path
   pub deriver : Option Path
@@ -30,20 +30,20 @@ pub record HandedIn : Type 0 where
   pub nar : List ℕ
 
 -- with a text: the archive of the file with these contents that isn't executable
-abbrev pub with_text : List ℕ → List ℕ → List Path → List ℕ → HandedIn
+abbrev pub with_text : List ℕ → List ℕ → List Path → List ℕ → Submitted
 with_text dir name refs contents =
     record { path = text_path dir name refs contents; references = refs; deriver = None; ca = Some (text_address contents); nar = spelling (archive (regular false contents)) }
 
 -- with an archive
-abbrev pub with_source : List ℕ → List ℕ → List Path → List ℕ → HandedIn
+abbrev pub with_source : List ℕ → List ℕ → List Path → List ℕ → Submitted
 with_source dir name refs nar = record { path = source_path dir name refs nar; references = refs; deriver = None; ca = Some (source_address nar); nar = nar }
 
 -- with an object: all that is given
-abbrev pub with_import : Imported → HandedIn
+abbrev pub with_import : Imported → Submitted
 with_import i = record { path = i.path; references = i.refs; deriver = i.deriver; ca = i.ca; nar = i.nar }
 
 -- the object that was passed: the same archive, references, deriver and address, and the outputs that the archive records
-pub record IsAsHandedIn (dir : List ℕ) (a : HandedIn) (o : Object) : Type 0 where
+pub record IsAsSubmitted (dir : List ℕ) (a : Submitted) (o : Object) : Type 0 where
   pub nar : o.nar ≡ a.nar
   pub references : (r : Path) → IsTrue (finite.contains_key o.references r) ↔ Contains a.references r
   pub deriver : o.deriver ≡ a.deriver
@@ -52,14 +52,14 @@ pub record IsAsHandedIn (dir : List ℕ) (a : HandedIn) (o : Object) : Type 0 wh
 
 -- From the one world to the other its object came: none where the path was valid already, and else this one alone; each
 -- other object, and all roots and profiles, are as they were.
-pub record Gains (dir : List ℕ) (a : HandedIn) (w new : World) : Type 0 where
+pub record Gains (dir : List ℕ) (a : Submitted) (w new : World) : Type 0 where
   pub there : IsTrue (has w a.path) → new ≡ w
-  pub fresh : IsFalse (has w a.path) → (o : Object) × (finite.get new.objects a.path ≡ Some o) × IsAsHandedIn dir a o
+  pub fresh : IsFalse (has w a.path) → (o : Object) × (finite.get new.objects a.path ≡ Some o) × IsAsSubmitted dir a o
   pub others : (p : Path) → (p ≡ a.path → ⊥) → finite.get new.objects p ≡ finite.get w.objects p
   pub roots : KeepsRoots w new
 
 -- an add that is done answers the path, and gains what was passed
-abbrev pub AddsExactly : Settings → Request → HandedIn → Type 0
+abbrev pub AddsExactly : Settings → Request → Submitted → Type 0
 AddsExactly s q a = (w : World) (c : Caller) (reply : Reply) (new : World) → Step s w c q reply new → IsDone reply
     → (reply ≡ done (path a.path)) × Gains s.store_dir a w new
 
@@ -86,7 +86,7 @@ Weigh w (p ∷ ps) n = (o : Object) × (rest : ℕ) × (finite.get w.objects p �
 
 -- The answer is exactly what was deleted: in order and each once, the paths that were valid before and aren't after, and the bytes
 -- of their archives. What is left is as it was.
-pub record TellsWhatWent (w new : World) (a : Answer) : Type 0 where
+pub record ReportsDeleted (w new : World) (a : Answer) : Type 0 where
   pub went : List Path
   pub bytes : ℕ
   pub told : a ≡ freed went bytes
@@ -96,5 +96,5 @@ pub record TellsWhatWent (w new : World) (a : Answer) : Type 0 where
   pub left : (p : Path) → IsTrue (has new p) → finite.get new.objects p ≡ finite.get w.objects p
 
 -- a request that is done is answered by what was deleted
-abbrev pub FreesAsTold : Settings → Request → Type 0
-FreesAsTold s q = (w : World) (c : Caller) (a : Answer) (new : World) → Step s w c q (done a) new → TellsWhatWent w new a
+abbrev pub FreesAsReported : Settings → Request → Type 0
+FreesAsReported s q = (w : World) (c : Caller) (a : Answer) (new : World) → Step s w c q (done a) new → ReportsDeleted w new a

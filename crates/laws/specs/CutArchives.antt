@@ -4,8 +4,8 @@ use Rattle.std.specs.List.{concat}
 use Rattle.std.specs.FinMap as finite
 use Rattle.tables_sql.specs.Contents.{Contents, Stored}
 use Rattle.model.specs.World.{Path, Object}
-use Rattle.tables_world.specs.Rows.{Schema}
-use Rattle.tables_world.specs.Told.{world_in, IsSoundBy}
+use Rattle.tables_schema.specs.declared.schema.Schema.{Schema}
+use Rattle.tables_world.specs.Worlds.{world_in, IsSoundBy}
 
 -- these are the further pieces of a path from a number on: one row after another, until there is none
 abbrev pub FollowFrom : Contents → Path → ℕ → List (List ℕ) → Type 0
@@ -19,6 +19,6 @@ pub record HasArchive (c : Contents) (p : Path) (o : Stored) (nar : List ℕ) : 
   pub whole : nar ≡ o.nar ++ concat pieces
 
 -- where rows are sound, the object of a path has this archive
-abbrev pub ArchivesAreTold : Type 0
-ArchivesAreTold = (schema : Schema) (dir : List ℕ) (c : Contents) → IsSoundBy schema dir c → (p : Path) (o : Stored) (nar : List ℕ) → finite.get c.objects p ≡ Some o → HasArchive c p o nar
+abbrev pub ArchivesAreReadWhole : Type 0
+ArchivesAreReadWhole = (schema : Schema) (dir : List ℕ) (c : Contents) → IsSoundBy schema dir c → (p : Path) (o : Stored) (nar : List ℕ) → finite.get c.objects p ≡ Some o → HasArchive c p o nar
     → (x : Object) × (finite.get (world_in c).objects p ≡ Some x) × (x.nar ≡ nar)

@@ -30,19 +30,19 @@ pub record IsSessionOf (owner : List ℕ) (session : ℕ) : Type 0 where
 
 -- A path is kept for a session where nothing is wrong with the session and the path is valid; else the first fault is reported, that of
 -- the path last.
-pub record TellsTemporaryFault (s : Settings) (w : World) (c : Caller) (owner : List ℕ) (session : ℕ) (p : Path) : Type 0 where
+pub record ReportsTemporaryFault (s : Settings) (w : World) (c : Caller) (owner : List ℕ) (session : ℕ) (p : Path) : Type 0 where
   pub done_ : (a : Answer) (new : World) → Step s w c (add_temp owner session p) (done a) new → IsSessionOf owner session × IsTrue (has w p)
   pub refused_ : (r : Refusal) (new : World) → Step s w c (add_temp owner session p) (refused r) new
       → SessionFault owner session r ⊎ (IsSessionOf owner session × IsFalse (has w p) × (r ≡ NotValid))
 
 -- a session is ended where nothing is wrong with it, whether it kept anything or not
-pub record TellsSessionFault (s : Settings) (w : World) (c : Caller) (owner : List ℕ) (session : ℕ) : Type 0 where
+pub record ReportsSessionFault (s : Settings) (w : World) (c : Caller) (owner : List ℕ) (session : ℕ) : Type 0 where
   pub done_ : (a : Answer) (new : World) → Step s w c (end_session owner session) (done a) new → IsSessionOf owner session
   pub refused_ : (r : Refusal) (new : World) → Step s w c (end_session owner session) (refused r) new → SessionFault owner session r
 
-abbrev pub SessionFaultsAreTold : Type 0
-SessionFaultsAreTold = (s : Settings) (w : World) (c : Caller) (owner : List ℕ) (session : ℕ)
-    → ((p : Path) → TellsTemporaryFault s w c owner session p) × TellsSessionFault s w c owner session
+abbrev pub SessionFaultsAreReported : Type 0
+SessionFaultsAreReported = (s : Settings) (w : World) (c : Caller) (owner : List ℕ) (session : ℕ)
+    → ((p : Path) → ReportsTemporaryFault s w c owner session p) × ReportsSessionFault s w c owner session
 
 -- ---- names and profiles
 
@@ -96,6 +96,6 @@ PathsComeBeforeNumbers = (s : Settings) (w : World) (c : Caller) (owner name : L
 -- ---- deletions
 
 -- a deletion that is done named valid paths alone
-abbrev pub NamedAreThere : Type 0
-NamedAreThere = (s : Settings) (w : World) (c : Caller) (named : List Path) (ignores : Bool) (a : Answer) (new : World)
+abbrev pub NamedAreValid : Type 0
+NamedAreValid = (s : Settings) (w : World) (c : Caller) (named : List Path) (ignores : Bool) (a : Answer) (new : World)
     → Step s w c (delete named ignores) (done a) new → (p : Path) → Contains named p → IsTrue (has w p)

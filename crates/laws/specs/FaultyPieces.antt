@@ -3,8 +3,8 @@ use Rattle.std.specs.Prelude.{◌≡◌, ◌≢◌, ℕ, ◌+◌, ◌<◌, ◌�
 use Rattle.std.specs.FinMap as finite
 use Rattle.tables_sql.specs.Contents.{Contents, Stored}
 use Rattle.model.specs.World.{Path}
-use Rattle.tables_world.specs.Rows.{two, three}
-use Rattle.tables_world.specs.Told.{IsSoundBy}
+use Rattle.tables_schema.specs.declared.schema.Schema.TheVariants.{V2, V3}
+use Rattle.tables_world.specs.Worlds.{IsSoundBy}
 use Rattle.laws.specs.FaultyRows.{AreUnsound}
 
 -- what the table of pieces has of a path
@@ -19,7 +19,7 @@ pub record ExcludesFaultyPieces (c : Contents) (p : Path) : Type 0 where
 
 -- an object's row: where there is a table of pieces it has at most 65,536 bytes of the archive, and all of these before the first piece
 pub record ExcludesFaultyCuts (c : Contents) (p : Path) (o : Stored) : Type 0 where
-  pub too_long : 65536 < length o.nar → (dir : List ℕ) → (¬ (IsSoundBy two dir c)) × (¬ (IsSoundBy three dir c))
+  pub too_long : 65536 < length o.nar → (dir : List ℕ) → (¬ (IsSoundBy V2 dir c)) × (¬ (IsSoundBy V3 dir c))
   pub short_before_a_piece : IsTrue (finite.contains_key c.pieces (p, pos 1)) → length o.nar ≢ 65536 → AreUnsound c
 
 abbrev pub FaultyCutsAreUnsound : Type 0

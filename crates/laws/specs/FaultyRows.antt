@@ -10,8 +10,9 @@ use Rattle.paths.specs.ContentAddress.{ContentAddress, IsAddressText, Verifies}
 use Rattle.drv.specs.Derivation.{Records}
 use Rattle.tables_sql.specs.Contents.{Contents, Stored}
 use Rattle.model.specs.World.{Path}
-use Rattle.tables_world.specs.Rows.{Schema, one, two, three}
-use Rattle.tables_world.specs.Told.{IsSoundBy}
+use Rattle.tables_schema.specs.declared.schema.Schema.{Schema}
+use Rattle.tables_schema.specs.declared.schema.Schema.TheVariants.{V1, V2, V3}
+use Rattle.tables_world.specs.Worlds.{IsSoundBy}
 use Rattle.laws.specs.CutArchives.{HasArchive}
 
 -- by no schema the rows are those of a database of this store directory
@@ -27,13 +28,13 @@ AreUnsound c = (dir : List ℕ) → AreUnsoundIn dir c
 pub record ExcludesFaultySettings (c : Contents) : Type 0 where
   pub no_directory : (dir : List ℕ) → finite.get c.meta (codes "store-dir") ≡ Some dir → IsFalse (is_store_dir dir) → AreUnsound c
   pub other_directory : (dir : List ℕ) → finite.get c.meta (codes "store-dir") ≢ Some dir → AreUnsoundIn dir c
-  pub not_the_first : finite.get c.meta (codes "schema") ≢ Some (codes "1") → (dir : List ℕ) → ¬ (IsSoundBy one dir c)
-  pub not_the_second : finite.get c.meta (codes "schema") ≢ Some (codes "2") → (dir : List ℕ) → ¬ (IsSoundBy two dir c)
-  pub not_the_third : finite.get c.meta (codes "schema") ≢ Some (codes "3") → (dir : List ℕ) → ¬ (IsSoundBy three dir c)
+  pub not_the_first : finite.get c.meta (codes "schema") ≢ Some (codes "1") → (dir : List ℕ) → ¬ (IsSoundBy V1 dir c)
+  pub not_the_second : finite.get c.meta (codes "schema") ≢ Some (codes "2") → (dir : List ℕ) → ¬ (IsSoundBy V2 dir c)
+  pub not_the_third : finite.get c.meta (codes "schema") ≢ Some (codes "3") → (dir : List ℕ) → ¬ (IsSoundBy V3 dir c)
   pub further_word : (word : List ℕ) → word ≢ codes "schema" → word ≢ codes "store-dir" → IsTrue (finite.contains_key c.meta word) → AreUnsound c
-  pub piece_in_the_first : (p : Path) (n : ℤ) → IsTrue (finite.contains_key c.pieces (p, n)) → (dir : List ℕ) → ¬ (IsSoundBy one dir c)
-  pub session_in_the_first : (owner : List ℕ) (n : ℤ) (t : Path) → IsTrue (finite.contains_key c.temp_roots (owner, n, t)) → (dir : List ℕ) → ¬ (IsSoundBy one dir c)
-  pub session_in_the_second : (owner : List ℕ) (n : ℤ) (t : Path) → IsTrue (finite.contains_key c.temp_roots (owner, n, t)) → (dir : List ℕ) → ¬ (IsSoundBy two dir c)
+  pub piece_in_the_first : (p : Path) (n : ℤ) → IsTrue (finite.contains_key c.pieces (p, n)) → (dir : List ℕ) → ¬ (IsSoundBy V1 dir c)
+  pub session_in_the_first : (owner : List ℕ) (n : ℤ) (t : Path) → IsTrue (finite.contains_key c.temp_roots (owner, n, t)) → (dir : List ℕ) → ¬ (IsSoundBy V1 dir c)
+  pub session_in_the_second : (owner : List ℕ) (n : ℤ) (t : Path) → IsTrue (finite.contains_key c.temp_roots (owner, n, t)) → (dir : List ℕ) → ¬ (IsSoundBy V2 dir c)
 
 -- ---- objects
 

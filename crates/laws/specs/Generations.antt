@@ -44,8 +44,8 @@ pub record SetsProfile (w : World) (owned : Pair) (t : Path) (a : Answer) (new :
   pub others : (m : ℕ) → (m ≡ number → ⊥) → finite.get now.generations m ≡ finite.get (profile_at w owned).generations m
 
 -- a profile that is set gets its generation, and the number is answered
-abbrev pub SetsAsTold : Type 0
-SetsAsTold = (s : Settings) (w : World) (c : Caller) (owner name : List ℕ) (t : Path) (a : Answer) (new : World)
+abbrev pub SetsAsSpecified : Type 0
+SetsAsSpecified = (s : Settings) (w : World) (c : Caller) (owner name : List ℕ) (t : Path) (a : Answer) (new : World)
     → Step s w c (set_profile owner name t) (done a) new → SetsProfile w (owner, name) t a new
 
 -- ---- another generation becomes the current one
@@ -74,13 +74,13 @@ pub record RollsBack (w : World) (owned : Pair) (a : Answer) (new : World) : Typ
   pub chosen : IsPrevious moves.was number
 
 -- a profile that is rolled back goes to the generation before
-abbrev pub RollsBackAsTold : Type 0
-RollsBackAsTold = (s : Settings) (w : World) (c : Caller) (owner name : List ℕ) (a : Answer) (new : World)
+abbrev pub RollsBackAsSpecified : Type 0
+RollsBackAsSpecified = (s : Settings) (w : World) (c : Caller) (owner name : List ℕ) (a : Answer) (new : World)
     → Step s w c (rollback owner name) (done a) new → RollsBack w (owner, name) a new
 
 -- a switch goes to the generation that is asked for, and answers its number
-abbrev pub SwitchesAsTold : Type 0
-SwitchesAsTold = (s : Settings) (w : World) (c : Caller) (owner name : List ℕ) (n : ℕ) (a : Answer) (new : World)
+abbrev pub SwitchesAsSpecified : Type 0
+SwitchesAsSpecified = (s : Settings) (w : World) (c : Caller) (owner name : List ℕ) (n : ℕ) (a : Answer) (new : World)
     → Step s w c (switch owner name n) (done a) new → (a ≡ generation n) × MovesTo w (owner, name) n new
 
 -- ---- a generation is deleted

@@ -9,10 +9,9 @@ pub mod FaultyRoots
 pub mod FaultyRows
 pub mod Generations
 pub mod Kept
-pub mod Labels
 pub mod LabelsAndOrder
 pub mod Laws
-pub mod Leave
+pub mod Permissions
 pub mod OneByOne
 pub mod Others
 pub mod Planting
@@ -20,9 +19,9 @@ pub mod Reasons
 pub mod Reliance
 pub mod Relisted
 pub mod RootChanges
-pub mod RootsTold
+pub mod ListedRoots
 pub mod Runs
 pub mod Schemas
 pub mod Sights
 pub mod Steps
-pub mod Tellings
+pub mod ReadOnly

@@ -28,7 +28,7 @@ pub record MayGo (s : Settings) (w : World) (limit : ℕ) (gone : List Path) (p 
   pub wanted : (bytes : ℕ) → Weigh w gone bytes → bytes < limit
 
 -- What was deleted is what may be, one path after another, each the least of those that may; and at the end the archives have as many bytes as the limit, or no dead path is left.
-pub record GoesOneByOne (s : Settings) (w : World) (limit : ℕ) (new : World) : Type 0 where
+pub record CollectsOneByOne (s : Settings) (w : World) (limit : ℕ) (new : World) : Type 0 where
   pub order : List Path
   pub each : (front back : List Path) (p : Path) → order ≡ front ++ p ∷ back → MayGo s w limit front p
   pub least : (front back : List Path) (p : Path) → order ≡ front ++ p ∷ back → (q : Path) → MayGo s w limit front q → bytes_cmp q p ≡ Less → ⊥
@@ -37,4 +37,4 @@ pub record GoesOneByOne (s : Settings) (w : World) (limit : ℕ) (new : World) :
 
 abbrev pub ReferrersGoFirst : Type 0
 ReferrersGoFirst = (s : Settings) (w : World) (c : Caller) (ignores : Bool) (limit : ℕ) (a : Answer) (new : World)
-    → Step s w c (collect ignores (Some limit)) (done a) new → HasNoCycle w → GoesOneByOne s w limit new
+    → Step s w c (collect ignores (Some limit)) (done a) new → HasNoCycle w → CollectsOneByOne s w limit new

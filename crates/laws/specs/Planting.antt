@@ -12,7 +12,7 @@ use Rattle.model.specs.Request.{Imported, Request, import_object}
 use Rattle.model.specs.Reply.{Reply}
 use Rattle.model.specs.Step.{Run}
 use Rattle.model.specs.Soundness.{AreWellFormed}
-use Rattle.laws.specs.Changes.{with_import, IsAsHandedIn}
+use Rattle.laws.specs.Changes.{with_import, IsAsSubmitted}
 
 -- How an object came to its path over some calls from a world: it was there before; or it has a content address, which verifies for
 -- the path, its references and its archive; or a trusted caller imported it there as it is.
@@ -20,7 +20,7 @@ pub data Came (s : Settings) (w : World) (calls : List (Caller × Request)) (p :
   stood : finite.get w.objects p ≡ Some o → Came s w calls p o
   addressed : (a : ContentAddress) → o.ca ≡ Some a → IsTrue (verifies a s.store_dir p (finite.keys o.references) o.nar) → Came s w calls p o
   imported : (c : Caller) (i : Imported) → Contains calls (c, import_object i) → IsTrue (is_trusted (class_of s c)) → i.path ≡ p
-      → IsAsHandedIn s.store_dir (with_import i) o → Came s w calls p o
+      → IsAsSubmitted s.store_dir (with_import i) o → Came s w calls p o
 
 -- each object that is there after a run came so
 abbrev pub NobodyPlantsInRuns : Type 0

@@ -115,14 +115,14 @@ abbrev pub RefusalsHaveReasons : Type 0
 RefusalsHaveReasons = (s : Settings) (w : World) (c : Caller) (q : Request) (r : Refusal) (new : World) → Step s w c q (refused r) new → HasFault s w q r
 
 -- a path of which something is answered is valid
-pub record TellsOfTheValid (s : Settings) (w : World) (c : Caller) (p : Path) : Type 0 where
+pub record MentionsTheValid (s : Settings) (w : World) (c : Caller) (p : Path) : Type 0 where
   pub info_ : (a : Answer) (new : World) → Step s w c (info p) (done a) new → IsTrue (has w p)
   pub nar_ : (a : Answer) (new : World) → Step s w c (nar p) (done a) new → IsTrue (has w p)
   pub ls_ : (a : Answer) (new : World) → Step s w c (ls p) (done a) new → IsTrue (has w p)
   pub roots : (a : Answer) (new : World) → Step s w c (list_roots_of p) (done a) new → IsTrue (has w p)
 
-abbrev pub ToldAreValid : Type 0
-ToldAreValid = (s : Settings) (w : World) (c : Caller) (p : Path) → TellsOfTheValid s w c p
+abbrev pub MentionedAreValid : Type 0
+MentionedAreValid = (s : Settings) (w : World) (c : Caller) (p : Path) → MentionsTheValid s w c p
 
 -- ---- denials
 

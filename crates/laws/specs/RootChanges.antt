@@ -63,8 +63,8 @@ pub record ReplacesRuntime (w : World) (pairs : List Pair) (a : Answer) (new : W
   pub profiles : new.profiles ≡ w.profiles
   pub temporary : new.temporary ≡ w.temporary
 
-abbrev pub ReplacesAsTold : Type 0
-ReplacesAsTold = (s : Settings) (w : World) (c : Caller) (pairs : List Pair) (a : Answer) (new : World)
+abbrev pub ReplacesAsSpecified : Type 0
+ReplacesAsSpecified = (s : Settings) (w : World) (c : Caller) (pairs : List Pair) (a : Answer) (new : World)
     → Step s w c (replace_runtime pairs) (done a) new → ReplacesRuntime w pairs a new
 
 -- ---- what sessions keep

@@ -3,7 +3,9 @@ use Rattle.std.specs.Prelude.{◌≡◌, ℕ, ◌≤◌, ℤ, pos, List, codes, 
 use Rattle.std.specs.FinMap as finite
 use Rattle.paths.specs.Names.{is_plain_name}
 use Rattle.model.specs.World.{Path}
-use Rattle.tables_world.specs.Rows.{Schema, one, two, three, Kept, Rows, IsSoundRows}
+use Rattle.tables_world.specs.Rows.{Kept, Rows, IsSoundRows}
+use Rattle.tables_schema.specs.declared.schema.Schema.{Schema}
+use Rattle.tables_schema.specs.declared.schema.Schema.TheVariants.{V1, V2, V3}
 
 -- the settings name the store directory and the number of the schema
 pub record NamesSchema (number dir : List ℕ) (c : Rows) : Type 0 where
@@ -13,9 +15,9 @@ pub record NamesSchema (number dir : List ℕ) (c : Rows) : Type 0 where
 -- The first schema has the number 1, no further pieces and no temporary roots; the second has the number 2 and no temporary roots;
 -- the third has the number 3.
 pub record SchemasDiffer (dir : List ℕ) (c : Rows) : Type 0 where
-  pub first : IsSoundRows one dir c → NamesSchema (codes "1") dir c × (c.pieces ≡ finite.empty) × (c.temp_roots ≡ finite.empty)
-  pub second : IsSoundRows two dir c → NamesSchema (codes "2") dir c × (c.temp_roots ≡ finite.empty)
-  pub third : IsSoundRows three dir c → NamesSchema (codes "3") dir c
+  pub first : IsSoundRows V1 dir c → NamesSchema (codes "1") dir c × (c.pieces ≡ finite.empty) × (c.temp_roots ≡ finite.empty)
+  pub second : IsSoundRows V2 dir c → NamesSchema (codes "2") dir c × (c.temp_roots ≡ finite.empty)
+  pub third : IsSoundRows V3 dir c → NamesSchema (codes "3") dir c
 
 -- a further piece has a number of 1 or more, whatever the schema is
 abbrev pub PiecesCountFromOne : Type 0

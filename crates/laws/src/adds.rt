@@ -5,7 +5,7 @@ ghost use Rattle.policy.specs.Settings.{Settings};
 ghost use Rattle.model.specs.World.{Path};
 ghost use Rattle.model.specs.Request.{Imported, add_source, add_text, import_object};
 ghost use Rattle.laws.specs.Changes.{AddsExactly, with_import, with_source, with_text};
-ghost use Rattle.laws.specs.Tellings.{ArchivesAreTheObjects, RecordsAdds, RecordsTell};
+ghost use Rattle.laws.specs.ReadOnly.{ArchivesAreTheObjects, RecordsAdds, RecordsAreExact};
 ghost use Rattle.laws.specs.AddFaults.{DigestsComeFirst, MissingAreMissing, TextsAreMeasured};
 ghost use Rattle.laws.specs.AddOrder.{ImportFaultsInOrder, SourceFaultsInOrder, TextFaultsInOrder};
 
@@ -35,8 +35,8 @@ pub fn faults_of_adds_come_in_order()
 {}
 
 /// A record and an archive are those of the object, and after an add the record says exactly what was passed.
-pub fn records_tell_what_was_added()
-    ensures record { RecordsTell }
+pub fn records_show_what_was_added()
+    ensures record { RecordsAreExact }
     ensures archive { ArchivesAreTheObjects }
     ensures text { (s : Settings) (name : List ℕ) (refs : List Path) (contents : List ℕ) →
         RecordsAdds s (add_text name refs contents) (with_text s.store_dir name refs contents) }

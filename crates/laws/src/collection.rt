@@ -5,7 +5,7 @@ ghost use Rattle.policy.specs.Settings.{Settings};
 ghost use Rattle.model.specs.World.{Path};
 ghost use Rattle.model.specs.Collection.{Collects, CollectsUpToALimit};
 ghost use Rattle.model.specs.Request.{collect, delete};
-ghost use Rattle.laws.specs.Changes.{FreesAsTold};
+ghost use Rattle.laws.specs.Changes.{FreesAsReported};
 ghost use Rattle.model.specs.Collection.{CollectsByBytes};
 ghost use Rattle.laws.specs.Kept.{EdgesAsSet, LivingKeep};
 ghost use Rattle.laws.specs.OneByOne.{ReferrersGoFirst};
@@ -19,9 +19,9 @@ pub fn collection_is_exact()
 {}
 
 /// What a collection or a deletion answers is exactly what was deleted.
-pub fn the_freed_are_told()
-    ensures collection { (s : Settings) (ignores : Bool) (limit : Option ℕ) → FreesAsTold s (collect ignores limit) }
-    ensures deletion { (s : Settings) (named : List Path) (ignores : Bool) → FreesAsTold s (delete named ignores) }
+pub fn the_freed_are_reported()
+    ensures collection { (s : Settings) (ignores : Bool) (limit : Option ℕ) → FreesAsReported s (collect ignores limit) }
+    ensures deletion { (s : Settings) (named : List Path) (ignores : Bool) → FreesAsReported s (delete named ignores) }
 {}
 
 /// A limit counts the bytes of archives: a collection stops as soon as that many are free, and not before while a dead path is left.

@@ -4,8 +4,8 @@ ghost use Rattle.policy.specs.Settings.{Settings};
 ghost use Rattle.model.specs.World.{Path, World, all_paths};
 ghost use Rattle.model.specs.Liveness.{dead_paths, live_paths, usage_of};
 ghost use Rattle.laws.specs.Laws.{UsageAddsUp};
-ghost use Rattle.model.specs.Lives.{FirstIsShownFirst, LivesAsSaid, TargetsLive};
-ghost use Rattle.laws.specs.Tellings.{ListingsAreTheObjects, ListingsTell, ReportsTell, RootListingsTell, TellingChangesNothing};
+ghost use Rattle.model.specs.Lives.{FirstIsShownFirst, HasExactLiveness, TargetsLive};
+ghost use Rattle.laws.specs.ReadOnly.{ListingsAreTheObjects, ListingsAreExact, ReportsAreExact, RootListingsAreExact, ReadingChangesNothing};
 
 /// A listing that is answered is that of the tree of which the object's archive is.
 pub fn listings_are_of_the_object()
@@ -14,15 +14,15 @@ pub fn listings_are_of_the_object()
 
 /// Listings have exactly the paths that they name, in order, the roots of a path are exactly those that reach it, and the report
 /// lists live paths before dead ones.
-pub fn listings_tell_what_is_there()
-    ensures paths { ListingsTell }
-    ensures roots { RootListingsTell }
-    ensures report { ReportsTell }
+pub fn listings_show_what_is_valid()
+    ensures paths { ListingsAreExact }
+    ensures roots { RootListingsAreExact }
+    ensures report { ReportsAreExact }
 {}
 
 /// What lives in a world: the tests and listings, the first root of a path, and the targets of roots.
 pub fn the_living_are_listed()
-    ensures paths { (s : Settings) (w : World) (p : Path) → LivesAsSaid s w p }
+    ensures paths { (s : Settings) (w : World) (p : Path) → HasExactLiveness s w p }
     ensures targets { TargetsLive }
     ensures first { FirstIsShownFirst }
 {}
@@ -33,6 +33,6 @@ pub fn usage_adds_up()
 {}
 
 /// A request that only asks changes nothing: for a record, an archive, a listing or the report.
-pub fn what_only_tells_changes_nothing()
-    ensures { TellingChangesNothing }
+pub fn reads_change_nothing()
+    ensures { ReadingChangesNothing }
 {}

@@ -3,7 +3,7 @@
 ghost use Rattle.std.specs.Prelude.{List};
 ghost use Rattle.paths.specs.Root.{Root};
 ghost use Rattle.policy.specs.declared.kinds.Class.{Class};
-ghost use Rattle.laws.specs.Labels.{MirrorsRuns, MirrorsSteps, RunsLookAlike};
+ghost use Rattle.model.specs.Labels.{MirrorsRuns, MirrorsSteps, RunsLookAlike};
 ghost use Rattle.laws.specs.Sights.{SeesRoot, SeesRoots, ShowsTheLabel};
 
 /// Roots are seen in the order given, with runtime labels hidden from callers that aren't trusted, who see equal pairs once.

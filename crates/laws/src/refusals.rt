@@ -1,8 +1,8 @@
 //! Laws of denials, refusals and failures.
 
 ghost use Rattle.laws.specs.Laws.{DenialsNameTheLiving, FailsPastTheRules, LeavesUnlessDone, MayFail, OthersShowNoRoot};
-ghost use Rattle.laws.specs.Faults.{NamedAreThere, NamesComeFirst, PathsComeBeforeNumbers, ProfilesComeNext, SessionFaultsAreTold};
-ghost use Rattle.laws.specs.Reasons.{DenialsAreForTheFirst, RefusalsHaveReasons, ToldAreValid};
+ghost use Rattle.laws.specs.Faults.{NamedAreValid, NamesComeFirst, PathsComeBeforeNumbers, ProfilesComeNext, SessionFaultsAreReported};
+ghost use Rattle.laws.specs.Reasons.{DenialsAreForTheFirst, RefusalsHaveReasons, MentionedAreValid};
 
 /// A denial for a live path is for the first path that is live of the named, in the order given, and shows its
 /// first root, as the caller sees it. A denial by another rule shows no root.
@@ -25,18 +25,18 @@ pub fn only_done_changes()
 /// A refusal names the first fault: of a session, 1 to 4,194,304, before its path; a name before what it names; a profile before
 /// its generation, and a path that isn't valid before a profile that has no number left. A deletion that is done named valid paths
 /// alone.
-pub fn first_faults_are_told()
-    ensures sessions { SessionFaultsAreTold }
+pub fn first_faults_are_reported()
+    ensures sessions { SessionFaultsAreReported }
     ensures names { NamesComeFirst }
     ensures profiles { ProfilesComeNext }
     ensures paths { PathsComeBeforeNumbers }
-    ensures named { NamedAreThere }
+    ensures named { NamedAreValid }
 {}
 
 /// A request is refused for a fault that it has, what is said of a path is said of a valid one, and a deletion is denied for the first of
 /// the named that lives.
 pub fn refusals_and_denials_have_reasons()
     ensures refusals { RefusalsHaveReasons }
-    ensures told { ToldAreValid }
+    ensures told { MentionedAreValid }
     ensures denials { DenialsAreForTheFirst }
 {}

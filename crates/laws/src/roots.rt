@@ -2,11 +2,11 @@
 
 ghost use Rattle.model.specs.World.{World};
 ghost use Rattle.model.specs.Entries.{HasEachRoot};
-ghost use Rattle.model.specs.Pinning.{Pins, PinsOverRuns, PinsThroughout};
+ghost use Rattle.model.specs.Pinning.{LeadsOn, Pins, PinsOverRuns};
 ghost use Rattle.laws.specs.LabelsAndOrder.{AreLabelled, KindsInOrder};
-ghost use Rattle.laws.specs.RootChanges.{AddsForSessions, DropsPermanent, DropsUserRoots, EndsSessions, ReplacesAsTold, SetsPermanent, SetsUserRoots};
-ghost use Rattle.laws.specs.RootsTold.{RootsSetAreTold};
-ghost use Rattle.laws.specs.Relisted.{DropsAreTold, DroppedLabelsAreNotTold, SetsAreTold};
+ghost use Rattle.laws.specs.RootChanges.{AddsForSessions, DropsPermanent, DropsUserRoots, EndsSessions, ReplacesAsSpecified, SetsPermanent, SetsUserRoots};
+ghost use Rattle.laws.specs.ListedRoots.{RootsSetAreListed};
+ghost use Rattle.laws.specs.Relisted.{DropsAreListed, DroppedLabelsAreNotListed, SetsAreListed};
 
 /// Each entry of a table of roots is a root of the world, and no other root is.
 pub fn every_entry_is_a_root()
@@ -20,27 +20,27 @@ pub fn roots_change_exactly()
     ensures drop_permanent { DropsPermanent }
     ensures set_user { SetsUserRoots }
     ensures drop_user { DropsUserRoots }
-    ensures runtime { ReplacesAsTold }
+    ensures runtime { ReplacesAsSpecified }
     ensures add_temporary { AddsForSessions }
     ensures end_session { EndsSessions }
 {}
 
 /// A root that was set is listed to each caller who asks next, with the labels of runtime roots and of sessions hidden from those who
 /// aren't trusted.
-pub fn roots_that_were_set_are_told()
-    ensures { RootsSetAreTold }
+pub fn roots_that_were_set_are_listed()
+    ensures { RootsSetAreListed }
 {}
 
 /// A root that was dropped isn't told to whoever asks next, and each other root is as before; nor is its label, but of a runtime root
 /// that has the same.
-pub fn roots_that_were_dropped_are_not_told()
-    ensures roots { DropsAreTold }
-    ensures labels { DroppedLabelsAreNotTold }
+pub fn roots_that_were_dropped_are_not_listed()
+    ensures roots { DropsAreListed }
+    ensures labels { DroppedLabelsAreNotListed }
 {}
 
 /// After a root is set, listings have it and all roots from before, but for the root that it replaced.
 pub fn listings_gain_what_was_set()
-    ensures { SetsAreTold }
+    ensures { SetsAreListed }
 {}
 
 /// Each root has its label, and roots come by their kinds: those of sessions last.
@@ -49,9 +49,10 @@ pub fn roots_are_labelled_in_order()
     ensures kinds { KindsInOrder }
 {}
 
-/// A root keeps what it reaches, over a step and over a run through which it exists.
+/// A root keeps what it reaches, over a step and over a run before each of whose calls it exists; the worlds of a run follow from its calls
+/// and their replies.
 pub fn a_root_pins_what_it_reaches()
     ensures step { Pins }
+    ensures after { LeadsOn }
     ensures run { PinsOverRuns }
-    ensures throughout { PinsThroughout }
 {}

@@ -3,9 +3,10 @@ ghost use Rattle.std.specs.Prelude.{◌≡◌, List, ℕ, IsTrue};
 ghost use Rattle.paths.specs.Names.{is_store_dir};
 ghost use Rattle.model.specs.World.{no_world};
 ghost use Rattle.model.specs.Sound.{IsSound};
-ghost use Rattle.tables_world.specs.Rows.{Rows, Schema, IsSoundRows, new_rows, world_of};
-ghost use Rattle.laws.specs.CutArchives.{ArchivesAreTold};
-ghost use Rattle.tables_world.specs.Laws.{CutsOneWay, MigratesSoundly, OutputsAreRecorded, RowsTellTheWorld, TablesAreRows};
+ghost use Rattle.tables_world.specs.Rows.{Rows, IsSoundRows, new_rows, world_of};
+ghost use Rattle.tables_schema.specs.declared.schema.Schema.{Schema};
+ghost use Rattle.laws.specs.CutArchives.{ArchivesAreReadWhole};
+ghost use Rattle.tables_world.specs.Laws.{CutsOneWay, MigratesSoundly, OutputsAreRecorded, RowsDescribeTheWorld, TablesAreRows};
 ghost use Rattle.laws.specs.Schemas.{PiecesCountFromOne, SchemasDiffer, SessionsKeepInBounds};
 ghost use Rattle.tables_world.specs.Parts.{AreSoundByParts};
 
@@ -26,15 +27,15 @@ pub fn archives_are_cut_one_way()
 {}
 
 /// The world of sound rows, entry by entry: what each column holds.
-pub fn rows_tell_the_world()
-    ensures { RowsTellTheWorld }
+pub fn rows_describe_the_world()
+    ensures { RowsDescribeTheWorld }
 {}
 
 /// What the eleven tables hold is the rows, each table its own, and has the world of these; an object's archive is its row and the pieces
 /// that follow it, from the first on.
 pub fn tables_are_rows()
     ensures rows { TablesAreRows }
-    ensures archives { ArchivesAreTold }
+    ensures archives { ArchivesAreReadWhole }
 {}
 
 /// A migration keeps the world, and what was sound by its schema is sound by the third.

@@ -4,7 +4,7 @@ ghost use Rattle.laws.specs.Reliance.{NobodyPlants, NothingIsReplaced, RootsAreT
 ghost use Rattle.model.specs.Request.{collect, delete};
 ghost use Rattle.laws.specs.Planting.{NobodyPlantsInRuns};
 ghost use Rattle.laws.specs.Others.{OthersOnlyLose, OwnersMay, TrustedMay};
-ghost use Rattle.laws.specs.Leave.{AllMayAsk, NobodyIgnoresLiveness};
+ghost use Rattle.laws.specs.Permissions.{AllMayAsk, NobodyIgnoresLiveness};
 
 /// A stranger changes nothing and gets nothing but the denial. A caller who isn't trusted adds nothing but what its content
 /// address says, and changes no root but their own. What exists is never replaced.

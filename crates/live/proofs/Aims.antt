@@ -8,7 +8,7 @@ use Rattle.std.proofs.lemmas.List.Elements.{All-from_get_or}
 use Rattle.paths.specs.Root.{Root}
 use Rattle.live.specs.Graph.{Path}
 use Rattle.live.specs.Numbering.{Row as NumberedRow, paths_of, place_of, Rise, IsAimed, root_at, no_root}
-use Rattle.live.specs.Handed.{root_view, roots_view}
+use Rattle.live.specs.Arguments.{root_view, roots_view}
 use Rattle.live.specs.declared.numbered.rows.Root.{Root as RawRoot}
 use Rattle.live.proofs.Numberings.{place_at, at_place}
 

@@ -10,7 +10,7 @@ use Rattle.std.proofs.lemmas.List.{length_push, get_or_append_left, get_or_push,
 use Rattle.std.proofs.lemmas.List.Sorted.{Contains-permutation, IsPermutation-sym}
 use Rattle.live.specs.Places.{Entries}
 use Rattle.live.specs.Marking.{Marking, first_of}
-use Rattle.live.specs.Leaving.{IsRemaining, at, is_in, least_first, nothing_owed, times, times_left}
+use Rattle.live.specs.Remaining.{IsRemaining, at, is_in, least_first, nothing_owed, times, times_left}
 use Rattle.live.proofs.Members.{cases, at_head, behind, no_member}
 use Rattle.live.proofs.Ranges.{all_same}
 

@@ -7,7 +7,7 @@ use Rattle.std.proofs.lemmas.Bool.{cases_lt, false≢true}
 use Rattle.std.proofs.lemmas.List.{length-map, get_or-map, get_or_default}
 use Rattle.paths.specs.Root.{bytes_cmp, Root}
 use Rattle.live.specs.Numbering.{Row as NumberedRow, paths_of, place_of, Rise, root_at}
-use Rattle.live.specs.Handed.{row_view, rows_view, roots_view}
+use Rattle.live.specs.Arguments.{row_view, rows_view, roots_view}
 use Rattle.live.specs.declared.numbered.rows.Root.{Root as RawRoot}
 use Rattle.live.specs.declared.numbered.rows.Row.{Row}
 use Rattle.live.proofs.Numberings.{no_row, at_place}

@@ -6,7 +6,7 @@ use Rattle.std.proofs.lemmas.Bool.{cases_eq, eq-eqb, ne_eqb}
 use Rattle.std.proofs.lemmas.List.{length-set, get_or-set_same, get_or-set_other, take_all, get_or_append_left, append_assoc, length-append, length-replicate, get_or-replicate}
 use Rattle.std.proofs.lemmas.List.Sums.{count_by_more_yes, count_by_more_no}
 use Rattle.live.specs.Places.{Entries, held}
-use Rattle.live.specs.Leaving.{times_in, times}
+use Rattle.live.specs.Remaining.{times_in, times}
 use Rattle.live.proofs.Ranges.{total}
 use Rattle.live.proofs.References.{times_other, times_self}
 

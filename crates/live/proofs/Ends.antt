@@ -17,7 +17,7 @@ use Rattle.live.specs.Limited.{is_taken, limited_groups, limited_paths, groups_b
 use Rattle.live.specs.Numbering.{Row, Rise, graph_of, path_at, paths_of, root_at}
 use Rattle.live.specs.Marking.{Marking, first_of}
 use Rattle.live.specs.Exact.{IsExact}
-use Rattle.live.specs.Leaving.{is_in, left_after, places_left}
+use Rattle.live.specs.Remaining.{is_in, left_after, places_left}
 use Rattle.live.proofs.Asked.{same_passing, paths_passing}
 use Rattle.live.proofs.Live.{live_decided, first_roots}
 use Rattle.live.proofs.Order.{from_both}

@@ -6,7 +6,7 @@ use Rattle.std.proofs.lemmas.List.{length-map, get_or-map, length_push, get_or_a
 use Rattle.live.specs.Graph.{Path}
 use Rattle.live.specs.Heads.{AreHeads, IsBytes, head_of}
 use Rattle.live.specs.Numbering.{Row as NumberedRow, paths_of}
-use Rattle.live.specs.Handed.{row_view, rows_view}
+use Rattle.live.specs.Arguments.{row_view, rows_view}
 use Rattle.live.specs.declared.numbered.rows.Row.{Row}
 use Rattle.live.proofs.Numberings.{no_row}
 

@@ -12,7 +12,7 @@ use Rattle.std.proofs.lemmas.List.Sums.{sum_by-cons}
 use Rattle.std.proofs.lemmas.List.Sorted.{Contains-permutation, IsPermutation-sym}
 use Rattle.std.proofs.lemmas.Map.Keys.{ge_from_not_lt}
 use Rattle.live.specs.Places.{Entries}
-use Rattle.live.specs.Leaving.{Remaining, IsRemaining, IsNextAlone, NoneAlone, at, is_in, least_first, nothing_owed, times_in, times, times_left, referred}
+use Rattle.live.specs.Remaining.{Remaining, IsRemaining, IsNextAlone, NoneAlone, at, is_in, least_first, nothing_owed, times_in, times, times_left, referred}
 use Rattle.live.proofs.Members.{cases, at_head, behind, no_member}
 use Rattle.live.proofs.Ranges.{one_changed}
 use Rattle.live.proofs.References.{times_other, times_self}

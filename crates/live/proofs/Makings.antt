@@ -10,7 +10,7 @@ use Rattle.live.specs.Places.{Entries}
 use Rattle.live.specs.Flat.{entries_in, IsWithin, IsFlat}
 use Rattle.live.specs.Numbering.{Row as NumberedRow, numbered, numbered_links, paths_of, place_of, places_of, Rise}
 use Rattle.live.specs.Added.{IsAdded}
-use Rattle.live.specs.Handed.{row_view, rows_view}
+use Rattle.live.specs.Arguments.{row_view, rows_view}
 use Rattle.live.specs.declared.numbered.rows.Row.{Row}
 use Rattle.live.specs.declared.numbered.Span.{Span}
 use Rattle.live.proofs.Numberings.{in_places, no_row}

@@ -10,14 +10,14 @@ use Rattle.live.specs.Reach.{reaches}
 use Rattle.live.specs.Limited.{is_referred_to, next_with_referrers, next_group, without}
 use Rattle.live.specs.Places.{Entries}
 use Rattle.live.specs.Numbering.{Row, Rise, graph_of, numbered, numbered_links, path_at, paths_of}
-use Rattle.live.specs.Leaving.{Remaining, IsRemaining, IsNextAlone, IsLeastDead, NoneAlone, NoneDead, StandsFor, is_in, nothing_owed, places_left, referred}
+use Rattle.live.specs.Remaining.{Remaining, IsRemaining, IsNextAlone, IsLeastDead, NoneAlone, NoneDead, Represents, is_in, nothing_owed, places_left, referred}
 use Rattle.std.proofs.lemmas.List.Sums.{sum_by-cons}
 use Rattle.live.proofs.Asked.{same_passing}
 use Rattle.live.proofs.Order.{same_bools}
 use Rattle.live.proofs.Ranges.{find_at, find_none, filter_at}
 use Rattle.live.proofs.References.{referred_is, same_at, at_same}
 
-module _ (es : List Entries) (s : Remaining) (remains : IsRemaining es nothing_owed s) (sizes : List ℕ) (rows : List Row) (is_dead : Path → Bool) (size : Path → ℕ) (stands : StandsFor es s.dead sizes rows is_dead size) where
+module _ (es : List Entries) (s : Remaining) (remains : IsRemaining es nothing_owed s) (sizes : List ℕ) (rows : List Row) (is_dead : Path → Bool) (size : Path → ℕ) (stands : Represents es s.dead sizes rows is_dead size) where
   count : length s.left ≡ length rows
   count = remains.places ∙ ap length stands.rows ∙ length-map rows (λ (r : Row). numbered_links (paths_of rows) r.1)
 

@@ -10,7 +10,7 @@ use Rattle.live.specs.Limited.{next_group}
 use Rattle.live.specs.Places.{Entries}
 use Rattle.live.specs.Backward.{IsBackward}
 use Rattle.live.specs.Numbering.{Row, Rise, graph_of, numbered, numbered_links, path_at, paths_of}
-use Rattle.live.specs.Leaving.{Remaining, IsRemaining, IsNextAlone, IsLeastDead, NoneAlone, NoneDead, StandsFor, group_at, is_in, nothing_owed, places_left}
+use Rattle.live.specs.Remaining.{Remaining, IsRemaining, IsNextAlone, IsLeastDead, NoneAlone, NoneDead, Represents, group_at, is_in, nothing_owed, places_left}
 use Rattle.live.proofs.Asked.{one_way, same_passing}
 use Rattle.live.proofs.Nexts.{alone_is, with_referrers_is, no_group_is}
 
@@ -47,9 +47,9 @@ reaching_asked rows rise es is place h marks back left places n all found e =
 -- ---- the next group at the values of the code
 
 module _ (es : List Entries) (old s : Remaining) (ed : s.dead ≡ old.dead) (el : s.left ≡ old.left) (remains : IsRemaining es nothing_owed s)
-    (sizes : List ℕ) (rows : List Row) (is_dead : Path → Bool) (size : Path → ℕ) (stands : StandsFor es old.dead sizes rows is_dead size) where
-  here : StandsFor es s.dead sizes rows is_dead size
-  here = subst (λ (ds : List Bool). StandsFor es ds sizes rows is_dead size) (sym ed) stands
+    (sizes : List ℕ) (rows : List Row) (is_dead : Path → Bool) (size : Path → ℕ) (stands : Represents es old.dead sizes rows is_dead size) where
+  here : Represents es s.dead sizes rows is_dead size
+  here = subst (λ (ds : List Bool). Represents es ds sizes rows is_dead size) (sym ed) stands
 
   before : next_group (graph_of rows) is_dead (map (path_at rows) (places_left s.left)) ≡ next_group (graph_of rows) is_dead (map (path_at rows) (places_left old.left))
   before = ap (λ (bs : List Bool). next_group (graph_of rows) is_dead (map (path_at rows) (places_left bs))) el

@@ -8,7 +8,7 @@ use Rattle.live.specs.Graph.{references_alone, same, is_edge}
 use Rattle.live.specs.Places.{edges_at, entries_at}
 use Rattle.live.specs.Limited.{refers, is_referred_to}
 use Rattle.live.specs.Numbering.{Row, Rise, graph_of, numbered, path_at, paths_of}
-use Rattle.live.specs.Leaving.{is_in, times_in, times, times_left, referred, places_left}
+use Rattle.live.specs.Remaining.{is_in, times_in, times, times_left, referred, places_left}
 use Rattle.live.proofs.Edges.{edge_decided}
 use Rattle.live.proofs.Members.{cases, no_member, at_head, behind}
 use Rattle.live.proofs.Numberings.{one_place, to_edge, from_edge}

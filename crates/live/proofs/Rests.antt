@@ -4,7 +4,7 @@ use Rattle.std.specs.Prelude.{sum_by, filter, not, nat_lt, if◌then◌else◌}
 use Rattle.std.specs.Option.{option_map_or}
 use Rattle.std.proofs.lemmas.Bool.{lt-ltb, le-ltb}
 use Rattle.live.specs.Graph.{Path, Graph, holds}
-use Rattle.live.specs.Leaving.{left_after}
+use Rattle.live.specs.Remaining.{left_after}
 use Rattle.live.specs.Limited.{is_taken}
 use Rattle.live.specs.Limited.{groups_by, next_group, without}
 

@@ -16,7 +16,7 @@ use Rattle.std.proofs.lemmas.List.Sums.{position_or_len_is}
 use Rattle.paths.specs.Root.{bytes_cmp}
 use Rattle.live.specs.Graph.{Path, same}
 use Rattle.live.specs.Numbering.{Row as NumberedRow, paths_of, place_of, Rise}
-use Rattle.live.specs.Handed.{row_view, rows_view}
+use Rattle.live.specs.Arguments.{row_view, rows_view}
 use Rattle.live.specs.declared.numbered.rows.Row.{Row}
 use Rattle.live.proofs.Numberings.{no_row, place_at}
 use Rattle.live.proofs.Reach.{same_is}

@@ -5,14 +5,14 @@ use Rattle.std.specs.List.{slice_index}
 use Rattle.std.proofs.lemmas.Bool.{cases_eq}
 use Rattle.std.proofs.lemmas.List.{length-map, get_or-map}
 use Rattle.live.specs.Graph.{Keep}
-use Rattle.live.specs.Places.{Entries, AllInside, Goes, Reaches, edges_at, no_entries}
-use Rattle.live.specs.Marking.{Front, IsMarking, IsTaken, NoneWaits, Waits, cost, marked_cost, told}
+use Rattle.live.specs.Places.{Entries, AllInside, Walks, Reaches, edges_at, no_entries}
+use Rattle.live.specs.Marking.{Frontier, IsMarking, IsDequeued, NoneWaits, Waits, cost, marked_cost, told}
 use Rattle.live.proofs.Fronts.{Grows, mark_at, nothing_costs, taken_costs, taken_or_waits, taken_still, waiting_cost}
 use Rattle.live.proofs.Walks.{IsWalk, edge_inside, further, less}
 
 module _ (keep : Keep) (rows : List Entries) (targets : List ℕ) (inside : AllInside rows) (aims : All (λ t. t < length rows) targets) where
   -- an object that waited is taken
-  pub taken : (root place : ℕ) (f h g : Front) (s t : ℕ) → root < length targets → IsWalk keep rows targets (root + 1) f s → h.first ≡ f.first → IsTaken f.waiting h.waiting place
+  pub taken : (root place : ℕ) (f h g : Frontier) (s t : ℕ) → root < length targets → IsWalk keep rows targets (root + 1) f s → h.first ≡ f.first → IsDequeued f.waiting h.waiting place
       → Grows (length targets) root h g (edges_at keep rows place) → told t ≡ told (s + (1 + length (edges_at keep rows place))) → IsWalk keep rows targets (root + 1) g t
   taken root place f h g s t below w firsts works grows stepped = record {
     places = grows.places ∙ ap length firsts ∙ w.places;
@@ -80,7 +80,7 @@ module _ (keep : Keep) (rows : List Entries) (targets : List ℕ) (inside : AllI
           omega (arith, k, l, m, n, o)
 
   -- where nothing waits any more, marks fall along edges
-  falls : (f : Front) (s : ℕ) → NoneWaits f.waiting → IsWalk keep rows targets (length targets) f s → (a z : ℕ) (bs : List ℕ) → a < length rows → Goes keep rows a bs z → mark_at f z ≤ mark_at f a
+  falls : (f : Frontier) (s : ℕ) → NoneWaits f.waiting → IsWalk keep rows targets (length targets) f s → (a z : ℕ) (bs : List ℕ) → a < length rows → Walks keep rows a bs z → mark_at f z ≤ mark_at f a
   falls f s empty w a z [] h goes = (let e = ap (mark_at f) goes in omega arith)
   falls f s empty w a z (b ∷ bs) h goes = elim (w.closed a b h goes.0) as (λ _. mark_at f z ≤ mark_at f a) [
     | inl le ↦ (let rest = falls f s empty w b z bs (edge_inside keep rows inside a b goes.0) goes.1 in omega arith)
@@ -88,7 +88,7 @@ module _ (keep : Keep) (rows : List Entries) (targets : List ℕ) (inside : AllI
   ]
 
   -- after all roots
-  pub finish : (f : Front) (s n : ℕ) → NoneWaits f.waiting → IsWalk keep rows targets (length targets) f s → n ≡ length targets → s < 2 ^ 64 → length rows < 2 ^ 64 → IsMarking keep rows targets (record { first = f.first; none = n; steps = s })
+  pub finish : (f : Frontier) (s n : ℕ) → NoneWaits f.waiting → IsWalk keep rows targets (length targets) f s → n ≡ length targets → s < 2 ^ 64 → length rows < 2 ^ 64 → IsMarking keep rows targets (record { first = f.first; none = n; steps = s })
   finish f s n empty w is fits few = record {
     few = few;
     places = w.places;

@@ -6,7 +6,7 @@ use Rattle.std.specs.FinMap as finite
 use Rattle.std.proofs.lemmas.Bool.{false≢true, lt-ltb, le-ltb, ltb-true, ltb-false}
 use Rattle.live.specs.Graph.{Path, Graph, holds, is_valid, references_alone}
 use Rattle.live.specs.Reach.{reaches}
-use Rattle.live.specs.Limited.{is_referred_to, next_group, without, Takes, groups_by, limited_groups}
+use Rattle.live.specs.Limited.{is_referred_to, next_group, without, DeletesGroups, groups_by, limited_groups}
 use Rattle.live.proofs.Groups.{IsGroup, alone, round, is_group, in_filter, filter_in, is_held}
 use Rattle.live.proofs.Members.{at_head, cases, no_member, found}
 use Rattle.live.proofs.Reach.{closed, decided}
@@ -52,7 +52,7 @@ never_some group e = cc
 
 -- the list that is taken is the one that is computed
 pub one_list : (g : Graph) (dead : Path → Bool) (size : Path → ℕ) (turns left : List Path) (wanted : ℕ) → AreValid g left → length left ≤ length turns → (groups : List (List Path))
-    → Takes g dead size left wanted groups → groups ≡ groups_by g dead size turns left wanted
+    → DeletesGroups g dead size left wanted groups → groups ≡ groups_by g dead size turns left wanted
 unfolding groups_by
 one_list g dead size [] [] wanted v h [] t = refl
 one_list g dead size [] [] wanted v h (group ∷ groups) t = absurd (never_some group t.1)
@@ -74,7 +74,7 @@ one_list g dead size (turn ∷ turns) left wanted v h (group ∷ groups) t =
 
 -- and that list is taken
 pub is_taken_list : (g : Graph) (dead : Path → Bool) (size : Path → ℕ) (turns left : List Path) (wanted : ℕ) → AreValid g left → length left ≤ length turns
-    → Takes g dead size left wanted (groups_by g dead size turns left wanted)
+    → DeletesGroups g dead size left wanted (groups_by g dead size turns left wanted)
 unfolding groups_by
 is_taken_list g dead size [] [] wanted v h = inr refl
 is_taken_list g dead size [] (x ∷ left) wanted v h = absurd (omega arith)
@@ -82,16 +82,16 @@ is_taken_list g dead size (turn ∷ turns) left wanted v h =
     by (nat_lt 0 wanted) refl (next_group g dead left) refl (λ group less. is_taken_list g dead size turns (without group left) (wanted - sum_by size group) (valid_left g group left v) (omega arith))
   where
     by : (b : Bool) → nat_lt 0 wanted ≡ b → (o : Option (List Path)) → next_group g dead left ≡ o
-        → ((group : List Path) → length (without group left) < length left → Takes g dead size (without group left) (wanted - sum_by size group) (groups_by g dead size turns (without group left) (wanted - sum_by size group)))
-        → Takes g dead size left wanted (if b then option_map_or (λ group. group ∷ groups_by g dead size turns (without group left) (wanted - sum_by size group)) o [] else [])
+        → ((group : List Path) → length (without group left) < length left → DeletesGroups g dead size (without group left) (wanted - sum_by size group) (groups_by g dead size turns (without group left) (wanted - sum_by size group)))
+        → DeletesGroups g dead size left wanted (if b then option_map_or (λ group. group ∷ groups_by g dead size turns (without group left) (wanted - sum_by size group)) o [] else [])
     by false e o f rest = inl (let l = ltb-false 0 wanted e in omega arith)
     by true e None f rest = inr f
     by true e (Some group) f rest = (ltb-true 0 wanted e, f, rest group (shrinks g dead left group v (is_group g dead left group f)))
 
-pub one_answer : (g : Graph) (dead : Path → Bool) (size : Path → ℕ) (limit : ℕ) (groups : List (List Path)) → Takes g dead size (finite.keys g) limit groups ↔ (groups ≡ limited_groups g dead size limit)
+pub one_answer : (g : Graph) (dead : Path → Bool) (size : Path → ℕ) (limit : ℕ) (groups : List (List Path)) → DeletesGroups g dead size (finite.keys g) limit groups ↔ (groups ≡ limited_groups g dead size limit)
 one_answer g dead size limit groups = (
   one_list g dead size (finite.keys g) (finite.keys g) limit valid (omega arith) groups,
-  λ e. subst (Takes g dead size (finite.keys g) limit) (sym e) (is_taken_list g dead size (finite.keys g) (finite.keys g) limit valid (omega arith)),
+  λ e. subst (DeletesGroups g dead size (finite.keys g) limit) (sym e) (is_taken_list g dead size (finite.keys g) (finite.keys g) limit valid (omega arith)),
 )
   where
     valid : AreValid g (finite.keys g)

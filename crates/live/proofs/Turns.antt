@@ -11,7 +11,7 @@ use Rattle.live.specs.Places.{Entries}
 use Rattle.live.specs.Marking.{Marking, first_of}
 use Rattle.live.specs.Exact.{IsExact}
 use Rattle.live.specs.Numbering.{Row, Rise, graph_of, numbered, numbered_links, path_at, paths_of}
-use Rattle.live.specs.Leaving.{Remaining, IsRemaining, StandsFor, is_in, left_after, nothing_owed, places_left}
+use Rattle.live.specs.Remaining.{Remaining, IsRemaining, Represents, is_in, left_after, nothing_owed, places_left}
 use Rattle.live.proofs.Ends.{all_left, dead_is, went}
 use Rattle.live.proofs.Nexts.{left_without, sizes_of}
 use Rattle.live.proofs.Rests.{nothing_left, one_turn}
@@ -20,7 +20,7 @@ use Rattle.live.proofs.Rests.{nothing_left, one_turn}
 pub record IsUnder (es : List Entries) (m : Marking) (sizes : List ℕ) (limit turn : ℕ) (s : Remaining) (wanted : ℕ) : Type 0 where
   pub remains : IsRemaining es nothing_owed s
   pub dead : (i : ℕ) → i < length es → is_in s.dead i ≡ is_none (first_of m i)
-  pub so_far : (rows : List Row) (is_dead : Path → Bool) (size : Path → ℕ) → StandsFor es s.dead sizes rows is_dead size
+  pub so_far : (rows : List Row) (is_dead : Path → Bool) (size : Path → ℕ) → Represents es s.dead sizes rows is_dead size
       → left_after (graph_of rows) is_dead size (drop turn (paths_of rows)) (map (path_at rows) (places_left s.left)) wanted ≡ left_after (graph_of rows) is_dead size (paths_of rows) (paths_of rows) limit
 
 count : (es : List Entries) (rows : List Row) → es ≡ numbered rows → length es ≡ length rows
@@ -35,14 +35,14 @@ under_way es m sizes limit s r left dead = record {
 }
 
 pub one_more : (es : List Entries) (m : Marking) (sizes : List ℕ) (limit turn : ℕ) (s t : Remaining) (v w : ℕ) → turn < length es → IsUnder es m sizes limit turn s v → IsRemaining es nothing_owed t → t.dead ≡ s.dead
-    → ((rows : List Row) (is_dead : Path → Bool) (size : Path → ℕ) → StandsFor es s.dead sizes rows is_dead size → (p : Path) (ps : List Path)
+    → ((rows : List Row) (is_dead : Path → Bool) (size : Path → ℕ) → Represents es s.dead sizes rows is_dead size → (p : Path) (ps : List Path)
     → left_after (graph_of rows) is_dead size ps (map (path_at rows) (places_left t.left)) w ≡ left_after (graph_of rows) is_dead size (p ∷ ps) (map (path_at rows) (places_left s.left)) v)
     → IsUnder es m sizes limit (turn + 1) t w
 one_more es m sizes limit turn s t v w h u r dead step = record {
   remains = r;
   dead = λ i b. ap (λ (ds : List Bool). is_in ds i) dead ∙ u.dead i b;
   so_far = λ rows is_dead size stands. (
-      let before : StandsFor es s.dead sizes rows is_dead size = record { rise = stands.rise; rows = stands.rows; deads = λ i b. stands.deads i b ∙ ap (λ (ds : List Bool). is_in ds i) dead; size = stands.size } in
+      let before : Represents es s.dead sizes rows is_dead size = record { rise = stands.rise; rows = stands.rows; deads = λ i b. stands.deads i b ∙ ap (λ (ds : List Bool). is_in ds i) dead; size = stands.size } in
       let n = count es rows stands.rows in
       let l = length-map rows (λ (x : Row). x.0) in
       let next : drop turn (paths_of rows) ≡ get_or (paths_of rows) turn [] ∷ drop (turn + 1) (paths_of rows) = drop-cons (paths_of rows) turn [] (omega arith) ∙ ap (λ k. get_or (paths_of rows) turn [] ∷ drop k (paths_of rows)) (let e : suc turn ≡ turn + 1 = omega arith in e) in
@@ -52,7 +52,7 @@ one_more es m sizes limit turn s t v w h u r dead step = record {
 }
 
 -- a turn in which a group goes
-pub taken_turn : (es : List Entries) (s t : Remaining) (sizes : List ℕ) (rows : List Row) (is_dead : Path → Bool) (size : Path → ℕ) → StandsFor es s.dead sizes rows is_dead size
+pub taken_turn : (es : List Entries) (s t : Remaining) (sizes : List ℕ) (rows : List Row) (is_dead : Path → Bool) (size : Path → ℕ) → Represents es s.dead sizes rows is_dead size
     → (group : List ℕ) → All (λ u. u < length es) group → length s.left ≡ length es → length t.left ≡ length es
     → ((i : ℕ) → i < length es → is_in t.left i ≡ (is_in s.left i && not (list_any (λ j. j == i) group)))
     → (wanted w : ℕ) → 0 < wanted → w ≡ wanted - sum_by (slice_index sizes) group
@@ -76,7 +76,7 @@ over es m sizes limit turn s w h u v is keep rows given size rise same exact siz
     let n = count es rows same in
     let l = length-map rows (λ (x : Row). x.0) in
     let dead : Path → Bool = λ p. not (is_live keep (graph_of rows) given p) in
-    let stands : StandsFor es s.dead sizes rows (λ p. not (is_live keep (graph_of rows) given p)) size = record {
+    let stands : Represents es s.dead sizes rows (λ p. not (is_live keep (graph_of rows) given p)) size = record {
       rise = rise;
       rows = same;
       size = sized;

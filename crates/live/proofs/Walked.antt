@@ -4,13 +4,13 @@ use Rattle.std.specs.Prelude.{count_by, nat_le, All}
 use Rattle.std.specs.List.{slice_index}
 use Rattle.live.specs.Graph.{Keep}
 use Rattle.live.specs.Places.{Entries, AllInside, edges_at}
-use Rattle.live.specs.Marking.{Front, IsMarking, IsTaken, NoneWaits, reached, all_reached, told}
+use Rattle.live.specs.Marking.{Frontier, IsMarking, IsDequeued, NoneWaits, reached, all_reached, told}
 use Rattle.live.proofs.Fronts.{AreMarked, Grows, one, grows, none_waits, taken_counts, taken_length, taken_still, waiting_count}
 use Rattle.live.proofs.Walks.{IsWalk, are_marked, edge_inside, start, begin}
 use Rattle.live.proofs.Taken.{taken, finish}
 
 module _ (keep : Keep) (rows : List Entries) (targets : List ℕ) (inside : AllInside rows) (aims : All (λ t. t < length rows) targets) where
-  pub start_at : (f : Front) (s n m : ℕ) → f.first ≡ replicate n m → n ≡ length rows → m ≡ length targets → f.waiting ≡ replicate n false → s ≡ 0 → IsWalk keep rows targets 0 f s × NoneWaits f.waiting
+  pub start_at : (f : Frontier) (s n m : ℕ) → f.first ≡ replicate n m → n ≡ length rows → m ≡ length targets → f.waiting ≡ replicate n false → s ≡ 0 → IsWalk keep rows targets 0 f s × NoneWaits f.waiting
   start_at f s n m firsts en em empty none =
       let first : f.first ≡ replicate (length rows) (length targets) = firsts ∙ ap (λ k. replicate k m) en ∙ ap (replicate (length rows)) em in
       let quiet : f.waiting ≡ replicate (length rows) false = empty ∙ ap (λ k. replicate k false) en in
@@ -19,7 +19,7 @@ module _ (keep : Keep) (rows : List Entries) (targets : List ℕ) (inside : AllI
         subst NoneWaits (sym quiet) (none_waits (length rows)),
       )
 
-  pub begin_at : (root n target : ℕ) (f g : Front) (s t : ℕ) → root < n → n ≡ length targets → target ≡ slice_index targets root → NoneWaits f.waiting → IsWalk keep rows targets root f s
+  pub begin_at : (root n target : ℕ) (f g : Frontier) (s t : ℕ) → root < n → n ≡ length targets → target ≡ slice_index targets root → NoneWaits f.waiting → IsWalk keep rows targets root f s
       → g ≡ reached n root f target → t ≡ told (s + 1) → IsWalk keep rows targets (root + 1) g t
   begin_at root n target f g s t before en at empty w is stepped =
       let below : root < length targets = omega arith in
@@ -28,8 +28,8 @@ module _ (keep : Keep) (rows : List Entries) (targets : List ℕ) (inside : AllI
       let grown = one (length targets) root below f (slice_index targets root) (are_marked keep rows targets inside aims root f s (omega arith) w) within in
       begin keep rows targets inside aims root f g s t below empty w (subst (λ x. Grows (length targets) root f x (slice_index targets root ∷ [])) (sym same) grown) (omega (arith, stepped))
 
-  module _ (root n place : ℕ) (f h g : Front) (s : ℕ) (before : root < n) (en : n ≡ length targets) (w : IsWalk keep rows targets (root + 1) f s)
-      (firsts : h.first ≡ f.first) (works : IsTaken f.waiting h.waiting place) (is : g ≡ all_reached n root h (edges_at keep rows place)) where
+  module _ (root n place : ℕ) (f h g : Frontier) (s : ℕ) (before : root < n) (en : n ≡ length targets) (w : IsWalk keep rows targets (root + 1) f s)
+      (firsts : h.first ≡ f.first) (works : IsDequeued f.waiting h.waiting place) (is : g ≡ all_reached n root h (edges_at keep rows place)) where
     marked : AreMarked (length targets) h
     marked = record {
       count = taken_length f.waiting h.waiting place works ∙ w.count ∙ sym w.places ∙ sym (ap length firsts);
@@ -53,10 +53,10 @@ module _ (keep : Keep) (rows : List Entries) (targets : List ℕ) (inside : AllI
         let d = ap (λ xs. count_by (λ m. nat_le (length targets) m) xs) firsts in
         let n = taken_counts f.waiting h.waiting place works in omega (arith, a, b, c, d, n)
 
-  pub placed : (root place : ℕ) (f h : Front) (s : ℕ) → IsWalk keep rows targets (root + 1) f s → IsTaken f.waiting h.waiting place → place < length rows
+  pub placed : (root place : ℕ) (f h : Frontier) (s : ℕ) → IsWalk keep rows targets (root + 1) f s → IsDequeued f.waiting h.waiting place → place < length rows
   placed root place f h s w works = (w.waits place works.waited).0
 
-  pub finish_at : (begun n : ℕ) (f : Front) (s : ℕ) (first : List ℕ) (t : ℕ) → n ≤ begun → begun ≤ n → n ≡ length targets → NoneWaits f.waiting → IsWalk keep rows targets begun f s
+  pub finish_at : (begun n : ℕ) (f : Frontier) (s : ℕ) (first : List ℕ) (t : ℕ) → n ≤ begun → begun ≤ n → n ≡ length targets → NoneWaits f.waiting → IsWalk keep rows targets begun f s
       → first ≡ f.first → t ≡ s → t < 2 ^ 64 → (k : ℕ) → k < 2 ^ 64 → k ≡ length rows → IsMarking keep rows targets (record { first = first; none = n; steps = t })
   finish_at begun n f s first t a b en empty w firsts is fits k small few =
       let all : begun ≡ length targets = omega arith in
@@ -64,7 +64,7 @@ module _ (keep : Keep) (rows : List Entries) (targets : List ℕ) (inside : AllI
       subst (λ xs. IsMarking keep rows targets (record { first = xs; none = n; steps = t })) (sym firsts) last
 
   -- the same marks, where nothing waits
-  pub ended : (begun : ℕ) (f h : Front) (s : ℕ) → IsWalk keep rows targets begun f s → h.first ≡ f.first → h.waiting ≡ f.waiting → NoneWaits h.waiting → IsWalk keep rows targets begun h s × NoneWaits h.waiting
+  pub ended : (begun : ℕ) (f h : Frontier) (s : ℕ) → IsWalk keep rows targets begun f s → h.first ≡ f.first → h.waiting ≡ f.waiting → NoneWaits h.waiting → IsWalk keep rows targets begun h s × NoneWaits h.waiting
   ended begun f h s w firsts same none =
       let is : f ≡ h = λ i. record { first = sym firsts i; waiting = sym same i } in
       (subst (λ x. IsWalk keep rows targets begun x s) is w, none)

@@ -6,13 +6,13 @@ use Rattle.std.proofs.lemmas.Bool.{cases_lt, le-ltb}
 use Rattle.std.proofs.lemmas.List.{length-map, length-replicate, get_or-replicate}
 use Rattle.std.proofs.lemmas.List.Elements.{Contains-append_left, Contains-append_right, Contains-append_cases}
 use Rattle.live.specs.Graph.{Keep}
-use Rattle.live.specs.Places.{Entries, AllInside, Goes, Reaches, counting, edges_at, entries_at, held}
-use Rattle.live.specs.Marking.{Front, NoneWaits, Waits, cost, marked_cost, told}
+use Rattle.live.specs.Places.{Entries, AllInside, Walks, Reaches, counting, edges_at, entries_at, held}
+use Rattle.live.specs.Marking.{Frontier, NoneWaits, Waits, cost, marked_cost, told}
 use Rattle.live.proofs.Fronts.{AreMarked, Grows, mark_at, none_waits, nothing_costs, waiting_cost}
 use Rattle.live.proofs.Members.{no_member, at_head, cases}
 
 -- the first roots have been begun, and steps have been taken
-pub record IsWalk (keep : Keep) (rows : List Entries) (targets : List ℕ) (begun : ℕ) (f : Front) (steps : ℕ) : Type 0 where
+pub record IsWalk (keep : Keep) (rows : List Entries) (targets : List ℕ) (begun : ℕ) (f : Frontier) (steps : ℕ) : Type 0 where
   pub places : length f.first ≡ length rows
   pub count : length f.waiting ≡ length rows
   -- a mark is a root that was begun, and that reaches the place
@@ -48,7 +48,7 @@ edge_inside keep rows inside i j c = inside i j (held_if_counting keep (entries_
 pub further : (keep : Keep) (rows : List Entries) (a m z : ℕ) → Reaches keep rows a m → Contains (edges_at keep rows m) z → Reaches keep rows a z
 further keep rows a m z r c = record { behind = r.behind ++ z ∷ []; goes = on a r.behind r.goes }
   where
-    on : (a : ℕ) (bs : List ℕ) → Goes keep rows a bs m → Goes keep rows a (bs ++ z ∷ []) z
+    on : (a : ℕ) (bs : List ℕ) → Walks keep rows a bs m → Walks keep rows a (bs ++ z ∷ []) z
     on a [] h = (subst (λ x. Contains (edges_at keep rows x) z) (sym h) c, refl)
     on a (b ∷ bs) h = (h.0, on b bs h.1)
 
@@ -75,15 +75,15 @@ module _ (keep : Keep) (rows : List Entries) (targets : List ℕ) (inside : AllI
     paid = (0, refl, (let e = marked_none (length targets) (map (cost keep) rows) (length rows) in let n = nothing_costs (map (cost keep) rows) (replicate (length rows) false) (none_waits (length rows)) in omega (arith, e, n)));
   }
 
-  pub less : (root : ℕ) → root < length targets → (f g : Front) (js : List ℕ) → Grows (length targets) root f g js → (i : ℕ) → mark_at g i ≤ mark_at f i
+  pub less : (root : ℕ) → root < length targets → (f g : Frontier) (js : List ℕ) → Grows (length targets) root f g js → (i : ℕ) → mark_at g i ≤ mark_at f i
   less root below f g js grows i = elim (grows.either i) as (λ _. mark_at g i ≤ mark_at f i) [ inl same ↦ omega arith | inr new ↦ (let w = new.was in let e = new.is in omega arith) ]
 
   -- what waits is marked
-  pub are_marked : (begun : ℕ) (f : Front) (s : ℕ) → begun ≤ length targets → IsWalk keep rows targets begun f s → AreMarked (length targets) f
+  pub are_marked : (begun : ℕ) (f : Frontier) (s : ℕ) → begun ≤ length targets → IsWalk keep rows targets begun f s → AreMarked (length targets) f
   are_marked begun f s below w = record { count = w.count ∙ sym w.places; marked = λ i c. (let e = (w.waits i c).1 in omega arith) }
 
   -- a root is begun
-  pub begin : (root : ℕ) (f g : Front) (s t : ℕ) → root < length targets → NoneWaits f.waiting → IsWalk keep rows targets root f s
+  pub begin : (root : ℕ) (f g : Frontier) (s t : ℕ) → root < length targets → NoneWaits f.waiting → IsWalk keep rows targets root f s
       → Grows (length targets) root f g (slice_index targets root ∷ []) → told t ≡ told (s + 1) → IsWalk keep rows targets (root + 1) g t
   begin root f g s t below empty w grows stepped = record {
     places = grows.places ∙ w.places;

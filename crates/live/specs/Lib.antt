@@ -3,11 +3,11 @@ pub mod Backward
 pub mod Exact
 pub mod Flat
 pub mod Graph
-pub mod Handed
+pub mod Arguments
 pub mod Heads
 pub mod Keeping
 pub mod Laws
-pub mod Leaving
+pub mod Remaining
 pub mod Limited
 pub mod Listed
 pub mod Live

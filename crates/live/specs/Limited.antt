@@ -33,10 +33,10 @@ without group left = filter (λ p. not (holds group p)) left
 
 -- From these paths left, with this number of bytes still wanted, these groups are deleted: each is the next one of the paths left by those
 -- before it, which free less than is wanted; all free what is wanted, or no dead path is left.
-abbrev pub Takes : Graph → (Path → Bool) → (Path → ℕ) → List Path → ℕ → List (List Path) → Type 0
-Takes g dead size left wanted [] = (wanted ≡ 0) ⊎ (next_group g dead left ≡ None)
-Takes g dead size left wanted (group ∷ groups) =
-    (0 < wanted) × (next_group g dead left ≡ Some group) × Takes g dead size (without group left) (wanted - sum_by size group) groups
+abbrev pub DeletesGroups : Graph → (Path → Bool) → (Path → ℕ) → List Path → ℕ → List (List Path) → Type 0
+DeletesGroups g dead size left wanted [] = (wanted ≡ 0) ⊎ (next_group g dead left ≡ None)
+DeletesGroups g dead size left wanted (group ∷ groups) =
+    (0 < wanted) × (next_group g dead left ≡ Some group) × DeletesGroups g dead size (without group left) (wanted - sum_by size group) groups
 
 -- ---- the same by a function that computes
 

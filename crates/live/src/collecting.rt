@@ -5,16 +5,16 @@ ghost use Rattle.std.specs.Option.{option_map};
 ghost use Rattle.live.specs.Graph.{Path, references_alone};
 ghost use Rattle.live.specs.Reach.{reaches};
 ghost use Rattle.live.specs.Limited.{next_group};
-ghost use Rattle.live.specs.Leaving.{IsRemaining, StandsFor, group_at, is_in, left_after, nothing_owed, places_left};
+ghost use Rattle.live.specs.Remaining.{IsRemaining, Represents, group_at, is_in, left_after, nothing_owed, places_left};
 ghost use Rattle.live.specs.Numbering.{Rise, Row, graph_of, numbered, path_at, paths_of};
 
 use crate::backward::backward;
 use crate::keeping::Keep;
-use crate::leaving::Leaving;
 use crate::numbered::Graph;
+use crate::remaining::Remaining;
 use std::alloc::{AllocError, Global};
 
-impl Leaving {
+impl Remaining {
     /// The places left whose paths reach a path by references.
     fn reaching(&self, alloc: Global, graph: &Graph, place: usize) -> Result<Vec<usize>, AllocError>
         requires place { place < length graph.now }
@@ -46,7 +46,7 @@ impl Leaving {
         ensures left { OnOk result (self.new.left ≡ self.old.left) }
         ensures remaining { OnOk result (IsRemaining graph.now nothing_owed self.new) }
         ensures inside { IfOk result (λ o. IfSome o (λ v. All (λ t. t < length graph.now) v.items)) }
-        ensures group { IfOk result (λ o. (sizes : List ℕ) (rows : List Row) (is_dead : Path → Bool) (size : Path → ℕ) → StandsFor graph.now self.old.dead sizes rows is_dead size →
+        ensures group { IfOk result (λ o. (sizes : List ℕ) (rows : List Row) (is_dead : Path → Bool) (size : Path → ℕ) → Represents graph.now self.old.dead sizes rows is_dead size →
             option_map (group_at rows) o ≡ next_group (graph_of rows) is_dead (map (path_at rows) (places_left self.old.left))) }
     {
         if let Some(place) = self.next_alone(graph) {
@@ -94,7 +94,7 @@ impl Leaving {
         requires sizes { length sizes.now ≡ length graph.now }
         ensures dead { OnOk result (self.new.dead ≡ self.old.dead) }
         ensures remaining { OnOk result (IsRemaining graph.now nothing_owed self.new) }
-        ensures turn { IfOk result (λ w. (rows : List Row) (is_dead : Path → Bool) (size : Path → ℕ) → StandsFor graph.now self.old.dead sizes.now rows is_dead size → (turn : Path) (turns : List Path) →
+        ensures turn { IfOk result (λ w. (rows : List Row) (is_dead : Path → Bool) (size : Path → ℕ) → Represents graph.now self.old.dead sizes.now rows is_dead size → (turn : Path) (turns : List Path) →
             left_after (graph_of rows) is_dead size turns (map (path_at rows) (places_left self.new.left)) w ≡ left_after (graph_of rows) is_dead size (turn ∷ turns) (map (path_at rows) (places_left self.old.left)) wanted) }
     {
         if wanted == 0 {

@@ -4,16 +4,16 @@
 mod asking;
 mod backward;
 mod collecting;
+mod expanding;
 mod keeping;
 mod laws;
-mod leaving;
 mod limited_laws;
 mod limiting;
 mod marking;
 mod numbered;
 mod referring;
+mod remaining;
 mod room;
-mod taking;
 mod turning;
 mod waiting;
 mod walk;
@@ -28,7 +28,7 @@ pub use laws::{
 pub use limited_laws::{
     a_limit_beyond_all_removes_all, a_limit_of_nothing_removes_nothing,
     limited_collections_have_one_answer, limits_remove_dead_paths, referrers_go_with_it_or_before,
-    what_stays_refers_to_nothing_that_went,
+    what_stays_refers_to_nothing_deleted,
 };
 pub use limiting::limited;
 pub use marking::{Marks, mark};

@@ -5,12 +5,12 @@ ghost use Rattle.std.specs.FinMap as finite;
 ghost use Rattle.paths.specs.Root.{Root};
 ghost use Rattle.live.specs.Graph.{Graph, Keep, Path, holds, is_edge, is_valid, references_alone};
 ghost use Rattle.live.specs.Live.{IsDead, is_live};
-ghost use Rattle.live.specs.Limited.{Takes, is_taken, limited_groups, limited_paths, refers};
+ghost use Rattle.live.specs.Limited.{DeletesGroups, is_taken, limited_groups, limited_paths, refers};
 
 /// A collection up to a limit has one answer: the groups that it takes are those that are computed.
 pub fn limited_collections_have_one_answer()
     ensures { (g : Graph) (dead : Path → Bool) (size : Path → ℕ) (limit : ℕ) (groups : List (List Path)) →
-        Takes g dead size (finite.keys g) limit groups ↔ (groups ≡ limited_groups g dead size limit) }
+        DeletesGroups g dead size (finite.keys g) limit groups ↔ (groups ≡ limited_groups g dead size limit) }
 {}
 
 /// A collection up to a limit of 0 removes nothing.
@@ -25,7 +25,7 @@ pub fn limits_remove_dead_paths()
 {}
 
 /// No reference of a path that a collection up to a limit leaves points at one that it removes.
-pub fn what_stays_refers_to_nothing_that_went()
+pub fn what_stays_refers_to_nothing_deleted()
     ensures { (g : Graph) (dead : Path → Bool) (size : Path → ℕ) (limit : ℕ) (q p : Path) → IsTrue (is_valid g q) → (Contains (limited_paths g dead size limit) q → ⊥) →
         IsTrue (is_edge references_alone g q p) → Contains (limited_paths g dead size limit) p → ⊥ }
 {}

@@ -28,6 +28,18 @@ impl Model for Marks {
 
 impl Marks {
     /// The place of the first root that reaches a path, or none where the path is dead.
+    ///
+    /// ```rust
+    /// use live::{Graph, Keep, Roots, Row};
+    /// use paths::StorePath;
+    ///
+    /// let path = StorePath::from_base(alloc, "00000000000000000000000000000000-p")?;
+    /// let rows = [Row { path: &path, references: &[], outputs: &[], deriver: None }];
+    /// let graph = Graph::new(alloc, &rows)?;
+    /// let keep = Keep { outputs: false, derivations: false };
+    /// let marks = live::mark(alloc, &graph, &Roots::new(alloc, &rows, &[])?, keep)?;
+    /// assert_eq!(rt; marks.first_root(0), None);
+    /// ```
     pub fn first_root(&self, place: usize) -> Option<usize>
         requires { place < length self.now.first }
         ensures { result ≡ first_of self.now place }
@@ -37,6 +49,14 @@ impl Marks {
     }
 
     /// How many steps the walk took: roots, objects and entries that were read.
+    ///
+    /// ```rust
+    /// use live::{Graph, Keep, Roots};
+    ///
+    /// let keep = Keep { outputs: false, derivations: false };
+    /// let marks = live::mark(alloc, &Graph::new(alloc, &[])?, &Roots::new(alloc, &[], &[])?, keep)?;
+    /// assert_eq!(rt; marks.steps(), 0);
+    /// ```
     pub fn steps(&self) -> u64
         ensures { result ≡ self.now.steps }
     {
@@ -45,6 +65,18 @@ impl Marks {
 }
 
 /// Marks each live path with the first root that reaches it.
+///
+/// ```rust
+/// use live::{Graph, Keep, Kind, Root, Roots, Row};
+/// use paths::StorePath;
+///
+/// let path = StorePath::from_base(alloc, "00000000000000000000000000000000-p")?;
+/// let rows = [Row { path: &path, references: &[], outputs: &[], deriver: None }];
+/// let graph = Graph::new(alloc, &rows)?;
+/// let roots = Roots::new(alloc, &rows, &[Root { kind: Kind::User, target: &path, label: "ann/p" }])?;
+/// let keep = Keep { outputs: false, derivations: true };
+/// assert_eq!(rt; live::mark(alloc, &graph, &roots, keep)?.first_root(0), Some(0));
+/// ```
 pub fn mark(alloc: Global, graph: &Graph, roots: &Roots, keep: Keep) -> Result<Marks, AllocError>
     requires { All (λ t. t < length graph.now) roots.now }
     ensures places { IfOk result (IsMarking (keep_view keep) graph.now roots.now) }

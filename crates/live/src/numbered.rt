@@ -43,6 +43,11 @@ impl Model for Graph {
 
 impl Graph {
     /// How many objects it has.
+    ///
+    /// ```rust
+    /// let graph = live::Graph::new(alloc, &[])?;
+    /// assert_eq!(rt; graph.len(), 0);
+    /// ```
     pub fn len(&self) -> usize
         ensures value { result ≡ length self.now }
         ensures inside { AllInside self.now }
@@ -65,6 +70,11 @@ impl Model for Roots {
 
 impl Roots {
     /// How many roots there are.
+    ///
+    /// ```rust
+    /// let roots = live::Roots::new(alloc, &[], &[])?;
+    /// assert_eq!(rt; roots.len(), 0);
+    /// ```
     pub fn len(&self) -> usize
         ensures { result ≡ length self.now }
     {

@@ -1,7 +1,7 @@
 //! How many references there are to each path.
 ghost use Rattle.std.specs.Prelude.{◌≡◌, ℕ, ◌+◌, ◌<◌, length, IfOk, OnOk, vec_len};
 ghost use Rattle.std.specs.List.{slice_index, sum_by, range_with_len};
-ghost use Rattle.live.specs.Leaving.{times};
+ghost use Rattle.live.specs.Remaining.{times};
 
 use crate::numbered::{Graph, Walker};
 use std::alloc::{AllocError, Global};

@@ -1,7 +1,7 @@
 //! What waits to be taken by a walk, a block of neighbours at a time, since what neighbours point to lies side by side in memory.
 ghost use Rattle.std.specs.Prelude.{◌≡◌, ℕ, ◌<◌, ◌≤◌, length, replicate, true, false, Contains, IfNone, IfOk, IfSome, IsFalse, IsTrue, OnOk, slice_set};
 ghost use Rattle.live.specs.Listed.{IsListed};
-ghost use Rattle.live.specs.Marking.{IsTaken, NoneWaits, Waits};
+ghost use Rattle.live.specs.Marking.{IsDequeued, NoneWaits, Waits};
 
 use std::alloc::{AllocError, Global};
 
@@ -77,7 +77,7 @@ impl Waiting {
     fn in_block(&mut self) -> Option<usize>
         requires { IsListed self.old }
         ensures blocks { self.new.blocks.items ≡ self.old.blocks.items }
-        ensures some { IfSome result (IsTaken self.old.waiting.items self.new.waiting.items) }
+        ensures some { IfSome result (IsDequeued self.old.waiting.items self.new.waiting.items) }
         ensures none { IfNone result ((self.new.waiting.items ≡ self.old.waiting.items) × (self.new.end ≤ self.new.at)) }
         ensures listed { IsListed self.new }
     {
@@ -115,7 +115,7 @@ impl Waiting {
     /// A place that waits. It waits no longer.
     pub(crate) fn next(&mut self) -> Option<usize>
         requires { IsListed self.old }
-        ensures some { IfSome result (IsTaken self.old.waiting.items self.new.waiting.items) }
+        ensures some { IfSome result (IsDequeued self.old.waiting.items self.new.waiting.items) }
         ensures none { IfNone result ((self.new.waiting.items ≡ self.old.waiting.items) × NoneWaits self.new.waiting.items) }
         ensures listed { IsListed self.new }
     {

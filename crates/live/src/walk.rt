@@ -1,7 +1,7 @@
 //! The marks of a walk, and what waits.
 ghost use Rattle.std.specs.Prelude.{◌≡◌, ◌<◌, length, replicate, false, All, IfNone, IfOk, IfSome, OnOk};
 ghost use Rattle.live.specs.Listed.{IsListed};
-ghost use Rattle.live.specs.Marking.{Front, IsTaken, NoneWaits, all_reached, reached};
+ghost use Rattle.live.specs.Marking.{Frontier, IsDequeued, NoneWaits, all_reached, reached};
 
 use crate::waiting::Waiting;
 use std::alloc::{AllocError, Global};
@@ -15,7 +15,7 @@ pub(crate) struct Walk {
 }
 
 impl Model for Walk {
-    ghost Value = { Front };
+    ghost Value = { Frontier };
 
     ghost view = { λ w. record { first = w.first.items; waiting = w.waiting.waiting.items } };
 
@@ -65,7 +65,7 @@ impl Walk {
     /// A place that waits no longer.
     pub(crate) fn next(&mut self) -> Option<usize>
         ensures first { self.new.first ≡ self.old.first }
-        ensures some { IfSome result (IsTaken self.old.waiting self.new.waiting) }
+        ensures some { IfSome result (IsDequeued self.old.waiting self.new.waiting) }
         ensures none { IfNone result ((self.new.waiting ≡ self.old.waiting) × NoneWaits self.new.waiting) }
     {
         self.waiting.next()

@@ -10,7 +10,7 @@ use Rattle.live.proofs.Reach.{goes_on}
 use Rattle.live.proofs.Live.{closure_decided}
 use Rattle.model.specs.World.{Path, Object, World, has}
 use Rattle.model.specs.Reply.{done, denied, refused, failed}
-use Rattle.model.specs.Liveness.{links_of, graph_of, goes_with}
+use Rattle.model.specs.Liveness.{links_of, graph_of, is_deleted_with}
 use Rattle.model.specs.Effects.{keeping}
 use Rattle.model.specs.Collection.{LeavesNoReference}
 use Rattle.model.proofs.Worlds.{get-graph, valid_is, kept_if, found_in}
@@ -42,15 +42,15 @@ pub reference_reached : (w : World) (p r : Path) (o : Object) → finite.get w.o
 reference_reached w p r o e c h = record { valid = valid_is w p ∙ ap is_some e; behind = r ∷ []; leads = (reference_edge w p r o e c h, refl) }
 
 -- a reference of an object that is left is left
-pub reference_left : (w : World) (named : List Path) (p : Path) (o : Object) → finite.get (keeping w (λ x. not (goes_with w named x))).objects p ≡ Some o
-    → (r : Path) → IsTrue (finite.contains_key o.references r) → IsTrue (has w r) → IsTrue (has (keeping w (λ x. not (goes_with w named x))) r)
+pub reference_left : (w : World) (named : List Path) (p : Path) (o : Object) → finite.get (keeping w (λ x. not (is_deleted_with w named x))).objects p ≡ Some o
+    → (r : Path) → IsTrue (finite.contains_key o.references r) → IsTrue (has w r) → IsTrue (has (keeping w (λ x. not (is_deleted_with w named x))) r)
 reference_left w named p o e r c valid =
-    let was = found_in w.objects (λ x. not (goes_with w named x)) p o e in
-    let p_stays : goes_with w named p ≡ false = not-true (goes_with w named p) was.0 in
-    let r_stays : goes_with w named r ≡ false = false_from_ne_true (goes_with w named r) (λ d. false≢true (sym p_stays ∙ gone was.1 d)) in
-    ap is_some (kept_if w.objects (λ x. not (goes_with w named x)) r (not_from_false (goes_with w named r) r_stays)) ∙ valid
+    let was = found_in w.objects (λ x. not (is_deleted_with w named x)) p o e in
+    let p_stays : is_deleted_with w named p ≡ false = not-true (is_deleted_with w named p) was.0 in
+    let r_stays : is_deleted_with w named r ≡ false = false_from_ne_true (is_deleted_with w named r) (λ d. false≢true (sym p_stays ∙ gone was.1 d)) in
+    ap is_some (kept_if w.objects (λ x. not (is_deleted_with w named x)) r (not_from_false (is_deleted_with w named r) r_stays)) ∙ valid
   where
-    gone : finite.get w.objects p ≡ Some o → IsTrue (goes_with w named r) → IsTrue (goes_with w named p)
+    gone : finite.get w.objects p ≡ Some o → IsTrue (is_deleted_with w named r) → IsTrue (is_deleted_with w named p)
     gone is d =
         let t = (closure_decided (graph_of w) named r).0 d in
         (closure_decided (graph_of w) named p).1 (record { target = t.target; is_named = t.is_named; reaches = goes_on references_alone (graph_of w) p r t.target (reference_reached w p r o is c valid) t.reaches })

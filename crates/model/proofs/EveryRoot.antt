@@ -8,17 +8,17 @@ use Rattle.std.specs.FinMap as finite
 use Rattle.std.proofs.lemmas.List.Elements.{Contains-append_left, Contains-append_right, Contains-append_cases}
 use Rattle.paths.specs.Root.{Root}
 use Rattle.live.proofs.Order.{ordered_member, member_ordered}
-use Rattle.model.specs.World.{World, permanent_root, user_root, generation_root, generation_roots, runtime_root, temporary_root, lasting_roots, runtime_roots, temporary_roots, roots_of}
+use Rattle.model.specs.World.{World, permanent_root, user_root, generation_root, generation_roots, runtime_root, temporary_root, explicit_roots, runtime_roots, temporary_roots, roots_of}
 use Rattle.model.specs.Entries.{HasEachRoot, IsEntry, of_permanent, of_user, of_generation, of_runtime, of_temporary}
 use Rattle.model.proofs.MapMembers.{bytes_antisymmetric, pair_antisymmetric, pair_total, temporary_antisymmetric, temporary_total, key_listed, listed_key, entry_listed, listed_entry}
 use Rattle.model.proofs.Filtered.{in_mapped, from_mapped, in_joined, from_joined}
 
 module _ (w : World) where
-  until_runtime : (r : Root) → Contains (lasting_roots w ++ runtime_roots w) r → Contains (roots_of w) r
-  until_runtime r c = ordered_member (lasting_roots w ++ runtime_roots w ++ temporary_roots w) r (Contains-append_left (lasting_roots w ++ runtime_roots w) (temporary_roots w) r c)
+  until_runtime : (r : Root) → Contains (explicit_roots w ++ runtime_roots w) r → Contains (roots_of w) r
+  until_runtime r c = ordered_member (explicit_roots w ++ runtime_roots w ++ temporary_roots w) r (Contains-append_left (explicit_roots w ++ runtime_roots w) (temporary_roots w) r c)
 
-  lasting : (r : Root) → Contains (lasting_roots w) r → Contains (roots_of w) r
-  lasting r c = until_runtime r (Contains-append_left (lasting_roots w) (runtime_roots w) r c)
+  lasting : (r : Root) → Contains (explicit_roots w) r → Contains (roots_of w) r
+  lasting r c = until_runtime r (Contains-append_left (explicit_roots w) (runtime_roots w) r c)
 
   first_two : (r : Root) → Contains (map permanent_root (finite.entries w.permanent) ++ map user_root (finite.entries w.user_roots)) r → Contains (roots_of w) r
   first_two r c = lasting r (Contains-append_left (map permanent_root (finite.entries w.permanent) ++ map user_root (finite.entries w.user_roots)) (flat_map generation_roots (finite.entries w.profiles)) r c)
@@ -55,19 +55,19 @@ module _ (w : World) where
     | inr second ↦ user_entry r second
   ]
 
-  lasting_entry : (r : Root) → Contains (lasting_roots w) r → IsEntry w r
+  lasting_entry : (r : Root) → Contains (explicit_roots w) r → IsEntry w r
   lasting_entry r c =
       elim (Contains-append_cases (map permanent_root (finite.entries w.permanent) ++ map user_root (finite.entries w.user_roots)) (flat_map generation_roots (finite.entries w.profiles)) r c)
       as (λ _. IsEntry w r) [ inl named ↦ dropped_entry r named | inr generation ↦ generation_entry r generation ]
 
-  until_runtime_entry : (r : Root) → Contains (lasting_roots w ++ runtime_roots w) r → IsEntry w r
+  until_runtime_entry : (r : Root) → Contains (explicit_roots w ++ runtime_roots w) r → IsEntry w r
   until_runtime_entry r c =
-      elim (Contains-append_cases (lasting_roots w) (runtime_roots w) r c)
+      elim (Contains-append_cases (explicit_roots w) (runtime_roots w) r c)
       as (λ _. IsEntry w r) [ inl last ↦ lasting_entry r last | inr run ↦ runtime_entry r run ]
 
   no_other_root : (r : Root) → Contains (roots_of w) r → IsEntry w r
   no_other_root r c =
-      elim (Contains-append_cases (lasting_roots w ++ runtime_roots w) (temporary_roots w) r (member_ordered (lasting_roots w ++ runtime_roots w ++ temporary_roots w) r c))
+      elim (Contains-append_cases (explicit_roots w ++ runtime_roots w) (temporary_roots w) r (member_ordered (explicit_roots w ++ runtime_roots w ++ temporary_roots w) r c))
       as (λ _. IsEntry w r) [ inl early ↦ until_runtime_entry r early | inr temp ↦ temporary_entry r temp ]
 
   pub each_root : HasEachRoot w
@@ -79,9 +79,9 @@ module _ (w : World) where
     generation = λ owned p n t e f. lasting (generation_root owned (n, t)) (Contains-append_right (map permanent_root (finite.entries w.permanent) ++ map user_root (finite.entries w.user_roots)) (flat_map generation_roots (finite.entries w.profiles)) (generation_root owned (n, t))
         (in_joined generation_roots (finite.entries w.profiles) (owned, p) (generation_root owned (n, t)) (entry_listed pair_antisymmetric w.profiles owned p e)
         (in_mapped (generation_root owned) (finite.entries p.generations) (n, t) (entry_listed finite.nat_cmp-IsAntisymmetric p.generations n t f))));
-    runtime = λ r h. until_runtime (runtime_root r) (Contains-append_right (lasting_roots w) (runtime_roots w) (runtime_root r)
+    runtime = λ r h. until_runtime (runtime_root r) (Contains-append_right (explicit_roots w) (runtime_roots w) (runtime_root r)
         (in_mapped runtime_root (finite.keys w.runtime) r (key_listed pair_antisymmetric w.runtime r h)));
-    temporary = λ t h. ordered_member (lasting_roots w ++ runtime_roots w ++ temporary_roots w) (temporary_root t) (Contains-append_right (lasting_roots w ++ runtime_roots w) (temporary_roots w) (temporary_root t)
+    temporary = λ t h. ordered_member (explicit_roots w ++ runtime_roots w ++ temporary_roots w) (temporary_root t) (Contains-append_right (explicit_roots w ++ runtime_roots w) (temporary_roots w) (temporary_root t)
         (in_mapped temporary_root (finite.keys w.temporary) t (key_listed temporary_antisymmetric w.temporary t h)));
     no_other = no_other_root;
   }

@@ -11,7 +11,7 @@ use Rattle.std.proofs.lemmas.Bool.{false≢true, and_parts, and_from, or_cases, 
 use Rattle.paths.specs.Root.{bytes_cmp}
 use Rattle.live.specs.Graph.{Path, Links, same, holds, Graph, references_alone, is_valid, is_edge}
 use Rattle.live.specs.Reach.{reaches, Reaches}
-use Rattle.live.specs.Limited.{Takes, refers, is_referred_to, next_with_referrers, next_group, without, groups_by, limited_groups}
+use Rattle.live.specs.Limited.{DeletesGroups, refers, is_referred_to, next_with_referrers, next_group, without, groups_by, limited_groups}
 use Rattle.live.proofs.Members.{found, any_from, some_of_any}
 use Rattle.live.proofs.Reach.{same_is, same_itself, holds_valid, decided, goes_on, reach_kept}
 use Rattle.live.proofs.Live.{live_decided}
@@ -22,7 +22,7 @@ use Rattle.model.specs.Reply.{done, denied, refused, failed}
 use Rattle.model.specs.Liveness.{links_of, linked, graph_of, keep_of, lives, size_of, collected_paths}
 use Rattle.model.specs.Effects.{keeping}
 use Rattle.model.specs.Collection.{CollectsSome, CollectsUpToALimit}
-use Rattle.model.specs.Collection.{GoesByBytes, CollectsByBytes}
+use Rattle.model.specs.Collection.{CollectsByBytes, DeletesByBytes}
 use Rattle.model.proofs.MapMembers.{bytes_antisymmetric}
 use Rattle.model.proofs.Worlds.{valid_is, live_of, get-keeping, kept_if, found_in}
 use Rattle.model.proofs.Deleting.{reference_edge}
@@ -229,13 +229,13 @@ module _ (s : Settings) (w : World) (limit : ℕ) where
       by true = v
       by false = refl
 
-  by_bytes : GoesByBytes s w limit (keeping w leaves)
+  by_bytes : DeletesByBytes s w limit (keeping w leaves)
   unfolding groups is_taken
   by_bytes = record {
     size = size_of w;
     bytes = λ p o e. ap (λ (x : Option Object). option_map_or (λ y. length y.nar) x 0) e;
     groups = groups;
-    takes = subst (λ (ps : List Path). Takes (graph_of w) (λ p. not (lives s w p)) (size_of w) ps limit groups) (keys_of_graph w) ((one_answer (graph_of w) (λ p. not (lives s w p)) (size_of w) limit groups).1 refl);
+    takes = subst (λ (ps : List Path). DeletesGroups (graph_of w) (λ p. not (lives s w p)) (size_of w) ps limit groups) (keys_of_graph w) ((one_answer (graph_of w) (λ p. not (lives s w p)) (size_of w) limit groups).1 refl);
     went = λ p v. (
       (λ h. goes_or_stays p v ∙ ap not (sym (goes p v) ∙ h)),
       (λ h. goes p v ∙ turned (leaves p) (sym (goes_or_stays p v) ∙ h)),
@@ -279,4 +279,4 @@ collects_up_to s w c ignores limit (refused r) new h d = absurd d
 collects_up_to s w c ignores limit (failed f) new h d = absurd d
 
 pub collects_by_bytes : CollectsByBytes
-collects_by_bytes s w c ignores limit a new h = subst (λ (u : World). GoesByBytes s w limit u) (sym h.3) (by_bytes s w limit)
+collects_by_bytes s w c ignores limit a new h = subst (λ (u : World). DeletesByBytes s w limit u) (sym h.3) (by_bytes s w limit)

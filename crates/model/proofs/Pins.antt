@@ -20,12 +20,12 @@ use Rattle.policy.specs.declared.kinds.Rule.TheVariants.{Live}
 use Rattle.policy.specs.Rules.{rules, allows}
 use Rattle.model.specs.Request.{Request, add_text, add_source, import_object, collect, delete}
 use Rattle.model.specs.Reply.{Reply, done, denied, refused, failed}
-use Rattle.model.specs.Liveness.{links_of, graph_of, keep_of, lives, goes_with}
+use Rattle.model.specs.Liveness.{links_of, graph_of, keep_of, lives, is_deleted_with}
 use Rattle.model.specs.Verdict.{operation_of, verdict}
 use Rattle.model.specs.Adds.{Added, added_text, added_source, added_import}
 use Rattle.model.specs.Effects.{with_object, effect}
-use Rattle.model.specs.Step.{Step, Run}
-use Rattle.model.specs.Pinning.{Pins, PinsOverRuns, PinsThroughout, RootStands, StandsThroughout}
+use Rattle.model.specs.Step.{Step}
+use Rattle.model.specs.Pinning.{KeepsReached, LeadsOn, Pins, PinsOverRuns, RemainsThroughout}
 use Rattle.model.proofs.Worlds.{get-graph, live_of, live_has, kept_if}
 use Rattle.model.proofs.Limited.{leaves, live_left}
 
@@ -49,10 +49,10 @@ kept_by_add w a p h = by (has w a.path) refl
 -- ---- a deletion
 
 -- a live path that refers to a named one makes that live
-pub stays : (s : Settings) (w : World) (named : List Path) (p : Path) → list_any (lives s w) named ≡ false → IsTrue (lives s w p) → goes_with w named p ≡ false
-stays s w named p dead h = false_from_ne_true (goes_with w named p) gone
+pub stays : (s : Settings) (w : World) (named : List Path) (p : Path) → list_any (lives s w) named ≡ false → IsTrue (lives s w p) → is_deleted_with w named p ≡ false
+stays s w named p dead h = false_from_ne_true (is_deleted_with w named p) gone
   where
-    gone : IsTrue (goes_with w named p) → ⊥
+    gone : IsTrue (is_deleted_with w named p) → ⊥
     gone d =
         let target = (closure_decided (graph_of w) named p).0 d in
         let l = (live_decided (keep_of s) (graph_of w) (roots_of w) p).0 h in
@@ -80,7 +80,7 @@ done_keeps s w c (add_source name refs b) v p h = kept_by_add w (added_source s.
 done_keeps s w c (import_object i) v p h = kept_by_add w (added_import s.store_dir i) p (live_has s w p h)
 done_keeps s w c (collect ignores None) v p h = kept_if w.objects (lives s w) p h
 done_keeps s w c (collect ignores (Some limit)) v p h = kept_if w.objects (leaves s w limit) p (live_left s w limit p h)
-done_keeps s w c (delete named ignores) v p h = kept_if w.objects (λ x. not (goes_with w named x)) p (not_from_false (goes_with w named p) (stays s w named p (nothing_live s w c named ignores v) h))
+done_keeps s w c (delete named ignores) v p h = kept_if w.objects (λ x. not (is_deleted_with w named x)) p (not_from_false (is_deleted_with w named p) (stays s w named p (nothing_live s w c named ignores v) h))
 done_keeps s w c _ v p h = refl
 
 step_keeps : (s : Settings) (w : World) (c : Caller) (q : Request) (reply : Reply) (new : World) → Step s w c q reply new → KeepsLive s w new
@@ -125,31 +125,28 @@ pins s w c q reply new h r listed p reach =
     let keeps = step_keeps s w c q reply new h in
     (reach_stands s w new keeps r listed p reach, keeps p (live_of s w r p listed reach))
 
+-- what is kept over one part of a run and over the next is kept over both
+pub kept_on : (s : Settings) (r : Root) (w mid new : World) → KeepsReached s r w mid → KeepsReached s r mid new → KeepsReached s r w new
+kept_on s r w mid new first rest p reach =
+    let here = first p reach in
+    let there = rest p here.0 in
+    (there.0, there.1 ∙ here.1)
+
+-- and over none
+pub kept_here : (s : Settings) (r : Root) (w new : World) → new ≡ w → KeepsReached s r w new
+kept_here s r w new e p reach = (subst (λ x. Reaches (keep_of s) (graph_of x) r.target p) (sym e) reach, ap (λ (x : World). finite.get x.objects p) e)
+
+pub leads_on : LeadsOn
+leads_on s w c q (done a) new h = h.3
+leads_on s w c q (denied rule root) new h = h.2
+leads_on s w c q (refused x) new h = h.2
+leads_on s w c q (failed f) new h = h.1
+
 pub pins_over_runs : PinsOverRuns
-pins_over_runs s w new r [] [] h p reach = (subst (λ x. Reaches (keep_of s) (graph_of x) r.target p) (sym h) reach, ap (λ (x : World). finite.get x.objects p) h)
-pins_over_runs s w new r (call ∷ calls) (reply ∷ replies) h p reach =
-    let first = pins s w call.0 call.1 reply h.1.0 h.1.1 r h.0 p reach in
-    let rest = pins_over_runs s h.1.0 new r calls replies h.1.2 p first.0 in
-    (rest.0, rest.1 ∙ first.1)
-pins_over_runs s w new r [] (reply ∷ replies) h p reach = absurd h
-pins_over_runs s w new r (call ∷ calls) [] h p reach = absurd h
-
--- a run with a root that stands wherever it leads
-stands_along : (s : Settings) (w new : World) (r : Root) (calls : List (Caller × Request)) (replies : List Reply)
-    → Run s w calls replies new → StandsThroughout s w r calls replies → RootStands s w r calls replies new
-stands_along s w new r [] [] run stands = run
-stands_along s w new r (call ∷ calls) (reply ∷ replies) run stands = (
-  stands [] calls call [] (reply ∷ replies) w refl refl refl,
-  (
-    run.0,
-    run.1,
-    stands_along s run.0 new r calls replies run.2
-        (λ made left next told untold mid of_calls of_replies so_far.
-        stands (call ∷ made) left next (reply ∷ told) untold mid (ap (◌∷◌ call) of_calls) (ap (◌∷◌ reply) of_replies) (run.0, run.1, so_far)),
-  ),
-)
-stands_along s w new r [] (reply ∷ replies) run stands = absurd run
-stands_along s w new r (call ∷ calls) [] run stands = absurd run
-
-pub pins_throughout : PinsThroughout
-pins_throughout s w new r calls replies run stands = pins_over_runs s w new r calls replies (stands_along s w new r calls replies run stands)
+pins_over_runs s w new r [] [] run stays = kept_here s r w new run
+pins_over_runs s w new r (call ∷ calls) (reply ∷ replies) run stays =
+    let on = leads_on s w call.0 call.1 reply run.0 run.1 in
+    kept_on s r w run.0 new (pins s w call.0 call.1 reply run.0 run.1 r stays.0)
+    (pins_over_runs s run.0 new r calls replies run.2 (subst (λ (v : World). RemainsThroughout s v r calls replies) (sym on) stays.1))
+pins_over_runs s w new r [] (reply ∷ replies) run stays = absurd run
+pins_over_runs s w new r (call ∷ calls) [] run stays = absurd run

@@ -11,7 +11,7 @@ use Rattle.policy.specs.Caller.{Caller}
 use Rattle.model.specs.World.{Path, Object, World, has, permanent_root, user_root, generation_root, runtime_root, temporary_root, roots_of}
 use Rattle.model.specs.Sound.{IsSound}
 use Rattle.model.specs.Request.{delete}
-use Rattle.model.specs.Liveness.{graph_of, keep_of, lives, goes_with}
+use Rattle.model.specs.Liveness.{graph_of, keep_of, lives, is_deleted_with}
 use Rattle.model.specs.Verdict.{verdict}
 use Rattle.model.specs.Effects.{keeping}
 use Rattle.model.proofs.Worlds.{valid_is, live_of, kept_if, found_in}
@@ -60,6 +60,6 @@ module _ (s : Settings) (w : World) (dir : List ℕ) (sound : IsSound dir w) whe
   pub limited_sound : (limit : ℕ) → IsSound dir (keeping w (leaves s w limit))
   limited_sound limit = removed_sound s w (leaves s w limit) (live_left s w limit) (reference_stays s w limit) dir sound
 
-  pub deleted_sound : (c : Caller) (named : List Path) (ignores : Bool) → verdict s w c (delete named ignores) ≡ None → IsSound dir (keeping w (λ p. not (goes_with w named p)))
+  pub deleted_sound : (c : Caller) (named : List Path) (ignores : Bool) → verdict s w c (delete named ignores) ≡ None → IsSound dir (keeping w (λ p. not (is_deleted_with w named p)))
   deleted_sound c named ignores v =
-      removed_sound s w (λ p. not (goes_with w named p)) (λ p h. not_from_false (goes_with w named p) (stays s w named p (nothing_live s w c named ignores v) h)) (reference_left w named) dir sound
+      removed_sound s w (λ p. not (is_deleted_with w named p)) (λ p h. not_from_false (is_deleted_with w named p) (stays s w named p (nothing_live s w c named ignores v) h)) (reference_left w named) dir sound

@@ -17,11 +17,11 @@ use Rattle.policy.specs.Settings.{Settings}
 use Rattle.policy.specs.Class.{class_of}
 use Rattle.policy.specs.Rules.{is_trusted}
 use Rattle.policy.specs.declared.kinds.Class.{Class}
-use Rattle.model.specs.World.{Path, Pair, World, has, all_paths, permanent_root, user_root, generation_root, generation_roots, runtime_root, temporary_root, lasting_roots, runtime_roots, temporary_roots, roots_of}
+use Rattle.model.specs.World.{Path, Pair, World, has, all_paths, permanent_root, user_root, generation_root, generation_roots, runtime_root, temporary_root, explicit_roots, runtime_roots, temporary_roots, roots_of}
 use Rattle.model.specs.Sound.{IsSound}
 use Rattle.model.specs.Liveness.{graph_of, keep_of, lives, live_paths, dead_paths, roots_that_keep}
 use Rattle.model.specs.Seen.{plain, censored, each_once, seen, seen_root}
-use Rattle.model.specs.Lives.{LivesAsSaid, TargetsLive, FirstIsShownFirst}
+use Rattle.model.specs.Lives.{HasExactLiveness, TargetsLive, FirstIsShownFirst}
 use Rattle.model.proofs.MapMembers.{bytes_antisymmetric, pair_total, key_listed, listed_key, listed_entry, temporary_total}
 use Rattle.model.proofs.Filtered.{in_filtered, from_filtered, from_mapped, from_joined}
 use Rattle.model.proofs.Worlds.{valid_is, live_of, live_has}
@@ -78,7 +78,7 @@ module _ (s : Settings) (w : World) (p : Path) where
   one_of (inl c) = (from_filtered (lives s w) (all_paths w) p c).0
   one_of (inr c) = (from_filtered (λ x. not (lives s w x)) (all_paths w) p c).0
 
-  pub as_said : LivesAsSaid s w p
+  pub as_said : HasExactLiveness s w p
   unfolding Live Dead
   as_said = record {
     decided = decided;
@@ -118,7 +118,7 @@ module _ (dir : List ℕ) (w : World) (sound : IsSound dir w) where
       let x = from_mapped temporary_root (finite.keys w.temporary) r c in
       subst (λ (y : Root). IsTrue (has w y.target)) x.2 (sound.temporary_target x.0 (listed_key temporary_total w.temporary x.0 x.1))
 
-  lasting : (r : Root) → Contains (lasting_roots w) r → IsTrue (has w r.target)
+  lasting : (r : Root) → Contains (explicit_roots w) r → IsTrue (has w r.target)
   lasting r c = elim (Contains-append_cases (map permanent_root (finite.entries w.permanent) ++ map user_root (finite.entries w.user_roots)) (flat_map generation_roots (finite.entries w.profiles)) r c) as (λ _. IsTrue (has w r.target)) [
     | inl named ↦ elim (Contains-append_cases (map permanent_root (finite.entries w.permanent)) (map user_root (finite.entries w.user_roots)) r named) as (λ _. IsTrue (has w r.target)) [
       | inl here ↦ permanents r here
@@ -128,8 +128,8 @@ module _ (dir : List ℕ) (w : World) (sound : IsSound dir w) where
   ]
 
   pub target_valid : (r : Root) → Contains (roots_of w) r → IsTrue (has w r.target)
-  target_valid r c = elim (Contains-append_cases (lasting_roots w ++ runtime_roots w) (temporary_roots w) r (member_ordered (lasting_roots w ++ runtime_roots w ++ temporary_roots w) r c)) as (λ _. IsTrue (has w r.target)) [
-    | inl early ↦ elim (Contains-append_cases (lasting_roots w) (runtime_roots w) r early) as (λ _. IsTrue (has w r.target)) [
+  target_valid r c = elim (Contains-append_cases (explicit_roots w ++ runtime_roots w) (temporary_roots w) r (member_ordered (explicit_roots w ++ runtime_roots w ++ temporary_roots w) r c)) as (λ _. IsTrue (has w r.target)) [
+    | inl early ↦ elim (Contains-append_cases (explicit_roots w) (runtime_roots w) r early) as (λ _. IsTrue (has w r.target)) [
       | inl here ↦ lasting r here
       | inr here ↦ runtimes r here
     ]
@@ -167,7 +167,7 @@ first_seen class rs = elim (is_trusted class) as (λ b. slice_get (cond b (map p
 
 -- putting the roots of a world in order again changes nothing
 pub ordered_again : (w : World) → in_order (roots_of w) ≡ roots_of w
-ordered_again w = same_order (roots_of w) (lasting_roots w ++ runtime_roots w ++ temporary_roots w) (λ r c. member_ordered (lasting_roots w ++ runtime_roots w ++ temporary_roots w) r c) (λ r c. ordered_member (lasting_roots w ++ runtime_roots w ++ temporary_roots w) r c)
+ordered_again w = same_order (roots_of w) (explicit_roots w ++ runtime_roots w ++ temporary_roots w) (λ r c. member_ordered (explicit_roots w ++ runtime_roots w ++ temporary_roots w) r c) (λ r c. ordered_member (explicit_roots w ++ runtime_roots w ++ temporary_roots w) r c)
 
 pub first_shown : FirstIsShownFirst
 first_shown s w c p =

@@ -9,7 +9,7 @@ use Rattle.model.specs.Reply.{done, freed}
 use Rattle.model.specs.Liveness.{graph_of, lives}
 use Rattle.model.specs.Step.{Step}
 use Rattle.std.specs.Prelude.{not, length}
-use Rattle.live.specs.Limited.{Takes, is_taken}
+use Rattle.live.specs.Limited.{DeletesGroups, is_taken}
 use Rattle.model.specs.Reply.{Answer, IsDone, Reply}
 
 -- the roots and profiles are the same
@@ -55,13 +55,13 @@ LeavesNoReference = (s : Settings) (w : World) (c : Caller) (named : List Path) 
 
 -- What was deleted is what groups of dead paths have, one group after another: each is deleted while the archives of those before it have fewer
 -- bytes than the limit, and at the end they have as many, or no dead path is left.
-pub record GoesByBytes (s : Settings) (w : World) (limit : ℕ) (new : World) : Type 0 where
+pub record DeletesByBytes (s : Settings) (w : World) (limit : ℕ) (new : World) : Type 0 where
   pub size : Path → ℕ
   pub bytes : (p : Path) (o : Object) → finite.get w.objects p ≡ Some o → size p ≡ length o.nar
   pub groups : List (List Path)
-  pub takes : Takes (graph_of w) (λ p. not (lives s w p)) size (all_paths w) limit groups
+  pub takes : DeletesGroups (graph_of w) (λ p. not (lives s w p)) size (all_paths w) limit groups
   pub went : (p : Path) → IsTrue (has w p) → IsFalse (has new p) ↔ IsTrue (is_taken groups p)
 
 abbrev pub CollectsByBytes : Type 0
 CollectsByBytes = (s : Settings) (w : World) (c : Caller) (ignores : Bool) (limit : ℕ) (a : Answer) (new : World)
-    → Step s w c (collect ignores (Some limit)) (done a) new → GoesByBytes s w limit new
+    → Step s w c (collect ignores (Some limit)) (done a) new → DeletesByBytes s w limit new

@@ -7,7 +7,7 @@ use Rattle.model.specs.World.{Path, Pair, pair_cmp, Profile, Temporary, temporar
 use Rattle.live.specs.Graph.{same, holds}
 use Rattle.policy.specs.Settings.{Settings}
 use Rattle.model.specs.Request.{Request, add_text, add_source, import_object, set_permanent, drop_permanent, set_user_root, drop_user_root, set_profile, rollback, switch, delete_generation, replace_runtime, add_temp, end_session, collect, delete}
-use Rattle.model.specs.Liveness.{lives, collected_paths, goes_with}
+use Rattle.model.specs.Liveness.{lives, collected_paths, is_deleted_with}
 use Rattle.model.specs.Adds.{Added, added_text, added_source, added_import}
 use Rattle.model.specs.Profiles.{profile_at, set_to, switched, rolled_back, without_generation}
 
@@ -74,5 +74,5 @@ effect s w (add_temp owner session p) = with_temporary w (record { owner = owner
 effect s w (end_session owner session) = without_session w owner session
 effect s w (collect ignores None) = keeping w (lives s w)
 effect s w (collect ignores (Some limit)) = keeping w (λ p. not (holds (collected_paths s w (Some limit)) p))
-effect s w (delete named ignores) = keeping w (λ p. not (goes_with w named p))
+effect s w (delete named ignores) = keeping w (λ p. not (is_deleted_with w named p))
 effect s w q = w

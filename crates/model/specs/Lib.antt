@@ -4,6 +4,7 @@ pub mod Collection
 pub mod Effects
 pub mod Entries
 pub mod Faults
+pub mod Labels
 pub mod Liveness
 pub mod Lives
 pub mod Objects

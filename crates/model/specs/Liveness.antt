@@ -45,12 +45,12 @@ abbrev pub dead_paths : Settings → World → List Path
 dead_paths s w = filter (λ p. not (lives s w p)) (all_paths w)
 
 -- whether a path is one of the named or reaches one by references
-abbrev pub goes_with : World → List Path → Path → Bool
-goes_with w named p = refers_to_any (graph_of w) named p
+abbrev pub is_deleted_with : World → List Path → Path → Bool
+is_deleted_with w named p = refers_to_any (graph_of w) named p
 
 -- the named paths and all that reach them by references, named or not
 abbrev pub deleted_paths : World → List Path → List Path
-deleted_paths w named = filter (goes_with w named) (all_paths w)
+deleted_paths w named = filter (is_deleted_with w named) (all_paths w)
 
 -- ---- sizes
 

@@ -13,7 +13,7 @@ use Rattle.model.specs.Seen.{seen, seen_root}
 
 -- what is said of a path: the test of a live path is right; it is listed as live or as dead where it is, and what is valid is one
 -- of the two; a live path has a first root, whose target reaches it and that of no lesser root does, and any other has none
-pub record LivesAsSaid (s : Settings) (w : World) (p : Path) : Type 0 where
+pub record HasExactLiveness (s : Settings) (w : World) (p : Path) : Type 0 where
   pub decided : IsTrue (lives s w p) ↔ IsLive (keep_of s) (graph_of w) (roots_of w) p
   pub live : Contains (live_paths s w) p ↔ IsLive (keep_of s) (graph_of w) (roots_of w) p
   pub dead : Contains (dead_paths s w) p ↔ IsDead (keep_of s) (graph_of w) (roots_of w) p

@@ -91,8 +91,8 @@ abbrev pub temporary_root : Temporary → Root
 temporary_root t = record { kind = temporary; target = t.path; label = temporary_label t.session }
 
 -- the roots that last until they are dropped: all but the runtime and the temporary roots
-abbrev pub lasting_roots : World → List Root
-lasting_roots w =
+abbrev pub explicit_roots : World → List Root
+explicit_roots w =
     map permanent_root (finite.entries w.permanent)
     ++ map user_root (finite.entries w.user_roots)
     ++ flat_map generation_roots (finite.entries w.profiles)
@@ -105,4 +105,4 @@ temporary_roots w = map temporary_root (finite.keys w.temporary)
 
 -- every root, in the order of roots; equal ones are one
 abbrev pub roots_of : World → List Root
-roots_of w = in_order (lasting_roots w ++ runtime_roots w ++ temporary_roots w)
+roots_of w = in_order (explicit_roots w ++ runtime_roots w ++ temporary_roots w)

@@ -18,7 +18,7 @@ use Rattle.nar.specs.Steps.{Symbol, start, stops}
 use Rattle.nar.specs.Reading.{ReadsString}
 use Rattle.nar.specs.Nest.{next}
 use Rattle.nar.specs.NestView.{symbols_of, counts_at}
-use Rattle.nar.specs.Feeding.{Fed, Waits, Counts, IsCounting, StandsBy}
+use Rattle.nar.specs.Feeding.{Fed, Waits, Counts, IsCounting, IsReachedBy}
 use Rattle.nar.proofs.Strings.{padded_le, string_takes}
 use Rattle.nar.proofs.Faults.{one_cause}
 use Rattle.nar.proofs.Decided.{short}
@@ -211,14 +211,14 @@ begins_counting k nest room rest all counts early counted h = record {
 
 -- ---- what stands, at the end
 
-pub stands_only : (count : Option Count) (nest : Nest) (room : ℕ) (held all : List ℕ) (e : NarError) → StandsBy count nest room held all → IsBytes all → IsFault all e → e ≡ Truncated
+pub stands_only : (count : Option Count) (nest : Nest) (room : ℕ) (held all : List ℕ) (e : NarError) → IsReachedBy count nest room held all → IsBytes all → IsFault all e → e ≡ Truncated
 stands_only None nest room held all e h b f = waits_only (symbols_of nest) room held all e h.0 h.1 b f
 stands_only (Some k) nest room held all e h b f = one_cause all e Truncated b f (counting_early k nest room all b h.1)
   where
     counting_early : (k : Count) (nest : Nest) (room : ℕ) (all : List ℕ) → IsBytes all → IsCounting k nest room all → IsFault all Truncated
     counting_early k nest room all b h = string_refuses (symbols_of nest) room h.rest all Truncated (count_waits room h.rest h.counts.long h.counts.fits h.early) h.some (fed_rest (symbols_of nest) room h.rest all h.fed b) h.fed
 
-pub stands_whole : (count : Option Count) (nest : Nest) (room : ℕ) (held all : List ℕ) → symbols_of nest ≡ [] → StandsBy count nest room held all → (t : Tree) × IsArchive t all
+pub stands_whole : (count : Option Count) (nest : Nest) (room : ℕ) (held all : List ℕ) → symbols_of nest ≡ [] → IsReachedBy count nest room held all → (t : Tree) × IsArchive t all
 stands_whole None nest room held all none h = by_symbols (symbols_of nest) none h.0 h.1
   where
     by_symbols : (σ : List Symbol) → σ ≡ [] → Fed σ room held all → Waits σ room held → (t : Tree) × IsArchive t all
@@ -226,7 +226,7 @@ stands_whole None nest room held all none h = by_symbols (symbols_of nest) none 
     by_symbols (x ∷ κ) e f w = absurd cc
 stands_whole (Some k) nest room held all none h = absurd (h.1.some none)
 
-pub stands_early : (count : Option Count) (nest : Nest) (room : ℕ) (held all : List ℕ) → symbols_of nest ≢ [] → IsBytes all → StandsBy count nest room held all → IsFault all Truncated
+pub stands_early : (count : Option Count) (nest : Nest) (room : ℕ) (held all : List ℕ) → symbols_of nest ≢ [] → IsBytes all → IsReachedBy count nest room held all → IsFault all Truncated
 stands_early None nest room held all some b h = by_symbols (symbols_of nest) some h.0 h.1
   where
     by_symbols : (σ : List Symbol) → σ ≢ [] → Fed σ room held all → Waits σ room held → IsFault all Truncated
@@ -235,5 +235,5 @@ stands_early None nest room held all some b h = by_symbols (symbols_of nest) som
 stands_early (Some k) nest room held all some b h = string_refuses (symbols_of nest) room h.1.rest all Truncated (count_waits room h.1.rest h.1.counts.long h.1.counts.fits h.1.early) h.1.some (fed_rest (symbols_of nest) room h.1.rest all h.1.fed b) h.1.fed
 
 -- nothing was fed yet
-pub stands_none : (nest : Nest) → symbols_of nest ≡ start → StandsBy None nest 16777216 [] []
+pub stands_none : (nest : Nest) → symbols_of nest ≡ start → IsReachedBy None nest 16777216 [] []
 stands_none nest is = subst (λ (σ : List Symbol). Fed σ 16777216 [] [] × Waits σ 16777216 []) (sym is) (fed_none, short 16777216 [] (omega arith))

@@ -8,7 +8,7 @@ use Rattle.nar.specs.declared.error.NarError.{NarError}
 use Rattle.nar.specs.String.{string, size_of, string_at}
 use Rattle.nar.specs.Tree.{Tree, IsBytes}
 use Rattle.nar.specs.Archive.{Part, spelled, archive, IsShallow, IsArchive, spelling, limit}
-use Rattle.nar.specs.Fault.{Refuses, Fails, IsGoodFront, IsFault}
+use Rattle.nar.specs.Fault.{Refuses, Fails, IsGoodPrefix, IsFault}
 use Rattle.nar.specs.Steps.{Symbol, taken, run, start, check, AreBytes, FaultAt, trails, stops, refuses, goes_on}
 use Rattle.nar.proofs.Strings.{length-string, string_takes, string_again}
 use Rattle.nar.proofs.Bytes.{IsBytes-rest}
@@ -39,10 +39,10 @@ fails_by ps x κ room bytes e at size m =
 pub record Behind (input : List ℕ) (fault : NarError) : Type 0 where
   pub parts : List Part
   pub rest : List ℕ
-  pub good : IsGoodFront input parts rest
+  pub good : IsGoodPrefix input parts rest
   pub fails : Fails parts rest fault
 
-front_of : (ps : List Part) (σ : List Symbol) (room : ℕ) (bytes : List ℕ) → run start ps ≡ Some σ → Front ps room → IsGoodFront (spelling ps ++ bytes) ps bytes
+front_of : (ps : List Part) (σ : List Symbol) (room : ℕ) (bytes : List ℕ) → run start ps ≡ Some σ → Front ps room → IsGoodPrefix (spelling ps ++ bytes) ps bytes
 front_of ps σ room bytes at front = record {
   front = refl;
   begins = begins_from_run ps σ front.are_bytes at;

@@ -6,7 +6,7 @@ use Rattle.std.proofs.lemmas.List.{length-append}
 use Rattle.nar.specs.declared.error.NarError.{NarError}
 use Rattle.nar.specs.String.{string, size_of, string_at}
 use Rattle.nar.specs.Archive.{Part, spelled, IsShallow, spelling, limit}
-use Rattle.nar.specs.Fault.{Refuses, Fails, IsGoodFront, IsFault}
+use Rattle.nar.specs.Fault.{Refuses, Fails, IsGoodPrefix, IsFault}
 use Rattle.nar.specs.Tree.{IsBytes}
 use Rattle.nar.specs.Steps.{Symbol, taken, run, start, check, AreBytes, FaultAt}
 use Rattle.nar.proofs.Bytes.{IsBytes-rest}
@@ -70,7 +70,7 @@ no_longer (p ∷ ps) (u ∷ qs) (x ∷ κ) τ υ room r q at bt hp hq fp fq lt s
     all
 
 -- a good front of an input is no longer than one behind which something fails
-longest : (input : List ℕ) (e : NarError) → IsBytes input → (f : Behind input e) (ps : List Part) (rest : List ℕ) → IsGoodFront input ps rest → length (spelling ps) ≤ length (spelling f.parts)
+longest : (input : List ℕ) (e : NarError) → IsBytes input → (f : Behind input e) (ps : List Part) (rest : List ℕ) → IsGoodPrefix input ps rest → length (spelling ps) ≤ length (spelling f.parts)
 longest input e h f ps rest g =
     let k = f.good in
     let a = run_from_begins ps g.begins in

@@ -10,7 +10,7 @@ use Rattle.nar.specs.declared.error.NarError.TheVariants.{BadTag}
 use Rattle.nar.specs.declared.nest.Phase.{Phase}
 use Rattle.nar.specs.declared.nest.Phase.TheVariants as phases
 use Rattle.nar.specs.Steps.{Symbol, word}
-use Rattle.nar.specs.Nest.{under, symbols, next, Goes, IsWordly, is_counted}
+use Rattle.nar.specs.Nest.{under, symbols, next, Continues, AwaitsKeyword, is_counted}
 use Rattle.nar.proofs.Bytes.{differ}
 
 pub under_refuses : (names : List (List ℕ)) (s : List ℕ) → under names ≢ [] → bytes_eq s (codes ")") ≡ false → next (under names) s ≡ Err BadTag
@@ -40,7 +40,7 @@ refused_word w κ s h = (let e : bytes_eq s w ≡ false = longer_differs s w h i
 refused_under : (names : List (List ℕ)) (s : List ℕ) → 13 < length s → under names ≢ [] → next (under names) s ≡ Err BadTag
 refused_under names s h some = under_refuses names s some (longer_differs s (codes ")") (omega arith))
 
-long_refused : (phase : Phase) (last : Option (List ℕ)) (names : List (List ℕ)) (s : List ℕ) → IsWordly phase → phase ≢ phases.Data → 13 < length s → next (symbols phase last names) s ≡ Err BadTag
+long_refused : (phase : Phase) (last : Option (List ℕ)) (names : List (List ℕ)) (s : List ℕ) → AwaitsKeyword phase → phase ≢ phases.Data → 13 < length s → next (symbols phase last names) s ≡ Err BadTag
 long_refused phases.Magic last names s h other long = refused_word (codes "nix-archive-1") _ s long
 long_refused phases.Open last names s h other long = refused_word (codes "(") _ s (omega arith)
 long_refused phases.Type last names s h other long = refused_word (codes "type") _ s (omega arith)
@@ -92,9 +92,9 @@ counted_refused phases.NodeWord last names s other h some = long_refused phases.
 
 -- ---- a fixed word
 
-pub word_goes : (s w : List ℕ) (after : Phase) (r : Result Phase NarError) (last : Option (List ℕ)) (names : List (List ℕ)) → r ≡ cond (bytes_eq s w) (Ok after) (Err BadTag) → Goes (next (word w ∷ symbols after last names) s) r last names
+pub word_goes : (s w : List ℕ) (after : Phase) (r : Result Phase NarError) (last : Option (List ℕ)) (names : List (List ℕ)) → r ≡ cond (bytes_eq s w) (Ok after) (Err BadTag) → Continues (next (word w ∷ symbols after last names) s) r last names
 word_goes s w after r last names e = rw e (by_test (bytes_eq s w) refl)
   where
-    by_test : (b : Bool) → bytes_eq s w ≡ b → Goes (next (word w ∷ symbols after last names) s) (cond b (Ok after) (Err BadTag)) last names
+    by_test : (b : Bool) → bytes_eq s w ≡ b → Continues (next (word w ∷ symbols after last names) s) (cond b (Ok after) (Err BadTag)) last names
     by_test true t = rw t (rw t refl)
     by_test false t = rw t refl

@@ -8,11 +8,11 @@ use Rattle.nar.specs.Tree.{Tree, IsBytes}
 use Rattle.nar.specs.Archive.{IsArchive}
 use Rattle.nar.specs.Fault.{IsFault}
 use Rattle.nar.specs.Answer.{IfFault}
-use Rattle.nar.specs.Progress.{Stands}
+use Rattle.nar.specs.Progress.{HasRead}
 
 -- what the checker knows of the bytes: good so far, or the fault that it told
 abbrev pub Knows : Option NarError → Progress → List ℕ → Type 0
-Knows None progress bytes = Stands progress bytes
+Knows None progress bytes = HasRead progress bytes
 Knows (Some e) progress bytes = IfFault e (λ f. IsFault bytes f × (f ≢ Truncated))
 
 -- The checker has been fed these bytes.

@@ -42,7 +42,7 @@ Fails parts rest fault =
     ⊎ ((IsWhole parts → ⊥) × MatchResult (string_at (limit - length (spelling parts)) rest) (λ next. Refuses parts next.0 fault) (λ early. fault ≡ early))
 
 -- A good prefix of the input: whole strings within the limits that begin an archive. The rest follows.
-pub record IsGoodFront (input : List ℕ) (parts : List Part) (rest : List ℕ) : Type 0 where
+pub record IsGoodPrefix (input : List ℕ) (parts : List Part) (rest : List ℕ) : Type 0 where
   pub front : input ≡ spelling parts ++ rest
   pub begins : Begins parts
   pub shallow : AllByRecursion IsShallow parts
@@ -52,6 +52,6 @@ pub record IsGoodFront (input : List ℕ) (parts : List Part) (rest : List ℕ) 
 pub record IsFault (input : List ℕ) (fault : NarError) : Type 0 where
   pub parts : List Part
   pub rest : List ℕ
-  pub good : IsGoodFront input parts rest
-  pub longest : (others : List Part) (more : List ℕ) → IsGoodFront input others more → length (spelling others) ≤ length (spelling parts)
+  pub good : IsGoodPrefix input parts rest
+  pub longest : (others : List Part) (more : List ℕ) → IsGoodPrefix input others more → length (spelling others) ≤ length (spelling parts)
   pub fails : Fails parts rest fault

@@ -47,6 +47,6 @@ pub record IsCounting (k : Count) (nest : Nest) (room : ℕ) (bytes : List ℕ) 
   pub is_counted : IsTrue (counts_at nest (k.text - 8))
 
 -- So far the bytes are good, up to what is held of a string, or counted.
-abbrev pub StandsBy : Option Count → Nest → ℕ → List ℕ → List ℕ → Type 0
-StandsBy None nest room held bytes = Fed (symbols_of nest) room held bytes × Waits (symbols_of nest) room held
-StandsBy (Some k) nest room held bytes = (held ≡ []) × IsCounting k nest room bytes
+abbrev pub IsReachedBy : Option Count → Nest → ℕ → List ℕ → List ℕ → Type 0
+IsReachedBy None nest room held bytes = Fed (symbols_of nest) room held bytes × Waits (symbols_of nest) room held
+IsReachedBy (Some k) nest room held bytes = (held ≡ []) × IsCounting k nest room bytes

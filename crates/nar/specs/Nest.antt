@@ -51,13 +51,13 @@ next [] s = Err Trailing
 next (x ∷ κ) s = left_at x κ (check x s)
 
 -- neither a name is entered nor left, nor is a directory begun
-abbrev pub IsWordly : Phase → Type 0
-IsWordly phases.Kind = ⊥
-IsWordly phases.Name = ⊥
-IsWordly phases.Under = ⊥
-IsWordly _ = ⊤
+abbrev pub AwaitsKeyword : Phase → Type 0
+AwaitsKeyword phases.Kind = ⊥
+AwaitsKeyword phases.Name = ⊥
+AwaitsKeyword phases.Under = ⊥
+AwaitsKeyword _ = ⊤
 
 -- the phase that follows stands for what is to come, or the fault is the one
-abbrev pub Goes : Result (List Symbol) NarError → Result Phase NarError → Option (List ℕ) → List (List ℕ) → Type 0
-Goes r (Ok phase) last names = r ≡ Ok (symbols phase last names)
-Goes r (Err f) last names = r ≡ Err f
+abbrev pub Continues : Result (List Symbol) NarError → Result Phase NarError → Option (List ℕ) → List (List ℕ) → Type 0
+Continues r (Ok phase) last names = r ≡ Ok (symbols phase last names)
+Continues r (Err f) last names = r ≡ Err f

@@ -2,17 +2,17 @@
 use Rattle.std.specs.Prelude.{◌≡◌, List, ℕ, ◌++◌, Option, Some, None}
 use Rattle.nar.specs.declared.progress.Progress.{Progress}
 use Rattle.nar.specs.declared.count.Count.{Count}
-use Rattle.nar.specs.Feeding.{StandsBy}
+use Rattle.nar.specs.Feeding.{IsReachedBy}
 
 -- The bytes were taken, and are good so far.
-abbrev pub Stands : Progress → List ℕ → Type 0
-Stands p bytes = StandsBy p.count p.nest p.room p.held.items bytes
+abbrev pub HasRead : Progress → List ℕ → Type 0
+HasRead p bytes = IsReachedBy p.count p.nest p.room p.held.items bytes
 
 -- The bytes were consumed up to the rest.
-pub record StandsBefore (p : Progress) (rest all : List ℕ) : Type 0 where
+pub record HasReadBefore (p : Progress) (rest all : List ℕ) : Type 0 where
   pub taken : List ℕ
   pub is : all ≡ taken ++ rest
-  pub stands : Stands p taken
+  pub stands : HasRead p taken
 
 -- how many steps it may take without a byte: one, where a string is counted
 abbrev pub turns_by : Option Count → ℕ

@@ -22,10 +22,17 @@ pub struct Checker {
 }
 
 impl Checker {
-    ghost use Rattle.nar.specs.Progress.{StandsBefore};
+    ghost use Rattle.nar.specs.Progress.{HasReadBefore};
     ghost use Rattle.nar.specs.Checking.{HasBeenFed, HasFailed, Ends};
 
     /// A checker that has been fed nothing. It takes no memory yet.
+    ///
+    /// ```rust
+    /// use nar::{Checker, NarError};
+    ///
+    /// let checker = Checker::new(alloc);
+    /// assert_eq!(rt; checker.finish(), Err(NarError::Truncated));
+    /// ```
     pub fn new(alloc: Global) -> Checker
         ensures fed { HasBeenFed result [] }
         ensures sound { (e : Fault) → ¬ HasFailed result e }
@@ -38,6 +45,16 @@ impl Checker {
 
     /// Takes the next piece, and returns the fault of the pieces so far, unless they only want more. After an
     /// error it repeats that error.
+    ///
+    /// ```rust
+    /// use nar::{Checker, NarError};
+    ///
+    /// let mut checker = Checker::new(alloc);
+    /// checker.feed(b"\x0d\0\0\0\0\0\0\0nix-")?;
+    /// checker.feed(b"archive-1\0\0\0")?;
+    /// assert_eq!(rt; checker.feed(&[0xff; 8]), Err(NarError::TooLarge));
+    /// assert_eq!(rt; checker.feed(b""), Err(NarError::TooLarge));
+    /// ```
     pub fn feed(&mut self, piece: &[u8]) -> Result<(), NarError>
         ensures fed { (all : List ℕ) → HasBeenFed self.old all → HasBeenFed self.new (all ++ piece.now) }
         // A fault of the pieces so far is told, unless it is the want of more.
@@ -62,8 +79,8 @@ impl Checker {
     }
 
     fn take(&mut self, piece: &[u8]) -> Result<(), NarError>
-        ensures ok { OnOk result ((all : List ℕ) → IsBytes all → StandsBefore self.old.progress piece.now all → StandsBefore self.new.progress [] all) }
-        ensures err { IfErr result (λ e. IfFault e (λ f. (all : List ℕ) → IsBytes all → StandsBefore self.old.progress piece.now all → IsFault all f × (f ≢ Truncated))) }
+        ensures ok { OnOk result ((all : List ℕ) → IsBytes all → HasReadBefore self.old.progress piece.now all → HasReadBefore self.new.progress [] all) }
+        ensures err { IfErr result (λ e. IfFault e (λ f. (all : List ℕ) → IsBytes all → HasReadBefore self.old.progress piece.now all → IsFault all f × (f ≢ Truncated))) }
         ensures failed { self.new.failed ≡ self.old.failed }
     {
         let mut rest = piece;
@@ -75,6 +92,18 @@ impl Checker {
 
     /// The end of the pieces: `Ok` where they are an archive, and otherwise their fault. After an error of `feed`
     /// it repeats that error.
+    ///
+    /// ```rust
+    /// use nar::{Checker, Node};
+    ///
+    /// let mut archive = Vec::new(alloc);
+    /// nar::write(&Node::Symlink { target: b"a" }, &mut archive)?;
+    /// let mut checker = Checker::new(alloc);
+    /// for byte in &archive {
+    ///     checker.feed(&[*byte])?;
+    /// }
+    /// checker.finish()?;
+    /// ```
     pub fn finish(self) -> Result<(), NarError>
         ensures answer { (all : List ℕ) → HasBeenFed self all → Ends result all }
         // Want of memory is answered only where a `feed` has told it: the end takes none.

@@ -79,6 +79,16 @@ fn room_after_node(node: &Node<'_>, depth: usize, room: usize) -> Option<usize>
 
 /// Whether the tree has an archive: its names keep the rule of names and rise strictly in each directory, at most
 /// 256 of its nodes are nested in one another, and its archive has at most 16,777,216 bytes. It takes no memory.
+///
+/// ```rust
+/// use nar::{Entry, Node};
+///
+/// let mut entries = Vec::new(alloc);
+/// entries.push(Entry { name: b"b", node: Node::Symlink { target: b"a" } })?;
+/// entries.push(Entry { name: b"a", node: Node::Symlink { target: b"b" } })?;
+/// assert!(rt; !nar::is_writable(&Node::Directory(entries)));
+/// assert!(rt; nar::is_writable(&Node::Symlink { target: b"a" }));
+/// ```
 pub fn is_writable(node: &Node<'_>) -> bool
     ensures { IsTrue result ↔ IsWritable (tree_of node.now) }
 {

@@ -43,6 +43,6 @@ pub fn the_archive_of_a_file()
 /// The first 16,777,224 bytes of an input decide what it is, so a caller who has more need not hold them: these
 /// are as many as an archive may have, and 8 more, since a string that begins at the limit has a length before it
 /// is found too large.
-pub fn a_front_decides()
+pub fn a_prefix_decides()
     ensures { (input : List ℕ) → outcome_of (take (limit + 8) input) ≡ outcome_of input }
 {}

@@ -121,6 +121,17 @@ fn list_node(alloc: Global, out: &mut String, path: &str, node: &Node<'_>) -> Re
 /// `x SIZE PATH` for an executable file, `l PATH -> TARGET` and `d PATH`. In names and targets a byte outside 33 to
 /// 126, and a backslash, is written as `\x` and two lower-case hexadecimal digits. Where memory is refused the
 /// text stays as it was.
+///
+/// ```rust
+/// use nar::{Entry, Node};
+///
+/// let mut entries = Vec::new(alloc);
+/// entries.push(Entry { name: b"a", node: Node::Regular { executable: false, contents: b"" } })?;
+/// entries.push(Entry { name: b"b", node: Node::Symlink { target: b"a" } })?;
+/// let mut text = String::new(alloc);
+/// nar::list(alloc, &Node::Directory(entries), &mut text)?;
+/// assert_eq!(rt; text.as_str(), "d .\nr 0 ./a\nl ./b -> a\n");
+/// ```
 pub fn list(alloc: Global, node: &Node<'_>, out: &mut String) -> Result<(), AllocError>
     ensures ok { OnOk result (string_bytes out.new ≡ string_bytes out.old ++ listing (codes ".") (tree_of node.now)) }
     ensures err { OnErr result (string_bytes out.new ≡ string_bytes out.old) }

@@ -5,7 +5,7 @@ ghost use Rattle.std.specs.Str.{bytes_eq};
 ghost use Rattle.std.specs.Option.{option_copied};
 ghost use Rattle.nar.specs.declared.error.NarError.TheVariants.{BadTag, TooDeep};
 ghost use Rattle.nar.specs.declared.nest.Phase.TheVariants as phases;
-ghost use Rattle.nar.specs.Nest.{symbols, Goes, next, IsWordly};
+ghost use Rattle.nar.specs.Nest.{symbols, Continues, next, AwaitsKeyword};
 
 use crate::error::NarError;
 use crate::name::{is_above, is_name};
@@ -99,8 +99,8 @@ fn node_phase(text: &[u8], depth: usize) -> Result<Phase, NarError>
 
 /// What comes after the string, where neither a name is entered nor left.
 fn next_phase(phase: Phase, depth: usize, text: &[u8]) -> Result<Phase, NarError>
-    requires { IsWordly phase }
-    ensures { (last : Option (List ℕ)) (names : List (List ℕ)) → length names + 1 ≡ depth → Goes (next (symbols phase last names) text.now) result last names }
+    requires { AwaitsKeyword phase }
+    ensures { (last : Option (List ℕ)) (names : List (List ℕ)) → length names + 1 ≡ depth → Continues (next (symbols phase last names) text.now) result last names }
 {
     match phase {
         Phase::Magic => word_phase(text, MAGIC, Phase::Open),
@@ -153,7 +153,7 @@ impl Nest {
         }
     }
 
-    fn take_name(&mut self, alloc: Global, text: &[u8]) -> Result<(), NarError>
+    fn accept_name(&mut self, alloc: Global, text: &[u8]) -> Result<(), NarError>
         requires { self.old.phase ≡ phases.Name }
         ensures ok { OnOk result (next (symbols_of self.old) text.now ≡ Ok (symbols_of self.new)) }
         ensures err { IfErr result (λ e. IfFault e (λ f. next (symbols_of self.old) text.now ≡ Err f)) }
@@ -222,7 +222,7 @@ impl Nest {
         ensures err { IfErr result (λ e. IfFault e (λ f. next (symbols_of self.old) text.now ≡ Err f)) }
     {
         match self.phase {
-            Phase::Name => self.take_name(alloc, text),
+            Phase::Name => self.accept_name(alloc, text),
             Phase::Under => self.leave(text),
             Phase::Kind => match kind_phase(text) {
                 Ok(phase) => {

@@ -5,7 +5,7 @@ ghost use Rattle.nar.specs.declared.error.NarError.TheVariants.{Truncated};
 ghost use Rattle.nar.specs.Tree.{IsBytes};
 ghost use Rattle.nar.specs.Fault.{IsFault};
 ghost use Rattle.nar.specs.Answer.{IfFault};
-ghost use Rattle.nar.specs.Feeding.{Fed, Waits, EndsIn, Counts, IsCounting, StandsBy};
+ghost use Rattle.nar.specs.Feeding.{Fed, Waits, EndsIn, Counts, IsCounting, IsReachedBy};
 ghost use Rattle.nar.specs.NestView.{symbols_of, counts_at};
 
 use crate::count::Count;
@@ -17,7 +17,7 @@ use std::alloc::Global;
 use std::mem;
 
 /// Lets the want of more bytes pass, and no other fault.
-fn want_of_more(e: NarError) -> Result<(), NarError>
+fn needs_more(e: NarError) -> Result<(), NarError>
     ensures ok { OnOk result (e ≡ Truncated) }
     ensures err { IfErr result (λ d. (d ≡ e) × (d ≢ Truncated)) }
 {
@@ -53,7 +53,7 @@ fn strings_of<'a>(
                 at = after;
             }
             Err(e) => {
-                want_of_more(e)?;
+                needs_more(e)?;
                 return Ok(at);
             }
         }
@@ -117,10 +117,10 @@ pub struct Progress {
 }
 
 impl Progress {
-    ghost use Rattle.nar.specs.Progress.{Stands, StandsBefore, turns};
+    ghost use Rattle.nar.specs.Progress.{HasRead, HasReadBefore, turns};
 
     pub fn new(alloc: Global) -> Progress
-        ensures { Stands result [] }
+        ensures { HasRead result [] }
     {
         Progress {
             alloc,
@@ -141,7 +141,7 @@ impl Progress {
     /// Takes the whole strings at the beginning, and returns what is to be held of the one that has begun.
     fn look<'a>(&mut self, bytes: &'a [u8]) -> Result<&'a [u8], NarError>
         ensures ok { IfOk result (λ rest. (all : List ℕ) → Fed (symbols_of self.old.nest) self.old.room bytes.now all
-            → StandsBy self.new.count self.new.nest self.new.room rest.now all) }
+            → IsReachedBy self.new.count self.new.nest self.new.room rest.now all) }
         ensures behind { IfOk result (λ rest. EndsIn bytes.now rest.now) }
         ensures held { self.new.held ≡ self.old.held }
         ensures err { IfErr result (λ e. IfFault e (λ f. (all : List ℕ) → Fed (symbols_of self.old.nest) self.old.room bytes.now all → IsFault all f × (f ≢ Truncated))) }
@@ -163,7 +163,7 @@ impl Progress {
     /// Takes strings from a piece where none has begun.
     fn read_on(&mut self, piece: &[u8]) -> Result<(), NarError>
         requires { self.old.held.items ≡ [] }
-        ensures ok { OnOk result ((all : List ℕ) → Fed (symbols_of self.old.nest) self.old.room piece.now all → Stands self.new all) }
+        ensures ok { OnOk result ((all : List ℕ) → Fed (symbols_of self.old.nest) self.old.room piece.now all → HasRead self.new all) }
         ensures err { IfErr result (λ e. IfFault e (λ f. (all : List ℕ) → Fed (symbols_of self.old.nest) self.old.room piece.now all → IsFault all f × (f ≢ Truncated))) }
     {
         let rest = self.look(piece)?;
@@ -173,7 +173,7 @@ impl Progress {
 
     /// Takes bytes that go on with the string whose bytes are held.
     fn fill(&mut self, front: &[u8]) -> Result<(), NarError>
-        ensures ok { OnOk result ((all : List ℕ) → Fed (symbols_of self.old.nest) self.old.room (self.old.held.items ++ front.now) all → Stands self.new all) }
+        ensures ok { OnOk result ((all : List ℕ) → Fed (symbols_of self.old.nest) self.old.room (self.old.held.items ++ front.now) all → HasRead self.new all) }
         ensures err { IfErr result (λ e. IfFault e (λ f. (all : List ℕ) → Fed (symbols_of self.old.nest) self.old.room (self.old.held.items ++ front.now) all → IsFault all f × (f ≢ Truncated))) }
     {
         let mut held = mem::replace(&mut self.held, Vec::new(self.alloc));
@@ -194,7 +194,7 @@ impl Progress {
     /// Counts bytes of the string whose bytes are counted, and takes it at its end.
     fn count_on(&mut self, count: Count, front: &[u8]) -> Result<(), NarError>
         requires { length front.now ≤ count.size - count.got }
-        ensures ok { OnOk result ((all : List ℕ) → IsBytes (all ++ front.now) → (self.old.held.items ≡ []) × IsCounting count self.old.nest self.old.room all → Stands self.new (all ++ front.now)) }
+        ensures ok { OnOk result ((all : List ℕ) → IsBytes (all ++ front.now) → (self.old.held.items ≡ []) × IsCounting count self.old.nest self.old.room all → HasRead self.new (all ++ front.now)) }
         ensures done { OnOk result (count.size - count.got ≤ length front.now → self.new.count ≡ None) }
         ensures err { IfErr result (λ e. IfFault e (λ f. (all : List ℕ) → IsBytes (all ++ front.now) → IsCounting count self.old.nest self.old.room all → IsFault (all ++ front.now) f × (f ≢ Truncated))) }
     {
@@ -216,9 +216,9 @@ impl Progress {
     /// Takes bytes from the beginning of a piece, one at least, and returns the rest of it.
     pub fn step<'a>(&mut self, piece: &'a [u8]) -> Result<&'a [u8], NarError>
         requires { 0 < length piece.now }
-        ensures ok { IfOk result (λ rest. (all : List ℕ) → IsBytes all → StandsBefore self.old piece.now all → StandsBefore self.new rest.now all) }
+        ensures ok { IfOk result (λ rest. (all : List ℕ) → IsBytes all → HasReadBefore self.old piece.now all → HasReadBefore self.new rest.now all) }
         ensures nearer { IfOk result (λ rest. 2 * length rest.now + turns self.new < 2 * length piece.now + turns self.old) }
-        ensures err { IfErr result (λ e. IfFault e (λ f. (all : List ℕ) → IsBytes all → StandsBefore self.old piece.now all → IsFault all f × (f ≢ Truncated))) }
+        ensures err { IfErr result (λ e. IfFault e (λ f. (all : List ℕ) → IsBytes all → HasReadBefore self.old piece.now all → IsFault all f × (f ≢ Truncated))) }
     {
         match self.count {
             Some(count) => {

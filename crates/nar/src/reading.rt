@@ -180,6 +180,15 @@ fn node_of(alloc: Global, at: Place<'_>, depth: usize) -> Result<(Node<'_>, Plac
 ///
 /// The format is the Nix archive (NAR) of the Nix manual, with at most 16,777,216 bytes and at most 256 nodes
 /// inside one another.
+///
+/// ```rust
+/// use nar::{NarError, Node};
+///
+/// let mut archive = Vec::new(alloc);
+/// nar::write(&Node::Directory(Vec::new(alloc)), &mut archive)?;
+/// assert!(rt; matches!(nar::read(alloc, &archive)?, Node::Directory(_)));
+/// assert!(rt; matches!(nar::read(alloc, b""), Err(NarError::Truncated)));
+/// ```
 pub fn read(alloc: Global, input: &[u8]) -> Result<Node<'_>, NarError>
     // What is read is the archive's tree.
     ensures found { IfOk result (λ node. IsArchive (tree_of node) input.now) }

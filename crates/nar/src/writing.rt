@@ -119,6 +119,15 @@ fn put_archive(out: &mut Vec<u8>, node: &Node<'_>) -> Result<(), AllocError>
 /// The tree's names keep the rule of names and rise strictly in each directory, at most 256 of its nodes are nested
 /// inside one another, and its archive isn't too large: `is_writable` is the test. Where memory is refused the
 /// buffer's bytes stay as they were.
+///
+/// ```rust
+/// use nar::Node;
+///
+/// let node = Node::Regular { executable: false, contents: b"mycontent\n" };
+/// let mut archive = Vec::new(alloc);
+/// nar::write(&node, &mut archive)?;
+/// assert_eq!(rt; archive.len(), 128);
+/// ```
 pub fn write(node: &Node<'_>, out: &mut Vec<u8>) -> Result<(), AllocError>
     requires { IsWritable (tree_of node.now) }
     ensures ok { OnOk result (out.new.items ≡ out.old.items ++ spelling (archive (tree_of node.now))) }

@@ -10,7 +10,7 @@ use Rattle.paths.specs.declared.content_address.Method.{Method}
 use Rattle.paths.specs.declared.content_address.Method.TheVariants.{Text, Source}
 use Rattle.paths.specs.Names.{begins}
 use Rattle.paths.specs.Base32.{base32, unbase32}
-use Rattle.paths.specs.ContentAddress.{ContentAddress, address_front, IsAddressText, with_method, address_of}
+use Rattle.paths.specs.ContentAddress.{ContentAddress, address_prefix, IsAddressText, with_method, address_of}
 use Rattle.paths.proofs.Spelling.{spelled, read_back, read_spells, read-bytes, base32-spells}
 
 begun : (front text rest : List ℕ) → text ≡ front ++ rest → begins text front ≡ true
@@ -60,14 +60,14 @@ read method (Ok digest) ca e = (ap (λ o. Ok (digest_or digest o)) e, ap (λ o. 
     method_or m (Some a) = a.method
 read method (Err f) ca e = let no : ⊥ = cc in absurd no
 
-text-of : (method : Method) (digits text : List ℕ) (ca : ContentAddress) → text ≡ address_front method ++ digits → with_method method (unbase32 digits 32) ≡ Some ca → IsAddressText ca text
+text-of : (method : Method) (digits text : List ℕ) (ca : ContentAddress) → text ≡ address_prefix method ++ digits → with_method method (unbase32 digits 32) ≡ Some ca → IsAddressText ca text
 text-of method digits text ca e h =
     let found = read method (unbase32 digits 32) ca h in
     let spells = read_spells digits 32 ca.digest found.0 in
     record {
       digest = spells.1;
       bytes = read-bytes digits 32 ca.digest found.0;
-      spells = e ∙ ap (λ ds. address_front method ++ ds) (spelled digits ca.digest spells.0) ∙ ap (λ m. address_front m ++ base32 ca.digest) found.1;
+      spells = e ∙ ap (λ ds. address_prefix method ++ ds) (spelled digits ca.digest spells.0) ∙ ap (λ m. address_prefix m ++ base32 ca.digest) found.1;
     }
 
 split-at : (front text : List ℕ) → begins text front ≡ true → text ≡ front ++ drop (length front) text
@@ -89,14 +89,14 @@ address-is text ca h =
 digest-back : (digest : List ℕ) → length digest ≡ 32 → IsBytes digest → unbase32 (base32 digest) 32 ≡ Ok digest
 digest-back digest count bytes = ap (unbase32 (base32 digest)) (sym count) ∙ read_back (base32 digest) digest bytes (base32-spells digest bytes)
 
-pub address-back : (method : Method) (digest text : List ℕ) → length digest ≡ 32 → IsBytes digest → text ≡ address_front method ++ base32 digest → address_of text ≡ Some (record { method = method; digest = digest })
+pub address-back : (method : Method) (digest text : List ℕ) → length digest ≡ 32 → IsBytes digest → text ≡ address_prefix method ++ base32 digest → address_of text ≡ Some (record { method = method; digest = digest })
 address-back Text digest text count bytes e = address_of-text text (base32 digest) e ∙ ap (with_method Text) (digest-back digest count bytes)
 address-back Source digest text count bytes e = address_of-source text (base32 digest) e ∙ ap (with_method Source) (digest-back digest count bytes)
 
 -- an address is read off its front and the digits that are read as its digest
-pub address-read : (ca : ContentAddress) (text digits : List ℕ) → text ≡ address_front ca.method ++ digits → unbase32 digits 32 ≡ Ok ca.digest → address_of text ≡ Some ca
+pub address-read : (ca : ContentAddress) (text digits : List ℕ) → text ≡ address_prefix ca.method ++ digits → unbase32 digits 32 ≡ Ok ca.digest → address_of text ≡ Some ca
 address-read ca text digits e h = by ca.method e
   where
-    by : (method : Method) → text ≡ address_front method ++ digits → address_of text ≡ Some (record { method = method; digest = ca.digest })
+    by : (method : Method) → text ≡ address_prefix method ++ digits → address_of text ≡ Some (record { method = method; digest = ca.digest })
     by Text t = address_of-text text digits t ∙ ap (with_method Text) h
     by Source t = address_of-source text digits t ∙ ap (with_method Source) h

@@ -21,13 +21,13 @@ pub record ContentAddress : Type 0 where
 -- ---- as texts
 
 -- what an address of this method begins with
-abbrev pub address_front : Method → List ℕ
-address_front Text = codes "text:sha256:"
-address_front Source = codes "fixed:r:sha256:"
+abbrev pub address_prefix : Method → List ℕ
+address_prefix Text = codes "text:sha256:"
+address_prefix Source = codes "fixed:r:sha256:"
 
 -- the text of an address: its prefix, and the digest in base 32
 abbrev pub address_text : ContentAddress → List ℕ
-address_text ca = address_front ca.method ++ base32 ca.digest
+address_text ca = address_prefix ca.method ++ base32 ca.digest
 
 -- the text is that of an address whose digest has 32 bytes
 pub record IsAddressText (ca : ContentAddress) (text : List ℕ) : Type 0 where

@@ -18,9 +18,9 @@ facts_of nar = record { nar_hash = sha256 nar; nar_size = length nar; plain = ha
 
 -- What an address of this method asks for is found of an archive: of a text's the digest of the contents, of a source's
 -- that of the archive.
-abbrev pub TellsFor : Method → List ℕ → Facts → Type 0
-TellsFor Text nar facts = facts.plain ≡ hash_of (plain_contents (outcome_of nar))
-TellsFor Source nar facts = facts.nar_hash ≡ sha256 nar
+abbrev pub HasFactsFor : Method → List ℕ → Facts → Type 0
+HasFactsFor Text nar facts = facts.plain ≡ hash_of (plain_contents (outcome_of nar))
+HasFactsFor Source nar facts = facts.nar_hash ≡ sha256 nar
 
 abbrev pub text_verifies_by : List ℕ → List ℕ → List ℕ → List (List ℕ) → Option (List ℕ) → Bool
 text_verifies_by digest dir path refs None = false

@@ -87,6 +87,15 @@ pub(crate) fn path_of(
 /// The path of a text object: a regular file that isn't executable, with these contents. The order and the
 /// repeats of `refs` make no difference.
 ///
+/// ```rust
+/// use paths::{Name, StoreDir};
+///
+/// let dir = StoreDir::parse(alloc, "/nix/store")?;
+/// let name = Name::parse(alloc, "myfile")?;
+/// let path = paths::text_path(alloc, &dir, &name, &[], b"mycontent\n")?;
+/// assert_eq!(rt; path.as_str(), "a0d1zlpv81nsfbam8ay3i7snrc0sgsvr-myfile");
+/// ```
+///
 /// # Errors
 ///
 /// Memory was refused.
@@ -104,6 +113,16 @@ pub fn text_path(
 }
 
 /// The path of a text object, by SHA-256 of its contents.
+///
+/// ```rust
+/// use paths::{Name, StoreDir};
+/// use sha2::{Digest, Sha256};
+///
+/// let dir = StoreDir::parse(alloc, "/nix/store")?;
+/// let name = Name::parse(alloc, "myfile")?;
+/// let path = paths::text_path_of(alloc, &dir, &name, &[], &Sha256::digest("mycontent\n"))?;
+/// assert_eq!(rt; path.as_str(), "a0d1zlpv81nsfbam8ay3i7snrc0sgsvr-myfile");
+/// ```
 ///
 /// # Errors
 ///
@@ -124,6 +143,17 @@ pub fn text_path_of(
 
 /// The path of a source object: any archive. The order and the repeats of `refs` make no difference.
 ///
+/// ```rust
+/// use nar::Node;
+/// use paths::{Name, StoreDir};
+///
+/// let mut archive = Vec::new(alloc);
+/// nar::write(&Node::Regular { executable: false, contents: b"mycontent\n" }, &mut archive)?;
+/// let dir = StoreDir::parse(alloc, "/nix/store")?;
+/// let path = paths::source_path(alloc, &dir, &Name::parse(alloc, "myfile")?, &[], &archive)?;
+/// assert_eq!(rt; path.as_str(), "xv2iccirbrvklck36f1g7vldn5v58vck-myfile");
+/// ```
+///
 /// # Errors
 ///
 /// Memory was refused.
@@ -141,6 +171,17 @@ pub fn source_path(
 }
 
 /// The path of a source object, by SHA-256 of its archive.
+///
+/// ```rust
+/// use paths::{Name, StoreDir};
+///
+/// let hash = hex::decode(alloc, "2bfef67de873c54551d884fdab3055d84d573e654efa79db3c0d7b98883f9ee3")?;
+/// let mut nar_hash = [0; 32];
+/// nar_hash.copy_from_slice(&hash);
+/// let dir = StoreDir::parse(alloc, "/nix/store")?;
+/// let path = paths::source_path_of(alloc, &dir, &Name::parse(alloc, "myfile")?, &[], &nar_hash)?;
+/// assert_eq!(rt; path.as_str(), "xv2iccirbrvklck36f1g7vldn5v58vck-myfile");
+/// ```
 ///
 /// # Errors
 ///

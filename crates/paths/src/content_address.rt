@@ -5,8 +5,8 @@ ghost use Rattle.std.specs.Str.{bytes_eq};
 ghost use Rattle.nar.specs.View.{tree_of};
 ghost use Rattle.nar.specs.Outcome.{outcome_of};
 ghost use Rattle.paths.specs.Base32 as spec;
-ghost use Rattle.paths.specs.ContentAddress.{ContentAddress, address_front, address_text, address_of, with_method, text_address, source_address, plain, plain_contents, is_made_of, method_verifies, verifies};
-ghost use Rattle.paths.specs.Facts.{facts_of, verifies_by, TellsFor};
+ghost use Rattle.paths.specs.ContentAddress.{ContentAddress, address_prefix, address_text, address_of, with_method, text_address, source_address, plain, plain_contents, is_made_of, method_verifies, verifies};
+ghost use Rattle.paths.specs.Facts.{facts_of, verifies_by, HasFactsFor};
 
 use crate::computed_path::path_of;
 use crate::digits::{Base32Error, base32, unbase32};
@@ -69,7 +69,7 @@ pub enum VerifyError {
 
 /// What the text of an address begins with.
 fn front(method: Method) -> &'static str
-    ensures { result.now ≡ address_front method }
+    ensures { result.now ≡ address_prefix method }
 {
     match method {
         Method::Text => "text:sha256:",
@@ -79,6 +79,14 @@ fn front(method: Method) -> &'static str
 
 impl Ca {
     /// The address that a text is: `text:sha256:` or `fixed:r:sha256:`, and 52 digits that spell 32 bytes.
+    ///
+    /// ```rust
+    /// use paths::{Ca, CaError, Method};
+    ///
+    /// let address = Ca::parse(alloc, "fixed:r:sha256:1qwy7y49hyqd7kdpkyjfclz5fkfqalqapzc4v18lbibkx1yzdzib")?;
+    /// assert_eq!(rt; address.method(), Method::Source);
+    /// assert!(rt; matches!(Ca::parse(alloc, "text:sha256:0"), Err(CaError::BadCa)));
+    /// ```
     ///
     /// # Errors
     ///
@@ -112,6 +120,13 @@ impl Ca {
     }
 
     /// The address of a text object with these contents.
+    ///
+    /// ```rust
+    /// use paths::Ca;
+    ///
+    /// let text = Ca::of_text(b"abc").to_text(alloc)?;
+    /// assert_eq!(rt; text.as_str(), "text:sha256:1b8m03r63zqhnjf7l5wnldhh7c134ap5vpj0850ymkq1iyzicy5s");
+    /// ```
     pub fn of_text(contents: &[u8]) -> Ca
         ensures { result ≡ text_address contents.now }
     {
@@ -122,6 +137,16 @@ impl Ca {
     }
 
     /// The address of a source object with this archive.
+    ///
+    /// ```rust
+    /// use nar::Node;
+    /// use paths::Ca;
+    ///
+    /// let mut archive = Vec::new(alloc);
+    /// nar::write(&Node::Regular { executable: false, contents: b"mycontent\n" }, &mut archive)?;
+    /// let text = Ca::of_source(&archive).to_text(alloc)?;
+    /// assert_eq!(rt; text.as_str(), "fixed:r:sha256:1qwy7y49hyqd7kdpkyjfclz5fkfqalqapzc4v18lbibkx1yzdzib");
+    /// ```
     pub fn of_source(nar: &[u8]) -> Ca
         ensures { result ≡ source_address nar.now }
     {
@@ -132,6 +157,15 @@ impl Ca {
     }
 
     /// The address of this method and digest: SHA-256 of a text's contents, or of a source's archive.
+    ///
+    /// ```rust
+    /// use paths::{Ca, Method};
+    /// use sha2::{Digest, Sha256};
+    ///
+    /// let address = Ca::new(Method::Text, Sha256::digest(""));
+    /// let text = address.to_text(alloc)?;
+    /// assert_eq!(rt; text.as_str(), "text:sha256:0mdqa9w1p6cmli6976v4wi0sw9r4p5prkj7lzfd1877wk11c9c73");
+    /// ```
     pub fn new(method: Method, digest: [u8; 32]) -> Ca
         ensures { result ≡ record { method = method; digest = digest } }
     {
@@ -139,6 +173,13 @@ impl Ca {
     }
 
     /// What the path is made of.
+    ///
+    /// ```rust
+    /// use paths::{Ca, Method};
+    ///
+    /// assert_eq!(rt; Ca::of_text(b"mycontent\n").method(), Method::Text);
+    /// assert_eq!(rt; Ca::of_source(b"").method(), Method::Source);
+    /// ```
     pub fn method(&self) -> Method
         ensures { result ≡ self.now.method }
     {
@@ -146,6 +187,13 @@ impl Ca {
     }
 
     /// The text of the address, which is read as this address.
+    ///
+    /// ```rust
+    /// use paths::Ca;
+    ///
+    /// let text = Ca::of_text(b"").to_text(alloc)?;
+    /// assert_eq!(rt; text.as_str(), "text:sha256:0mdqa9w1p6cmli6976v4wi0sw9r4p5prkj7lzfd1877wk11c9c73");
+    /// ```
     ///
     /// # Errors
     ///
@@ -162,6 +210,19 @@ impl Ca {
 
     /// Tests whether this is the address of the object with a path, references and an archive. The order and the
     /// repeats of `refs` make no difference, and `nar` may be any bytes.
+    ///
+    /// ```rust
+    /// use nar::Node;
+    /// use paths::{Ca, StoreDir, StorePath, VerifyError};
+    ///
+    /// let mut archive = Vec::new(alloc);
+    /// nar::write(&Node::Regular { executable: false, contents: b"mycontent\n" }, &mut archive)?;
+    /// let dir = StoreDir::parse(alloc, "/nix/store")?;
+    /// let path = StorePath::from_base(alloc, "xv2iccirbrvklck36f1g7vldn5v58vck-myfile")?;
+    /// Ca::of_source(&archive).verify(alloc, &dir, &path, &[], &archive)?;
+    /// let fault = Ca::of_text(b"mycontent\n").verify(alloc, &dir, &path, &[], &archive);
+    /// assert_eq!(rt; fault, Err(VerifyError::CaMismatch));
+    /// ```
     ///
     /// # Errors
     ///
@@ -191,6 +252,17 @@ impl Ca {
     /// Tests as `verify` does, by what was found of the archive. For the address of a source that need not say anything
     /// of its contents.
     ///
+    /// ```rust
+    /// use paths::{Ca, Facts, StoreDir, StorePath};
+    /// use sha2::{Digest, Sha256};
+    ///
+    /// let plain = Some(Sha256::digest("mycontent\n"));
+    /// let facts = Facts { nar_hash: [0; 32], nar_size: 128, plain };
+    /// let dir = StoreDir::parse(alloc, "/nix/store")?;
+    /// let path = StorePath::from_base(alloc, "a0d1zlpv81nsfbam8ay3i7snrc0sgsvr-myfile")?;
+    /// Ca::of_text(b"mycontent\n").verify_facts(alloc, &dir, &path, &[], &facts)?;
+    /// ```
+    ///
     /// # Errors
     ///
     /// `CaMismatch` exactly where `verify` answers it of the archive, and `Memory`.
@@ -207,7 +279,7 @@ impl Ca {
         // It is the test of the archive of which this is told.
         ensures same { (nar : List ℕ) → facts.now ≡ facts_of nar → verifies_by self.now dir.now path.now refs.now facts.now ≡ verifies self.now dir.now path.now refs.now nar }
         // The same where no more is told than an address of this method asks for.
-        ensures enough { (nar : List ℕ) → TellsFor self.now.method nar facts.now → verifies_by self.now dir.now path.now refs.now facts.now ≡ verifies self.now dir.now path.now refs.now nar }
+        ensures enough { (nar : List ℕ) → HasFactsFor self.now.method nar facts.now → verifies_by self.now dir.now path.now refs.now facts.now ≡ verifies self.now dir.now path.now refs.now nar }
     {
         match self.method {
             Method::Text => {

@@ -58,6 +58,12 @@ fn digit_at(bytes: &[u8], place: usize) -> u8
 
 /// The base 32 text of some bytes, 64 at most: the first byte counts least, and the first digit most.
 ///
+/// ```rust
+/// assert_eq!(rt; paths::base32(alloc, &[0xff])?.as_str(), "7z");
+/// assert_eq!(rt; paths::base32(alloc, &[0xff; 20])?.as_str(), "zzzzzzzzzzzzzzzzzzzzzzzzzzzzzzzz");
+/// assert_eq!(rt; paths::base32(alloc, b"")?.as_str(), "");
+/// ```
+///
 /// # Errors
 ///
 /// Memory was refused.
@@ -112,6 +118,15 @@ fn append_digit(bytes: &mut [u8], digit: u8) -> u8
 }
 
 /// The bytes that a text of base 32 spells, of which there are `count`, 64 at most.
+///
+/// ```rust
+/// use paths::Base32Error;
+///
+/// assert_eq!(rt; paths::unbase32(alloc, "7z", 1)?.as_slice(), [0xff].as_slice());
+/// assert_eq!(rt; paths::unbase32(alloc, "7e", 1).err(), Some(Base32Error::BadDigit));
+/// assert_eq!(rt; paths::unbase32(alloc, "7", 1).err(), Some(Base32Error::BadLength));
+/// assert_eq!(rt; paths::unbase32(alloc, "zz", 1).err(), Some(Base32Error::Overflow));
+/// ```
 ///
 /// # Errors
 ///

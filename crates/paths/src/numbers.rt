@@ -11,7 +11,7 @@ const MAX_GENERATION: u64 = 9_999;
 const MAX_SESSION: u64 = 4_194_304;
 
 /// Whether a text begins with a sign that std would read, or with a 0 before other bytes.
-fn has_more_in_front(text: &str) -> bool
+fn has_more_before(text: &str) -> bool
     ensures { result ≡ (slice_index text.now 0 == 43 || not (has_no_leading_zero text.now)) }
 {
     let bytes = text.as_bytes();
@@ -23,10 +23,16 @@ fn has_more_in_front(text: &str) -> bool
 
 /// The number that a text writes in decimal digits: one or more, the first of several not `0`, no sign,
 /// below 2^64. `None` for any other text.
+///
+/// ```rust
+/// assert_eq!(rt; paths::numbers::decimal("120"), Some(120));
+/// assert_eq!(rt; paths::numbers::decimal("007"), None);
+/// assert_eq!(rt; paths::numbers::decimal("+7"), None);
+/// ```
 pub fn decimal(text: &str) -> Option<u64>
     ensures { result ≡ decimal_of text.now }
 {
-    if has_more_in_front(text) {
+    if has_more_before(text) {
         return None;
     }
     match text.parse::<u64>() {
@@ -46,6 +52,12 @@ fn up_to(most: u64, text: &str) -> u64
 }
 
 /// The number of a generation, 1 to 9,999. Any other text stands for 0, which no profile has.
+///
+/// ```rust
+/// assert_eq!(rt; paths::numbers::generation("9999"), 9_999);
+/// assert_eq!(rt; paths::numbers::generation("10000"), 0);
+/// assert_eq!(rt; paths::numbers::generation("01"), 0);
+/// ```
 pub fn generation(text: &str) -> u64
     ensures { result ≡ number_up_to 9999 text.now }
 {
@@ -53,6 +65,11 @@ pub fn generation(text: &str) -> u64
 }
 
 /// The number of a session, 1 to 4,194,304. Any other text stands for 0, which is no session's.
+///
+/// ```rust
+/// assert_eq!(rt; paths::numbers::session("4194304"), 4_194_304);
+/// assert_eq!(rt; paths::numbers::session("4194305"), 0);
+/// ```
 pub fn session(text: &str) -> u64
     ensures { result ≡ number_up_to 4194304 text.now }
 {

@@ -22,6 +22,12 @@ fn all_plain_bytes(bytes: &[u8]) -> bool
 }
 
 /// Whether a text is a plain name: 1 to 64 ASCII letters, digits, `_`, `.` and `-`, the first not `-`.
+///
+/// ```rust
+/// assert!(rt; paths::is_plain_name("ann"));
+/// assert!(rt; !paths::is_plain_name("-ann"));
+/// assert!(rt; !paths::is_plain_name(""));
+/// ```
 pub fn is_plain_name(text: &str) -> bool
     ensures { result ≡ is_plain_name text.now }
 {

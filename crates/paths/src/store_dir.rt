@@ -65,6 +65,13 @@ pub enum StoreDirError {
 impl StoreDir {
     /// The store directory that a text is.
     ///
+    /// ```rust
+    /// use paths::{StoreDir, StoreDirError};
+    ///
+    /// assert_eq!(rt; StoreDir::parse(alloc, "/nix/store")?.as_str(), "/nix/store");
+    /// assert_eq!(rt; StoreDir::parse(alloc, "/nix/store/").err(), Some(StoreDirError::BadStoreDir));
+    /// ```
+    ///
     /// # Errors
     ///
     /// `BadStoreDir` exactly where the text isn't a store directory, and `Memory`.
@@ -82,6 +89,13 @@ impl StoreDir {
     }
 
     /// The text of the directory.
+    ///
+    /// ```rust
+    /// use paths::StoreDir;
+    ///
+    /// let dir = StoreDir::parse(alloc, "/nix/store")?;
+    /// assert_eq!(rt; dir.as_str(), "/nix/store");
+    /// ```
     pub fn as_str(&self) -> &str
         ensures value { result.now ≡ self.now }
         ensures valid { is_store_dir self.now ≡ true }

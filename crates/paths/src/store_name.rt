@@ -75,6 +75,14 @@ pub enum NameError {
 impl Name {
     /// The store name that a text is.
     ///
+    /// ```rust
+    /// use paths::{Name, NameError};
+    ///
+    /// assert_eq!(rt; Name::parse(alloc, "hello-2.12")?.as_str(), "hello-2.12");
+    /// assert_eq!(rt; Name::parse(alloc, ".x")?.as_str(), ".x");
+    /// assert_eq!(rt; Name::parse(alloc, "..-x").err(), Some(NameError::BadStoreName));
+    /// ```
+    ///
     /// # Errors
     ///
     /// `BadStoreName` exactly where the text isn't a store name, and `Memory`.
@@ -92,6 +100,13 @@ impl Name {
     }
 
     /// The text of the name.
+    ///
+    /// ```rust
+    /// use paths::Name;
+    ///
+    /// let name = Name::parse(alloc, "hello-2.12")?;
+    /// assert_eq!(rt; name.as_str(), "hello-2.12");
+    /// ```
     pub fn as_str(&self) -> &str
         ensures value { result.now ≡ self.now }
         ensures valid { is_store_name self.now ≡ true }

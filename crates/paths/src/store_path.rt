@@ -74,6 +74,15 @@ pub enum StorePathError {
 impl StorePath {
     /// The store path of a path text: a full path (the store directory, `/`, a base name), or a base name.
     ///
+    /// ```rust
+    /// use paths::{StoreDir, StorePath, StorePathError};
+    ///
+    /// let dir = StoreDir::parse(alloc, "/nix/store")?;
+    /// let path = StorePath::parse(alloc, &dir, "/nix/store/xv2iccirbrvklck36f1g7vldn5v58vck-myfile")?;
+    /// assert_eq!(rt; path.as_str(), "xv2iccirbrvklck36f1g7vldn5v58vck-myfile");
+    /// assert_eq!(rt; StorePath::parse(alloc, &dir, "myfile").err(), Some(StorePathError::BadStorePath));
+    /// ```
+    ///
     /// # Errors
     ///
     /// `BadStorePath` exactly where the text is neither, and `Memory`.
@@ -85,6 +94,15 @@ impl StorePath {
     }
 
     /// The store path of a base name, such as a database keeps.
+    ///
+    /// ```rust
+    /// use paths::{StorePath, StorePathError};
+    ///
+    /// let path = StorePath::from_base(alloc, "xv2iccirbrvklck36f1g7vldn5v58vck-myfile")?;
+    /// assert_eq!(rt; path.name(), "myfile");
+    /// let full = "/nix/store/xv2iccirbrvklck36f1g7vldn5v58vck-myfile";
+    /// assert_eq!(rt; StorePath::from_base(alloc, full).err(), Some(StorePathError::BadStorePath));
+    /// ```
     ///
     /// # Errors
     ///
@@ -116,6 +134,13 @@ impl StorePath {
     }
 
     /// The base name.
+    ///
+    /// ```rust
+    /// use paths::StorePath;
+    ///
+    /// let path = StorePath::from_base(alloc, "xv2iccirbrvklck36f1g7vldn5v58vck-myfile")?;
+    /// assert_eq!(rt; path.as_str(), "xv2iccirbrvklck36f1g7vldn5v58vck-myfile");
+    /// ```
     pub fn as_str(&self) -> &str
         ensures value { result.now ≡ self.now }
         ensures valid { is_base_name self.now ≡ true }
@@ -124,6 +149,13 @@ impl StorePath {
     }
 
     /// The name, which follows the digits and the `-`.
+    ///
+    /// ```rust
+    /// use paths::StorePath;
+    ///
+    /// let path = StorePath::from_base(alloc, "xv2iccirbrvklck36f1g7vldn5v58vck-myfile")?;
+    /// assert_eq!(rt; path.name(), "myfile");
+    /// ```
     pub fn name(&self) -> &str
         ensures value { result.now ≡ name_of self.now }
         ensures valid { is_store_name result.now ≡ true }
@@ -135,6 +167,14 @@ impl StorePath {
     }
 
     /// Whether this is the path of a derivation: its name ends in `.drv`.
+    ///
+    /// ```rust
+    /// use paths::StorePath;
+    ///
+    /// let derivation = StorePath::from_base(alloc, "00000000000000000000000000000000-d.drv")?;
+    /// let output = StorePath::from_base(alloc, "11111111111111111111111111111111-o")?;
+    /// assert!(rt; derivation.is_derivation() && !output.is_derivation());
+    /// ```
     pub fn is_derivation(&self) -> bool
         ensures { result ≡ is_derivation self.now }
     {

@@ -25,6 +25,14 @@ impl Model for Caller {
 impl Caller {
     /// The caller of a user's name and a primary group, if there is one: `BadCaller` exactly where
     /// one of them isn't a plain name.
+    ///
+    /// ```rust
+    /// use policy::{Caller, CallerError};
+    ///
+    /// let caller = Caller::new(alloc, "ann", Some("users"))?;
+    /// assert_eq!(rt; caller.name(), "ann");
+    /// assert_eq!(rt; Caller::new(alloc, "-ann", None).err(), Some(CallerError::BadCaller));
+    /// ```
     pub fn new(alloc: Global, name: &str, group: Option<&str>) -> Result<Caller, CallerError>
         ensures ok { IfOk result (λ c. (c ≡ caller_of name.now (option_map (λ g. g.now) group.entry)) × (is_caller c ≡ true)) }
         ensures bad { (result ≡ Err CallerError.BadCaller) ↔ (is_caller (caller_of name.now (option_map (λ g. g.now) group.entry)) ≡ false) }
@@ -46,6 +54,13 @@ impl Caller {
     }
 
     /// The user's name.
+    ///
+    /// ```rust
+    /// use policy::Caller;
+    ///
+    /// let caller = Caller::new(alloc, "ann", None)?;
+    /// assert_eq!(rt; caller.name(), "ann");
+    /// ```
     pub fn name(&self) -> &str
         ensures { result.now ≡ self.now.name }
     {

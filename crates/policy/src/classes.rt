@@ -39,6 +39,17 @@ fn matches(groups: &Groups, caller: &Caller, entries: &[Entry]) -> bool
 /// The class of a caller: trusted where `trusted-users` matches, else allowed where `allowed-users`
 /// does, else a stranger. A list matches where it holds `*`, the caller's name, or `@` and a group
 /// that is the caller's primary one or has the caller among its members. Takes no memory.
+///
+/// ```rust
+/// use policy::{Caller, Class, Config};
+///
+/// let text = b"allowed-users = []\ntrusted-users = [\"@wheel\"]\n[groups]\nwheel = [\"ann\"]\n";
+/// let config = Config::from_toml(alloc, text)?;
+/// let ann = Caller::new(alloc, "ann", Some("users"))?;
+/// let bob = Caller::new(alloc, "bob", Some("users"))?;
+/// assert_eq!(rt; policy::class(&config, &ann), Class::Trusted);
+/// assert_eq!(rt; policy::class(&config, &bob), Class::Stranger);
+/// ```
 pub fn class(config: &Config, caller: &Caller) -> Class
     ensures { result ≡ class_of config.now caller.now }
 {

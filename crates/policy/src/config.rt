@@ -52,6 +52,15 @@ impl Config {
     /// of entries (`*`, a plain name, or `@` and a plain name), `keep-outputs` and
     /// `keep-derivations` are truth values, and `groups` is a table from a plain name to an array of
     /// plain names. Entries and members may be repeated.
+    ///
+    /// ```rust
+    /// use policy::{Config, ConfigError, KeyWord};
+    ///
+    /// let config = Config::from_toml(alloc, b"keep-outputs = true\n")?;
+    /// assert!(rt; policy::keep_outputs(&config));
+    /// let fault = Config::from_toml(alloc, b"store-dir = 1\n").err();
+    /// assert_eq!(rt; fault, Some(ConfigError::Bad(KeyWord::StoreDir)));
+    /// ```
     pub fn from_toml(alloc: Global, bytes: &[u8]) -> Result<Config, ConfigError>
         ensures ok { IfOk result (λ c. config_of bytes.now ≡ Ok c) }
         ensures bad { IfErr result (λ e. Explains e (config_of bytes.now)) }
@@ -115,6 +124,13 @@ impl Config {
 }
 
 /// The directory of the store.
+///
+/// ```rust
+/// use policy::Config;
+///
+/// let config = Config::from_toml(alloc, b"")?;
+/// assert_eq!(rt; policy::store_dir(&config).as_str(), "/nix/store");
+/// ```
 pub fn store_dir(config: &Config) -> &StoreDir
     ensures { result.now ≡ config.now.store_dir }
 {
@@ -122,6 +138,13 @@ pub fn store_dir(config: &Config) -> &StoreDir
 }
 
 /// Whether an object keeps its recorded outputs alive.
+///
+/// ```rust
+/// use policy::Config;
+///
+/// let config = Config::from_toml(alloc, b"")?;
+/// assert!(rt; !policy::keep_outputs(&config));
+/// ```
 pub fn keep_outputs(config: &Config) -> bool
     ensures { result ≡ config.now.keep_outputs }
 {
@@ -129,6 +152,13 @@ pub fn keep_outputs(config: &Config) -> bool
 }
 
 /// Whether an object keeps its recorded deriver alive.
+///
+/// ```rust
+/// use policy::Config;
+///
+/// let config = Config::from_toml(alloc, b"")?;
+/// assert!(rt; policy::keep_derivations(&config));
+/// ```
 pub fn keep_derivations(config: &Config) -> bool
     ensures { result ≡ config.now.keep_derivations }
 {

@@ -31,6 +31,13 @@ pub enum KeyWord {
 
 impl KeyWord {
     /// The word itself: the key that is at fault, `syntax` or `unknown-key`.
+    ///
+    /// ```rust
+    /// use policy::KeyWord;
+    ///
+    /// assert_eq!(rt; KeyWord::Syntax.as_str(), "syntax");
+    /// assert_eq!(rt; KeyWord::AllowedUsers.as_str(), "allowed-users");
+    /// ```
     pub fn as_str(self) -> &'static str
         ensures { result.now ≡ key_word self }
     {

@@ -15,6 +15,12 @@ pub enum Class {
 
 impl Class {
     /// The word for the class: `stranger`, `allowed` or `trusted`.
+    ///
+    /// ```rust
+    /// use policy::Class;
+    ///
+    /// assert_eq!(rt; Class::Trusted.as_str(), "trusted");
+    /// ```
     pub fn as_str(self) -> &'static str
         ensures { result.now ≡ class_word self }
     {
@@ -48,6 +54,12 @@ pub enum Rule {
 
 impl Rule {
     /// The word that a denial names the rule by.
+    ///
+    /// ```rust
+    /// use policy::Rule;
+    ///
+    /// assert_eq!(rt; Rule::NoIgnoreLiveness.as_str(), "no-ignore-liveness");
+    /// ```
     pub fn as_str(self) -> &'static str
         ensures { result.now ≡ rule_word self }
     {

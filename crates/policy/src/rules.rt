@@ -69,6 +69,15 @@ fn forbidden_to_trusted(caller: &Caller, op: &Op<'_>) -> Option<Rule>
 
 /// The first rule other than `Live` that forbids what a caller of a class asks, if one does. Takes
 /// no memory.
+///
+/// ```rust
+/// use policy::{Caller, Class, Op, Rule};
+///
+/// let ann = Caller::new(alloc, "ann", None)?;
+/// assert_eq!(rt; policy::decide(Class::Stranger, &ann, &Op::Plain), Some(Rule::Connect));
+/// assert_eq!(rt; policy::decide(Class::Trusted, &ann, &Op::SetUserRoot("bob")), Some(Rule::OwnRoot));
+/// assert_eq!(rt; policy::decide(Class::Trusted, &ann, &Op::DropUserRoot("bob")), None);
+/// ```
 pub fn decide(class: Class, caller: &Caller, op: &Op<'_>) -> Option<Rule>
     ensures { result ≡ first_broken class caller.now (operation_of op.now) }
 {

@@ -12,7 +12,7 @@ use Rattle.paths.specs.StorePath.{is_base_name}
 use Rattle.paths.specs.Base32.{all_digits, value_of}
 use Rattle.paths.specs.Root.{Root, is_runtime_label, is_label_byte}
 use Rattle.live.proofs.Order.{member_ordered}
-use Rattle.model.specs.World.{Path, Object, World, has, permanent_root, user_root, generation_root, generation_roots, runtime_root, temporary_root, lasting_roots, runtime_roots, temporary_roots, roots_of}
+use Rattle.model.specs.World.{Path, Object, World, has, permanent_root, user_root, generation_root, generation_roots, runtime_root, temporary_root, explicit_roots, runtime_roots, temporary_roots, roots_of}
 use Rattle.model.specs.Sound.{IsSound}
 use Rattle.model.proofs.MapMembers.{pair_total, temporary_total, listed_key, listed_entry}
 use Rattle.model.proofs.Filtered.{from_mapped, from_joined}
@@ -115,8 +115,8 @@ module _ (dir : List ℕ) (w : World) (sound : IsSound dir w) where
         target_lacks x.0.path (sound.temporary_target x.0 at),
       )
 
-  until_runtime : (r : Root) → Contains (lasting_roots w ++ runtime_roots w) r → Unbroken r
-  until_runtime r c = elim (Contains-append_cases (lasting_roots w) (runtime_roots w) r c) as (λ _. Unbroken r) [
+  until_runtime : (r : Root) → Contains (explicit_roots w ++ runtime_roots w) r → Unbroken r
+  until_runtime r c = elim (Contains-append_cases (explicit_roots w) (runtime_roots w) r c) as (λ _. Unbroken r) [
     | inl lasting ↦ elim (Contains-append_cases (map permanent_root (finite.entries w.permanent) ++ map user_root (finite.entries w.user_roots)) (flat_map generation_roots (finite.entries w.profiles)) r lasting) as (λ _. Unbroken r) [
       | inl named ↦ elim (Contains-append_cases (map permanent_root (finite.entries w.permanent)) (map user_root (finite.entries w.user_roots)) r named) as (λ _. Unbroken r) [
         | inl here ↦ permanents r here
@@ -128,7 +128,7 @@ module _ (dir : List ℕ) (w : World) (sound : IsSound dir w) where
   ]
 
   pub unbroken : (r : Root) → Contains (roots_of w) r → Unbroken r
-  unbroken r c = elim (Contains-append_cases (lasting_roots w ++ runtime_roots w) (temporary_roots w) r (member_ordered (lasting_roots w ++ runtime_roots w ++ temporary_roots w) r c)) as (λ _. Unbroken r) [
+  unbroken r c = elim (Contains-append_cases (explicit_roots w ++ runtime_roots w) (temporary_roots w) r (member_ordered (explicit_roots w ++ runtime_roots w ++ temporary_roots w) r c)) as (λ _. Unbroken r) [
     | inl early ↦ until_runtime r early
     | inr here ↦ temporaries r here
   ]

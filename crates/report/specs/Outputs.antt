@@ -1,29 +1,61 @@
--- What two writers were given, with an exit status.
+-- What a command does to its streams, with an exit status.
 use Rattle.std.specs.Prelude.{◌≡◌, ◌⊎◌, ℕ, List, Option}
 use Rattle.std.specs.Io.KnownBytes.{Appends, Keeps}
-use Rattle.streams.specs.Sends.{AppendsFront}
+use Rattle.streams.specs.Sends.{AppendsPrefix}
 use Rattle.report.specs.declared.failures.Failure.TheVariants.{Memory, Output}
 use Rattle.report.specs.Failures.{failure_line}
 
+-- a stream before a call and after it: the bytes that a reader has left, or those that a writer was given, where it says them
+pub record Stream : Type 0 where
+  pub old : Option (List ℕ)
+  pub new : Option (List ℕ)
+
+-- the stream of a reader or of a writer, by the bytes that it says
+abbrev pub change_of : {A : Type 0} → (A → Option (List ℕ)) → A → A → Stream
+change_of bytes old new = record { old = bytes old; new = bytes new }
+
+-- what one writer was given, and the exit status
+pub record Printed : Type 0 where
+  pub writer : Stream
+  pub status : ℕ
+
+-- what standard output and standard error were given, and the exit status
+pub record Written : Type 0 where
+  pub output : Stream
+  pub errors : Stream
+  pub status : ℕ
+
+-- what a command read of its standard input, and what it wrote
+pub record Console : Type 0 where
+  pub input : Stream
+  pub written : Written
+
+abbrev pub on_output : Written → Printed
+on_output w = record { writer = w.output; status = w.status }
+
+abbrev pub on_errors : Written → Printed
+on_errors w = record { writer = w.errors; status = w.status }
+
 -- a text was written whole, with this status; or the writer failed: it got a prefix, with status 1
-abbrev pub Prints : List ℕ → ℕ → Option (List ℕ) → Option (List ℕ) → ℕ → Type 0
-Prints text done old new status = ((status ≡ done) × Appends old new text) ⊎ ((status ≡ 1) × AppendsFront old new text)
+abbrev pub Prints : List ℕ → ℕ → Printed → Type 0
+Prints text done p = ((p.status ≡ done) × Appends p.writer.old p.writer.new text)
+    ⊎ ((p.status ≡ 1) × AppendsPrefix p.writer.old p.writer.new text)
 
--- a text went to the first writer and nothing to the second, with status 0
-pub record Gives (text : List ℕ) (out out' err err' : Option (List ℕ)) (status : ℕ) : Type 0 where
-  pub done : status ≡ 0
-  pub printed : Appends out out' text
-  pub silent : Keeps err err'
+-- a text went to standard output and nothing to standard error, with status 0
+pub record Gives (text : List ℕ) (w : Written) : Type 0 where
+  pub done : w.status ≡ 0
+  pub printed : Appends w.output.old w.output.new text
+  pub silent : Keeps w.errors.old w.errors.new
 
--- the first writer failed: it holds a prefix of the text, and the second has a line on that
-pub record GivesOut (text : List ℕ) (out out' err err' : Option (List ℕ)) (status : ℕ) : Type 0 where
-  pub front : AppendsFront out out' text
-  pub told : Prints (failure_line Output) 1 err err' status ⊎ Prints (failure_line Memory) 1 err err' status
+-- standard output failed: it holds a prefix of the text, and standard error has a line on that
+pub record GivesOut (text : List ℕ) (w : Written) : Type 0 where
+  pub front : AppendsPrefix w.output.old w.output.new text
+  pub told : Prints (failure_line Output) 1 (on_errors w)
 
--- a text was given to the first writer, which took it or failed
-abbrev pub Offers : List ℕ → Option (List ℕ) → Option (List ℕ) → Option (List ℕ) → Option (List ℕ) → ℕ → Type 0
-Offers text out out' err err' status = Gives text out out' err err' status ⊎ GivesOut text out out' err err' status
+-- a text was given to standard output, which took it or failed
+abbrev pub Offers : List ℕ → Written → Type 0
+Offers text w = Gives text w ⊎ GivesOut text w
 
--- there was no memory for a text, and the second writer has a line on that
-abbrev pub LacksMemory : Option (List ℕ) → Option (List ℕ) → Option (List ℕ) → Option (List ℕ) → ℕ → Type 0
-LacksMemory out out' err err' status = Keeps out out' × Prints (failure_line Memory) 1 err err' status
+-- there was no memory for a text, and standard error has a line on that
+abbrev pub LacksMemory : Written → Type 0
+LacksMemory w = Keeps w.output.old w.output.new × Prints (failure_line Memory) 1 (on_errors w)

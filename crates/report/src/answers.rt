@@ -6,6 +6,7 @@ ghost use Rattle.report.specs.Narinfo as records;
 ghost use Rattle.report.specs.Usage as usages;
 ghost use Rattle.store_types.specs.View.{answer_view, info_view, usage_view};
 
+use crate::line_pieces::{paths_pieces, roots_pieces};
 use paths::{StoreDir, StorePath};
 use std::alloc::{AllocError, Global};
 use std::fmt::Write;
@@ -76,7 +77,17 @@ pub(crate) fn answer_bytes(
     Ok(text.into_bytes())
 }
 
-/// The text of an answer in pieces, as a writer or a body has it. An archive isn't copied.
+/// The text of an answer in pieces, as a writer or a body has it. An archive isn't copied, and a listing of paths or roots isn't held
+/// twice.
+///
+/// ```rust
+/// use paths::StoreDir;
+/// use store::Answer;
+///
+/// let dir = StoreDir::parse(alloc, "/nix/store")?;
+/// let text = report::answer_text(alloc, &dir, Answer::Generation(2))?;
+/// assert_eq!(rt; text.piece(0), b"generation 2\n".as_slice());
+/// ```
 ///
 /// # Errors
 ///
@@ -86,6 +97,8 @@ pub fn answer_text(alloc: Global, dir: &StoreDir, answer: Answer) -> Result<Piec
 {
     match answer {
         Answer::Archive(nar) => Ok(nar),
+        Answer::Paths(paths) => paths_pieces(alloc, dir, &paths),
+        Answer::Roots(roots) => roots_pieces(alloc, dir, &roots),
         answer => in_pieces(alloc, &answer_bytes(alloc, dir, &answer)?),
     }
 }

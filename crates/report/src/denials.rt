@@ -43,6 +43,17 @@ pub(crate) fn denied_line(
 
 /// The line of a denial, with its line feed: the word of the rule, and the root that is shown, if one is.
 ///
+/// ```rust
+/// use paths::{StoreDir, StorePath};
+/// use policy::Rule;
+///
+/// let dir = StoreDir::parse(alloc, "/nix/store")?;
+/// let target = StorePath::from_base(alloc, "11111111111111111111111111111111-x")?;
+/// let root = Some((String::from_str(alloc, "/proc/2/exe")?, target));
+/// let line = report::denial_line(alloc, &dir, Rule::Live, root)?;
+/// assert_eq!(rt; line.as_str(), "denied: live /proc/2/exe /nix/store/11111111111111111111111111111111-x\n");
+/// ```
+///
 /// # Errors
 ///
 /// Memory was refused.

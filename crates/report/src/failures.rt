@@ -24,6 +24,10 @@ pub enum Failure {
 
 impl Failure {
     /// The line of the failure, with its line feed.
+    ///
+    /// ```rust
+    /// assert_eq!(rt; report::Failure::Output.line(), "failed: output\n");
+    /// ```
     pub fn line(self) -> &'static str
         ensures { result.now ≡ failure_line self }
     {

@@ -5,6 +5,7 @@ mod answers;
 mod denials;
 mod failures;
 mod laws;
+mod line_pieces;
 mod lists;
 mod numbers;
 mod outputs;

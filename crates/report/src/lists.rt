@@ -21,7 +21,12 @@ pub(crate) fn push_path(
     text.push_str(path.as_str())
 }
 
-fn push_path_line(text: &mut String, dir: &StoreDir, path: &StorePath) -> Result<(), AllocError>
+/// Appends the full path of a store path, and a line feed.
+pub(crate) fn push_path_line(
+    text: &mut String,
+    dir: &StoreDir,
+    path: &StorePath,
+) -> Result<(), AllocError>
     ensures { OnOk result (string_bytes text.new ≡ string_bytes text.old ++ spec.path_line dir.now path.now) }
 {
     push_path(text, dir, path)?;
@@ -42,7 +47,8 @@ pub(crate) fn push_root(
     push_path(text, dir, target)
 }
 
-fn push_root_line(
+/// Appends a label, the full path of a target, and a line feed.
+pub(crate) fn push_root_line(
     text: &mut String,
     dir: &StoreDir,
     label: &str,
@@ -56,6 +62,15 @@ fn push_root_line(
 
 /// The full path of a store path, on a line.
 ///
+/// ```rust
+/// use paths::{StoreDir, StorePath};
+///
+/// let dir = StoreDir::parse(alloc, "/nix/store")?;
+/// let path = StorePath::from_base(alloc, "xv2iccirbrvklck36f1g7vldn5v58vck-myfile")?;
+/// let line = report::path_line(alloc, &dir, &path)?;
+/// assert_eq!(rt; line.as_str(), "/nix/store/xv2iccirbrvklck36f1g7vldn5v58vck-myfile\n");
+/// ```
+///
 /// # Errors
 ///
 /// Memory was refused.
@@ -68,6 +83,15 @@ pub fn path_line(alloc: Global, dir: &StoreDir, path: &StorePath) -> Result<Stri
 }
 
 /// A full path a line.
+///
+/// ```rust
+/// use paths::{StoreDir, StorePath};
+///
+/// let dir = StoreDir::parse(alloc, "/nix/store")?;
+/// let path = StorePath::from_base(alloc, "xv2iccirbrvklck36f1g7vldn5v58vck-myfile")?;
+/// let text = report::paths_text(alloc, &dir, &[path])?;
+/// assert_eq!(rt; text.as_str(), "/nix/store/xv2iccirbrvklck36f1g7vldn5v58vck-myfile\n");
+/// ```
 ///
 /// # Errors
 ///
@@ -83,6 +107,16 @@ pub fn paths_text(alloc: Global, dir: &StoreDir, paths: &[StorePath]) -> Result<
 }
 
 /// A label and the full path of a target a line.
+///
+/// ```rust
+/// use paths::{StoreDir, StorePath};
+///
+/// let dir = StoreDir::parse(alloc, "/nix/store")?;
+/// let target = StorePath::from_base(alloc, "00000000000000000000000000000000-p")?;
+/// let root = (String::from_str(alloc, "{censored}")?, target);
+/// let text = report::roots_text(alloc, &dir, &[root])?;
+/// assert_eq!(rt; text.as_str(), "{censored} /nix/store/00000000000000000000000000000000-p\n");
+/// ```
 ///
 /// # Errors
 ///

@@ -81,6 +81,12 @@ fn known_line(number: usize) -> &'static str
 /// Appends the line of the refusal of a number, 1 to 42. Of 19, `bad-config`, it is the number and the name alone, since a
 /// key word and a line feed follow.
 ///
+/// ```rust
+/// let mut text = Vec::new(alloc);
+/// report::refusal_text(39, &mut text)?;
+/// assert_eq!(rt; text.as_slice(), b"refused: 39 no-route\n".as_slice());
+/// ```
+///
 /// # Errors
 ///
 /// Memory was refused. Nothing is appended.

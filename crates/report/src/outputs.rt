@@ -1,12 +1,18 @@
 //! Texts, given to writers.
-ghost use Rattle.report.specs.Outputs.{Prints};
+ghost use Rattle.report.specs.Outputs.{Prints, change_of};
 
 use std::io::Write;
 use streams::send_bytes;
 
 /// Gives a text to a writer, and returns `status`, or 1 where the writer fails: it then has a prefix of the text.
+///
+/// ```rust
+/// let mut output = Vec::new(alloc);
+/// assert_eq!(rt; report::print("done\n", 0, &mut output), 0);
+/// assert_eq!(rt; output.as_slice(), b"done\n".as_slice());
+/// ```
 pub fn print<W: Write>(text: &str, status: u8, writer: &mut W) -> u8
-    ensures { Prints text.now status (W.contents writer.old) (W.contents writer.new) result }
+    ensures { Prints text.now status (record { writer = change_of W.contents writer.old writer.new; status = result }) }
 {
     match send_bytes(writer, text.as_bytes()) {
         Ok(()) => status,

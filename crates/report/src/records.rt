@@ -146,6 +146,19 @@ fn push_ca(alloc: Global, text: &mut String, ca: Option<Ca>) -> Result<(), Alloc
 
 /// The record of an object as the text that binary caches give.
 ///
+/// ```rust
+/// use paths::{Ca, StoreDir, StorePath};
+/// use report::Info;
+/// use sha2::{Digest, Sha256};
+///
+/// let dir = StoreDir::parse(alloc, "/nix/store")?;
+/// let path = StorePath::from_base(alloc, "a0d1zlpv81nsfbam8ay3i7snrc0sgsvr-myfile")?;
+/// let (hash, ca) = (Sha256::digest("abc"), Some(Ca::of_text(b"abc")));
+/// let info = Info { path: &path, hash: &hash, size: 128, references: &[], deriver: None, ca };
+/// let text = report::narinfo(alloc, &dir, &info)?;
+/// assert!(rt; text.as_str().starts_with("StorePath: /nix/store/a0d1zlpv81nsfbam8ay3i7snrc0sgsvr-myfile\n"));
+/// ```
+///
 /// # Errors
 ///
 /// Memory was refused.

@@ -10,6 +10,10 @@ use policy::KeyWord;
 use tables_sql::failure::Failure;
 
 /// The line of a refusal: its number and its name, for a configuration the key word, and a line feed.
+///
+/// ```rust
+/// assert_eq!(rt; report::refusal_line(report::Refusal::NotValid), "refused: 23 not-valid\n");
+/// ```
 pub fn refusal_line(refusal: Refusal) -> &'static str
     ensures { result.now ≡ spec.refusal_line refusal }
 {
@@ -75,6 +79,12 @@ fn bad_config_line(word: KeyWord) -> &'static str
 }
 
 /// The line of a failure of a store, with its line feed.
+///
+/// ```rust
+/// use store::Failed;
+///
+/// assert_eq!(rt; report::failure_line(Failed::Disk), "failed: disk\n");
+/// ```
 pub fn failure_line(failure: Failure) -> &'static str
     ensures { result.now ≡ failure_text (failure_view failure) }
 {

@@ -13,6 +13,17 @@ use streams::{Pieces, in_pieces};
 
 /// Appends the whole text of a reply, as a writer or a body has it.
 ///
+/// ```rust
+/// use paths::StoreDir;
+/// use policy::Rule;
+/// use store::Reply;
+///
+/// let dir = StoreDir::parse(alloc, "/nix/store")?;
+/// let mut text = Vec::new(alloc);
+/// report::reply_text(alloc, &dir, &Reply::Denied(Rule::Connect, None), &mut text)?;
+/// assert_eq!(rt; text.as_slice(), b"denied: connect\n".as_slice());
+/// ```
+///
 /// # Errors
 ///
 /// Memory was refused. Nothing is appended.
@@ -40,6 +51,15 @@ pub fn reply_text(
 }
 
 /// The text of a reply in pieces. An archive isn't copied.
+///
+/// ```rust
+/// use paths::StoreDir;
+/// use store::{Answer, Reply};
+///
+/// let dir = StoreDir::parse(alloc, "/nix/store")?;
+/// let text = report::reply_pieces(alloc, &dir, Reply::Done(Answer::Freed(Vec::new(alloc), 0)))?;
+/// assert_eq!(rt; text.piece(0), b"freed 0 paths 0 bytes\n".as_slice());
+/// ```
 ///
 /// # Errors
 ///

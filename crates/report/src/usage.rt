@@ -63,6 +63,13 @@ fn push_usage(
 
 /// The usage report on the live, the dead and all paths: of each how many they are, and how many bytes their archives have.
 ///
+/// ```rust
+/// let text = report::usage_text(alloc, (1, 112), (1, 208), (2, 320))?;
+/// let mut lines = text.as_str().split('\n');
+/// assert_eq!(rt; lines.next(), Some("class       paths            bytes"));
+/// assert_eq!(rt; lines.next(), Some("live            1              112"));
+/// ```
+///
 /// # Errors
 ///
 /// Memory was refused.

@@ -13,19 +13,20 @@ use Rattle.policy.specs.Rules.{first_broken}
 use Rattle.model.specs.World.{Pair, World}
 use Rattle.model.specs.Request.{Request}
 use Rattle.model.specs.Liveness.{lives}
-use Rattle.model.specs.Reply.{Failure, Reply, done, denied, refused, failed}
+use Rattle.model.specs.Reply.{Reply, done, denied, refused, failed, memory, size, disk}
 use Rattle.model.specs.Verdict.{operation_of, named_in, shown, verdict}
 use Rattle.model.specs.Step.{IsNoneOrLive}
 use Rattle.model.specs.Effects.{effect}
-use Rattle.tables.specs.Kept.{Kept, Tells}
+use Rattle.tables.specs.Kept.{Kept, HasWorld}
 use Rattle.store_types.specs.declared.replies.Answer.{Answer}
 use Rattle.store_types.specs.declared.replies.Stop.{Stop}
 use Rattle.store_types.specs.declared.replies.Stop.TheVariants.{Refused, Failed}
 use Rattle.model.specs.Reply.{IsDone}
-use Rattle.store.specs.Standing.{IsStill}
+use Rattle.store.specs.View.{IsStill}
+use Rattle.store_steps.specs.Causes.{HasCause}
 use Rattle.store_steps.specs.Disk.{StepOver}
 use Rattle.store.specs.Forbidden.{IsForbidden}
-use Rattle.store_steps.specs.Leaving.{LeavesDone, LeavesPassed}
+use Rattle.store_steps.specs.Crashes.{LeavesDone, LeavesPassed}
 use Rattle.store_steps.specs.Meets.{MeetsOver, IsMet, IsAnswered, IsRefused, reply_to}
 use Rattle.store_steps.proofs.Untouched.{survives_as}
 use Rattle.store.proofs.Verdicts.{denied_by, denied_live, none_or_live, permitted}
@@ -52,7 +53,7 @@ over_disk : (is_clean : Type 0) (s : Settings) (w : World) (c : Caller) (q : Req
 over_disk is_clean s w c q (done a) f = absurd f
 over_disk is_clean s w c q (denied rule root) f = f
 over_disk is_clean s w c q (refused r) f = absurd f
-over_disk is_clean s w c q (failed x) f = f
+over_disk is_clean s w c q (failed x) f = f.1
 
 module _ {S : Type 0} (g : Ghosts S) (s : Settings) (c : Caller) (q : Request) where
   -- a denial
@@ -67,17 +68,26 @@ module _ {S : Type 0} (g : Ghosts S) (s : Settings) (c : Caller) (q : Request) w
   forbidden_living root w allowed living = (denied_live s w c q allowed living.0, sym living.1, refl)
 
   -- whether a path lives couldn't be told
-  pub forbidden_failing : (f : Failure) → first_broken (class_of s c) c (operation_of q) ≡ None → (w : World) → IsForbidden s w c q (Some (failed f))
-  forbidden_failing f allowed w = (none_or_live s w c q allowed, refl)
+  pub forbidden_failing : first_broken (class_of s c) c (operation_of q) ≡ None → (w : World) → IsForbidden s w c q (Some (failed memory))
+  forbidden_failing allowed w = (refl, (none_or_live s w c q allowed, refl))
+
+  -- what is forbidden fails for memory alone
+  pub cause_forbidden : (k : Kept S) (reply : Reply) (w : World) → IsForbidden s w c q (Some reply) → HasCause g q reply k k
+  cause_forbidden k (done a) w f = absurd f
+  cause_forbidden k (denied rule root) w f = tt
+  cause_forbidden k (refused r) w f = tt
+  cause_forbidden k (failed memory) w f = tt
+  cause_forbidden k (failed size) w f = let is : size ≡ memory = f.0 in let no : ⊥ = cc in absurd no
+  cause_forbidden k (failed disk) w f = let is : disk ≡ memory = f.0 in let no : ⊥ = cc in absurd no
 
   -- what is forbidden is a step
-  pub step_forbidden : (reply : Reply) (k : Kept S) → ((w : World) → Tells g k w → IsForbidden s w c q (Some reply)) → (w : World) → Tells g k w
-      → (next : World) × StepOver (HasCleanDisk (state g k.connection)) s w c q reply next × Tells g k next
+  pub step_forbidden : (reply : Reply) (k : Kept S) → ((w : World) → HasWorld g k w → IsForbidden s w c q (Some reply)) → (w : World) → HasWorld g k w
+      → (next : World) × StepOver (HasCleanDisk (state g k.connection)) s w c q reply next × HasWorld g k next
   step_forbidden reply k forbidden w t = (w, over_disk (HasCleanDisk (state g k.connection)) s w c q reply (forbidden w t), t)
 
   -- what no rule forbids
-  pub step_met : (r : Result Answer Stop) (reply : Reply) (old new : Kept S) → ((w : World) → Tells g old w → IsForbidden s w c q None) → reply ≡ reply_to r → IsMet g s c q r old new
-      → (w : World) → Tells g old w → (next : World) × StepOver (HasCleanDisk (state g new.connection)) s w c q reply next × Tells g new next
+  pub step_met : (r : Result Answer Stop) (reply : Reply) (old new : Kept S) → ((w : World) → HasWorld g old w → IsForbidden s w c q None) → reply ≡ reply_to r → IsMet g s c q r old new
+      → (w : World) → HasWorld g old w → (next : World) × StepOver (HasCleanDisk (state g new.connection)) s w c q reply next × HasWorld g new next
   step_met r reply old new allowed is met w t =
       let a = allowed w t in
       let m = met.world w t in
@@ -85,8 +95,8 @@ module _ {S : Type 0} (g : Ghosts S) (s : Settings) (c : Caller) (q : Request) w
       (m.0, subst (λ (x : Reply). StepOver is_clean s w c q x m.0) (sym is) (step_of is_clean s w c q r m.0 (permitted s w c q a.0 a.1) m.1), m.2)
 
   -- a crash leaves what is done of what no rule forbids
-  pub survives_met : (r : Result Answer Stop) (old new : Kept S) → ((w : World) → Tells g old w → IsForbidden s w c q None) → IsMet g s c q r old new
-      → (w : World) → Tells g old w → Survives (state g old.connection) (state g new.connection) (λ db. LeavesDone old.dir (state g old.connection).now db s w c q)
+  pub survives_met : (r : Result Answer Stop) (old new : Kept S) → ((w : World) → HasWorld g old w → IsForbidden s w c q None) → IsMet g s c q r old new
+      → (w : World) → HasWorld g old w → Survives (state g old.connection) (state g new.connection) (λ db. LeavesDone old.dir (state g old.connection).now db s w c q)
   survives_met r old new allowed met w t =
       let a = allowed w t in
       survives_as (state g old.connection) (state g new.connection) (λ db. LeavesPassed old.dir (state g old.connection).now db s w q) (λ db. LeavesDone old.dir (state g old.connection).now db s w c q)

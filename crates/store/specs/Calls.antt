@@ -7,23 +7,28 @@ use Rattle.policy.specs.Caller.{Caller}
 use Rattle.model.specs.World.{World}
 use Rattle.model.specs.Request.{Request}
 use Rattle.model.specs.Reply.{Reply}
-use Rattle.tables.specs.Kept.{Tells}
+use Rattle.tables.specs.Kept.{HasWorld}
+use Rattle.store_steps.specs.Causes.{HasCause}
 use Rattle.store_steps.specs.Disk.{StepOver}
-use Rattle.store_steps.specs.Lasting.{Lasts}
-use Rattle.store_steps.specs.Leaving.{LeavesDone}
+use Rattle.store_steps.specs.Durability.{LeavesOthers, StaysDurable}
+use Rattle.store_steps.specs.Crashes.{LeavesDone}
 use Rattle.model.specs.Reply.{IsDone}
-use Rattle.store.specs.Standing.{Standing, IsStill}
+use Rattle.store.specs.View.{StoreView, IsStill}
 
 module _ {S : Type 0} (g : Ghosts S) where
   -- a caller's request had this reply
-  pub record Calls (c : Caller) (q : Request) (reply : Reply) (old new : Standing S) : Type 0 where
+  pub record Calls (c : Caller) (q : Request) (reply : Reply) (old new : StoreView S) : Type 0 where
     pub settings : new.settings ≡ old.settings
     -- of each world of the tables before, a step to one of the tables now; an answer from the disk is right if that is clean
-    pub step : (w : World) → Tells g old.tables w → (next : World) × StepOver (HasCleanDisk (state g new.tables.connection)) old.settings w c q reply next × Tells g new.tables next
+    pub step : (w : World) → HasWorld g old.tables w → (next : World) × StepOver (HasCleanDisk (state g new.tables.connection)) old.settings w c q reply next × HasWorld g new.tables next
+    -- a failure has its cause
+    pub cause : (w : World) → HasWorld g old.tables w → HasCause g q reply old.tables new.tables
     -- a denial or a refusal leaves the store as it was
     pub still : IsStill reply → new ≡ old
+    -- what is done leaves what other programs have in the database
+    pub others : IsDone reply → LeavesOthers g old.tables new.tables
     -- what is done outlives a crash
-    pub lasts : IsDone reply → Lasts g old.tables new.tables
+    pub lasts : IsDone reply → StaysDurable g old.tables new.tables
     -- at any exit a crash leaves what it could leave before, or the tables of the done case, if there is one
-    pub survives : (w : World) → Tells g old.tables w → Survives (state g old.tables.connection) (state g new.tables.connection)
+    pub survives : (w : World) → HasWorld g old.tables w → Survives (state g old.tables.connection) (state g new.tables.connection)
         (λ db. LeavesDone old.tables.dir (state g old.tables.connection).now db old.settings w c q)

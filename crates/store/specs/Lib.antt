@@ -1,4 +1,5 @@
 pub mod Calls
 pub mod Forbidden
 pub mod Laws
-pub mod Standing
+pub mod Listing
+pub mod View

@@ -1,12 +1,15 @@
 //! What becomes of a request that no rule forbids.
 
-ghost use Rattle.std.specs.Prelude.{◌≡◌, false};
+ghost use Rattle.std.specs.Prelude.{◌≡◌, Err, IsTrue, false};
 ghost use Rattle.std.specs.List.{list_any};
 ghost use Rattle.model.specs.World.{World};
 ghost use Rattle.model.specs.Liveness.{lives};
 ghost use Rattle.model.specs.Verdict.{named_in};
-ghost use Rattle.tables.specs.Kept.{Tells};
+ghost use Rattle.tables.specs.Kept.{HasWorld};
+ghost use Rattle.store_types.specs.Spent.{is_spent};
 ghost use Rattle.store_types.specs.View.{request_view, reply_view};
+ghost use Rattle.store_types.specs.declared.replies.Stop.TheVariants.{Failed as failed};
+ghost use Rattle.tables_sql.specs.declared.failure.Failure.TheVariants.{Memory as memory};
 ghost use Rattle.store_steps.specs.Meets.{IsMet, reply_to};
 
 use crate::{disk, living, reading, root_listing};
@@ -21,7 +24,7 @@ use store_removal::deleting::delete;
 use store_roots::permanent::{drop_permanent, set_permanent};
 use store_roots::profiles::{delete_generation, rollback, set_profile, switch};
 use store_roots::runtime::replace_runtime;
-use store_roots::sessions::{add_temp, end_session};
+use store_roots::temporary::{add_temp, end_session};
 use store_roots::user_roots::{drop_user_root, set_user_root};
 use store_types::{Answer, Imported, Reply, Request, Stop};
 use tables::Tables;
@@ -36,8 +39,10 @@ pub(crate) fn act<S: Alter>(
 ) -> Result<Answer, Stop>
     requires dir { tables.old.dir ≡ config.now.store_dir }
     // What is deleted by name is dead.
-    requires dead { (w : World) → Tells S.Store tables.old w → list_any (lives config.now w) (named_in (request_view request)) ≡ false }
-    ensures { IsMet S.Store config.now caller.now (request_view request) result tables.old tables.new }
+    requires dead { (w : World) → HasWorld S.Store tables.old w
+        → list_any (lives config.now w) (named_in (request_view request)) ≡ false }
+    ensures met { IsMet S.Store config.now caller.now (request_view request) result tables.old tables.new }
+    ensures spent { IsTrue (is_spent request) → (result ≡ Err (failed memory)) × (tables.new ≡ tables.old) }
 {
     match request {
         Request::AddText {
@@ -45,17 +50,17 @@ pub(crate) fn act<S: Alter>(
             refs,
             contents: text,
         } => add_text(alloc, config, tables, name, refs, text),
-        Request::Info(path) => reading::info(alloc, tables.index(), path),
+        Request::Info(path) => reading::info(alloc, tables.outline(), path),
         Request::Nar(path) => disk::archive(tables, path),
         Request::Ls(path) => disk::listing(alloc, tables, path),
-        Request::List => reading::list(alloc, tables.index()),
-        Request::Live => living::list_live(alloc, config, tables.index()),
-        Request::Dead => living::list_dead(alloc, config, tables.index()),
-        Request::ListRoots => root_listing::list_roots(alloc, config, caller, tables.index()),
+        Request::List => reading::list(alloc, tables.outline()),
+        Request::Live => living::list_live(alloc, config, tables.outline()),
+        Request::Dead => living::list_dead(alloc, config, tables.outline()),
+        Request::ListRoots => root_listing::list_roots(alloc, config, caller, tables.outline()),
         Request::RootsOf(path) => {
-            root_listing::list_roots_of(alloc, config, caller, tables.index(), path)
+            root_listing::list_roots_of(alloc, config, caller, tables.outline(), path)
         }
-        Request::Report => living::report(alloc, config, tables.index()),
+        Request::Report => living::report(alloc, config, tables.outline()),
         Request::SetPermanent { name, path } => set_permanent(tables, name, path),
         Request::DropPermanent { name } => drop_permanent(tables, name),
         Request::SetUserRoot {

@@ -1,6 +1,6 @@
 //! The store: its tables, its settings, and the one way of a call.
 
-ghost use Rattle.std.specs.Prelude.{◌≡◌, ◌≤◌, false, [], IfOk, option_map, vec_capacity, vec_len};
+ghost use Rattle.std.specs.Prelude.{◌≡◌, ◌≤◌, Err, IfOk, IsTrue, [], false, option_map, vec_capacity, vec_len};
 ghost use Rattle.std.specs.List.{list_any};
 ghost use Rattle.sqlite.specs.State.{HasCleanDisk, Survives};
 ghost use Rattle.sqlite.specs.Held.{state};
@@ -8,14 +8,19 @@ ghost use Rattle.model.specs.World.{World};
 ghost use Rattle.model.specs.Reply.{IsDone};
 ghost use Rattle.model.specs.Liveness.{lives};
 ghost use Rattle.model.specs.Verdict.{named_in};
-ghost use Rattle.tables.specs.Kept.{Tells};
+ghost use Rattle.tables.specs.Kept.{HasWorld};
+ghost use Rattle.store_removal.specs.Found.{deletes};
+ghost use Rattle.store_steps.specs.Causes.{HasCause};
 ghost use Rattle.store_steps.specs.Disk.{StepOver};
-ghost use Rattle.store.specs.Forbidden.{IsForbidden};
-ghost use Rattle.store_steps.specs.Lasting.{Lasts};
-ghost use Rattle.store_steps.specs.Leaving.{LeavesDone};
+ghost use Rattle.store.specs.Forbidden.{IsForbidden, denial_by_rules};
+ghost use Rattle.store_steps.specs.Durability.{LeavesOthers, StaysDurable};
+ghost use Rattle.store_steps.specs.Crashes.{LeavesDone};
 ghost use Rattle.store_steps.specs.Meets.{IsMet};
+ghost use Rattle.store_types.specs.Spent.{is_spent, spent_reply};
 ghost use Rattle.store_types.specs.View.{request_view, reply_view};
-ghost use Rattle.store.specs.Standing.{IsStill};
+ghost use Rattle.store_types.specs.declared.replies.Stop.TheVariants.{Failed as failed};
+ghost use Rattle.tables_sql.specs.declared.failure.Failure.TheVariants.{Memory as memory};
+ghost use Rattle.store.specs.View.{IsStill};
 
 use crate::acting::{act, reply};
 use policy::{Caller, Config, Rule, class, decide};
@@ -36,11 +41,11 @@ pub struct Store<S: Alter> {
 
 impl<S: Alter> Model for Store<S> {
     ghost use Rattle.std.specs.Prelude.{◌≡◌};
-    ghost use Rattle.store.specs.Standing.{Standing, standing_code};
+    ghost use Rattle.store.specs.View.{StoreView, store_view_code};
 
-    ghost Value = { Standing S };
+    ghost Value = { StoreView S };
 
-    ghost coded = { standing_code S.code };
+    ghost coded = { store_view_code S.code };
 
     ghost view = { λ t. record { tables = t.tables; settings = t.config } };
 
@@ -49,6 +54,19 @@ impl<S: Alter> Model for Store<S> {
 
 impl<S: Alter> Store<S> {
     /// The store of these tables, under these settings. They are of one store directory.
+    ///
+    /// ```rust
+    /// use policy::{Config, keep_outputs, store_dir};
+    /// use store::Store;
+    /// use tables::Tables;
+    ///
+    /// let config = Config::from_toml(alloc, b"keep-outputs = true\n")?;
+    /// let tables = Tables::open_in_memory(alloc, store_dir(&config))?;
+    /// let store = Store::new(alloc, config, tables);
+    /// let keeps = keep_outputs(store.config());
+    /// drop(store.release().release());
+    /// assert!(rt; keeps);
+    /// ```
     pub fn new(alloc: Global, config: Config, tables: Tables<S>) -> Store<S>
         requires { tables.dir ≡ config.store_dir }
         ensures { result ≡ record { tables = tables; settings = config } }
@@ -61,6 +79,10 @@ impl<S: Alter> Store<S> {
     }
 
     /// The settings of the store.
+    ///
+    /// ```rust
+    /// assert_eq!(rt; store_dir(store.config()).as_str(), "/nix/store");
+    /// ```
     pub fn config(&self) -> &Config
         ensures { result.now ≡ self.now.settings }
     {
@@ -68,6 +90,17 @@ impl<S: Alter> Store<S> {
     }
 
     /// The tables of the store, which is given up.
+    ///
+    /// ```rust
+    /// use policy::{Config, store_dir};
+    /// use store::Store;
+    /// use tables::Tables;
+    ///
+    /// let config = Config::from_toml(alloc, b"")?;
+    /// let tables = Tables::open_in_memory(alloc, store_dir(&config))?;
+    /// let conn = Store::new(alloc, config, tables).release().release();
+    /// assert!(rt; conn.is_autocommit());
+    /// ```
     pub fn release(self) -> Tables<S>
         ensures { result ≡ self.tables }
     {
@@ -91,7 +124,11 @@ impl<S: Alter> Store<S> {
     /// The reply to a request that a rule forbids, the first that does, or for whose denial memory was refused. None where
     /// no rule forbids it.
     fn forbidden(&self, caller: &Caller, request: &Request) -> Option<Reply>
-        ensures { (w : World) → Tells S.Store self.now.tables w → IsForbidden self.now.settings w caller.now (request_view request.now) (option_map reply_view result) }
+        ensures told { (w : World) → HasWorld S.Store self.now.tables w
+            → IsForbidden self.now.settings w caller.now (request_view request.now) (option_map reply_view result) }
+        // What deletes nothing by name is forbidden by the rules alone.
+        ensures ruled { deletes (request_view request.now) ≡ false
+            → option_map reply_view result ≡ denial_by_rules self.now.settings caller.now (request_view request.now) }
     {
         if let Some(rule) = decide(class(&self.config, caller), caller, &operation(request)) {
             return Some(Reply::Denied(rule, None));
@@ -100,7 +137,7 @@ impl<S: Alter> Store<S> {
             self.alloc,
             &self.config,
             caller,
-            self.tables.index(),
+            self.tables.outline(),
             request,
         ) {
             Ok(None) => None,
@@ -111,9 +148,13 @@ impl<S: Alter> Store<S> {
 
     /// Does what no rule forbids.
     fn act(&mut self, caller: &Caller, request: Request) -> Result<Answer, Stop>
-        requires { (w : World) → Tells S.Store self.old.tables w → list_any (lives self.old.settings w) (named_in (request_view request)) ≡ false }
+        requires { (w : World) → HasWorld S.Store self.old.tables w
+            → list_any (lives self.old.settings w) (named_in (request_view request)) ≡ false }
         ensures settings { self.new.settings ≡ self.old.settings }
-        ensures met { IsMet S.Store self.old.settings caller.now (request_view request) result self.old.tables self.new.tables }
+        ensures met { IsMet S.Store self.old.settings caller.now (request_view request) result
+            self.old.tables self.new.tables }
+        ensures spent { IsTrue (is_spent request)
+            → (result ≡ Err (failed memory)) × (self.new.tables ≡ self.old.tables) }
     {
         act(self.alloc, &self.config, caller, &mut self.tables, request)
     }
@@ -121,17 +162,42 @@ impl<S: Alter> Store<S> {
     /// Does what a caller asks, or says why not: the first rule that forbids it, or else the first of its tests that
     /// fails. What isn't done changes nothing, and neither a denial nor a refusal touches the tables. Only a call that no
     /// rule but the one on live paths forbids fails.
+    ///
+    /// ```rust
+    /// use paths::Name;
+    /// use store::{Answer, Reply, Request};
+    ///
+    /// let name = Name::parse(alloc, "myfile")?;
+    /// let contents = Vec::from_slice(alloc, b"mycontent\n")?;
+    /// let reply = store.call(caller, Request::AddText { name, refs: Vec::new(alloc), contents });
+    /// let Reply::Done(Answer::Path(path)) = reply else {
+    ///     return Err(Fail::new("not added"));
+    /// };
+    /// assert_eq!(rt; path.as_str(), "a0d1zlpv81nsfbam8ay3i7snrc0sgsvr-myfile");
+    /// ```
     pub fn call(&mut self, caller: &Caller, request: Request) -> Reply
         ensures settings { self.new.settings ≡ self.old.settings }
         // Of each world that the tables told, a step to one that they tell now; an answer from the disk is right if that is clean.
-        ensures step { (w : World) → Tells S.Store self.old.tables w
-            → (next : World) × StepOver (HasCleanDisk (state S.Store self.new.tables.connection)) self.old.settings w caller.now (request_view request) (reply_view result) next × Tells S.Store self.new.tables next }
+        ensures step { (w : World) → HasWorld S.Store self.old.tables w → (next : World)
+            × StepOver (HasCleanDisk (state S.Store self.new.tables.connection))
+            self.old.settings w caller.now (request_view request) (reply_view result) next
+            × HasWorld S.Store self.new.tables next }
+        // A request whose archive was lost to memory is denied by a rule, or fails for memory ahead of its tests.
+        ensures spent { IsTrue (is_spent request)
+            → (reply_view result ≡ spent_reply self.old.settings caller.now (request_view request)) × (self.new ≡ self.old) }
+        // A failure is out of memory; or the request touches the disk, and over a clean one a failed change has a reason.
+        ensures cause { (w : World) → HasWorld S.Store self.old.tables w
+            → HasCause S.Store (request_view request) (reply_view result) self.old.tables self.new.tables }
         ensures still { IsStill (reply_view result) → self.new ≡ self.old }
-        ensures lasts { IsDone (reply_view result) → Lasts S.Store self.old.tables self.new.tables }
+        // What other programs have in the database is as it was.
+        ensures others { IsDone (reply_view result) → LeavesOthers S.Store self.old.tables self.new.tables }
+        ensures lasts { IsDone (reply_view result) → StaysDurable S.Store self.old.tables self.new.tables }
         // At any exit a crash leaves what it could leave before, or the tables of the done case; where a rule denies the request
         // or a test of it fails there is none.
-        ensures survives { (w : World) → Tells S.Store self.old.tables w → Survives (state S.Store self.old.tables.connection) (state S.Store self.new.tables.connection)
-            (λ db. LeavesDone self.old.tables.dir (state S.Store self.old.tables.connection).now db self.old.settings w caller.now (request_view request)) }
+        ensures survives { (w : World) → HasWorld S.Store self.old.tables w
+            → Survives (state S.Store self.old.tables.connection) (state S.Store self.new.tables.connection)
+            (λ db. LeavesDone self.old.tables.dir (state S.Store self.old.tables.connection).now db
+            self.old.settings w caller.now (request_view request)) }
     {
         match self.forbidden(caller, &request) {
             Some(forbidden) => forbidden,

@@ -1,6 +1,6 @@
 //! What is read of the disk: archives, and their listings.
 
-ghost use Rattle.std.specs.Prelude.{◌≡◌, IfOk, string_bytes};
+ghost use Rattle.std.specs.Prelude.{◌≡◌, IfErr, IfOk, string_bytes};
 ghost use Rattle.nar.specs.Outcome.{outcome_of};
 ghost use Rattle.policy.specs.Settings.{Settings};
 ghost use Rattle.model.specs.World.{World};
@@ -11,33 +11,35 @@ ghost use Rattle.store_types.specs.Tested.{Tested};
 ghost use Rattle.sqlite.specs.State.{HasCleanDisk};
 ghost use Rattle.sqlite.specs.Held.{state};
 ghost use Rattle.policy.specs.Caller.{Caller};
-ghost use Rattle.tables.specs.Kept.{Tells};
+ghost use Rattle.tables.specs.Kept.{HasWorld};
 ghost use Rattle.store_steps.specs.Meets.{IsMet, OnlyReads};
 ghost use Rattle.model.specs.Request as asked;
 ghost use Rattle.std.specs.FinMap as finite;
+ghost use Rattle.store.specs.Listing.{FailsToList};
 
 use nar::NarError;
 use paths::StorePath;
 use sqlite::Alter;
 use std::alloc::Global;
-use store_steps::there::is_valid;
-use store_types::{Answer, Stop};
+use store_steps::validity::is_valid;
+use store_types::{Answer, Refusal, Stop};
 use streams::Pieces;
 use tables::Tables;
-use tables_outline::Index;
+use tables_outline::Outline;
 use tables_sql::failure::Failure;
 
 /// Tests a path whose archive is to be read.
-pub(crate) fn may_read(index: &Index, path: &StorePath) -> Result<(), Stop>
-    ensures { (s : Settings) (w : World) → outline_of w ≡ index.now → Tested result (refusal s w (asked.nar path.now)) }
+pub(crate) fn may_read(outline: &Outline, path: &StorePath) -> Result<(), Refusal>
+    ensures { (s : Settings) (w : World) → outline_of w ≡ outline.now → Tested result (refusal s w (asked.nar path.now)) }
 {
-    is_valid(index, path)?;
+    is_valid(outline, path)?;
     Ok(())
 }
 
 /// The listing of an archive. What is none was read of a disk that gave back something else than it was given.
 pub(crate) fn list(alloc: Global, nar: &Pieces) -> Result<String, Failure>
-    ensures { IfOk result (λ text. string_bytes text ≡ listing_at (outcome_of nar.now)) }
+    ensures listing { IfOk result (λ text. string_bytes text ≡ listing_at (outcome_of nar.now)) }
+    ensures failed { IfErr result (λ failure. FailsToList failure (outcome_of nar.now)) }
 {
     let mut text = String::new(alloc);
     match intake::list(alloc, nar, &mut text) {
@@ -50,7 +52,8 @@ pub(crate) fn list(alloc: Global, nar: &Pieces) -> Result<String, Failure>
 /// The archive of a valid path. A disk that gives back what it was given has one.
 fn read<S: Alter>(tables: &mut Tables<S>, path: &StorePath) -> Result<Pieces, Failure>
     ensures reads { OnlyReads S.Store tables.old tables.new }
-    ensures archive { HasCleanDisk (state S.Store tables.new.connection) → IfOk result (λ nar. (w : World) → Tells S.Store tables.old w → nar ≡ archive_at (finite.get w.objects path.now)) }
+    ensures archive { HasCleanDisk (state S.Store tables.new.connection) → IfOk result (λ nar. (w : World)
+        → HasWorld S.Store tables.old w → nar ≡ archive_at (finite.get w.objects path.now)) }
 {
     match tables.archive(path) {
         Ok(Some(nar)) => Ok(nar),
@@ -63,12 +66,12 @@ fn read<S: Alter>(tables: &mut Tables<S>, path: &StorePath) -> Result<Pieces, Fa
 pub(crate) fn archive<S: Alter>(tables: &mut Tables<S>, path: StorePath) -> Result<Answer, Stop>
     ensures { (s : Settings) (c : Caller) → IsMet S.Store s c (asked.nar path) result tables.old tables.new }
 {
-    match may_read(tables.index(), &path) {
+    match may_read(tables.outline(), &path) {
         Ok(()) => match read(tables, &path) {
             Ok(nar) => Ok(Answer::Archive(nar)),
             Err(failure) => Err(Stop::Failed(failure)),
         },
-        Err(stop) => Err(stop),
+        Err(refusal) => Err(Stop::Refused(refusal)),
     }
 }
 
@@ -78,7 +81,8 @@ fn read_listing<S: Alter>(
     path: &StorePath,
 ) -> Result<String, Failure>
     ensures reads { OnlyReads S.Store tables.old tables.new }
-    ensures listing { HasCleanDisk (state S.Store tables.new.connection) → IfOk result (λ text. (w : World) → Tells S.Store tables.old w → string_bytes text ≡ listing_at (outcome_of (archive_at (finite.get w.objects path.now)))) }
+    ensures listing { HasCleanDisk (state S.Store tables.new.connection) → IfOk result (λ text. (w : World)
+        → HasWorld S.Store tables.old w → string_bytes text ≡ listing_at (outcome_of (archive_at (finite.get w.objects path.now)))) }
 {
     match read(tables, path) {
         Ok(nar) => list(alloc, &nar),
@@ -94,11 +98,11 @@ pub(crate) fn listing<S: Alter>(
 ) -> Result<Answer, Stop>
     ensures { (s : Settings) (c : Caller) → IsMet S.Store s c (asked.ls path) result tables.old tables.new }
 {
-    match may_read(tables.index(), &path) {
+    match may_read(tables.outline(), &path) {
         Ok(()) => match read_listing(alloc, tables, &path) {
             Ok(text) => Ok(Answer::Listing(text)),
             Err(failure) => Err(Stop::Failed(failure)),
         },
-        Err(stop) => Err(stop),
+        Err(refusal) => Err(Stop::Refused(refusal)),
     }
 }

@@ -15,39 +15,43 @@ use policy::Config;
 use std::alloc::Global;
 use store_removal::{bytes_in, dead_paths, live_and_dead, live_paths};
 use store_types::{Answer, Stop, Usage};
-use tables_outline::Index;
+use tables_outline::Outline;
 
 /// The paths that live.
-pub(crate) fn list_live(alloc: Global, config: &Config, index: &Index) -> Result<Answer, Stop>
-    ensures { (c : Caller) → Reads config.now c index.now asked.list_live result }
+pub(crate) fn list_live(alloc: Global, config: &Config, outline: &Outline) -> Result<Answer, Stop>
+    ensures { (c : Caller) → Reads config.now c outline.now asked.list_live result }
 {
-    let paths = live_paths(alloc, config, index)?;
+    let paths = live_paths(alloc, config, outline)?;
     Ok(Answer::Paths(paths))
 }
 
 /// The paths that are dead.
-pub(crate) fn list_dead(alloc: Global, config: &Config, index: &Index) -> Result<Answer, Stop>
-    ensures { (c : Caller) → Reads config.now c index.now asked.list_dead result }
+pub(crate) fn list_dead(alloc: Global, config: &Config, outline: &Outline) -> Result<Answer, Stop>
+    ensures { (c : Caller) → Reads config.now c outline.now asked.list_dead result }
 {
-    let paths = dead_paths(alloc, config, index)?;
+    let paths = dead_paths(alloc, config, outline)?;
     Ok(Answer::Paths(paths))
 }
 
 /// How many paths there are, and the bytes of their archives.
-fn usage(index: &Index, paths: &[StorePath]) -> Usage
-    ensures { (w : World) → outline_of w ≡ index.now → usage_view result ≡ liveness.usage_of w paths.now }
+fn usage(outline: &Outline, paths: &[StorePath]) -> Usage
+    ensures { (w : World) → outline_of w ≡ outline.now → usage_view result ≡ liveness.usage_of w paths.now }
 {
     Usage {
         paths: paths.len(),
-        bytes: bytes_in(index, paths),
+        bytes: bytes_in(outline, paths),
     }
 }
 
 /// How many paths live and are dead, and the bytes of their archives.
-pub(crate) fn report(alloc: Global, config: &Config, index: &Index) -> Result<Answer, Stop>
-    ensures { (c : Caller) → Reads config.now c index.now asked.report result }
+pub(crate) fn report(alloc: Global, config: &Config, outline: &Outline) -> Result<Answer, Stop>
+    ensures { (c : Caller) → Reads config.now c outline.now asked.report result }
 {
-    let (live, dead) = live_and_dead(alloc, config, index)?;
-    let all = all_paths(alloc, index)?;
-    Ok(Answer::Usage(usage(index, &live), usage(index, &dead), usage(index, &all)))
+    let (live, dead) = live_and_dead(alloc, config, outline)?;
+    let all = all_paths(alloc, outline)?;
+    Ok(Answer::Usage(
+        usage(outline, &live),
+        usage(outline, &dead),
+        usage(outline, &all),
+    ))
 }

@@ -1,4 +1,4 @@
-//! What is read of the index alone.
+//! What is read of the outline alone.
 
 ghost use Rattle.policy.specs.Settings.{Settings};
 ghost use Rattle.policy.specs.Caller.{Caller};
@@ -9,22 +9,22 @@ use crate::records::{all_paths, record};
 use paths::StorePath;
 use std::alloc::Global;
 use store_types::{Answer, Refusal, Stop};
-use tables_outline::Index;
+use tables_outline::Outline;
 
 /// The record of an object.
-pub(crate) fn info(alloc: Global, index: &Index, path: StorePath) -> Result<Answer, Stop>
-    ensures { (s : Settings) (c : Caller) → Reads s c index.now (asked.info path) result }
+pub(crate) fn info(alloc: Global, outline: &Outline, path: StorePath) -> Result<Answer, Stop>
+    ensures { (s : Settings) (c : Caller) → Reads s c outline.now (asked.info path) result }
 {
-    let Some(object) = index.object(&path) else {
+    let Some(object) = outline.object(&path) else {
         return Err(Stop::Refused(Refusal::NotValid));
     };
     Ok(Answer::Record(record(alloc, path, object)?))
 }
 
 /// All paths.
-pub(crate) fn list(alloc: Global, index: &Index) -> Result<Answer, Stop>
-    ensures { (s : Settings) (c : Caller) → Reads s c index.now asked.list result }
+pub(crate) fn list(alloc: Global, outline: &Outline) -> Result<Answer, Stop>
+    ensures { (s : Settings) (c : Caller) → Reads s c outline.now asked.list result }
 {
-    let paths = all_paths(alloc, index)?;
+    let paths = all_paths(alloc, outline)?;
     Ok(Answer::Paths(paths))
 }

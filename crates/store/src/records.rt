@@ -2,13 +2,13 @@
 
 ghost use Rattle.std.specs.Prelude.{◌≡◌, IfOk, option_map};
 ghost use Rattle.std.specs.FinMap as finite;
-ghost use Rattle.store_steps.specs.Told.{info_in};
+ghost use Rattle.store_steps.specs.Summaries.{info_in};
 ghost use Rattle.store_types.specs.View.{info_view};
 
 use paths::StorePath;
 use std::alloc::{AllocError, Global};
 use store_types::Info;
-use tables_outline::{Index, Summary};
+use tables_outline::{Outline, Summary};
 
 /// Paths, kept.
 fn kept(alloc: Global, paths: &[StorePath]) -> Result<Vec<StorePath>, AllocError>
@@ -46,10 +46,10 @@ pub(crate) fn record(alloc: Global, path: StorePath, object: &Summary) -> Result
 }
 
 /// All paths.
-pub(crate) fn all_paths(alloc: Global, index: &Index) -> Result<Vec<StorePath>, AllocError>
-    ensures { IfOk result (λ v. v.items ≡ finite.keys index.now.objects) }
+pub(crate) fn all_paths(alloc: Global, outline: &Outline) -> Result<Vec<StorePath>, AllocError>
+    ensures { IfOk result (λ v. v.items ≡ finite.keys outline.now.objects) }
 {
-    let objects = index.objects();
+    let objects = outline.objects();
     let mut paths = Vec::new(alloc);
     for path in objects.keys() {
         paths.push(path.clone()?)?;

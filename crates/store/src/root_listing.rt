@@ -8,18 +8,18 @@ use policy::{Caller, Config, class};
 use std::alloc::Global;
 use store_removal::{seen_roots, seen_roots_of};
 use store_types::{Answer, Refusal, Stop};
-use tables_outline::Index;
+use tables_outline::Outline;
 
 /// All roots.
 pub(crate) fn list_roots(
     alloc: Global,
     config: &Config,
     caller: &Caller,
-    index: &Index,
+    outline: &Outline,
 ) -> Result<Answer, Stop>
-    ensures { Reads config.now caller.now index.now asked.list_roots result }
+    ensures { Reads config.now caller.now outline.now asked.list_roots result }
 {
-    let roots = seen_roots(alloc, class(config, caller), index)?;
+    let roots = seen_roots(alloc, class(config, caller), outline)?;
     Ok(Answer::Roots(roots))
 }
 
@@ -28,14 +28,14 @@ pub(crate) fn list_roots_of(
     alloc: Global,
     config: &Config,
     caller: &Caller,
-    index: &Index,
+    outline: &Outline,
     path: StorePath,
 ) -> Result<Answer, Stop>
-    ensures { Reads config.now caller.now index.now (asked.list_roots_of path) result }
+    ensures { Reads config.now caller.now outline.now (asked.list_roots_of path) result }
 {
-    if !index.has(&path) {
+    if !outline.has(&path) {
         return Err(Stop::Refused(Refusal::NotValid));
     }
-    let roots = seen_roots_of(alloc, config, class(config, caller), index, &path)?;
+    let roots = seen_roots_of(alloc, config, class(config, caller), outline, &path)?;
     Ok(Answer::Roots(roots))
 }

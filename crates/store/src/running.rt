@@ -1,13 +1,17 @@
 //! Calls one after another.
 
-ghost use Rattle.std.specs.Prelude.{◌≡◌, IfOk, OnErr, map};
+ghost use Rattle.std.specs.Prelude.{◌≡◌, IfOk, List, OnErr, map};
 ghost use Rattle.sqlite.specs.State.{HasCleanDisk};
 ghost use Rattle.sqlite.specs.Held.{state};
 ghost use Rattle.paths.specs.Root.{Root};
 ghost use Rattle.model.specs.World.{World};
-ghost use Rattle.model.specs.Pinning.{Stands, StandsThroughout};
-ghost use Rattle.tables.specs.Kept.{Tells};
-ghost use Rattle.store_steps.specs.Disk.{RunOver};
+ghost use Rattle.model.specs.Labels.{AllFailAlike, DifferInLabels};
+ghost use Rattle.model.specs.Pinning.{KeepsReached, RemainsThroughout};
+ghost use Rattle.model.specs.Reply as replied;
+ghost use Rattle.model.specs.Step.{Run};
+ghost use Rattle.tables.specs.Kept.{HasWorld};
+ghost use Rattle.store_steps.specs.Disk.{LookAlikeOver, RunOver};
+ghost use Rattle.store_types.specs.Spent.{SpentAreAnswered};
 ghost use Rattle.store_types.specs.View.{call_view, reply_view};
 
 use crate::calling::Store;
@@ -19,18 +23,41 @@ use store_types::{Reply, Request};
 impl<S: Alter> Store<S> {
     /// Makes calls one after another, and gives their replies in order.
     ///
+    /// ```rust
+    /// use policy::Caller;
+    /// use store::{Reply, Request};
+    ///
+    /// let mut calls = Vec::new(alloc);
+    /// calls.push((Caller::new(alloc, "ann", None)?, Request::List))?;
+    /// calls.push((Caller::new(alloc, "bob", None)?, Request::Collect { ignore_liveness: true, max_freed: None }))?;
+    /// let replies = store.run(calls)?;
+    /// assert!(rt; matches!(replies.as_slice(), [Reply::Done(_), Reply::Denied(_, None)]));
+    /// ```
+    ///
     /// # Errors
     ///
     /// Memory was refused for the replies. Then no call was made.
     pub fn run(&mut self, calls: Vec<(Caller, Request)>) -> Result<Vec<Reply>, AllocError>
         ensures settings { self.new.settings ≡ self.old.settings }
         // From each world of the tables before a run to one of the tables now; answers from the disk are right if that is clean.
-        ensures runs { IfOk result (λ replies. (w : World) → Tells S.Store self.old.tables w
-            → (next : World) × RunOver (HasCleanDisk (state S.Store self.new.tables.connection)) self.old.settings w (map call_view calls.items) (map reply_view replies.items) next × Tells S.Store self.new.tables next) }
-        // Over a clean disk a root that is there throughout keeps what it reached at first, with the same objects.
-        ensures pins { HasCleanDisk (state S.Store self.new.tables.connection) → IfOk result (λ replies. (w : World) → Tells S.Store self.old.tables w
-            → (r : Root) → StandsThroughout self.old.settings w r (map call_view calls.items) (map reply_view replies.items)
-            → (next : World) × Tells S.Store self.new.tables next × Stands self.old.settings r w next) }
+        ensures runs { IfOk result (λ replies. (w : World) → HasWorld S.Store self.old.tables w → (next : World)
+            × RunOver (HasCleanDisk (state S.Store self.new.tables.connection))
+            self.old.settings w (map call_view calls.items) (map reply_view replies.items) next
+            × HasWorld S.Store self.new.tables next) }
+        // A root that exists before each call keeps what it reached at first, with the same objects.
+        ensures pins { IfOk result (λ replies. (w : World) → HasWorld S.Store self.old.tables w → (r : Root)
+            → RemainsThroughout self.old.settings w r (map call_view calls.items) (map reply_view replies.items)
+            → (next : World) × HasWorld S.Store self.new.tables next × KeepsReached self.old.settings r w next) }
+        // No reply to a caller who isn't trusted differs by a runtime label: each run of the same calls from a world that
+        // differs in these alone, with the same failures at the same places, has the same replies.
+        ensures hides { IfOk result (λ replies. (w v last : World) (others : List replied.Reply)
+            → HasWorld S.Store self.old.tables w → DifferInLabels w v
+            → Run self.old.settings v (map call_view calls.items) others last
+            → AllFailAlike (map reply_view replies.items) others
+            → LookAlikeOver (HasCleanDisk (state S.Store self.new.tables.connection))
+            self.old.settings (map call_view calls.items) (map reply_view replies.items) others) }
+        ensures spent { IfOk result (λ replies.
+            SpentAreAnswered self.old.settings calls.items (map reply_view replies.items)) }
         ensures failed { OnErr result (self.new ≡ self.old) }
     {
         let mut replies = self.room(calls.len())?;

@@ -4,14 +4,14 @@ use Rattle.sqlite_trees.specs.declared.store.Store.{Ghosts}
 use Rattle.policy.specs.Settings.{Settings}
 use Rattle.model.specs.World.{World}
 use Rattle.model.specs.Sound.{IsSound}
-use Rattle.tables_outline.specs.Outline.{Outline, outline_of}
+use Rattle.tables_outline.specs.Outline.{OutlineValue, outline_of}
 use Rattle.model.specs.Request.{Imported}
 use Rattle.model.specs.Soundness.{IsWellFormedImport}
 use Rattle.model.specs.Tests.{first_failing, import_tests}
 use Rattle.model.specs.Adds.{Added, added_import}
 use Rattle.model.specs.Effects.{with_object}
 use Rattle.model.proofs.SoundAdds.{import_sound}
-use Rattle.tables.specs.Kept.{Kept, Tells}
+use Rattle.tables.specs.Kept.{Kept, HasWorld}
 use Rattle.store_types.specs.declared.replies.Stop.{Stop}
 use Rattle.store_types.specs.Tested.{Stops}
 
@@ -19,7 +19,7 @@ use Rattle.store_types.specs.Tested.{Stops}
 abbrev pub IsImport : List ℕ → World → Imported → Added → Type 0
 IsImport dir w i a = (first_failing (import_tests dir w i) ≡ None) × (a ≡ added_import dir i)
 
-module _ (i : Imported) (o k : Outline) (d e : List ℕ) (same : o ≡ k) (dir : d ≡ e) where
+module _ (i : Imported) (o k : OutlineValue) (d e : List ℕ) (same : o ≡ k) (dir : d ≡ e) where
   pub import_given : (a : Added) → ((w : World) → outline_of w ≡ o → IsImport d w i a) → (w : World) → outline_of w ≡ k → IsImport e w i a
   import_given a h w is = subst (λ (x : List ℕ). IsImport x w i a) dir (h w (is ∙ sym same))
 
@@ -28,7 +28,7 @@ module _ (i : Imported) (o k : Outline) (d e : List ℕ) (same : o ≡ k) (dir :
   import_stopped stop h w is = subst (λ (x : List ℕ). Stops stop (first_failing (import_tests x w i))) dir (h w (is ∙ sym same))
 
 pub import_stays_sound : {S : Type 0} (g : Ghosts S) (k : Kept S) (s : Settings) (i : Imported) (a : Added) → k.dir ≡ s.store_dir
-    → IsWellFormedImport i → ((w : World) → outline_of w ≡ k.outline → IsImport s.store_dir w i a) → (w : World) → Tells g k w → IsSound k.dir (with_object w a)
+    → IsWellFormedImport i → ((w : World) → outline_of w ≡ k.outline → IsImport s.store_dir w i a) → (w : World) → HasWorld g k w → IsSound k.dir (with_object w a)
 import_stays_sound g k s i a dir formed gives w t =
     subst (λ (d : List ℕ). IsSound d (with_object w a)) (sym dir)
     (subst (λ (x : Added). IsSound s.store_dir (with_object w x)) (sym (gives w t.outline).1)

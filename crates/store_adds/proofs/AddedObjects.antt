@@ -1,17 +1,16 @@
 -- An object that is added to tables, or was there already.
-use Rattle.std.proofs.Common.{◌≡◌, ℕ, List, Bool, true, false, None, Result, Ok, Err, refl, sym, ap, subst, ◌∙◌, inl, IsTrue}
+use Rattle.std.proofs.Common.{◌≡◌, ℕ, List, Bool, true, false, None, Result, Ok, Err, refl, sym, ap, subst, ◌∙◌, inl, inr, IsTrue}
 use Rattle.std.specs.Prelude.{if◌then◌else◌}
 use Rattle.std.specs.FinMap as finite
 use Rattle.sqlite_trees.specs.declared.store.Store.{Ghosts}
 use Rattle.sqlite.specs.State.{HasCleanDisk, Survives}
 use Rattle.sqlite.specs.Held.{state}
-use Rattle.tables_sql.specs.Calls.{IsDurable}
 use Rattle.tables_sql.specs.declared.failure.Failure.{Failure}
 use Rattle.policy.specs.Settings.{Settings}
 use Rattle.policy.specs.Caller.{Caller}
 use Rattle.model.specs.World.{Path, World, has}
 use Rattle.model.specs.Sound.{IsSound}
-use Rattle.tables_outline.specs.Outline.{Outline, Outlined, outline_of, with_archive}
+use Rattle.tables_outline.specs.Outline.{OutlineValue, Outlined, outline_of, with_archive}
 use Rattle.model.specs.Request.{Request}
 use Rattle.model.specs.Reply as replied
 use Rattle.nar.specs.Tree.{IsBytes}
@@ -23,16 +22,21 @@ use Rattle.model.proofs.SoundAdds.{text_sound}
 use Rattle.store_types.specs.Tested.{Stops}
 use Rattle.model.specs.Effects.{with_object, effect}
 use Rattle.model.specs.Answers.{answer}
-use Rattle.tables.specs.Kept.{Kept, Tells, LeavesWorld}
+use Rattle.tables.specs.Failures.{Rows}
+use Rattle.tables.specs.Frames.{CommitsChange, FailsToChange}
+use Rattle.tables.specs.Kept.{Kept, HasWorld, LeavesWorld}
 use Rattle.store_types.specs.declared.replies.Answer.{Answer}
 use Rattle.store_types.specs.declared.replies.Answer.TheVariants.{Path as Placed}
 use Rattle.store_types.specs.declared.replies.Stop.{Stop}
 use Rattle.store_types.specs.declared.replies.Stop.TheVariants.{Refused, Failed}
+use Rattle.store_steps.specs.Causes.{puts_rows, touches_disk}
 use Rattle.store_steps.specs.Meets.{MeetsOver, IsMet}
 use Rattle.store_adds.specs.Adding.{Adds, IsAdded}
-use Rattle.store_steps.specs.Leaving.{LeavesPassed}
+use Rattle.store_steps.specs.Crashes.{LeavesPassed}
 use Rattle.store_steps.proofs.Outlined.{has_outlined}
+use Rattle.store_steps.proofs.Caused.{write_fails}
 use Rattle.store_steps.proofs.Untouched.{survives_as, survives_still, lasts_still}
+use Rattle.store_steps.proofs.Written.{unwritten, written}
 
 module _ {S : Type 0} (g : Ghosts S) (path : Path) (o : Outlined) (k : Kept S) where
   abbrev it : List ℕ → Added
@@ -42,62 +46,69 @@ module _ {S : Type 0} (g : Ghosts S) (path : Path) (o : Outlined) (k : Kept S) w
   abbrev put : List ℕ → World → World
   put nar w = record w { objects = finite.insert w.objects path (with_archive nar o) }
 
-  valid_told : (b : Bool) → finite.contains_key k.outline.objects path ≡ b → (w : World) → Tells g k w → has w path ≡ b
-  valid_told b e w t = sym (has_outlined w path) ∙ ap (λ (x : Outline). finite.contains_key x.objects path) t.outline ∙ e
+  valid_told : (b : Bool) → finite.contains_key k.outline.objects path ≡ b → (w : World) → HasWorld g k w → has w path ≡ b
+  valid_told b e w t = sym (has_outlined w path) ∙ ap (λ (x : OutlineValue). finite.contains_key x.objects path) t.outline ∙ e
 
   -- its path is valid already
   pub added_there : (nar : List ℕ) → finite.contains_key k.outline.objects path ≡ true → IsAdded g (it nar) (Ok (Placed path)) k k
   added_there nar e = record {
     dir = refl;
-    world = λ w t. (refl, subst (λ (v : World). Tells g k v) (sym (ap (λ b. if b then w else put nar w) (valid_told true e w t))) t);
+    cause = λ q touches puts. tt;
+    others = λ _ _ _. inl refl;
+    world = λ w t. (refl, subst (λ (v : World). HasWorld g k v) (sym (ap (λ b. if b then w else put nar w) (valid_told true e w t))) t);
     unrefused = λ h. h;
     lasts = λ _. lasts_still g k;
     survives = λ w t. survives_still (state g k.connection) _;
   }
 
   module _ (nar read : List ℕ) (same : read ≡ nar) (absent : finite.contains_key k.outline.objects path ≡ false) where
-    grown : (w : World) → Tells g k w → with_object w (it nar) ≡ put read w
+    grown : (w : World) → HasWorld g k w → with_object w (it nar) ≡ put read w
     grown w t = ap (λ b. if b then w else put nar w) (valid_told false absent w t) ∙ ap (λ n. put n w) (sym same)
 
-    pub sound_put : ((w : World) → Tells g k w → IsSound k.dir (with_object w (it nar))) → (w : World) → Tells g k w → IsSound k.dir (put read w)
+    pub sound_put : ((w : World) → HasWorld g k w → IsSound k.dir (with_object w (it nar))) → (w : World) → HasWorld g k w → IsSound k.dir (put read w)
     sound_put sound w t = subst (λ (v : World). IsSound k.dir v) (grown w t) (sound w t)
 
-    module _ (new : Kept S) (dir : new.dir ≡ k.dir)
-        (left : (w : World) → Tells g k w → Survives (state g k.connection) (state g new.connection) (λ db. LeavesWorld k.dir (state g k.connection).now db (put read w)))
-      where
-        survives_put : (w : World) → Tells g k w → Survives (state g k.connection) (state g new.connection) (λ db. LeavesWorld k.dir (state g k.connection).now db (with_object w (it nar)))
-        survives_put w t =
-            subst (λ (v : World). Survives (state g k.connection) (state g new.connection) (λ db. LeavesWorld k.dir (state g k.connection).now db v)) (sym (grown w t)) (left w t)
+    module _ (new : Kept S) where
+      survives_put : ((w : World) → HasWorld g k w → Survives (state g k.connection) (state g new.connection) (λ db. LeavesWorld k.dir (state g k.connection).now db (put read w)))
+          → (w : World) → HasWorld g k w → Survives (state g k.connection) (state g new.connection) (λ db. LeavesWorld k.dir (state g k.connection).now db (with_object w (it nar)))
+      survives_put left w t =
+          subst (λ (v : World). Survives (state g k.connection) (state g new.connection) (λ db. LeavesWorld k.dir (state g k.connection).now db v)) (sym (grown w t)) (left w t)
 
-        -- it was put
-        pub added_new : ((w : World) → Tells g k w → Tells g new (put read w)) → (IsTrue (state g new.connection).is_open → IsDurable (state g new.connection))
-            → (HasCleanDisk (state g new.connection) → IsTrue (state g k.connection).is_open × IsTrue (state g new.connection).is_open) → IsAdded g (it nar) (Ok (Placed path)) k new
-        added_new told durable was_open = record {
-          dir = dir;
-          world = λ w t. (refl, subst (λ (v : World). Tells g new v) (sym (grown w t)) (told w t));
-          unrefused = λ h. h;
-          lasts = λ _ clean. let is_open = (was_open clean).1 in inl (is_open, durable is_open);
-          survives = survives_put;
-        }
+      -- it was put
+      pub added_new : CommitsChange g k new written (put read) → IsAdded g (it nar) (Ok (Placed path)) k new
+      added_new frame = record {
+        dir = frame.dir;
+        world = λ w t. (refl, subst (λ (v : World). HasWorld g new v) (sym (grown w t)) (frame.done w t));
+        unrefused = λ h. h;
+        cause = λ q touches puts. tt;
+        others = λ _ clean is_open. inr (frame.others clean);
+        lasts = λ _ clean. let is_open = (frame.was_open clean).1 in inl (is_open, frame.durable is_open);
+        survives = survives_put frame.survives;
+      }
 
-        -- the call failed
-        pub added_not : (f : Failure) → ((w : World) → Tells g k w → Tells g new w) → IsAdded g (it nar) (Err (Failed f)) k new
-        added_not f told = record {
-          dir = dir;
-          world = told;
-          unrefused = λ h. h;
-          lasts = λ h. absurd h;
-          survives = survives_put;
-        }
+      -- the call failed
+      pub added_not : (f : Failure) → CommitsChange g k new (unwritten f) (put read) → (rows : Rows) → FailsToChange g k new (unwritten f) rows
+          → IsAdded g (it nar) (Err (Failed f)) k new
+      added_not f frame rows cause = record {
+        dir = frame.dir;
+        world = frame.failed;
+        unrefused = λ h. h;
+        cause = λ q touches puts. write_fails g q k new touches rows (λ t row put. puts) (Placed path) (Err f) cause;
+        others = λ h. absurd h;
+        lasts = λ h. absurd h;
+        survives = survives_put frame.survives;
+      }
 
 -- a request that adds what was handed in
 pub met_by_adding : {S : Type 0} (g : Ghosts S) (s : Settings) (c : Caller) (q : Request) (r : Result Answer Stop) (k new : Kept S) (a asked : Added)
     → ((w : World) → outline_of w ≡ k.outline → (refusal s w q ≡ None) × (a ≡ asked))
     → ((w : World) → effect s w q ≡ with_object w asked) → ((w : World) → answer s w c q ≡ replied.path asked.path)
-    → IsAdded g a r k new → IsMet g s c q r k new
-met_by_adding g s c q r k new a asked gives effect_is answer_is added = record {
+    → IsTrue (touches_disk q) → IsTrue (puts_rows q) → IsAdded g a r k new → IsMet g s c q r k new
+met_by_adding g s c q r k new a asked gives effect_is answer_is touches puts added = record {
   dir = added.dir;
   world = λ w t. by w t r (added.world w t);
+  cause = λ w t. added.cause q touches puts;
+  others = added.others;
   still = λ h. absurd (added.unrefused h);
   lasts = added.lasts;
   survives = λ w t.
@@ -105,12 +116,12 @@ met_by_adding g s c q r k new a asked gives effect_is answer_is added = record {
       (λ db rows. ((gives w t.outline).0, subst (λ (v : World). LeavesWorld k.dir (state g k.connection).now db v) (becomes w t) rows)) (added.survives w t);
 }
   where
-    becomes : (w : World) → Tells g k w → with_object w a ≡ effect s w q
+    becomes : (w : World) → HasWorld g k w → with_object w a ≡ effect s w q
     becomes w t = ap (with_object w) (gives w t.outline).1 ∙ sym (effect_is w)
 
-    by : (w : World) → Tells g k w → (x : Result Answer Stop) → Adds g a x w new → (next : World) × MeetsOver (HasCleanDisk (state g new.connection)) s w c q x next × Tells g new next
+    by : (w : World) → HasWorld g k w → (x : Result Answer Stop) → Adds g a x w new → (next : World) × MeetsOver (HasCleanDisk (state g new.connection)) s w c q x next × HasWorld g new next
     by w t (Ok x) h =
-        (effect s w q, ((gives w t.outline).0, λ _. h.0 ∙ ap (λ (y : Added). replied.path y.path) (gives w t.outline).1 ∙ sym (answer_is w), refl), subst (λ (v : World). Tells g new v) (becomes w t) h.1)
+        (effect s w q, ((gives w t.outline).0, λ _. h.0 ∙ ap (λ (y : Added). replied.path y.path) (gives w t.outline).1 ∙ sym (answer_is w), refl), subst (λ (v : World). HasWorld g new v) (becomes w t) h.1)
     by w t (Err (Failed f)) h = (w, refl, h)
     by w t (Err (Refused x)) h = absurd h
 
@@ -120,7 +131,7 @@ met_by_adding g s c q r k new a asked gives effect_is answer_is added = record {
 abbrev pub IsText : List ℕ → World → List ℕ → List Path → List ℕ → Added → Type 0
 IsText dir w name refs contents a = (first_failing (text_tests dir w (text_path dir name refs contents) refs contents) ≡ None) × (a ≡ added_text dir name refs contents)
 
-module _ (name : List ℕ) (refs : List Path) (o k : Outline) (d e b contents : List ℕ) (same : o ≡ k) (dir : d ≡ e) (bytes : b ≡ contents) where
+module _ (name : List ℕ) (refs : List Path) (o k : OutlineValue) (d e b contents : List ℕ) (same : o ≡ k) (dir : d ≡ e) (bytes : b ≡ contents) where
   pub text_given : (a : Added) → ((w : World) → outline_of w ≡ o → IsText d w name refs b a) → (w : World) → outline_of w ≡ k → IsText e w name refs contents a
   text_given a h w is = subst (λ (x : List ℕ). IsText x w name refs contents a) dir (subst (λ (y : List ℕ). IsText d w name refs y a) bytes (h w (is ∙ sym same)))
 
@@ -131,7 +142,7 @@ module _ (name : List ℕ) (refs : List Path) (o k : Outline) (d e b contents : 
       (subst (λ (y : List ℕ). Stops stop (first_failing (text_tests d w (text_path d name refs y) refs y))) bytes (h w (is ∙ sym same)))
 
 pub text_stays_sound : {S : Type 0} (g : Ghosts S) (k : Kept S) (s : Settings) (name : List ℕ) (refs : List Path) (contents : List ℕ) (a : Added) → k.dir ≡ s.store_dir
-    → IsTrue (is_store_name name) → IsBytes contents → ((w : World) → outline_of w ≡ k.outline → IsText s.store_dir w name refs contents a) → (w : World) → Tells g k w → IsSound k.dir (with_object w a)
+    → IsTrue (is_store_name name) → IsBytes contents → ((w : World) → outline_of w ≡ k.outline → IsText s.store_dir w name refs contents a) → (w : World) → HasWorld g k w → IsSound k.dir (with_object w a)
 text_stays_sound g k s name refs contents a dir named bytes gives w t =
     subst (λ (d : List ℕ). IsSound d (with_object w a)) (sym dir)
     (subst (λ (x : Added). IsSound s.store_dir (with_object w x)) (sym (gives w t.outline).1)

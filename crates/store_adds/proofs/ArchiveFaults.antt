@@ -1,7 +1,6 @@
--- What the fault of an archive tells of its tests, and what its text tells of a derivation.
+-- What the fault of an archive says of its test, and what its text says of a derivation.
 use Rattle.std.proofs.Common.{◌≡◌, ℕ, List, Option, Some, None, Result, Ok, Err, refl, sym, ap, subst, ◌∙◌}
 use Rattle.std.specs.Prelude.{◌≢◌}
-use Rattle.std.specs.Option.{option_map_or}
 use Rattle.std.proofs.lemmas.Option.{same_Some}
 use Rattle.nar.specs.declared.error.NarError.{NarError}
 use Rattle.nar.specs.Tree.{Tree, regular, symlink, directory}
@@ -16,28 +15,19 @@ use Rattle.model.specs.Faults.{archive_refusal}
 use Rattle.model.specs.Tests.{archive_fault, outputs_fault, tree_fault}
 use Rattle.intake.specs.Arriving.{fault_of}
 use Rattle.intake.specs.Contents.{contents_of}
-use Rattle.tables_sql.specs.declared.failure.Failure.TheVariants.{Memory}
 use Rattle.store_types.specs.declared.replies.Stop.{Stop}
-use Rattle.store_types.specs.declared.replies.Stop.TheVariants.{Refused, Failed}
-use Rattle.store_types.specs.Stops.{archive_stop, derivation_stop}
+use Rattle.store_types.specs.Stops.{derivation_stop}
 use Rattle.store_types.specs.Tested.{Gives, Stops}
 
+-- an archive without a fault passes the test of it
 pub no_fault : (r : Result Tree NarError) (f : Option NarError) → f ≡ fault_of r → f ≡ None → archive_fault r ≡ None
 no_fault (Ok t) f is none = refl
 no_fault (Err e) f is none = let no : ⊥ = cc in absurd no
 
-a_fault : (r : Result Tree NarError) (f : Option NarError) (e : NarError) → f ≡ fault_of r → f ≡ Some e → archive_refusal e ≡ archive_fault r
+-- and with one it is refused for it
+pub a_fault : (r : Result Tree NarError) (f : Option NarError) (e : NarError) → f ≡ fault_of r → f ≡ Some e → archive_refusal e ≡ archive_fault r
 a_fault (Ok t) f e is some = let no : ⊥ = cc in absurd no
 a_fault (Err x) f e is some = ap archive_refusal (sym (same_Some x e (sym is ∙ some)))
-
--- a refusal stops with itself, and none is a failure
-stopped : (o : Option Refusal) → Stops (option_map_or Refused o (Failed Memory)) o
-stopped (Some r) = refl
-stopped None = tt
-
--- a fault of an archive stops the test of it
-pub stops_at : (r : Result Tree NarError) (f : Option NarError) (e : NarError) → f ≡ fault_of r → f ≡ Some e → Stops (archive_stop e) (archive_fault r)
-stops_at r f e is some = subst (Stops (archive_stop e)) (a_fault r f e is some) (stopped (archive_refusal e))
 
 bad_apart : texts.BadDerivation ≢ texts.Memory
 bad_apart is = cc
@@ -49,7 +39,7 @@ double_apart is = cc
 pub outputs_stop : (dir text : List ℕ) (e : DrvError) → (e ≢ texts.Memory → IsFault dir text e) → Stops (derivation_stop e) (outputs_fault (outputs_of dir text))
 outputs_stop dir text texts.BadDerivation h = ap outputs_fault ((one_outcome dir text (Err texts.BadDerivation)).0 (h bad_apart))
 outputs_stop dir text texts.DoubleOutput h = ap outputs_fault ((one_outcome dir text (Err texts.DoubleOutput)).0 (h double_apart))
-outputs_stop dir text texts.Memory h = tt
+outputs_stop dir text texts.Memory h = refl
 
 -- a regular file has its contents as a text
 pub with_text : (dir : List ℕ) (r : Result Tree NarError) (text : List ℕ) → Some text ≡ contents_of r

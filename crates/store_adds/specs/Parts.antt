@@ -7,7 +7,7 @@ use Rattle.paths.specs.Root.{bytes_cmp}
 use Rattle.live.specs.Graph.{same}
 use Rattle.model.specs.World.{Path}
 use Rattle.tables_outline.specs.Maps.{seen_map}
-use Rattle.tables_outline.specs.Outline.{Outline, with_archive}
+use Rattle.tables_outline.specs.Outline.{OutlineValue, with_archive}
 use Rattle.model.specs.Adds as adds
 use Rattle.store_adds.specs.declared.summaries.Added.{Added}
 
@@ -20,5 +20,5 @@ abbrev pub added_view : Added → adds.Added
 added_view a = record { path = a.path; object = with_archive a.nar a.object }
 
 -- each reference is a path of the outline, the path itself apart; not asked of a path that the outline has
-abbrev pub is_complete_in : Outline → Path → List Path → Bool
+abbrev pub is_complete_in : OutlineValue → Path → List Path → Bool
 is_complete_in o p refs = finite.contains_key o.objects p || list_all (λ r. finite.contains_key o.objects r || same r p) refs

@@ -7,7 +7,7 @@ ghost use Rattle.model.specs.World.{World};
 ghost use Rattle.model.specs.Sound.{IsSound};
 ghost use Rattle.model.specs.Request as asked;
 ghost use Rattle.model.specs.Effects.{with_object};
-ghost use Rattle.tables.specs.Kept.{Tells};
+ghost use Rattle.tables.specs.Kept.{HasWorld};
 ghost use Rattle.store_adds.specs.Parts.{added_view};
 ghost use Rattle.store_adds.specs.Adding.{IsAdded};
 ghost use Rattle.store_steps.specs.Meets.{IsMet};
@@ -25,11 +25,11 @@ use tables::Tables;
 pub fn add<S: Alter>(tables: &mut Tables<S>, added: Added) -> Result<Answer, Stop>
     requires size { added.object.size ≡ length added.nar }
     requires hash { added.object.hash ≡ sha256 added.nar }
-    requires sound { (w : World) → Tells S.Store tables.old w → IsSound tables.old.dir (with_object w (added_view added)) }
+    requires sound { (w : World) → HasWorld S.Store tables.old w → IsSound tables.old.dir (with_object w (added_view added)) }
     ensures { IsAdded S.Store (added_view added) result tables.old tables.new }
 {
     let Added { path, nar, object } = added;
-    if tables.index().has(&path) {
+    if tables.outline().has(&path) {
         return Ok(Answer::Path(path));
     }
     match tables.insert_object(&path, &nar, object) {
@@ -53,7 +53,7 @@ pub fn add_text<S: Alter>(
     // It is a store name.
     let _text = name.as_str();
     let dir = store_dir(config);
-    match prepare_text(alloc, dir, tables.index(), &name, refs, &contents) {
+    match prepare_text(alloc, dir, tables.outline(), &name, refs, &contents) {
         Ok(added) => add(tables, added),
         Err(stop) => Err(stop),
     }

@@ -13,7 +13,7 @@ use intake::Intake;
 use nar::Node;
 use sha2::{Digest, Sha256};
 use std::alloc::{AllocError, Global};
-use store_types::{Refusal, Stop};
+use store_types::Refusal;
 use streams::Pieces;
 
 /// A regular file that isn't executable.
@@ -27,13 +27,13 @@ pub(crate) fn plain(contents: &[u8]) -> Node<'_>
 }
 
 /// Tests that the archive of a text is small enough.
-pub(crate) fn has_archive(contents: &[u8]) -> Result<(), Stop>
+pub(crate) fn has_archive(contents: &[u8]) -> Result<(), Refusal>
     ensures told { Tested result (unless (nat_le (text_archive_size contents.now) limit) Refusal.TooLarge) }
     ensures fits { OnOk result (text_archive_size contents.now ≤ limit) }
 {
     let file = plain(contents);
     if !nar::is_writable(&file) {
-        return Err(Stop::Refused(Refusal::TooLarge));
+        return Err(Refusal::TooLarge);
     }
     Ok(())
 }

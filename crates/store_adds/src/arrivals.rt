@@ -6,17 +6,17 @@ ghost use Rattle.model.specs.Tests.{archive_fault};
 ghost use Rattle.tables_sql.specs.declared.failure.Failure.TheVariants.{Memory as memory};
 ghost use Rattle.store_types.specs.declared.replies.Stop.TheVariants.{Failed as failed};
 ghost use Rattle.intake.specs.Arriving.{bytes_in};
-ghost use Rattle.intake.specs.Told.{IsTold};
+ghost use Rattle.intake.specs.Described.{DescribesBytes};
 ghost use Rattle.store_types.specs.Tested.{Tested};
 
 use intake::{Arrived, Intake};
-use store_types::Stop;
+use store_types::{Refusal, Stop};
 use tables_sql::failure::Failure;
 
 /// An archive at its end. Where memory was refused as it came, the call fails.
 pub(crate) fn arrived(nar: Intake) -> Result<Arrived, Stop>
     ensures pieces { IfOk result (λ a. a.pieces ≡ bytes_in nar) }
-    ensures told { IfOk result IsTold }
+    ensures told { IfOk result DescribesBytes }
     ensures spent { nar ≡ None → IfOk result (λ a. ⊥) }
     ensures failed { IfErr result (λ stop. stop ≡ failed memory) }
 {
@@ -27,12 +27,16 @@ pub(crate) fn arrived(nar: Intake) -> Result<Arrived, Stop>
 }
 
 /// Tests that it is an archive.
-pub(crate) fn is_archive(nar: &Arrived) -> Result<(), Stop>
-    requires { IsTold nar.now }
+pub(crate) fn is_archive(nar: &Arrived) -> Result<(), Refusal>
+    requires { DescribesBytes nar.now }
     ensures { Tested result (archive_fault (outcome_of nar.now.pieces)) }
 {
-    match nar.fault {
+    let Some(fault) = nar.fault else {
+        return Ok(());
+    };
+    // Out of memory is no fault of bytes that have come.
+    match Refusal::of_archive(fault) {
+        Some(refusal) => Err(refusal),
         None => Ok(()),
-        Some(fault) => Err(Stop::from(fault)),
     }
 }

@@ -4,16 +4,16 @@ ghost use Rattle.std.specs.Prelude.{◌≡◌, ◌||◌, Some, None, IfOk, IfErr
 ghost use Rattle.sha2.specs.Sha256.{sha256};
 ghost use Rattle.paths.specs.StorePath.{is_base_name};
 ghost use Rattle.paths.specs.ContentAddress.{verifies};
-ghost use Rattle.paths.specs.Facts.{TellsFor};
+ghost use Rattle.paths.specs.Facts.{HasFactsFor};
 ghost use Rattle.live.specs.Graph.{holds as is_held, same};
 ghost use Rattle.model.specs.World.{Path as PathOf};
 ghost use Rattle.model.specs.Adds.{added_import};
 ghost use Rattle.model.specs.Tests as tests;
 ghost use Rattle.model.specs.Tests.{unless};
-ghost use Rattle.store_types.specs.Tested.{Tested};
+ghost use Rattle.store_types.specs.Tested.{Passes, Tested};
 ghost use Rattle.tables_sql.specs.declared.failure.Failure.TheVariants.{Memory as memory};
 ghost use Rattle.store_types.specs.declared.replies.Stop.TheVariants.{Failed as failed};
-ghost use Rattle.intake.specs.Told.{IsTold};
+ghost use Rattle.intake.specs.Described.{DescribesBytes};
 ghost use Rattle.store_adds.specs.Delivered.{delivered_view};
 ghost use Rattle.store_types.specs.View.{import_view};
 
@@ -45,7 +45,7 @@ pub(crate) struct Delivered {
 /// What is passed, once its archive has come. Where memory was refused as that came, the call fails.
 pub(crate) fn at_end(import: Imported) -> Result<Delivered, Stop>
     ensures same { IfOk result (λ d. delivered_view d ≡ import_view import) }
-    ensures told { IfOk result (λ d. IsTold d.nar) }
+    ensures told { IfOk result (λ d. DescribesBytes d.nar) }
     ensures spent { import.nar ≡ None → IfOk result (λ d. ⊥) }
     ensures failed { IfErr result (λ stop. stop ≡ failed memory) }
 {
@@ -83,18 +83,18 @@ impl Delivered {
     }
 
     /// Tests that the archive has the given digest.
-    pub(crate) fn has_digest(&self) -> Result<(), Stop>
-        requires { IsTold self.now.nar }
+    pub(crate) fn has_digest(&self) -> Result<(), Refusal>
+        requires { DescribesBytes self.now.nar }
         ensures { Tested result (unless (same (sha256 (delivered_view self.now).nar) (delivered_view self.now).nar_hash) Refusal.NarHashMismatch) }
     {
         if !is_same(&self.nar.nar_hash, &self.nar_hash) {
-            return Err(Stop::Refused(Refusal::NarHashMismatch));
+            return Err(Refusal::NarHashMismatch);
         }
         Ok(())
     }
 
     /// Tests that it doesn't refer to itself, if it has a content address.
-    pub(crate) fn refers_to_others(&self) -> Result<(), Stop>
+    pub(crate) fn refers_to_others(&self) -> Result<(), Refusal>
         ensures { Tested result (unless (is_none (delivered_view self.now).ca || not (is_held (delivered_view self.now).refs (delivered_view self.now).path)) Refusal.SelfReference) }
     {
         if self.ca.is_none() {
@@ -105,8 +105,9 @@ impl Delivered {
 
     /// Tests that its content address verifies, if it has one.
     pub(crate) fn is_verified(&self, alloc: Global, dir: &StoreDir) -> Result<(), Stop>
-        requires { IsTold self.now.nar }
-        ensures { Tested result (unless (tests.is_verified dir.now (delivered_view self.now).path (added_import dir.now (delivered_view self.now)).object (delivered_view self.now).ca) Refusal.CaMismatch) }
+        requires { DescribesBytes self.now.nar }
+        ensures { Passes result (unless (tests.is_verified dir.now (delivered_view self.now).path
+            (added_import dir.now (delivered_view self.now)).object (delivered_view self.now).ca) Refusal.CaMismatch) }
     {
         let Some(ca) = &self.ca else {
             return Ok(());
@@ -119,8 +120,8 @@ impl Delivered {
 
     /// What an address of such a method asks for of the archive: contents are hashed for that of a text alone.
     fn facts(&self, method: Method) -> Facts
-        requires { IsTold self.now.nar }
-        ensures { TellsFor method self.now.nar.pieces result }
+        requires { DescribesBytes self.now.nar }
+        ensures { HasFactsFor method self.now.nar.pieces result }
     {
         match method {
             Method::Text => self.nar.facts(),
@@ -134,7 +135,7 @@ impl Delivered {
 
     /// Whether an address is that of the object.
     fn fits(&self, alloc: Global, dir: &StoreDir, ca: &Ca) -> Result<bool, Stop>
-        requires { IsTold self.now.nar }
+        requires { DescribesBytes self.now.nar }
         ensures fits { IfOk result (λ fits. fits ≡ verifies ca.now dir.now (delivered_view self.now).path (delivered_view self.now).refs (delivered_view self.now).nar) }
         ensures failed { IfErr result (λ stop. stop ≡ failed memory) }
     {

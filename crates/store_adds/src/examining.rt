@@ -17,25 +17,25 @@ use paths::{StoreDir, StorePath};
 use std::alloc::Global;
 use std::collections::BTreeMap;
 use store_types::Stop;
-use tables_outline::Index;
+use tables_outline::Outline;
 
 /// Tests a text object of few references, whose archive is small enough, at its path; gives the outputs that it records.
 pub(crate) fn examine_text(
     alloc: Global,
     dir: &StoreDir,
-    index: &Index,
+    outline: &Outline,
     path: &StorePath,
     refs: &[StorePath],
     contents: &[u8],
 ) -> Result<BTreeMap<String, StorePath>, Stop>
     requires { text_archive_size contents.now ≤ limit }
     // Of all tests of a text, the first two are over.
-    ensures { (w : World) → outline_of w ≡ index.now → Gives (λ map. outputs_view map.entries) result
+    ensures { (w : World) → outline_of w ≡ outline.now → Gives (λ map. outputs_view map.entries) result
         (first_failing (drop 2 (text_tests dir.now w path.now refs.now contents.now))) (objects.outputs_at dir.now path.now (text_archive contents.now)) }
 {
     are_others(refs, path)?;
     let file = plain(contents);
     let outputs = outputs_at(alloc, dir, path, &file)?;
-    are_there(index, path, refs)?;
+    are_there(outline, path, refs)?;
     Ok(outputs)
 }

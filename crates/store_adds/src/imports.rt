@@ -11,7 +11,7 @@ ghost use Rattle.store_types.specs.Tested.{Gives};
 ghost use Rattle.store_adds.specs.Parts.{added_view, outputs_view};
 ghost use Rattle.tables_sql.specs.declared.failure.Failure.TheVariants.{Memory as memory};
 ghost use Rattle.store_types.specs.declared.replies.Stop.TheVariants.{Failed as failed};
-ghost use Rattle.intake.specs.Told.{IsTold};
+ghost use Rattle.intake.specs.Described.{DescribesBytes};
 ghost use Rattle.store_adds.specs.Delivered.{delivered_view};
 ghost use Rattle.store_types.specs.View.{import_view};
 ghost use Rattle.policy.specs.Caller.{Caller};
@@ -33,17 +33,17 @@ use std::alloc::Global;
 use std::collections::BTreeMap;
 use store_types::{Answer, Imported, Stop};
 use tables::Tables;
-use tables_outline::Index;
+use tables_outline::Outline;
 
 /// Tests an object that is passed with its path; returns the outputs that it records.
 fn examine_import(
     alloc: Global,
     dir: &StoreDir,
-    index: &Index,
+    outline: &Outline,
     import: &Delivered,
 ) -> Result<BTreeMap<String, StorePath>, Stop>
-    requires { IsTold import.now.nar }
-    ensures told { (w : World) → outline_of w ≡ index.now → Gives (λ map. outputs_view map.entries) result
+    requires { DescribesBytes import.now.nar }
+    ensures told { (w : World) → outline_of w ≡ outline.now → Gives (λ map. outputs_view map.entries) result
         (first_failing (import_tests dir.now w (delivered_view import.now))) (objects.outputs_at dir.now (delivered_view import.now).path (delivered_view import.now).nar) }
     ensures formed { OnOk result (IsWellFormedImport (delivered_view import.now)) }
     ensures hash { OnOk result ((delivered_view import.now).nar_hash ≡ sha256 (delivered_view import.now).nar) }
@@ -55,7 +55,7 @@ fn examine_import(
     import.refers_to_others()?;
     import.is_verified(alloc, dir)?;
     let outputs = outputs_by(alloc, dir, &import.path, &import.nar.pieces)?;
-    are_there(index, &import.path, &import.refs)?;
+    are_there(outline, &import.path, &import.refs)?;
     Ok(outputs)
 }
 
@@ -63,10 +63,10 @@ fn examine_import(
 pub fn prepare_import(
     alloc: Global,
     dir: &StoreDir,
-    index: &Index,
+    outline: &Outline,
     import: Imported,
 ) -> Result<Added, Stop>
-    ensures told { (w : World) → outline_of w ≡ index.now → Gives added_view result
+    ensures told { (w : World) → outline_of w ≡ outline.now → Gives added_view result
         (first_failing (import_tests dir.now w (import_view import))) (added_import dir.now (import_view import)) }
     ensures formed { OnOk result (IsWellFormedImport (import_view import)) }
     ensures size { IfOk result (λ a. a.object.size ≡ length a.nar) }
@@ -74,7 +74,7 @@ pub fn prepare_import(
     ensures spent { import.nar ≡ None → result ≡ Err (failed memory) }
 {
     let import = at_end(import)?;
-    let outputs = examine_import(alloc, dir, index, &import)?;
+    let outputs = examine_import(alloc, dir, outline, &import)?;
     let Delivered {
         path,
         nar_hash,
@@ -100,10 +100,13 @@ pub fn import_object<S: Alter>(
     import: Imported,
 ) -> Result<Answer, Stop>
     requires dir { tables.old.dir ≡ config.now.store_dir }
-    ensures { (c : Caller) → IsMet S.Store config.now c (asked.import_object (import_view import)) result tables.old tables.new }
+    ensures met { (c : Caller) → IsMet S.Store config.now c (asked.import_object (import_view import)) result
+        tables.old tables.new }
+    // An archive that was lost to memory is ahead of all tests.
+    ensures spent { import.nar ≡ None → (result ≡ Err (failed memory)) × (tables.new ≡ tables.old) }
 {
     let dir = store_dir(config);
-    match prepare_import(alloc, dir, tables.index(), import) {
+    match prepare_import(alloc, dir, tables.outline(), import) {
         Ok(added) => add(tables, added),
         Err(stop) => Err(stop),
     }

@@ -13,18 +13,18 @@ ghost use Rattle.store_types.specs.Tested.{Tested};
 ghost use Rattle.store_adds.specs.Parts.{is_complete_in};
 
 use paths::StorePath;
-use store_types::{Refusal, Stop};
-use tables_outline::Index;
+use store_types::Refusal;
+use tables_outline::Outline;
 
 /// The most references that an object may be passed with.
 const MOST_REFERENCES: usize = 4096;
 
 /// Tests that there aren't too many references, repeats counted.
-pub(crate) fn are_few(refs: &[StorePath]) -> Result<(), Stop>
+pub(crate) fn are_few(refs: &[StorePath]) -> Result<(), Refusal>
     ensures { Tested result (unless (nat_le (length refs.now) most_references) Refusal.TooManyReferences) }
 {
     if refs.len() > MOST_REFERENCES {
-        return Err(Stop::Refused(Refusal::TooManyReferences));
+        return Err(Refusal::TooManyReferences);
     }
     Ok(())
 }
@@ -37,41 +37,45 @@ fn holds(refs: &[StorePath], path: &StorePath) -> bool
 }
 
 /// Tests that a path isn't among the references.
-pub(crate) fn are_others(refs: &[StorePath], path: &StorePath) -> Result<(), Stop>
+pub(crate) fn are_others(refs: &[StorePath], path: &StorePath) -> Result<(), Refusal>
     ensures { Tested result (unless (not (graph.holds refs.now path.now)) Refusal.SelfReference) }
 {
     if holds(refs, path) {
-        return Err(Stop::Refused(Refusal::SelfReference));
+        return Err(Refusal::SelfReference);
     }
     Ok(())
 }
 
 /// Whether a reference of a path is valid or that path.
-fn is_there(index: &Index, path: &StorePath, reference: &StorePath) -> bool
-    ensures { result ≡ (finite.contains_key index.now.objects reference.now || graph.same reference.now path.now) }
+fn is_there(outline: &Outline, path: &StorePath, reference: &StorePath) -> bool
+    ensures { result ≡ (finite.contains_key outline.now.objects reference.now || graph.same reference.now path.now) }
 {
-    if index.has(reference) {
+    if outline.has(reference) {
         return true;
     }
     reference == path
 }
 
 /// Whether each reference of a path is valid or that path, or the path is valid already.
-fn is_complete(index: &Index, path: &StorePath, refs: &[StorePath]) -> bool
-    ensures { result ≡ is_complete_in index.now path.now refs.now }
+fn is_complete(outline: &Outline, path: &StorePath, refs: &[StorePath]) -> bool
+    ensures { result ≡ is_complete_in outline.now path.now refs.now }
 {
-    if index.has(path) {
+    if outline.has(path) {
         return true;
     }
-    refs.iter().all(|r| is_there(index, path, r))
+    refs.iter().all(|r| is_there(outline, path, r))
 }
 
 /// Tests that each reference of a path is valid or that path, or the path is valid already.
-pub(crate) fn are_there(index: &Index, path: &StorePath, refs: &[StorePath]) -> Result<(), Stop>
-    ensures { (w : World) → outline_of w ≡ index.now → Tested result (unless (tests.is_complete w path.now refs.now) Refusal.MissingReference) }
+pub(crate) fn are_there(
+    outline: &Outline,
+    path: &StorePath,
+    refs: &[StorePath],
+) -> Result<(), Refusal>
+    ensures { (w : World) → outline_of w ≡ outline.now → Tested result (unless (tests.is_complete w path.now refs.now) Refusal.MissingReference) }
 {
-    if !is_complete(index, path, refs) {
-        return Err(Stop::Refused(Refusal::MissingReference));
+    if !is_complete(outline, path, refs) {
+        return Err(Refusal::MissingReference);
     }
     Ok(())
 }

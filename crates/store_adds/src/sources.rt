@@ -10,7 +10,7 @@ ghost use Rattle.model.specs.Tests.{first_failing, source_tests};
 ghost use Rattle.intake.specs.Arriving.{bytes_in};
 ghost use Rattle.tables_sql.specs.declared.failure.Failure.TheVariants.{Memory as memory};
 ghost use Rattle.store_types.specs.declared.replies.Stop.TheVariants.{Failed as failed};
-ghost use Rattle.intake.specs.Told.{IsTold};
+ghost use Rattle.intake.specs.Described.{DescribesBytes};
 ghost use Rattle.store_types.specs.Tested.{Gives};
 ghost use Rattle.store_adds.specs.Parts.{added_view, outputs_view};
 ghost use Rattle.policy.specs.Caller.{Caller};
@@ -32,26 +32,26 @@ use std::alloc::Global;
 use std::collections::BTreeMap;
 use store_types::{Answer, Stop};
 use tables::Tables;
-use tables_outline::Index;
+use tables_outline::Outline;
 
 /// Tests a source object; gives the outputs that it records.
 fn examine_source(
     alloc: Global,
     dir: &StoreDir,
-    index: &Index,
+    outline: &Outline,
     path: &StorePath,
     refs: &[StorePath],
     nar: &Arrived,
 ) -> Result<BTreeMap<String, StorePath>, Stop>
-    requires { IsTold nar.now }
-    ensures { (w : World) → outline_of w ≡ index.now → Gives (λ map. outputs_view map.entries) result
+    requires { DescribesBytes nar.now }
+    ensures { (w : World) → outline_of w ≡ outline.now → Gives (λ map. outputs_view map.entries) result
         (first_failing (source_tests dir.now w path.now refs.now nar.now.pieces)) (objects.outputs_at dir.now path.now nar.now.pieces) }
 {
     are_few(refs)?;
     is_archive(nar)?;
     are_others(refs, path)?;
     let outputs = outputs_by(alloc, dir, path, &nar.pieces)?;
-    are_there(index, path, refs)?;
+    are_there(outline, path, refs)?;
     Ok(outputs)
 }
 
@@ -59,12 +59,12 @@ fn examine_source(
 pub fn prepare_source(
     alloc: Global,
     dir: &StoreDir,
-    index: &Index,
+    outline: &Outline,
     name: &Name,
     refs: Vec<StorePath>,
     nar: Intake,
 ) -> Result<Added, Stop>
-    ensures told { (w : World) → outline_of w ≡ index.now → Gives added_view result
+    ensures told { (w : World) → outline_of w ≡ outline.now → Gives added_view result
         (first_failing (source_tests dir.now w (paths.source_path dir.now name.now refs.items (bytes_in nar)) refs.items (bytes_in nar))) (added_source dir.now name.now refs.items (bytes_in nar)) }
     ensures bytes { OnOk result (IsBytes (bytes_in nar)) }
     ensures size { IfOk result (λ a. a.object.size ≡ length a.nar) }
@@ -73,7 +73,7 @@ pub fn prepare_source(
 {
     let nar = arrived(nar)?;
     let path = source_path_of(alloc, dir, name, &refs, &nar.nar_hash)?;
-    let outputs = examine_source(alloc, dir, index, &path, &refs, &nar)?;
+    let outputs = examine_source(alloc, dir, outline, &path, &refs, &nar)?;
     let Arrived {
         nar_hash,
         pieces,
@@ -98,12 +98,15 @@ pub fn add_source<S: Alter>(
     nar: Intake,
 ) -> Result<Answer, Stop>
     requires dir { tables.old.dir ≡ config.now.store_dir }
-    ensures { (c : Caller) → IsMet S.Store config.now c (asked.add_source name refs.items (bytes_in nar)) result tables.old tables.new }
+    ensures met { (c : Caller) → IsMet S.Store config.now c (asked.add_source name refs.items (bytes_in nar)) result
+        tables.old tables.new }
+    // An archive that was lost to memory is ahead of all tests.
+    ensures spent { nar ≡ None → (result ≡ Err (failed memory)) × (tables.new ≡ tables.old) }
 {
     // It is a store name.
     let _text = name.as_str();
     let dir = store_dir(config);
-    match prepare_source(alloc, dir, tables.index(), &name, refs, nar) {
+    match prepare_source(alloc, dir, tables.outline(), &name, refs, nar) {
         Ok(added) => add(tables, added),
         Err(stop) => Err(stop),
     }

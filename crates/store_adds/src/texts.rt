@@ -19,18 +19,18 @@ use crate::summaries::{Added, summary};
 use paths::{Ca, Method, Name, StoreDir, StorePath, text_path_of};
 use std::alloc::Global;
 use store_types::Stop;
-use tables_outline::Index;
+use tables_outline::Outline;
 
 /// The object of a text, tested.
 pub fn prepare_text(
     alloc: Global,
     dir: &StoreDir,
-    index: &Index,
+    outline: &Outline,
     name: &Name,
     refs: Vec<StorePath>,
     contents: &[u8],
 ) -> Result<Added, Stop>
-    ensures told { (w : World) → outline_of w ≡ index.now → Gives added_view result
+    ensures told { (w : World) → outline_of w ≡ outline.now → Gives added_view result
         (first_failing (tests.text_tests dir.now w (paths.text_path dir.now name.now refs.items contents.now) refs.items contents.now)) (added_text dir.now name.now refs.items contents.now) }
     ensures bytes { OnOk result (IsBytes contents.now) }
     ensures size { IfOk result (λ a. a.object.size ≡ length a.nar) }
@@ -40,7 +40,7 @@ pub fn prepare_text(
     has_archive(contents)?;
     let archive = text_archive(alloc, contents)?;
     let path = text_path_of(alloc, dir, name, &refs, &archive.contents_hash)?;
-    let outputs = examine_text(alloc, dir, index, &path, &refs, contents)?;
+    let outputs = examine_text(alloc, dir, outline, &path, &refs, contents)?;
     let size = archive.pieces.len();
     let ca = Ca::new(Method::Text, archive.contents_hash);
     let object = summary(alloc, size, archive.hash, refs, None, Some(ca), outputs)?;

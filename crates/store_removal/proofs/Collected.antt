@@ -5,7 +5,7 @@ use Rattle.std.proofs.lemmas.Bool.{not_from_false}
 use Rattle.policy.specs.Settings.{Settings}
 use Rattle.model.specs.World.{Path, World, Objects}
 use Rattle.model.specs.Sound.{IsSound}
-use Rattle.model.specs.Liveness.{collected_paths, dead_paths, deleted_paths, goes_with, lives}
+use Rattle.model.specs.Liveness.{collected_paths, dead_paths, deleted_paths, is_deleted_with, lives}
 use Rattle.model.specs.Effects.{effect, keeping}
 use Rattle.model.specs.Request.{collect}
 use Rattle.model.proofs.Deleting.{reference_left}
@@ -28,10 +28,10 @@ sound_left s w ignores None dir sound = collected_sound s w dir sound
 sound_left s w ignores (Some limit) dir sound = limited_sound s w dir sound limit
 
 -- without the deleted those are left that don't go with the named
-pub others_left : (w : World) (named gone : List Path) → gone ≡ deleted_paths w named → without w gone ≡ keeping w (λ p. not (goes_with w named p))
-others_left w named gone are = ap (without w) are ∙ ap (λ (m : Objects). record w { objects = m }) (without_chosen w.objects (goes_with w named))
+pub others_left : (w : World) (named gone : List Path) → gone ≡ deleted_paths w named → without w gone ≡ keeping w (λ p. not (is_deleted_with w named p))
+others_left w named gone are = ap (without w) are ∙ ap (λ (m : Objects). record w { objects = m }) (without_chosen w.objects (is_deleted_with w named))
 
 -- where the named are dead, the world is sound without them and all that refer to them
-pub deleted_sound : (s : Settings) (w : World) (named : List Path) → list_any (lives s w) named ≡ false → (dir : List _) → IsSound dir w → IsSound dir (keeping w (λ p. not (goes_with w named p)))
+pub deleted_sound : (s : Settings) (w : World) (named : List Path) → list_any (lives s w) named ≡ false → (dir : List _) → IsSound dir w → IsSound dir (keeping w (λ p. not (is_deleted_with w named p)))
 deleted_sound s w named dead dir sound =
-    removed_sound s w (λ p. not (goes_with w named p)) (λ p h. not_from_false (goes_with w named p) (stays s w named p dead h)) (reference_left w named) dir sound
+    removed_sound s w (λ p. not (is_deleted_with w named p)) (λ p h. not_from_false (is_deleted_with w named p) (stays s w named p dead h)) (reference_left w named) dir sound

@@ -8,7 +8,7 @@ use Rattle.live.specs.Graph.{references_alone, same}
 use Rattle.live.specs.Numbering.{Row, graph_of, path_at, paths_of}
 use Rattle.live.specs.Reach.{reaches, refers_to_any}
 use Rattle.model.specs.World.{Path, World}
-use Rattle.tables_outline.specs.Outline.{Outline, outline_of}
+use Rattle.tables_outline.specs.Outline.{OutlineValue, outline_of}
 use Rattle.model.specs.Liveness as spec
 use Rattle.store_removal.specs.Linked.{rows_in}
 use Rattle.store_removal.proofs.Places.{unreached}
@@ -42,7 +42,7 @@ taken_more f ks i h = taken f ks i h ∙ ap (λ n. map f (take n ks)) one
 
 -- ---- the paths that go
 
-module _ (o : Outline) (rows again : List Row) (is : rows ≡ rows_in o) (is_again : again ≡ rows_in o) (places handed : List ℕ) (same_places : handed ≡ places) (named : List Path)
+module _ (o : OutlineValue) (rows again : List Row) (is : rows ≡ rows_in o) (is_again : again ≡ rows_in o) (places handed : List ℕ) (same_places : handed ≡ places) (named : List Path)
     (those : (test : Path → Bool) → ((p : Path) → filter (same p) (paths_of rows) ≡ [] → test p ≡ false) → list_any test (map (path_at rows) places) ≡ list_any test named) where
   goes : (p : Path) → refers_to_any (graph_of (rows_in o)) (map (path_at (rows_in o)) places) p ≡ refers_to_any (graph_of (rows_in o)) named p
   goes p =

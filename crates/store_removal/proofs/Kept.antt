@@ -10,14 +10,14 @@ use Rattle.live.specs.Exact.{IsExact}
 use Rattle.live.specs.Graph.{Keep}
 use Rattle.live.specs.Live.{first_root}
 use Rattle.live.specs.Marking.{Marking}
-use Rattle.live.specs.Handed.{root_view, roots_view}
+use Rattle.live.specs.Arguments.{root_view, roots_view}
 use Rattle.live.specs.Numbering.{Row, graph_of, no_root, root_at}
 use Rattle.live.specs.Reach.{reaches}
 use Rattle.live.specs.declared.numbered.rows.Root.{Root as Handed}
 use Rattle.live.proofs.Order.{in_order_is}
 use Rattle.policy.specs.Settings.{Settings}
 use Rattle.model.specs.World.{Path, World, roots_of}
-use Rattle.tables_outline.specs.Outline.{Outline, outline_of}
+use Rattle.tables_outline.specs.Outline.{OutlineValue, outline_of}
 use Rattle.model.specs.Liveness.{first_root_of, keep_of, lives, roots_that_keep}
 use Rattle.model.specs.Liveness as spec
 use Rattle.model.specs.Verdict.{root_of_first}
@@ -94,7 +94,7 @@ module _ (s : Settings) (w : World) where
 
 -- ---- what the marks say of a world
 
-module _ (s : Settings) (o : Outline) (keep : Keep) (rows : List Row) (valid : List Root) (kept : keep ≡ keep_of s) (is : rows ≡ rows_in o) (same : valid ≡ filter (aims_well o) (roots_of (rooted o)))
+module _ (s : Settings) (o : OutlineValue) (keep : Keep) (rows : List Row) (valid : List Root) (kept : keep ≡ keep_of s) (is : rows ≡ rows_in o) (same : valid ≡ filter (aims_well o) (roots_of (rooted o)))
     (w : World) (told : outline_of w ≡ o) where
   first_told : (p : Path) → first_root keep (graph_of rows) valid p ≡ first_root_of s w p
   first_told p =

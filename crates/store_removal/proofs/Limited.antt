@@ -4,7 +4,7 @@ use Rattle.std.specs.Prelude.{filter, Some}
 use Rattle.std.specs.List.{slice_index}
 use Rattle.paths.specs.Root.{Root}
 use Rattle.live.specs.Graph.{Keep}
-use Rattle.live.specs.Handed.{rows_view}
+use Rattle.live.specs.Arguments.{rows_view}
 use Rattle.live.specs.Limited.{limited_paths}
 use Rattle.live.specs.Live.{is_live}
 use Rattle.live.specs.Numbering.{Row, graph_of, path_at}
@@ -12,7 +12,7 @@ use Rattle.live.specs.Reach.{reaches}
 use Rattle.live.specs.declared.numbered.rows.Row.{Row as Handed}
 use Rattle.policy.specs.Settings.{Settings}
 use Rattle.model.specs.World.{Path, World, roots_of}
-use Rattle.tables_outline.specs.Outline.{Outline, outline_of}
+use Rattle.tables_outline.specs.Outline.{OutlineValue, outline_of}
 use Rattle.model.specs.Liveness.{keep_of, lives, collected_paths}
 use Rattle.store_removal.specs.Linked.{rows_in}
 use Rattle.tables_listing.specs.Rooted.{rooted}
@@ -27,7 +27,7 @@ sized f [] i h = absurd (omega (arith, h))
 sized f (r ∷ rs) zero h = refl
 sized f (r ∷ rs) (suc i) h = sized f rs i (omega (arith, h))
 
-module _ (s : Settings) (o : Outline) (keep : Keep) (rows : List Row) (valid : List Root) (kept : keep ≡ keep_of s) (is : rows ≡ rows_in o) (same : valid ≡ filter (aims_well o) (roots_of (rooted o)))
+module _ (s : Settings) (o : OutlineValue) (keep : Keep) (rows : List Row) (valid : List Root) (kept : keep ≡ keep_of s) (is : rows ≡ rows_in o) (same : valid ≡ filter (aims_well o) (roots_of (rooted o)))
     (w : World) (told : outline_of w ≡ o) where
   lives_so : (p : Path) → is_live keep (graph_of rows) valid p ≡ lives s w p
   lives_so p =

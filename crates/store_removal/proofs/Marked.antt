@@ -8,20 +8,20 @@ use Rattle.std.proofs.lemmas.List.Elements.{filter_more}
 use Rattle.paths.specs.Root.{Root}
 use Rattle.live.specs.Exact.{IsExact}
 use Rattle.live.specs.Graph.{Keep}
-use Rattle.live.specs.Handed.{row_view, rows_view}
+use Rattle.live.specs.Arguments.{row_view, rows_view}
 use Rattle.live.specs.declared.numbered.rows.Row.{Row as Handed}
 use Rattle.live.specs.Marking.{Marking, first_of}
 use Rattle.live.specs.Numbering.{AllValid, Rise, RootsRise, Row, paths_of}
 use Rattle.policy.specs.Settings.{Settings}
 use Rattle.model.specs.World.{Path, roots_of}
-use Rattle.tables_outline.specs.Outline.{Outline}
+use Rattle.tables_outline.specs.Outline.{OutlineValue}
 use Rattle.model.specs.Liveness.{keep_of}
 use Rattle.store_removal.specs.Linked.{is_wanted, lives_in, rows_in}
 use Rattle.tables_listing.specs.Rooted.{rooted}
 use Rattle.store_removal.proofs.Rising.{paths_in, roots_rise, rows_rise}
 use Rattle.store_removal.proofs.Valid.{aims_well, all_marked, valid_all}
 
-module _ (o : Outline) (rows : List Row) (is : rows ≡ rows_in o) where
+module _ (o : OutlineValue) (rows : List Row) (is : rows ≡ rows_in o) where
   pub handed_rise : Rise (paths_of rows)
   handed_rise = subst (λ (rs : List Row). Rise (paths_of rs)) (sym is) (rows_rise o)
 
@@ -54,7 +54,7 @@ module _ (p : Path → Bool) (paths : List Path) (i : ℕ) (h : i < length paths
       is ∙ so_far ∙ sym (append-nil (filter p (take i paths))) ∙ ap (λ b. filter p (take i paths) ++ cond b (get_or paths i [] ∷ []) []) (sym misses) ∙ sym (filter_more p paths i [] h)
 
 -- the paths that are chosen of the rows of an outline
-pub chosen_told : (s : Settings) (o : Outline) (rows : List Row) → rows ≡ rows_in o → (flags : List Bool) → flags ≡ map (lives_in s o) (finite.keys o.objects) → (wanted : Bool) (chosen : List Path)
+pub chosen_told : (s : Settings) (o : OutlineValue) (rows : List Row) → rows ≡ rows_in o → (flags : List Bool) → flags ≡ map (lives_in s o) (finite.keys o.objects) → (wanted : Bool) (chosen : List Path)
     → ((test : Path → Bool) → flags ≡ map test (paths_of rows) → chosen ≡ filter (λ p. is_wanted wanted (test p)) (paths_of rows)) → chosen ≡ filter (λ p. is_wanted wanted (lives_in s o p)) (finite.keys o.objects)
 chosen_told s o rows is flags lives wanted chosen choose =
     let paths : paths_of rows ≡ finite.keys o.objects = ap paths_of is ∙ paths_in o in

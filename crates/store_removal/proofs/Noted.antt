@@ -16,7 +16,7 @@ use Rattle.tables_outline.specs.Maps.{labelled_bytes}
 use Rattle.tables_outline.proofs.Orders.{bytes_total, pair_total}
 use Rattle.model.specs.Seen.{same_pair}
 use Rattle.tables_listing.specs.Gaining.{has_tied}
-use Rattle.store_removal.specs.Told.{AreTold}
+use Rattle.store_removal.specs.Unique.{AreListed}
 use Rattle.tables_listing.proofs.Loops.{map-append}
 use Rattle.tables_listing.proofs.Sets.{has_inserted}
 
@@ -49,7 +49,7 @@ first_time b true e = ap not e
 first_time b false e = ap not e
 
 -- a pair is put among the keys, as one of the same text and path
-module _ (class : Class) (keys : List Labelled) (k p : Labelled) (shown : List Labelled) (same_as : labelled_bytes k ≡ labelled_bytes p) (stranger : is_trusted class ≡ false) (are : AreTold class keys shown) (b : Bool)
+module _ (class : Class) (keys : List Labelled) (k p : Labelled) (shown : List Labelled) (same_as : labelled_bytes k ≡ labelled_bytes p) (stranger : is_trusted class ≡ false) (are : AreListed class keys shown) (b : Bool)
     (added : b ≡ not (list_any (λ x. is_eq (labelled_cmp k x)) keys)) where
   had : list_any (λ x. is_eq (labelled_cmp k x)) keys ≡ has_tied pair_cmp (labelled_bytes p) (map labelled_bytes shown)
   had = found k keys ∙ ap (λ z. has_tied pair_cmp z (map labelled_bytes keys)) same_as ∙ are stranger (labelled_bytes p)
@@ -75,7 +75,7 @@ module _ (class : Class) (keys : List Labelled) (k p : Labelled) (shown : List L
   moved q h (x ∷ xs) = ap₂ (λ a c. a || c) ((eq_by_cmp_equiv pair_total).congr q (labelled_bytes p) x h) (moved q h xs)
 
   -- the keys are what is shown then
-  pub noted : AreTold class (insert_key labelled_cmp keys k) (if b then shown ++ p ∷ [] else shown)
+  pub noted : AreListed class (insert_key labelled_cmp keys k) (if b then shown ++ p ∷ [] else shown)
   noted = λ t q. by b (first_time b _ added) q
     where
       by : (c : Bool) → not c ≡ list_any (λ x. is_eq (labelled_cmp k x)) keys → (q : Pair)

@@ -8,7 +8,7 @@ use Rattle.std.proofs.lemmas.List.{length-map, take_all}
 use Rattle.std.proofs.lemmas.List.Elements.{filter_more}
 use Rattle.paths.specs.Root.{Root}
 use Rattle.live.specs.Graph.{Keep, same}
-use Rattle.live.specs.Handed.{row_view, rows_view}
+use Rattle.live.specs.Arguments.{row_view, rows_view}
 use Rattle.live.specs.Live.{roots_that_reach}
 use Rattle.live.specs.Numbering.{Row, graph_of, path_at, paths_of}
 use Rattle.live.specs.Reach.{reaches}
@@ -18,7 +18,7 @@ use Rattle.policy.specs.Settings.{Settings}
 use Rattle.policy.specs.Rules.{is_trusted}
 use Rattle.policy.specs.declared.kinds.Class.{Class}
 use Rattle.model.specs.World.{Pair, Path, World, roots_of}
-use Rattle.tables_outline.specs.Outline.{Outline, outline_of}
+use Rattle.tables_outline.specs.Outline.{OutlineValue, outline_of}
 use Rattle.tables_outline.proofs.Orders.{bytes_total, bytes_antisymmetric}
 use Rattle.tables_outline.proofs.Puts.{tied_is}
 use Rattle.tables_outline.proofs.Told.{has-told}
@@ -78,7 +78,7 @@ nothing_seen class = by (is_trusted class)
     by false = refl
 
 -- nothing reaches it
-pub unreached : (keep : Keep) (o : Outline) (rows : List Row) (a p : Path) → rows ≡ rows_in o → filter (same p) (paths_of rows) ≡ [] → reaches keep (graph_of (rows_in o)) a p ≡ false
+pub unreached : (keep : Keep) (o : OutlineValue) (rows : List Row) (a p : Path) → rows ≡ rows_in o → filter (same p) (paths_of rows) ≡ [] → reaches keep (graph_of (rows_in o)) a p ≡ false
 unreached keep o rows a p is none = false_from_ne_true (reaches keep (graph_of (rows_in o)) a p) (λ e.
     let g = graph_of (rows_in o) in
     let valid = end_valid keep g a p ((decided keep g a p).0 e) in
@@ -88,17 +88,17 @@ unreached keep o rows a p is none = false_from_ne_true (reaches keep (graph_of (
     missing = finite.contains_key-keys o.objects p ∙ none_any (same p) (finite.keys o.objects) (ap (filter (same p)) (sym (ap paths_of is ∙ paths_in o)) ∙ none)
 
 -- no root keeps it
-pub none_kept : (s : Settings) (o : Outline) (rows : List Row) (p : Path) → rows ≡ rows_in o → filter (same p) (paths_of rows) ≡ [] → (w : World) → outline_of w ≡ o → [] ≡ roots_that_keep s w p
+pub none_kept : (s : Settings) (o : OutlineValue) (rows : List Row) (p : Path) → rows ≡ rows_in o → filter (same p) (paths_of rows) ≡ [] → (w : World) → outline_of w ≡ o → [] ≡ roots_that_keep s w p
 none_kept s o rows p is none w told =
     sym (none_pass (λ (r : Root). reaches (keep_of s) (graph_of (rows_in o)) r.target p) (roots_of (rooted o)) (λ r. unreached (keep_of s) o rows r.target p is none))
     ∙ λ i. roots_that_reach (keep_of s) (graph_told w o told i) (roots_told w o told i) p
 
-pub none_keeps : (s : Settings) (o : Outline) (rows : List Row) (p : Path) → rows ≡ rows_in o → filter (same p) (paths_of rows) ≡ [] → (class : Class) (w : World) → outline_of w ≡ o → [] ≡ seen class (roots_that_keep s w p)
+pub none_keeps : (s : Settings) (o : OutlineValue) (rows : List Row) (p : Path) → rows ≡ rows_in o → filter (same p) (paths_of rows) ≡ [] → (class : Class) (w : World) → outline_of w ≡ o → [] ≡ seen class (roots_that_keep s w p)
 none_keeps s o rows p is none class w told = nothing_seen class ∙ ap (seen class) (none_kept s o rows p is none w told)
 
 -- ---- the roots that keep a path
 
-pub keeping_told : (s : Settings) (o : Outline) (keep : Keep) (rows : List Row) (valid : List Root) (p q : Path) → keep ≡ keep_of s → rows ≡ rows_in o → valid ≡ filter (aims_well o) (roots_of (rooted o)) → q ≡ p
+pub keeping_told : (s : Settings) (o : OutlineValue) (keep : Keep) (rows : List Row) (valid : List Root) (p q : Path) → keep ≡ keep_of s → rows ≡ rows_in o → valid ≡ filter (aims_well o) (roots_of (rooted o)) → q ≡ p
     → (w : World) → outline_of w ≡ o → roots_that_reach keep (graph_of rows) valid q ≡ roots_that_keep s w p
 keeping_told s o keep rows valid p q k r v same w told =
     (λ i. roots_that_reach (k i) (graph_of (r i)) (v i) (same i))

@@ -1,13 +1,11 @@
 -- Objects go, or there are none that do.
-use Rattle.std.proofs.Common.{◌≡◌, ◌<◌, List, [], ◌∷◌, false, not, Result, Ok, length, refl, sym, ap, ◌∙◌, arith}
-use Rattle.std.specs.Prelude.{ℕ, ◌==◌, OnOk, OnErr, IsTrue}
+use Rattle.std.proofs.Common.{◌≡◌, ◌<◌, List, [], ◌∷◌, false, not, Result, Ok, length, refl, sym, ap, ◌∙◌, arith, inl}
+use Rattle.std.specs.Prelude.{ℕ, ◌==◌}
 use Rattle.std.specs.Cmp.Lexicographic.{nat_list_cmp_total}
 use Rattle.std.specs.FinMap as finite
 use Rattle.std.proofs.lemmas.Bool.{false≢true}
 use Rattle.sqlite_trees.specs.declared.store.Store.{Ghosts}
-use Rattle.sqlite.specs.State.{HasCleanDisk, Survives}
 use Rattle.sqlite.specs.Held.{state}
-use Rattle.tables_sql.specs.Calls.{IsDurable}
 use Rattle.tables_sql.specs.declared.failure.Failure.{Failure}
 use Rattle.live.specs.Graph.{holds}
 use Rattle.policy.specs.Settings.{Settings}
@@ -18,10 +16,12 @@ use Rattle.model.specs.Reply.{freed}
 use Rattle.model.specs.Request.{Request}
 use Rattle.model.proofs.MapMembers.{bytes_antisymmetric}
 use Rattle.model.proofs.Worlds.{get-keeping}
-use Rattle.tables.specs.Kept.{Kept, Tells, LeavesWorld}
+use Rattle.tables.specs.Frames.{CommitsChange}
+use Rattle.tables.specs.Kept.{Kept}
 use Rattle.store_types.specs.declared.replies.Answer.{Answer}
 use Rattle.store_types.specs.View.{answer_view}
-use Rattle.store_steps.specs.Meets.{IsMet}
+use Rattle.store_steps.specs.Causes.{HasCause}
+use Rattle.store_steps.specs.Meets.{IsMet, reply_to}
 use Rattle.store_removal.specs.Removing.{Removes, without}
 use Rattle.store_steps.specs.Writing.{answered}
 use Rattle.store_steps.proofs.Untouched.{survives_still, lasts_still}
@@ -45,19 +45,15 @@ module _ {S : Type 0} (g : Ghosts S) (s : Settings) (c : Caller) (q : Request) (
     world = λ w t.
         let r = removes w t.outline in
         (w, (r.passes, λ _. seen ∙ r.answers, sym (ap (λ (m : Objects). record w { objects = m }) (none_gone w.objects)) ∙ ap (without w) (sym none) ∙ r.becomes), t);
+    cause = λ w t. tt;
+    others = λ _ _ _. inl refl;
     still = λ h. absurd h;
     lasts = λ _. lasts_still g k;
     survives = λ w t. survives_still (state g k.connection) _;
   }
 
   -- these go
-  pub met_by_removing : (new : Kept S) (handed : List Path) → handed ≡ gone → new.dir ≡ k.dir
-      → ((w : World) → Tells g k w → Survives (state g k.connection) (state g new.connection) (λ db. LeavesWorld k.dir (state g k.connection).now db (without w handed)))
-      → (r : Result (Unit {0}) Failure)
-      → OnOk r ((w : World) → Tells g k w → Tells g new (without w handed))
-      → OnErr r ((w : World) → Tells g k w → Tells g new w)
-      → OnOk r (IsTrue (state g new.connection).is_open → IsDurable (state g new.connection))
-      → (HasCleanDisk (state g new.connection) → OnOk r (IsTrue (state g k.connection).is_open × IsTrue (state g new.connection).is_open))
-      → IsMet g s c q (answered r a) k new
-  met_by_removing new handed same dir left =
-      met_by_writing g s c q k new (λ w. without w handed) a (λ w is. (removes w is).passes) (λ w is. seen ∙ (removes w is).answers) (λ w is. ap (without w) same ∙ (removes w is).becomes) dir left
+  pub met_by_removing : (new : Kept S) (handed : List Path) → handed ≡ gone → (r : Result (Unit {0}) Failure) → CommitsChange g k new r (λ w. without w handed)
+      → HasCause g q (reply_to (answered r a)) k new → IsMet g s c q (answered r a) k new
+  met_by_removing new handed same =
+      met_by_writing g s c q k new (λ w. without w handed) a (λ w is. (removes w is).passes) (λ w is. seen ∙ (removes w is).answers) (λ w is. ap (without w) same ∙ (removes w is).becomes)

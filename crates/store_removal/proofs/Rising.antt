@@ -12,7 +12,7 @@ use Rattle.paths.specs.Root.{Root, root_cmp, set_of, in_order}
 use Rattle.live.proofs.Members.{below}
 use Rattle.live.proofs.Order.{root_total}
 use Rattle.live.specs.Numbering.{Rise, RootsRise, paths_of}
-use Rattle.tables_outline.specs.Outline.{Outline}
+use Rattle.tables_outline.specs.Outline.{OutlineValue}
 use Rattle.tables_outline.proofs.Ordered.{both_T}
 use Rattle.tables_outline.proofs.Orders.{bytes_total}
 use Rattle.model.specs.World.{roots_of}
@@ -32,13 +32,13 @@ module _ {K X : Type 0} {R : K → K → Ordering} (o : IsTotalOrder R) where
   keys_rise m = sorted_rise (finite.entries m) (finite.entries_sorted m)
 
 -- the paths of the rows
-pub paths_in : (o : Outline) → paths_of (rows_in o) ≡ finite.keys o.objects
+pub paths_in : (o : OutlineValue) → paths_of (rows_in o) ≡ finite.keys o.objects
 paths_in o = map-map row_in (λ r. r.0) (finite.entries o.objects)
 
-pub rows_rise : (o : Outline) → Rise (paths_of (rows_in o))
+pub rows_rise : (o : OutlineValue) → Rise (paths_of (rows_in o))
 rows_rise o = subst Rise (sym (paths_in o)) (keys_rise bytes_total o.objects)
 
 -- roots in order rise, and so do some of them
-pub roots_rise : (o : Outline) (p : Root → _) → RootsRise (filter p (roots_of (rooted o)))
+pub roots_rise : (o : OutlineValue) (p : Root → _) → RootsRise (filter p (roots_of (rooted o)))
 unfolding in_order
 roots_rise o p = AllPairs-filter (λ a b. root_cmp a b ≡ Less) p (roots_of (rooted o)) (keys_rise root_total (set_of root_cmp _))

@@ -4,7 +4,7 @@ use Rattle.std.specs.List.{sum_by}
 use Rattle.std.specs.Option.{option_map_or}
 use Rattle.std.specs.FinMap as finite
 use Rattle.model.specs.World.{Path, Object, World}
-use Rattle.tables_outline.specs.Outline.{Outline, Outlined, outlined, outline_of}
+use Rattle.tables_outline.specs.Outline.{OutlineValue, Outlined, outlined, outline_of}
 use Rattle.tables_outline.proofs.Orders.{bytes_total, bytes_antisymmetric}
 use Rattle.tables_outline.proofs.Told.{get-told}
 use Rattle.model.specs.Liveness as spec
@@ -20,12 +20,12 @@ outlined_size (Some o) = refl
 size_told : (w : World) → size_in (outline_of w) ≡ spec.size_of w
 size_told w = λ i p. (ap size (get-told bytes_total bytes_antisymmetric (λ _ x. outlined x) w.objects p) ∙ outlined_size (finite.get w.objects p)) i
 
-pub sizes_told : (w : World) (o : Outline) → outline_of w ≡ o → size_in o ≡ spec.size_of w
-sizes_told w o is = ap (λ (x : Outline). size_in x) (sym is) ∙ size_told w
+pub sizes_told : (w : World) (o : OutlineValue) → outline_of w ≡ o → size_in o ≡ spec.size_of w
+sizes_told w o is = ap (λ (x : OutlineValue). size_in x) (sym is) ∙ size_told w
 
-pub bytes_told : (w : World) (o : Outline) → outline_of w ≡ o → (ps : List Path) → bytes_within o ps ≡ spec.bytes_in w ps
-bytes_told w o is ps = ap (λ (x : Outline). bytes_within x ps) (sym is) ∙ ap (λ f. sum_by f ps) (size_told w)
+pub bytes_told : (w : World) (o : OutlineValue) → outline_of w ≡ o → (ps : List Path) → bytes_within o ps ≡ spec.bytes_in w ps
+bytes_told w o is ps = ap (λ (x : OutlineValue). bytes_within x ps) (sym is) ∙ ap (λ f. sum_by f ps) (size_told w)
 
 -- what is found behind a reference
-pub size_found : (o : Outline) (p : Path) (found : Option Outlined) → found ≡ finite.get o.objects p → size found ≡ size_in o p
+pub size_found : (o : OutlineValue) (p : Path) (found : Option Outlined) → found ≡ finite.get o.objects p → size found ≡ size_in o p
 size_found o p found e = ap size e

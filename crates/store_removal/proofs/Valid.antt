@@ -18,7 +18,7 @@ use Rattle.live.specs.Reach.{reaches}
 use Rattle.live.proofs.Members.{some_of_any}
 use Rattle.live.proofs.Order.{in_order_is}
 use Rattle.model.specs.World.{Path}
-use Rattle.tables_outline.specs.Outline.{Outline}
+use Rattle.tables_outline.specs.Outline.{OutlineValue}
 use Rattle.tables_outline.proofs.Orders.{bytes_total, bytes_antisymmetric}
 use Rattle.tables_outline.proofs.Puts.{tied_is}
 use Rattle.tables_outline.proofs.Told.{has-told}
@@ -26,11 +26,11 @@ use Rattle.store_removal.specs.Linked.{links_in, rows_in}
 use Rattle.store_removal.proofs.Rising.{paths_in}
 
 -- whether the target of a root is valid
-abbrev pub aims_well : Outline → Root → Bool
+abbrev pub aims_well : OutlineValue → Root → Bool
 aims_well o r = finite.contains_key o.objects r.target
 
 -- a path that a map has is among its keys
-pub among_keys : (o : Outline) (p : Path) → finite.contains_key o.objects p ≡ true → Contains (finite.keys o.objects) p
+pub among_keys : (o : OutlineValue) (p : Path) → finite.contains_key o.objects p ≡ true → Contains (finite.keys o.objects) p
 among_keys o p h =
     let found = some_of_any (eq_by_cmp bytes_cmp p) (finite.keys o.objects) (sym (finite.contains_key-keys o.objects p) ∙ h) in
     subst (Contains (finite.keys o.objects)) (sym (tied_is bytes_antisymmetric p found.0 found.2)) found.1
@@ -44,14 +44,14 @@ passing {X} p (x ∷ xs) = by (p x) refl (passing p xs)
     by true e rest = All-cons (λ y. p y ≡ true) x (filter p xs) e rest
     by false e rest = rest
 
-pub valid_all : (o : Outline) (roots : List Root) → AllValid (rows_in o) (filter (aims_well o) roots)
+pub valid_all : (o : OutlineValue) (roots : List Root) → AllValid (rows_in o) (filter (aims_well o) roots)
 valid_all o roots k l =
     subst (λ (ps : List Path). Contains ps (root_at (filter (aims_well o) roots) k).target) (sym (paths_in o))
     (among_keys o (root_at (filter (aims_well o) roots) k).target (passing (aims_well o) roots k no_root l))
 
 -- ---- the others reach nothing
 
-pub reaches_from_valid : (keep : Keep) (o : Outline) (a z : Path) → reaches keep (graph_of (rows_in o)) a z ≡ true → finite.contains_key o.objects a ≡ true
+pub reaches_from_valid : (keep : Keep) (o : OutlineValue) (a z : Path) → reaches keep (graph_of (rows_in o)) a z ≡ true → finite.contains_key o.objects a ≡ true
 unfolding reaches
 reaches_from_valid keep o a z h = sym (has-told bytes_total bytes_antisymmetric (λ _ x. links_in x) o.objects a) ∙ (and_parts _ _ h).0
 
@@ -110,7 +110,7 @@ tested {X} f q d a (x ∷ xs) h = λ i. first i ∷ tested f q d (a + 1) xs late
         one_more : (a + 1) + i ≡ a + suc i
         one_more = omega arith
 
-module _ (keep : Keep) (o : Outline) (roots : List Root) where
+module _ (keep : Keep) (o : OutlineValue) (roots : List Root) where
   -- a place has a mark where some root reaches its path
   marked : RootsRise (filter (aims_well o) roots) → (m : Marking) → IsExact keep (rows_in o) (filter (aims_well o) roots) m → (i : ℕ) → i < length (rows_in o)
       → is_some (first_of m i) ≡ is_live keep (graph_of (rows_in o)) roots (path_at (rows_in o) i)

@@ -1,5 +1,5 @@
 -- Paths that go, or a denial that shows what keeps them.
-use Rattle.std.specs.Prelude.{◌≡◌, ℕ, true, false, List, Option, Some, None, String}
+use Rattle.std.specs.Prelude.{◌≡◌, ℕ, Bool, true, false, List, Option, Some, None, String}
 use Rattle.std.specs.List.{list_any}
 use Rattle.std.specs.declared.alloc.Global.{Global}
 use Rattle.policy.specs.declared.kinds.Rule.TheVariants.{Live}
@@ -7,7 +7,7 @@ use Rattle.policy.specs.Settings.{Settings}
 use Rattle.policy.specs.Caller.{Caller}
 use Rattle.model.specs.World.{Path, World}
 use Rattle.tables_outline.specs.Maps.{labelled_bytes}
-use Rattle.model.specs.Request.{Request}
+use Rattle.model.specs.Request.{Request, delete}
 use Rattle.model.specs.Liveness.{lives}
 use Rattle.model.specs.Verdict.{named_in, shown}
 use Rattle.store_removal.specs.declared.removing.Found.{Found}
@@ -15,6 +15,11 @@ use Rattle.store_removal.specs.declared.removing.Found.{Found}
 -- paths, and the sum of the bytes of their archives
 abbrev pub found_view : Found → List Path × ℕ
 found_view f = (f.paths.items, f.bytes)
+
+-- whether a request deletes paths by name
+abbrev pub deletes : Request → Bool
+deletes (delete named ignores) = true
+deletes _ = false
 
 -- where a path that a request names lives, what a denial shows; else nothing
 abbrev pub IsDenial : Settings → World → Caller → Request → Option (String Global × Path) → Type 0

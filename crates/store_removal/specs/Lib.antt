@@ -3,4 +3,4 @@ pub mod Keeping
 pub mod Linked
 pub mod Removing
 pub mod Sizes
-pub mod Told
+pub mod Unique

@@ -6,7 +6,7 @@ use Rattle.live.specs.Live.{is_live}
 use Rattle.live.specs.Numbering.{Row, graph_of}
 use Rattle.policy.specs.Settings.{Settings}
 use Rattle.model.specs.World.{Path, roots_of}
-use Rattle.tables_outline.specs.Outline.{Outline, Outlined}
+use Rattle.tables_outline.specs.Outline.{OutlineValue, Outlined}
 use Rattle.model.specs.Liveness.{keep_of}
 use Rattle.tables_listing.specs.Rooted.{rooted}
 
@@ -18,11 +18,11 @@ abbrev pub row_in : Path × Outlined → Row
 row_in e = (e.0, links_in e.1)
 
 -- the valid paths, each with what its object points to
-abbrev pub rows_in : Outline → List Row
+abbrev pub rows_in : OutlineValue → List Row
 rows_in o = map row_in (finite.entries o.objects)
 
 -- whether some root reaches a path
-abbrev pub lives_in : Settings → Outline → Path → Bool
+abbrev pub lives_in : Settings → OutlineValue → Path → Bool
 lives_in s o p = is_live (keep_of s) (graph_of (rows_in o)) (roots_of (rooted o)) p
 
 -- a path that lives where those are wanted, and one that is dead where these are

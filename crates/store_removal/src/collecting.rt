@@ -2,7 +2,7 @@
 
 ghost use Rattle.std.specs.Prelude.{◌≡◌, ◌<◌, ℕ, All, IfOk, Some, length, map, not};
 ghost use Rattle.std.specs.List.{slice_index};
-ghost use Rattle.live.specs.Handed.{rows_view, roots_view};
+ghost use Rattle.live.specs.Arguments.{rows_view, roots_view};
 ghost use Rattle.live.specs.Keeping.{keep_view};
 ghost use Rattle.live.specs.Live.{is_live};
 ghost use Rattle.live.specs.Numbering.{AllValid, Rise, RootsRise, graph_of, path_at, paths_of};
@@ -29,16 +29,16 @@ use std::alloc::{AllocError, Global};
 use store_types::{Answer, Stop};
 use tables::Tables;
 use tables_listing::root_list;
-use tables_outline::Index;
+use tables_outline::Outline;
 use tables_sql::failure::Failure;
 
 /// The bytes of the archive of each row's path.
-fn sizes(alloc: Global, index: &Index, rows: &[Row]) -> Result<Vec<u64>, AllocError>
-    ensures { IfOk result (λ v. v.items ≡ map (λ r. size_in index.now r.path.now) rows.now) }
+fn sizes(alloc: Global, outline: &Outline, rows: &[Row]) -> Result<Vec<u64>, AllocError>
+    ensures { IfOk result (λ v. v.items ≡ map (λ r. size_in outline.now r.path.now) rows.now) }
 {
     let mut sizes = Vec::new(alloc);
     for row in rows {
-        sizes.push(size_of(index, row.path) as u64)?;
+        sizes.push(size_of(outline, row.path) as u64)?;
     }
     Ok(sizes)
 }
@@ -71,16 +71,16 @@ fn places(
 fn limited_paths(
     alloc: Global,
     config: &Config,
-    index: &Index,
+    outline: &Outline,
     limit: u64,
 ) -> Result<Vec<StorePath>, AllocError>
-    ensures { IfOk result (λ v. (w : World) → outline_of w ≡ index.now → v.items ≡ spec.collected_paths config.now w (Some limit)) }
+    ensures { IfOk result (λ v. (w : World) → outline_of w ≡ outline.now → v.items ≡ spec.collected_paths config.now w (Some limit)) }
 {
-    let rows = rows(alloc, index)?;
-    let roots = root_list(alloc, index)?;
+    let rows = rows(alloc, outline)?;
+    let roots = root_list(alloc, outline)?;
     let given = lent(alloc, &roots)?;
-    let valid = of_valid(alloc, index, &given)?;
-    let sizes = sizes(alloc, index, &rows)?;
+    let valid = of_valid(alloc, outline, &given)?;
+    let sizes = sizes(alloc, outline, &rows)?;
     let places = places(alloc, keep_of(config), &rows, &valid, &sizes, limit)?;
     paths_at(alloc, &rows, &places)
 }
@@ -90,14 +90,14 @@ fn limited_paths(
 pub fn collected_paths(
     alloc: Global,
     config: &Config,
-    index: &Index,
+    outline: &Outline,
     limit: Option<u64>,
 ) -> Result<Vec<StorePath>, AllocError>
-    ensures { IfOk result (λ v. (w : World) → outline_of w ≡ index.now → v.items ≡ spec.collected_paths config.now w limit) }
+    ensures { IfOk result (λ v. (w : World) → outline_of w ≡ outline.now → v.items ≡ spec.collected_paths config.now w limit) }
 {
     match limit {
-        Some(most) => limited_paths(alloc, config, index, most),
-        None => dead_paths(alloc, config, index),
+        Some(most) => limited_paths(alloc, config, outline, most),
+        None => dead_paths(alloc, config, outline),
     }
 }
 
@@ -105,14 +105,14 @@ pub fn collected_paths(
 pub fn find_collected(
     alloc: Global,
     config: &Config,
-    index: &Index,
+    outline: &Outline,
     limit: Option<u64>,
 ) -> Result<Found, AllocError>
-    ensures paths { IfOk result (λ f. (w : World) → outline_of w ≡ index.now → f.paths.items ≡ spec.collected_paths config.now w limit) }
-    ensures bytes { IfOk result (λ f. (w : World) → outline_of w ≡ index.now → f.bytes ≡ spec.bytes_in w (spec.collected_paths config.now w limit)) }
+    ensures paths { IfOk result (λ f. (w : World) → outline_of w ≡ outline.now → f.paths.items ≡ spec.collected_paths config.now w limit) }
+    ensures bytes { IfOk result (λ f. (w : World) → outline_of w ≡ outline.now → f.bytes ≡ spec.bytes_in w (spec.collected_paths config.now w limit)) }
 {
-    let paths = collected_paths(alloc, config, index, limit)?;
-    let bytes = bytes_in(index, &paths);
+    let paths = collected_paths(alloc, config, outline, limit)?;
+    let bytes = bytes_in(outline, &paths);
     Ok(Found { paths, bytes })
 }
 
@@ -126,7 +126,7 @@ pub fn collect<S: Alter>(
 ) -> Result<Answer, Stop>
     ensures { (c : Caller) → IsMet S.Store config.now c (asked.collect ignores limit) result tables.old tables.new }
 {
-    match find_collected(alloc, config, tables.index(), limit) {
+    match find_collected(alloc, config, tables.outline(), limit) {
         Ok(gone) => remove(tables, gone),
         Err(_) => Err(Stop::Failed(Failure::Memory)),
     }

@@ -1,22 +1,22 @@
 //! Objects are deleted by name.
 
-ghost use Rattle.std.specs.Prelude.{◌≡◌, ◌<◌, All, Bool, [], IfOk, false, filter, length, map, not};
+ghost use Rattle.std.specs.Prelude.{◌≡◌, ◌<◌, All, Bool, [], None, Ok, IfOk, false, filter, length, map, not};
 ghost use Rattle.std.specs.List.{list_any, list_all};
 ghost use Rattle.live.specs.Graph.{same};
-ghost use Rattle.live.specs.Handed.{rows_view};
+ghost use Rattle.live.specs.Arguments.{rows_view};
 ghost use Rattle.live.specs.Numbering.{Rise, graph_of, path_at, paths_of};
 ghost use Rattle.live.specs.Reach.{refers_to_any};
 ghost use Rattle.model.specs.World.{Path, World, has};
 ghost use Rattle.tables_outline.specs.Outline.{outline_of};
 ghost use Rattle.model.specs.declared.refusal.Refusal.TheVariants.{NotValid};
 ghost use Rattle.model.specs.Tests.{unless};
-ghost use Rattle.store_removal.specs.Found.{IsDenial, found_view};
+ghost use Rattle.store_removal.specs.Found.{IsDenial, deletes, found_view};
 ghost use Rattle.store_types.specs.Tested.{Gives};
 ghost use Rattle.store_types.specs.View.{request_view};
 ghost use Rattle.policy.specs.Settings.{Settings};
 ghost use Rattle.model.specs.Sound.{IsSound};
 ghost use Rattle.model.specs.Effects.{keeping};
-ghost use Rattle.tables.specs.Kept.{Tells};
+ghost use Rattle.tables.specs.Kept.{HasWorld};
 ghost use Rattle.store_steps.specs.Meets.{IsMet};
 ghost use Rattle.model.specs.Liveness as spec;
 ghost use Rattle.policy.specs.Caller as callers;
@@ -32,10 +32,10 @@ use paths::StorePath;
 use policy::{Caller, Config, class};
 use sqlite::Alter;
 use std::alloc::{AllocError, Global};
-use store_steps::there::are_valid;
+use store_steps::validity::are_valid;
 use store_types::{Answer, Request, Stop};
 use tables::Tables;
-use tables_outline::Index;
+use tables_outline::Outline;
 
 /// The places of those of some paths that are rows'.
 fn places(alloc: Global, rows: &[Row], named: &[StorePath]) -> Result<Vec<usize>, AllocError>
@@ -79,12 +79,12 @@ fn referring(alloc: Global, rows: &[Row], places: &[usize]) -> Result<Vec<StoreP
 /// The named paths that are valid and all that reach one by references, named or not, in order.
 pub fn deleted_paths(
     alloc: Global,
-    index: &Index,
+    outline: &Outline,
     named: &[StorePath],
 ) -> Result<Vec<StorePath>, AllocError>
-    ensures { IfOk result (λ v. (w : World) → outline_of w ≡ index.now → v.items ≡ spec.deleted_paths w named.now) }
+    ensures { IfOk result (λ v. (w : World) → outline_of w ≡ outline.now → v.items ≡ spec.deleted_paths w named.now) }
 {
-    let rows = rows(alloc, index)?;
+    let rows = rows(alloc, outline)?;
     let places = places(alloc, &rows, named)?;
     referring(alloc, &rows, &places)
 }
@@ -95,14 +95,17 @@ pub fn denial(
     alloc: Global,
     config: &Config,
     caller: &Caller,
-    index: &Index,
+    outline: &Outline,
     request: &Request,
 ) -> Result<Option<(String, StorePath)>, AllocError>
-    ensures { IfOk result (λ root. (w : World) → outline_of w ≡ index.now → IsDenial config.now w caller.now (request_view request.now) root) }
+    ensures root { IfOk result (λ root. (w : World) → outline_of w ≡ outline.now
+        → IsDenial config.now w caller.now (request_view request.now) root) }
+    // A request that is no deletion takes no memory, and none keeps it from being done.
+    ensures unnamed { deletes (request_view request.now) ≡ false → result ≡ Ok None }
 {
     match request {
         Request::Delete { paths: named, .. } => {
-            let root = first_kept(alloc, config, class(config, caller), index, named)?;
+            let root = first_kept(alloc, config, class(config, caller), outline, named)?;
             Ok(root)
         }
         _ => Ok(None),
@@ -110,13 +113,13 @@ pub fn denial(
 }
 
 /// The named paths and all that reach them by references, if the named are valid.
-pub fn find_deleted(alloc: Global, index: &Index, named: &[StorePath]) -> Result<Found, Stop>
-    ensures { (w : World) → outline_of w ≡ index.now → Gives found_view result
+pub fn find_deleted(alloc: Global, outline: &Outline, named: &[StorePath]) -> Result<Found, Stop>
+    ensures { (w : World) → outline_of w ≡ outline.now → Gives found_view result
         (unless (list_all (has w) named.now) NotValid) (spec.deleted_paths w named.now, spec.bytes_in w (spec.deleted_paths w named.now)) }
 {
-    are_valid(index, named)?;
-    let paths = deleted_paths(alloc, index, named)?;
-    let bytes = bytes_in(index, &paths);
+    are_valid(outline, named)?;
+    let paths = deleted_paths(alloc, outline, named)?;
+    let bytes = bytes_in(outline, &paths);
     Ok(Found { paths, bytes })
 }
 
@@ -127,10 +130,10 @@ pub fn delete<S: Alter>(
     named: Vec<StorePath>,
     ignores: bool,
 ) -> Result<Answer, Stop>
-    requires { (w : World) → Tells S.Store tables.old w → IsSound tables.old.dir (keeping w (λ p. not (spec.goes_with w named.items p))) }
+    requires { (w : World) → HasWorld S.Store tables.old w → IsSound tables.old.dir (keeping w (λ p. not (spec.is_deleted_with w named.items p))) }
     ensures { (s : Settings) (c : callers.Caller) → IsMet S.Store s c (asked.delete named.items ignores) result tables.old tables.new }
 {
-    match find_deleted(alloc, tables.index(), &named) {
+    match find_deleted(alloc, tables.outline(), &named) {
         Ok(gone) => remove(tables, gone),
         Err(stop) => Err(stop),
     }

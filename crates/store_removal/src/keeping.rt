@@ -3,7 +3,7 @@
 ghost use Rattle.std.specs.Prelude.{◌≡◌, ◌<◌, ℕ, IfOk, IfSome, Option, find, is_some, length, option_map};
 ghost use Rattle.std.specs.List.{list_any};
 ghost use Rattle.paths.specs.Root.{Root as TheRoot};
-ghost use Rattle.live.specs.Handed.{rows_view};
+ghost use Rattle.live.specs.Arguments.{rows_view};
 ghost use Rattle.model.specs.World.{Path, World};
 ghost use Rattle.tables_outline.specs.Maps.{labelled_bytes};
 ghost use Rattle.tables_outline.specs.Outline.{outline_of};
@@ -22,7 +22,7 @@ use paths::StorePath;
 use policy::{Class, Config};
 use std::alloc::{AllocError, Global};
 use tables_listing::root_list;
-use tables_outline::Index;
+use tables_outline::Outline;
 
 /// The place of the first root of a path, by the marks of the rows.
 fn mark_of(rows: &[Row], marks: &Marks, path: &StorePath) -> Option<usize>
@@ -56,16 +56,16 @@ pub fn first_kept(
     alloc: Global,
     config: &Config,
     class: Class,
-    index: &Index,
+    outline: &Outline,
     named: &[StorePath],
 ) -> Result<Option<(String, StorePath)>, AllocError>
-    ensures root { IfOk result (λ r. (w : World) → outline_of w ≡ index.now → option_map labelled_bytes r ≡ option_map (sights.seen_root class) (root_of_first config.now w (find (spec.lives config.now w) named.now))) }
-    ensures lives { IfOk result (λ r. (w : World) → outline_of w ≡ index.now → is_some r ≡ list_any (spec.lives config.now w) named.now) }
+    ensures root { IfOk result (λ r. (w : World) → outline_of w ≡ outline.now → option_map labelled_bytes r ≡ option_map (sights.seen_root class) (root_of_first config.now w (find (spec.lives config.now w) named.now))) }
+    ensures lives { IfOk result (λ r. (w : World) → outline_of w ≡ outline.now → is_some r ≡ list_any (spec.lives config.now w) named.now) }
 {
-    let rows = rows(alloc, index)?;
-    let roots = root_list(alloc, index)?;
+    let rows = rows(alloc, outline)?;
+    let roots = root_list(alloc, outline)?;
     let given = lent(alloc, &roots)?;
-    let valid = of_valid(alloc, index, &given)?;
+    let valid = of_valid(alloc, outline, &given)?;
     let marks = marks(alloc, keep_of(config), &rows, &valid)?;
     let Some(place) = first_mark(&rows, &marks, named) else {
         return Ok(None);

@@ -2,13 +2,13 @@
 
 ghost use Rattle.std.specs.Prelude.{◌≡◌, IfOk, filter, map};
 ghost use Rattle.std.specs.FinMap as finite;
-ghost use Rattle.live.specs.Handed as handed;
-ghost use Rattle.live.specs.Handed.{roots_view};
+ghost use Rattle.live.specs.Arguments as handed;
+ghost use Rattle.live.specs.Arguments.{roots_view};
 ghost use Rattle.tables_listing.specs.View.{kind_view, root_view};
 
 use std::alloc::{AllocError, Global};
 use tables_listing::{Kind, Root};
-use tables_outline::Index;
+use tables_outline::Outline;
 
 /// A kind of roots, as `live` has it.
 fn kind_of(kind: Kind) -> live::Kind
@@ -41,14 +41,14 @@ pub(crate) fn lent<'a>(alloc: Global, roots: &'a [Root]) -> Result<Vec<live::Roo
 /// The roots whose targets are valid.
 pub(crate) fn of_valid<'a>(
     alloc: Global,
-    index: &Index,
+    outline: &Outline,
     roots: &[live::Root<'a>],
 ) -> Result<Vec<live::Root<'a>>, AllocError>
-    ensures { IfOk result (λ v. roots_view v.items ≡ filter (λ r. finite.contains_key index.now.objects r.target) (roots_view roots.now)) }
+    ensures { IfOk result (λ v. roots_view v.items ≡ filter (λ r. finite.contains_key outline.now.objects r.target) (roots_view roots.now)) }
 {
     let mut valid = Vec::new(alloc);
     for root in roots {
-        if index.has(root.target) {
+        if outline.has(root.target) {
             valid.push(*root)?;
         }
     }

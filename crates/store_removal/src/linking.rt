@@ -1,19 +1,19 @@
-//! The objects of an index as rows of a graph.
+//! The objects of an outline as rows of a graph.
 
 ghost use Rattle.std.specs.Prelude.{◌≡◌, IfOk};
-ghost use Rattle.live.specs.Handed.{rows_view};
+ghost use Rattle.live.specs.Arguments.{rows_view};
 ghost use Rattle.store_removal.specs.Linked.{rows_in};
 
 use live::Row;
 use std::alloc::{AllocError, Global};
-use tables_outline::Index;
+use tables_outline::Outline;
 
 /// The valid paths, each with what its object points to, lent.
-pub(crate) fn rows<'a>(alloc: Global, index: &'a Index) -> Result<Vec<Row<'a>>, AllocError>
-    ensures { IfOk result (λ v. rows_view v.items ≡ rows_in index.now) }
+pub(crate) fn rows<'a>(alloc: Global, outline: &'a Outline) -> Result<Vec<Row<'a>>, AllocError>
+    ensures { IfOk result (λ v. rows_view v.items ≡ rows_in outline.now) }
 {
     let mut rows = Vec::new(alloc);
-    for (path, object) in index.objects().iter() {
+    for (path, object) in outline.objects().iter() {
         rows.push(Row {
             path,
             references: object.references(),

@@ -4,7 +4,7 @@ ghost use Rattle.std.specs.Prelude.{◌≡◌, Bool, IfOk, filter, is_some, leng
 ghost use Rattle.std.specs.List.{range_with_len};
 ghost use Rattle.std.specs.FinMap as finite;
 ghost use Rattle.live.specs.Exact.{IsExact};
-ghost use Rattle.live.specs.Handed.{rows_view, roots_view};
+ghost use Rattle.live.specs.Arguments.{rows_view, roots_view};
 ghost use Rattle.live.specs.Keeping.{keep_view};
 ghost use Rattle.live.specs.Marking.{first_of};
 ghost use Rattle.live.specs.Numbering.{AllValid, Rise, RootsRise, paths_of};
@@ -20,7 +20,7 @@ use paths::StorePath;
 use policy::{Config, keep_derivations, keep_outputs};
 use std::alloc::{AllocError, Global};
 use tables_listing::root_list;
-use tables_outline::Index;
+use tables_outline::Outline;
 
 /// What is kept alive besides references, as the configuration says.
 pub(crate) fn keep_of(config: &Config) -> Keep
@@ -66,15 +66,15 @@ fn flags(alloc: Global, count: usize, marks: &Marks) -> Result<Vec<bool>, AllocE
 fn lives(
     alloc: Global,
     config: &Config,
-    index: &Index,
+    outline: &Outline,
     rows: &[Row],
 ) -> Result<Vec<bool>, AllocError>
-    requires { rows_view rows.now ≡ rows_in index.now }
-    ensures { IfOk result (λ v. v.items ≡ map (lives_in config.now index.now) (finite.keys index.now.objects)) }
+    requires { rows_view rows.now ≡ rows_in outline.now }
+    ensures { IfOk result (λ v. v.items ≡ map (lives_in config.now outline.now) (finite.keys outline.now.objects)) }
 {
-    let roots = root_list(alloc, index)?;
+    let roots = root_list(alloc, outline)?;
     let given = lent(alloc, &roots)?;
-    let valid = of_valid(alloc, index, &given)?;
+    let valid = of_valid(alloc, outline, &given)?;
     let marks = marks(alloc, keep_of(config), rows, &valid)?;
     flags(alloc, rows.len(), &marks)
 }
@@ -108,13 +108,13 @@ fn chosen(
 pub fn live_and_dead(
     alloc: Global,
     config: &Config,
-    index: &Index,
+    outline: &Outline,
 ) -> Result<(Vec<StorePath>, Vec<StorePath>), AllocError>
-    ensures live { IfOk result (λ p. (w : World) → outline_of w ≡ index.now → p.0.items ≡ spec.live_paths config.now w) }
-    ensures dead { IfOk result (λ p. (w : World) → outline_of w ≡ index.now → p.1.items ≡ spec.dead_paths config.now w) }
+    ensures live { IfOk result (λ p. (w : World) → outline_of w ≡ outline.now → p.0.items ≡ spec.live_paths config.now w) }
+    ensures dead { IfOk result (λ p. (w : World) → outline_of w ≡ outline.now → p.1.items ≡ spec.dead_paths config.now w) }
 {
-    let rows = rows(alloc, index)?;
-    let lives = lives(alloc, config, index, &rows)?;
+    let rows = rows(alloc, outline)?;
+    let lives = lives(alloc, config, outline, &rows)?;
     let live = chosen(alloc, &rows, &lives, true)?;
     let dead = chosen(alloc, &rows, &lives, false)?;
     Ok((live, dead))
@@ -124,12 +124,12 @@ pub fn live_and_dead(
 pub fn live_paths(
     alloc: Global,
     config: &Config,
-    index: &Index,
+    outline: &Outline,
 ) -> Result<Vec<StorePath>, AllocError>
-    ensures { IfOk result (λ v. (w : World) → outline_of w ≡ index.now → v.items ≡ spec.live_paths config.now w) }
+    ensures { IfOk result (λ v. (w : World) → outline_of w ≡ outline.now → v.items ≡ spec.live_paths config.now w) }
 {
-    let rows = rows(alloc, index)?;
-    let lives = lives(alloc, config, index, &rows)?;
+    let rows = rows(alloc, outline)?;
+    let lives = lives(alloc, config, outline, &rows)?;
     chosen(alloc, &rows, &lives, true)
 }
 
@@ -137,11 +137,11 @@ pub fn live_paths(
 pub fn dead_paths(
     alloc: Global,
     config: &Config,
-    index: &Index,
+    outline: &Outline,
 ) -> Result<Vec<StorePath>, AllocError>
-    ensures { IfOk result (λ v. (w : World) → outline_of w ≡ index.now → v.items ≡ spec.dead_paths config.now w) }
+    ensures { IfOk result (λ v. (w : World) → outline_of w ≡ outline.now → v.items ≡ spec.dead_paths config.now w) }
 {
-    let rows = rows(alloc, index)?;
-    let lives = lives(alloc, config, index, &rows)?;
+    let rows = rows(alloc, outline)?;
+    let lives = lives(alloc, config, outline, &rows)?;
     chosen(alloc, &rows, &lives, false)
 }

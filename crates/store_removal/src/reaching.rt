@@ -2,7 +2,7 @@
 
 ghost use Rattle.std.specs.Prelude.{◌≡◌, ◌<◌, All, [], IfNone, IfOk, IfSome, filter, length, map};
 ghost use Rattle.live.specs.Graph.{same};
-ghost use Rattle.live.specs.Handed.{roots_view, rows_view};
+ghost use Rattle.live.specs.Arguments.{roots_view, rows_view};
 ghost use Rattle.live.specs.Live.{roots_that_reach};
 ghost use Rattle.live.specs.Keeping.{keep_view};
 ghost use Rattle.live.specs.Numbering.{AllValid, Rise, graph_of, path_at, paths_of, root_at};
@@ -21,7 +21,7 @@ use paths::StorePath;
 use policy::{Class, Config};
 use std::alloc::{AllocError, Global};
 use tables_listing::root_list;
-use tables_outline::Index;
+use tables_outline::Outline;
 
 /// The place of a path among rows, if it is there.
 pub(crate) fn place_of(rows: &[Row], path: &StorePath) -> Option<usize>
@@ -77,18 +77,18 @@ pub fn seen_roots_of(
     alloc: Global,
     config: &Config,
     class: Class,
-    index: &Index,
+    outline: &Outline,
     path: &StorePath,
 ) -> Result<Vec<(String, StorePath)>, AllocError>
-    ensures { IfOk result (λ v. (w : World) → outline_of w ≡ index.now → map labelled_bytes v.items ≡ seen_by class (roots_that_keep config.now w path.now)) }
+    ensures { IfOk result (λ v. (w : World) → outline_of w ≡ outline.now → map labelled_bytes v.items ≡ seen_by class (roots_that_keep config.now w path.now)) }
 {
-    let rows = rows(alloc, index)?;
+    let rows = rows(alloc, outline)?;
     let Some(place) = place_of(&rows, path) else {
         return Ok(Vec::new(alloc));
     };
-    let roots = root_list(alloc, index)?;
+    let roots = root_list(alloc, outline)?;
     let given = lent(alloc, &roots)?;
-    let valid = of_valid(alloc, index, &given)?;
+    let valid = of_valid(alloc, outline, &given)?;
     let reaching = reaching(alloc, keep_of(config), &rows, &valid, place)?;
     seen(alloc, class, &reaching)
 }

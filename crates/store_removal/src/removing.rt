@@ -1,12 +1,13 @@
 //! Objects go.
 
-ghost use Rattle.std.specs.Prelude.{◌≡◌, ◌<◌, true, false, [], length};
+ghost use Rattle.std.specs.Prelude.{◌≡◌, ◌<◌, IsTrue, true, false, [], length};
 ghost use Rattle.policy.specs.Settings.{Settings};
 ghost use Rattle.policy.specs.Caller.{Caller};
 ghost use Rattle.model.specs.World.{World};
 ghost use Rattle.model.specs.Sound.{IsSound};
 ghost use Rattle.tables_outline.specs.Outline.{outline_of};
-ghost use Rattle.tables.specs.Kept.{Tells};
+ghost use Rattle.tables.specs.Kept.{HasWorld};
+ghost use Rattle.store_steps.specs.Causes.{touches_disk};
 ghost use Rattle.store_steps.specs.Meets.{IsMet};
 ghost use Rattle.store_removal.specs.Removing.{Removes, without};
 ghost use Rattle.model.specs.Request as asked;
@@ -36,9 +37,10 @@ fn is_nothing(paths: &[StorePath]) -> bool
 
 /// The objects of some paths go, if there are any. That the world is sound without them is the caller's condition.
 pub(crate) fn remove<S: Alter>(tables: &mut Tables<S>, gone: Found) -> Result<Answer, Stop>
-    requires { (w : World) → Tells S.Store tables.old w → IsSound tables.old.dir (without w gone.paths.items) }
+    requires { (w : World) → HasWorld S.Store tables.old w → IsSound tables.old.dir (without w gone.paths.items) }
     // A request is met on which these go, and nothing else.
-    ensures { (s : Settings) (c : Caller) (q : asked.Request) → ((w : World) → outline_of w ≡ tables.old.outline → Removes s w c q gone.paths.items gone.bytes)
+    ensures { (s : Settings) (c : Caller) (q : asked.Request) → IsTrue (touches_disk q)
+        → ((w : World) → outline_of w ≡ tables.old.outline → Removes s w c q gone.paths.items gone.bytes)
         → IsMet S.Store s c q result tables.old tables.new }
 {
     let Found { paths, bytes } = gone;

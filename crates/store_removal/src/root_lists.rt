@@ -12,17 +12,17 @@ use paths::StorePath;
 use policy::Class;
 use std::alloc::{AllocError, Global};
 use tables_listing::root_list;
-use tables_outline::Index;
+use tables_outline::Outline;
 
 /// All roots in their order, each its label and its target, as a caller of a class sees them.
 pub fn seen_roots(
     alloc: Global,
     class: Class,
-    index: &Index,
+    outline: &Outline,
 ) -> Result<Vec<(String, StorePath)>, AllocError>
-    ensures { IfOk result (λ v. (w : World) → outline_of w ≡ index.now → map labelled_bytes v.items ≡ seen_by class (roots_of w)) }
+    ensures { IfOk result (λ v. (w : World) → outline_of w ≡ outline.now → map labelled_bytes v.items ≡ seen_by class (roots_of w)) }
 {
-    let roots = root_list(alloc, index)?;
+    let roots = root_list(alloc, outline)?;
     let given = lent(alloc, &roots)?;
     seen(alloc, class, &given)
 }

@@ -5,10 +5,10 @@ ghost use Rattle.std.specs.declared.alloc.Global.{Global};
 ghost use Rattle.std.specs.List.{list_any};
 ghost use Rattle.paths.specs.Root.{Root as TheRoot};
 ghost use Rattle.policy.specs.Rules as rules;
-ghost use Rattle.live.specs.Handed.{kind_view, root_view, roots_view};
+ghost use Rattle.live.specs.Arguments.{kind_view, root_view, roots_view};
 ghost use Rattle.tables_outline.specs.Maps.{labelled_bytes};
 ghost use Rattle.model.specs.Seen as spec;
-ghost use Rattle.store_removal.specs.Told.{AreTold};
+ghost use Rattle.store_removal.specs.Unique.{AreListed};
 
 use live::{Kind, Root};
 use paths::StorePath;
@@ -59,8 +59,8 @@ fn note(
     told: &mut BTreeSet<(String, StorePath)>,
     pair: &(String, StorePath),
 ) -> Result<bool, AllocError>
-    ensures first { IfOk result (λ b. (shown : List (String Global × List ℕ)) → AreTold class told.old.keys shown → not b ≡ (not (rules.is_trusted class) && list_any (λ q. spec.same_pair q (labelled_bytes pair.now)) (map labelled_bytes shown))) }
-    ensures told { IfOk result (λ b. (shown : List (String Global × List ℕ)) → AreTold class told.old.keys shown → AreTold class told.new.keys (if b then shown ++ pair.now ∷ [] else shown)) }
+    ensures first { IfOk result (λ b. (shown : List (String Global × List ℕ)) → AreListed class told.old.keys shown → not b ≡ (not (rules.is_trusted class) && list_any (λ q. spec.same_pair q (labelled_bytes pair.now)) (map labelled_bytes shown))) }
+    ensures told { IfOk result (λ b. (shown : List (String Global × List ℕ)) → AreListed class told.old.keys shown → AreListed class told.new.keys (if b then shown ++ pair.now ∷ [] else shown)) }
 {
     if is_trusted(class) {
         return Ok(true);
@@ -78,8 +78,8 @@ fn show(
     shown: &mut Vec<(String, StorePath)>,
     root: Root,
 ) -> Result<(), AllocError>
-    ensures told { OnOk result (AreTold class told.old.keys shown.old.items → AreTold class told.new.keys shown.new.items) }
-    ensures shown { OnOk result ((before : List TheRoot) → AreTold class told.old.keys shown.old.items → map labelled_bytes shown.old.items ≡ spec.seen class before → map labelled_bytes shown.new.items ≡ spec.seen class (before ++ root_view root.entry ∷ [])) }
+    ensures told { OnOk result (AreListed class told.old.keys shown.old.items → AreListed class told.new.keys shown.new.items) }
+    ensures shown { OnOk result ((before : List TheRoot) → AreListed class told.old.keys shown.old.items → map labelled_bytes shown.old.items ≡ spec.seen class before → map labelled_bytes shown.new.items ≡ spec.seen class (before ++ root_view root.entry ∷ [])) }
 {
     let pair = seen_root(alloc, class, root)?;
     let is_first = note(class, told, &pair)?;

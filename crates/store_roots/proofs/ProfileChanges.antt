@@ -3,7 +3,7 @@ use Rattle.std.proofs.Common.{◌≡◌, ℕ, List, Some, Option, sym, ap, ap₂
 use Rattle.std.specs.Prelude.{unwrap_or}
 use Rattle.std.specs.FinMap as finite
 use Rattle.model.specs.World.{Pair, Profile, World}
-use Rattle.tables_outline.specs.Outline.{Outline}
+use Rattle.tables_outline.specs.Outline.{OutlineValue}
 use Rattle.model.specs.Profiles.{profile_at, previous, switched, rolled_back}
 use Rattle.model.specs.Effects.{with_profile}
 
@@ -11,8 +11,8 @@ module _ (a b x y : List ℕ) (first : x ≡ a) (second : y ≡ b) where
   pub same_owned : ◌≡◌ {A = Pair} (x, y) (a, b)
   same_owned = λ i. (first i, second i)
 
-  pub there_as : (o k : Outline) → o ≡ k → IsTrue (finite.contains_key o.profiles (a, b)) → IsTrue (finite.contains_key k.profiles (x, y))
-  there_as o k same h = sym (ap₂ (λ (m : Outline) (p : Pair). finite.contains_key m.profiles p) same (sym same_owned)) ∙ h
+  pub there_as : (o k : OutlineValue) → o ≡ k → IsTrue (finite.contains_key o.profiles (a, b)) → IsTrue (finite.contains_key k.profiles (x, y))
+  there_as o k same h = sym (ap₂ (λ (m : OutlineValue) (p : Pair). finite.contains_key m.profiles p) same (sym same_owned)) ∙ h
 
   -- one profile is changed
   pub changed_as : (f : Profile → Profile) (w : World) → with_profile w (x, y) (f (profile_at w (x, y))) ≡ with_profile w (a, b) (f (profile_at w (a, b)))

@@ -14,7 +14,7 @@ use Rattle.paths.specs.Root.{Set, set_of, is_runtime_label}
 use Rattle.live.proofs.Order.{firsts}
 use Rattle.model.specs.World.{Path, Pair, World, has, pair_cmp}
 use Rattle.tables_outline.specs.Maps.{labelled_bytes, seen_map, seen_set}
-use Rattle.tables_outline.specs.Outline.{Outline, outline_of}
+use Rattle.tables_outline.specs.Outline.{OutlineValue, outline_of}
 use Rattle.tables_outline.proofs.Trees.{seen, cmp, listed, inserted}
 use Rattle.tables_outline.proofs.Ordered.{mapped_length}
 use Rattle.store_steps.proofs.Outlined.{has_outlined}
@@ -92,6 +92,6 @@ module _ {K L : Type 0} (R : L → L → Ordering) (key : K → L) (o : IsTotalO
 
 -- ---- in each world of an outline
 
-pub valid_by_outline : (o : Outline) (w : World) → outline_of w ≡ o → (ps : List Pair) → set_of pair_cmp (filter (λ (p : Pair). finite.contains_key o.objects p.1) ps) ≡ set_of pair_cmp (filter (λ (p : Pair). has w p.1) ps)
+pub valid_by_outline : (o : OutlineValue) (w : World) → outline_of w ≡ o → (ps : List Pair) → set_of pair_cmp (filter (λ (p : Pair). finite.contains_key o.objects p.1) ps) ≡ set_of pair_cmp (filter (λ (p : Pair). has w p.1) ps)
 valid_by_outline o w is ps =
-    ap (λ (x : Outline). set_of pair_cmp (filter (λ (p : Pair). finite.contains_key x.objects p.1) ps)) (sym is) ∙ (λ i. set_of pair_cmp (filter (λ (p : Pair). has_outlined w p.1 i) ps))
+    ap (λ (x : OutlineValue). set_of pair_cmp (filter (λ (p : Pair). finite.contains_key x.objects p.1) ps)) (sym is) ∙ (λ i. set_of pair_cmp (filter (λ (p : Pair). has_outlined w p.1 i) ps))

@@ -6,70 +6,70 @@ ghost use Rattle.model.specs.Profiles as profiles;
 ghost use Rattle.model.specs.Profiles.{last_number, number_for, previous, profile_at};
 ghost use Rattle.tables_outline.specs.Outline.{outline_of, profile_of};
 ghost use Rattle.model.specs.Tests.{unless};
-ghost use Rattle.store_types.specs.Tested.{Gives, Tested};
+ghost use Rattle.store_types.specs.Tested.{Finds, Tested};
 
 use paths::StorePath;
-use store_types::{Refusal, Stop};
-use tables_outline::Index;
+use store_types::Refusal;
+use tables_outline::Outline;
 
 /// Tests that a profile has a generation below the current one; gives the greatest number of one.
-pub(crate) fn has_older(index: &Index, owned: &(String, String)) -> Result<u32, Stop>
-    ensures { (w : World) → outline_of w ≡ index.now → Gives (λ n. Some n) result
+pub(crate) fn has_older(outline: &Outline, owned: &(String, String)) -> Result<u32, Refusal>
+    ensures { (w : World) → outline_of w ≡ outline.now → Finds (λ n. Some n) result
         (unless (is_some (previous (profile_at w (string_bytes owned.now.0, string_bytes owned.now.1)))) Refusal.NoOlderGeneration) (previous (profile_at w (string_bytes owned.now.0, string_bytes owned.now.1))) }
 {
-    match index.previous_generation(owned) {
+    match outline.previous_generation(owned) {
         Some(older) => Ok(older),
-        None => Err(Stop::Refused(Refusal::NoOlderGeneration)),
+        None => Err(Refusal::NoOlderGeneration),
     }
 }
 
 /// Tests that a profile has a generation of this number.
 pub(crate) fn has_generation(
-    index: &Index,
+    outline: &Outline,
     owned: &(String, String),
     number: u32,
-) -> Result<(), Stop>
-    ensures { (w : World) → outline_of w ≡ index.now → Tested result (unless (profiles.has_generation (profile_at w (string_bytes owned.now.0, string_bytes owned.now.1)) number) Refusal.NoGeneration) }
+) -> Result<(), Refusal>
+    ensures { (w : World) → outline_of w ≡ outline.now → Tested result (unless (profiles.has_generation (profile_at w (string_bytes owned.now.0, string_bytes owned.now.1)) number) Refusal.NoGeneration) }
 {
-    if !index.has_generation(owned, number) {
-        return Err(Stop::Refused(Refusal::NoGeneration));
+    if !outline.has_generation(owned, number) {
+        return Err(Refusal::NoGeneration);
     }
     Ok(())
 }
 
 /// Whether this is the number of the current generation of a profile.
-fn is_current(index: &Index, owned: &(String, String), number: u32) -> bool
-    ensures { result ≡ ((profile_of index.now (string_bytes owned.now.0, string_bytes owned.now.1)).current == number) }
+fn is_current(outline: &Outline, owned: &(String, String), number: u32) -> bool
+    ensures { result ≡ ((profile_of outline.now (string_bytes owned.now.0, string_bytes owned.now.1)).current == number) }
 {
-    index.current_generation(owned) == number
+    outline.current_generation(owned) == number
 }
 
 /// Tests that this isn't the number of the current generation of a profile.
 pub(crate) fn is_not_current(
-    index: &Index,
+    outline: &Outline,
     owned: &(String, String),
     number: u32,
-) -> Result<(), Stop>
-    ensures { (w : World) → outline_of w ≡ index.now → Tested result (unless (not ((profile_at w (string_bytes owned.now.0, string_bytes owned.now.1)).current == number)) Refusal.CurrentGeneration) }
+) -> Result<(), Refusal>
+    ensures { (w : World) → outline_of w ≡ outline.now → Tested result (unless (not ((profile_at w (string_bytes owned.now.0, string_bytes owned.now.1)).current == number)) Refusal.CurrentGeneration) }
 {
-    if is_current(index, owned, number) {
-        return Err(Stop::Refused(Refusal::CurrentGeneration));
+    if is_current(outline, owned, number) {
+        return Err(Refusal::CurrentGeneration);
     }
     Ok(())
 }
 
 /// Tests that a number is left for a path in a profile; gives the number.
 pub(crate) fn has_number_left(
-    index: &Index,
+    outline: &Outline,
     owned: &(String, String),
     path: &StorePath,
-) -> Result<u32, Stop>
-    ensures told { (w : World) → outline_of w ≡ index.now → Gives (λ n. n) result
+) -> Result<u32, Refusal>
+    ensures told { (w : World) → outline_of w ≡ outline.now → Finds (λ n. n) result
         (unless (nat_le (number_for (profile_at w (string_bytes owned.now.0, string_bytes owned.now.1)) path.now) last_number) Refusal.GenerationLimit) (number_for (profile_at w (string_bytes owned.now.0, string_bytes owned.now.1)) path.now) }
-    ensures number { IfOk result (λ n. n ≡ number_for (profile_of index.now (string_bytes owned.now.0, string_bytes owned.now.1)) path.now) }
+    ensures number { IfOk result (λ n. n ≡ number_for (profile_of outline.now (string_bytes owned.now.0, string_bytes owned.now.1)) path.now) }
 {
-    match index.number_left(owned, path) {
+    match outline.number_left(owned, path) {
         Some(number) => Ok(number),
-        None => Err(Stop::Refused(Refusal::GenerationLimit)),
+        None => Err(Refusal::GenerationLimit),
     }
 }

@@ -7,5 +7,5 @@ mod naming;
 pub mod permanent;
 pub mod profiles;
 pub mod runtime;
-pub mod sessions;
+pub mod temporary;
 pub mod user_roots;

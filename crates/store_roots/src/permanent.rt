@@ -13,27 +13,27 @@ ghost use Rattle.model.specs.Request as asked;
 use crate::naming::is_named;
 use paths::StorePath;
 use sqlite::Alter;
-use store_steps::there::{has_permanent, is_valid};
+use store_steps::validity::{has_permanent, is_valid};
 use store_steps::writing::answered;
-use store_types::{Answer, Stop};
+use store_types::{Answer, Refusal, Stop};
 use tables::Tables;
-use tables_outline::Index;
+use tables_outline::Outline;
 
 /// Tests a permanent root that is to be set.
-pub fn may_set(index: &Index, name: &str, path: &StorePath) -> Result<(), Stop>
-    ensures { (s : Settings) (w : World) → outline_of w ≡ index.now → Tested result (refusal s w (asked.set_permanent name.now path.now)) }
+pub fn may_set(outline: &Outline, name: &str, path: &StorePath) -> Result<(), Refusal>
+    ensures { (s : Settings) (w : World) → outline_of w ≡ outline.now → Tested result (refusal s w (asked.set_permanent name.now path.now)) }
 {
     is_named(name)?;
-    is_valid(index, path)?;
+    is_valid(outline, path)?;
     Ok(())
 }
 
 /// Tests a permanent root that is to be dropped.
-pub fn may_drop(index: &Index, name: &str) -> Result<(), Stop>
-    ensures { (s : Settings) (w : World) → outline_of w ≡ index.now → Tested result (refusal s w (asked.drop_permanent name.now)) }
+pub fn may_drop(outline: &Outline, name: &str) -> Result<(), Refusal>
+    ensures { (s : Settings) (w : World) → outline_of w ≡ outline.now → Tested result (refusal s w (asked.drop_permanent name.now)) }
 {
     is_named(name)?;
-    has_permanent(index, name)?;
+    has_permanent(outline, name)?;
     Ok(())
 }
 
@@ -46,9 +46,9 @@ pub fn set_permanent<S: Alter>(
     ensures { (s : Settings) (c : Caller) → IsMet S.Store s c (asked.set_permanent (string_bytes name) path) result tables.old tables.new }
 {
     let text = name.as_str();
-    match may_set(tables.index(), text, &path) {
+    match may_set(tables.outline(), text, &path) {
         Ok(()) => answered(tables.put_permanent(text, &path), Answer::Changed),
-        Err(stop) => Err(stop),
+        Err(refusal) => Err(Stop::Refused(refusal)),
     }
 }
 
@@ -57,8 +57,8 @@ pub fn drop_permanent<S: Alter>(tables: &mut Tables<S>, name: String) -> Result<
     ensures { (s : Settings) (c : Caller) → IsMet S.Store s c (asked.drop_permanent (string_bytes name)) result tables.old tables.new }
 {
     let text = name.as_str();
-    match may_drop(tables.index(), text) {
+    match may_drop(tables.outline(), text) {
         Ok(()) => answered(tables.drop_permanent(text), Answer::Changed),
-        Err(stop) => Err(stop),
+        Err(refusal) => Err(Stop::Refused(refusal)),
     }
 }

@@ -6,7 +6,7 @@ ghost use Rattle.model.specs.World.{World};
 ghost use Rattle.model.specs.Profiles.{number_for, previous, profile_at};
 ghost use Rattle.tables_outline.specs.Outline.{outline_of, profile_of};
 ghost use Rattle.model.specs.Tests.{refusal};
-ghost use Rattle.store_types.specs.Tested.{Gives, Tested};
+ghost use Rattle.store_types.specs.Tested.{Finds, Tested};
 ghost use Rattle.policy.specs.Caller.{Caller};
 ghost use Rattle.store_steps.specs.Meets.{IsMet};
 ghost use Rattle.std.specs.FinMap as finite;
@@ -16,56 +16,60 @@ use crate::generations::{has_generation, has_number_left, has_older, is_not_curr
 use crate::naming::are_named;
 use paths::StorePath;
 use sqlite::Alter;
-use store_steps::there::{has_profile, is_valid};
+use store_steps::validity::{has_profile, is_valid};
 use store_steps::writing::answered;
-use store_types::{Answer, Stop};
+use store_types::{Answer, Refusal, Stop};
 use tables::Tables;
-use tables_outline::Index;
+use tables_outline::Outline;
 
 /// Tests a path that is to be set in a profile; gives the number that it gets.
-pub fn next_number(index: &Index, owned: &(String, String), path: &StorePath) -> Result<u32, Stop>
-    ensures told { (s : Settings) (w : World) → outline_of w ≡ index.now → Gives (λ n. n) result
+pub fn next_number(
+    outline: &Outline,
+    owned: &(String, String),
+    path: &StorePath,
+) -> Result<u32, Refusal>
+    ensures told { (s : Settings) (w : World) → outline_of w ≡ outline.now → Finds (λ n. n) result
         (refusal s w (asked.set_profile (string_bytes owned.now.0) (string_bytes owned.now.1) path.now)) (number_for (profile_at w (string_bytes owned.now.0, string_bytes owned.now.1)) path.now) }
-    ensures number { IfOk result (λ n. n ≡ number_for (profile_of index.now (string_bytes owned.now.0, string_bytes owned.now.1)) path.now) }
+    ensures number { IfOk result (λ n. n ≡ number_for (profile_of outline.now (string_bytes owned.now.0, string_bytes owned.now.1)) path.now) }
 {
     are_named(owned)?;
-    is_valid(index, path)?;
-    let number = has_number_left(index, owned, path)?;
+    is_valid(outline, path)?;
+    let number = has_number_left(outline, owned, path)?;
     Ok(number)
 }
 
 /// Tests a profile that is to be rolled back; gives the number that becomes current.
-pub fn older(index: &Index, owned: &(String, String)) -> Result<u32, Stop>
-    ensures told { (s : Settings) (w : World) → outline_of w ≡ index.now → Gives (λ n. Some n) result
+pub fn older(outline: &Outline, owned: &(String, String)) -> Result<u32, Refusal>
+    ensures told { (s : Settings) (w : World) → outline_of w ≡ outline.now → Finds (λ n. Some n) result
         (refusal s w (asked.rollback (string_bytes owned.now.0) (string_bytes owned.now.1))) (previous (profile_at w (string_bytes owned.now.0, string_bytes owned.now.1))) }
-    ensures there { OnOk result (IsTrue (finite.contains_key index.now.profiles (string_bytes owned.now.0, string_bytes owned.now.1))) }
+    ensures there { OnOk result (IsTrue (finite.contains_key outline.now.profiles (string_bytes owned.now.0, string_bytes owned.now.1))) }
 {
     are_named(owned)?;
-    has_profile(index, owned)?;
-    let number = has_older(index, owned)?;
+    has_profile(outline, owned)?;
+    let number = has_older(outline, owned)?;
     Ok(number)
 }
 
 /// Tests a generation that is to become current.
-pub fn may_switch(index: &Index, owned: &(String, String), number: u32) -> Result<(), Stop>
-    ensures told { (s : Settings) (w : World) → outline_of w ≡ index.now → Tested result (refusal s w (asked.switch (string_bytes owned.now.0) (string_bytes owned.now.1) number)) }
-    ensures there { OnOk result (IsTrue (finite.contains_key index.now.profiles (string_bytes owned.now.0, string_bytes owned.now.1))) }
+pub fn may_switch(outline: &Outline, owned: &(String, String), number: u32) -> Result<(), Refusal>
+    ensures told { (s : Settings) (w : World) → outline_of w ≡ outline.now → Tested result (refusal s w (asked.switch (string_bytes owned.now.0) (string_bytes owned.now.1) number)) }
+    ensures there { OnOk result (IsTrue (finite.contains_key outline.now.profiles (string_bytes owned.now.0, string_bytes owned.now.1))) }
 {
     are_named(owned)?;
-    has_profile(index, owned)?;
-    has_generation(index, owned, number)?;
+    has_profile(outline, owned)?;
+    has_generation(outline, owned, number)?;
     Ok(())
 }
 
 /// Tests a generation that is to be deleted.
-pub fn may_delete(index: &Index, owned: &(String, String), number: u32) -> Result<(), Stop>
-    ensures told { (s : Settings) (w : World) → outline_of w ≡ index.now → Tested result (refusal s w (asked.delete_generation (string_bytes owned.now.0) (string_bytes owned.now.1) number)) }
-    ensures there { OnOk result (IsTrue (finite.contains_key index.now.profiles (string_bytes owned.now.0, string_bytes owned.now.1))) }
+pub fn may_delete(outline: &Outline, owned: &(String, String), number: u32) -> Result<(), Refusal>
+    ensures told { (s : Settings) (w : World) → outline_of w ≡ outline.now → Tested result (refusal s w (asked.delete_generation (string_bytes owned.now.0) (string_bytes owned.now.1) number)) }
+    ensures there { OnOk result (IsTrue (finite.contains_key outline.now.profiles (string_bytes owned.now.0, string_bytes owned.now.1))) }
 {
     are_named(owned)?;
-    has_profile(index, owned)?;
-    has_generation(index, owned, number)?;
-    is_not_current(index, owned, number)?;
+    has_profile(outline, owned)?;
+    has_generation(outline, owned, number)?;
+    is_not_current(outline, owned, number)?;
     Ok(())
 }
 
@@ -77,12 +81,12 @@ pub fn set_profile<S: Alter>(
 ) -> Result<Answer, Stop>
     ensures { (s : Settings) (c : Caller) → IsMet S.Store s c (asked.set_profile (string_bytes owned.0) (string_bytes owned.1) path) result tables.old tables.new }
 {
-    match next_number(tables.index(), &owned, &path) {
+    match next_number(tables.outline(), &owned, &path) {
         Ok(number) => answered(
             tables.set_profile(owned.0.as_str(), owned.1.as_str(), number, &path),
             Answer::Generation(number),
         ),
-        Err(stop) => Err(stop),
+        Err(refusal) => Err(Stop::Refused(refusal)),
     }
 }
 
@@ -90,14 +94,14 @@ pub fn set_profile<S: Alter>(
 pub fn rollback<S: Alter>(tables: &mut Tables<S>, owned: (String, String)) -> Result<Answer, Stop>
     ensures { (s : Settings) (c : Caller) → IsMet S.Store s c (asked.rollback (string_bytes owned.0) (string_bytes owned.1)) result tables.old tables.new }
 {
-    match older(tables.index(), &owned) {
+    match older(tables.outline(), &owned) {
         Ok(number) => {
             answered(
                 tables.switch_generation(owned.0.as_str(), owned.1.as_str(), number),
                 Answer::Generation(number),
             )
         }
-        Err(stop) => Err(stop),
+        Err(refusal) => Err(Stop::Refused(refusal)),
     }
 }
 
@@ -109,14 +113,14 @@ pub fn switch<S: Alter>(
 ) -> Result<Answer, Stop>
     ensures { (s : Settings) (c : Caller) → IsMet S.Store s c (asked.switch (string_bytes owned.0) (string_bytes owned.1) number) result tables.old tables.new }
 {
-    match may_switch(tables.index(), &owned, number) {
+    match may_switch(tables.outline(), &owned, number) {
         Ok(()) => {
             answered(
                 tables.switch_generation(owned.0.as_str(), owned.1.as_str(), number),
                 Answer::Generation(number),
             )
         }
-        Err(stop) => Err(stop),
+        Err(refusal) => Err(Stop::Refused(refusal)),
     }
 }
 
@@ -128,13 +132,13 @@ pub fn delete_generation<S: Alter>(
 ) -> Result<Answer, Stop>
     ensures { (s : Settings) (c : Caller) → IsMet S.Store s c (asked.delete_generation (string_bytes owned.0) (string_bytes owned.1) number) result tables.old tables.new }
 {
-    match may_delete(tables.index(), &owned, number) {
+    match may_delete(tables.outline(), &owned, number) {
         Ok(()) => {
             answered(
                 tables.drop_generation(owned.0.as_str(), owned.1.as_str(), number),
                 Answer::Changed,
             )
         }
-        Err(stop) => Err(stop),
+        Err(refusal) => Err(Stop::Refused(refusal)),
     }
 }

@@ -23,17 +23,17 @@ use std::collections::BTreeSet;
 use store_steps::writing::answered;
 use store_types::{Answer, Refusal, Stop};
 use tables::Tables;
-use tables_outline::Index;
+use tables_outline::Outline;
 
 /// Puts a pair among others, if its target is valid.
 fn put_valid(
-    index: &Index,
+    outline: &Outline,
     valid: &mut BTreeSet<(String, StorePath)>,
     pair: (String, StorePath),
 ) -> Result<(), AllocError>
-    ensures { OnOk result (seen_set pair_cmp labelled_bytes valid.new.keys ≡ (if finite.contains_key index.now.objects pair.1 then finite.insert (seen_set pair_cmp labelled_bytes valid.old.keys) (labelled_bytes pair) tt else seen_set pair_cmp labelled_bytes valid.old.keys)) }
+    ensures { OnOk result (seen_set pair_cmp labelled_bytes valid.new.keys ≡ (if finite.contains_key outline.now.objects pair.1 then finite.insert (seen_set pair_cmp labelled_bytes valid.old.keys) (labelled_bytes pair) tt else seen_set pair_cmp labelled_bytes valid.old.keys)) }
 {
-    if !index.has(&pair.1) {
+    if !outline.has(&pair.1) {
         return Ok(());
     }
     valid.insert(pair)?;
@@ -43,15 +43,15 @@ fn put_valid(
 /// The pairs whose target is valid, as a set.
 fn valid_pairs(
     alloc: Global,
-    index: &Index,
+    outline: &Outline,
     pairs: Vec<(String, StorePath)>,
 ) -> Result<BTreeSet<(String, StorePath)>, AllocError>
-    ensures { IfOk result (λ s. seen_set pair_cmp labelled_bytes s.keys ≡ set_of pair_cmp (filter (λ p. finite.contains_key index.now.objects p.1) (map labelled_bytes pairs.items))) }
+    ensures { IfOk result (λ s. seen_set pair_cmp labelled_bytes s.keys ≡ set_of pair_cmp (filter (λ p. finite.contains_key outline.now.objects p.1) (map labelled_bytes pairs.items))) }
 {
     let mut left = pairs;
     let mut valid = BTreeSet::new(alloc);
     while let Some(pair) = left.pop() {
-        put_valid(index, &mut valid, pair)?;
+        put_valid(outline, &mut valid, pair)?;
     }
     Ok(valid)
 }
@@ -59,16 +59,16 @@ fn valid_pairs(
 /// Tests runtime roots that are to be set; gives those whose target is valid.
 pub fn prepare_runtime(
     alloc: Global,
-    index: &Index,
+    outline: &Outline,
     pairs: Vec<(String, StorePath)>,
 ) -> Result<BTreeSet<(String, StorePath)>, Stop>
-    ensures { (s : Settings) (w : World) → outline_of w ≡ index.now → Gives (λ v. seen_set pair_cmp labelled_bytes v.keys) result
+    ensures { (s : Settings) (w : World) → outline_of w ≡ outline.now → Gives (λ v. seen_set pair_cmp labelled_bytes v.keys) result
         (refusal s w (asked.replace_runtime (map labelled_bytes pairs.items))) (valid_pairs_of w (map labelled_bytes pairs.items)) }
 {
     if !are_runtime_labels(&pairs) {
         return Err(Stop::Refused(Refusal::BadLabel));
     }
-    let valid = valid_pairs(alloc, index, pairs)?;
+    let valid = valid_pairs(alloc, outline, pairs)?;
     Ok(valid)
 }
 
@@ -87,7 +87,7 @@ pub fn replace_runtime<S: Alter>(
 ) -> Result<Answer, Stop>
     ensures { (s : Settings) (c : Caller) → IsMet S.Store s c (asked.replace_runtime (map labelled_bytes pairs.items)) result tables.old tables.new }
 {
-    match prepare_runtime(alloc, tables.index(), pairs) {
+    match prepare_runtime(alloc, tables.outline(), pairs) {
         Ok(valid) => {
             let count = count_of(&valid);
             answered(tables.replace_runtime(valid), Answer::RuntimeCount(count))

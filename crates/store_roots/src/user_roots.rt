@@ -13,27 +13,27 @@ ghost use Rattle.model.specs.Request as asked;
 use crate::naming::are_named;
 use paths::StorePath;
 use sqlite::Alter;
-use store_steps::there::{has_user_root, is_valid};
+use store_steps::validity::{has_user_root, is_valid};
 use store_steps::writing::answered;
-use store_types::{Answer, Stop};
+use store_types::{Answer, Refusal, Stop};
 use tables::Tables;
-use tables_outline::Index;
+use tables_outline::Outline;
 
 /// Tests a user root that is to be set.
-pub fn may_set(index: &Index, owned: &(String, String), path: &StorePath) -> Result<(), Stop>
-    ensures { (s : Settings) (w : World) → outline_of w ≡ index.now → Tested result (refusal s w (asked.set_user_root (string_bytes owned.now.0) (string_bytes owned.now.1) path.now)) }
+pub fn may_set(outline: &Outline, owned: &(String, String), path: &StorePath) -> Result<(), Refusal>
+    ensures { (s : Settings) (w : World) → outline_of w ≡ outline.now → Tested result (refusal s w (asked.set_user_root (string_bytes owned.now.0) (string_bytes owned.now.1) path.now)) }
 {
     are_named(owned)?;
-    is_valid(index, path)?;
+    is_valid(outline, path)?;
     Ok(())
 }
 
 /// Tests a user root that is to be dropped.
-pub fn may_drop(index: &Index, owned: &(String, String)) -> Result<(), Stop>
-    ensures { (s : Settings) (w : World) → outline_of w ≡ index.now → Tested result (refusal s w (asked.drop_user_root (string_bytes owned.now.0) (string_bytes owned.now.1))) }
+pub fn may_drop(outline: &Outline, owned: &(String, String)) -> Result<(), Refusal>
+    ensures { (s : Settings) (w : World) → outline_of w ≡ outline.now → Tested result (refusal s w (asked.drop_user_root (string_bytes owned.now.0) (string_bytes owned.now.1))) }
 {
     are_named(owned)?;
-    has_user_root(index, owned)?;
+    has_user_root(outline, owned)?;
     Ok(())
 }
 
@@ -45,14 +45,14 @@ pub fn set_user_root<S: Alter>(
 ) -> Result<Answer, Stop>
     ensures { (s : Settings) (c : Caller) → IsMet S.Store s c (asked.set_user_root (string_bytes owned.0) (string_bytes owned.1) path) result tables.old tables.new }
 {
-    match may_set(tables.index(), &owned, &path) {
+    match may_set(tables.outline(), &owned, &path) {
         Ok(()) => {
             answered(
                 tables.put_user_root(owned.0.as_str(), owned.1.as_str(), &path),
                 Answer::Changed,
             )
         }
-        Err(stop) => Err(stop),
+        Err(refusal) => Err(Stop::Refused(refusal)),
     }
 }
 
@@ -63,13 +63,13 @@ pub fn drop_user_root<S: Alter>(
 ) -> Result<Answer, Stop>
     ensures { (s : Settings) (c : Caller) → IsMet S.Store s c (asked.drop_user_root (string_bytes owned.0) (string_bytes owned.1)) result tables.old tables.new }
 {
-    match may_drop(tables.index(), &owned) {
+    match may_drop(tables.outline(), &owned) {
         Ok(()) => {
             answered(
                 tables.drop_user_root(owned.0.as_str(), owned.1.as_str()),
                 Answer::Changed,
             )
         }
-        Err(stop) => Err(stop),
+        Err(refusal) => Err(Stop::Refused(refusal)),
     }
 }

@@ -1,3 +1,4 @@
+pub mod Caused
 pub mod Fits
 pub mod Outlined
 pub mod Outputs

@@ -8,7 +8,7 @@ use Rattle.tables_sql.proofs.Transactions.{survives_none}
 use Rattle.policy.specs.Settings.{Settings}
 use Rattle.policy.specs.Caller.{Caller}
 use Rattle.model.specs.World.{World}
-use Rattle.tables_outline.specs.Outline.{Outline, outline_of}
+use Rattle.tables_outline.specs.Outline.{OutlineValue, outline_of}
 use Rattle.model.specs.Request.{Request}
 use Rattle.model.specs.Tests.{refusal}
 use Rattle.tables.specs.Kept.{Kept}
@@ -16,9 +16,10 @@ use Rattle.store_types.specs.declared.replies.Answer.{Answer}
 use Rattle.store_types.specs.declared.replies.Stop.{Stop}
 use Rattle.store_types.specs.declared.replies.Stop.TheVariants.{Refused, Failed}
 use Rattle.store_types.specs.Tested.{Stops}
-use Rattle.store_steps.specs.Lasting.{Lasts}
+use Rattle.store_steps.specs.Durability.{StaysDurable}
 use Rattle.store_types.specs.Meets.{Meets, Reads}
 use Rattle.store_steps.specs.Meets.{MeetsOver, IsMet}
+use Rattle.store_steps.proofs.Caused.{memory_alone}
 
 -- nothing happened
 pub survives_still : (s : State) (P : Trees → Type 0) → Survives s s P
@@ -37,26 +38,29 @@ survives_as s t P Q less h = record {
   crash = λ clean db left. elim (h.crash clean db left) [ inl was ↦ inl was | inr is ↦ inr (less db is) ];
 }
 
-pub lasts_still : {S : Type 0} (g : Ghosts S) (k : Kept S) → Lasts g k k
+pub lasts_still : {S : Type 0} (g : Ghosts S) (k : Kept S) → StaysDurable g k k
 lasts_still g k clean = inr (record { told = λ w t. t; same = λ _. refl; durable = λ _ h. h })
 
 -- an answer that is right is so over any disk
 pub over : (is_clean : Type 0) (s : Settings) (w : World) (c : Caller) (q : Request) (r : Result Answer Stop) (next : World) → Meets s w c q r next → MeetsOver is_clean s w c q r next
 over is_clean s w c q (Ok a) next m = (m.0, λ _. m.1, m.2)
-over is_clean s w c q (Err stop) next m = m
+over is_clean s w c q (Err (Refused r)) next m = m
+over is_clean s w c q (Err (Failed f)) next m = m.1
 
 module _ {S : Type 0} (g : Ghosts S) where
   -- what is answered from the outline alone
-  pub met_by_reading : (s : Settings) (c : Caller) (q : Request) (r : Result Answer Stop) (k : Kept S) (o : Outline) → o ≡ k.outline → Reads s c o q r → IsMet g s c q r k k
+  pub met_by_reading : (s : Settings) (c : Caller) (q : Request) (r : Result Answer Stop) (k : Kept S) (o : OutlineValue) → o ≡ k.outline → Reads s c o q r → IsMet g s c q r k k
   met_by_reading s c q r k o same h = record {
     dir = refl;
     world = λ w t. (w, over _ s w c q r w (h w (t.outline ∙ sym same)), t);
+    cause = λ w t. memory_alone g q k k s w c r w (h w (t.outline ∙ sym same));
+    others = λ _ _ _. inl refl;
     still = λ _. refl;
     lasts = λ _. lasts_still g k;
     survives = λ w t. survives_still (state g k.connection) _;
   }
 
 -- what stops the tests of a request
-pub reads_stopped : (s : Settings) (c : Caller) (o : Outline) (q : Request) (stop : Stop) → ((w : World) → outline_of w ≡ o → Stops stop (refusal s w q)) → Reads s c o q (Err stop)
+pub reads_stopped : (s : Settings) (c : Caller) (o : OutlineValue) (q : Request) (stop : Stop) → ((w : World) → outline_of w ≡ o → Stops stop (refusal s w q)) → Reads s c o q (Err stop)
 reads_stopped s c o q (Refused r) h w is = (h w is, refl)
-reads_stopped s c o q (Failed f) h w is = refl
+reads_stopped s c o q (Failed f) h w is = (h w is, refl)

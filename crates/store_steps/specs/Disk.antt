@@ -7,6 +7,7 @@ use Rattle.model.specs.Request.{Request, nar, ls}
 use Rattle.model.specs.Reply.{Reply, done}
 use Rattle.model.specs.Answers.{answer}
 use Rattle.model.specs.Step.{Step}
+use Rattle.model.specs.Labels.{LookAlike}
 
 -- whether a request is answered from the disk: with an archive, or its listing; all others are answered from memory
 abbrev pub reads_disk : Request → Bool
@@ -26,3 +27,10 @@ RunOver is_clean s w [] [] new = new ≡ w
 RunOver is_clean s w (call ∷ calls) (reply ∷ replies) new = (mid : World) × StepOver is_clean s w call.0 call.1 reply mid × RunOver is_clean s mid calls replies new
 RunOver is_clean s w [] (reply ∷ replies) new = ⊥
 RunOver is_clean s w (call ∷ calls) [] new = ⊥
+
+-- the replies of two runs of the same calls look alike, those from the disk if that is clean
+abbrev pub LookAlikeOver : Type 0 → Settings → List (Caller × Request) → List Reply → List Reply → Type 0
+LookAlikeOver is_clean s [] [] [] = Unit {0}
+LookAlikeOver is_clean s (call ∷ calls) (a ∷ replies) (b ∷ others) =
+    ((IsTrue (reads_disk call.1) → is_clean) → LookAlike s call.0 a b) × LookAlikeOver is_clean s calls replies others
+LookAlikeOver is_clean s _ _ _ = ⊥

@@ -1,6 +1,7 @@
 pub mod Disk
-pub mod Lasting
-pub mod Leaving
+pub mod Durability
+pub mod Causes
+pub mod Crashes
 pub mod Meets
-pub mod Told
+pub mod Summaries
 pub mod Writing

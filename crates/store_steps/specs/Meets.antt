@@ -1,5 +1,5 @@
 -- What becomes over tables of a request that no rule forbids.
-use Rattle.std.specs.Prelude.{◌≡◌, None, Result, Ok, Err, IsTrue}
+use Rattle.std.specs.Prelude.{◌≡◌, Some, None, Result, Ok, Err, IsTrue}
 use Rattle.sqlite_trees.specs.declared.store.Store.{Ghosts}
 use Rattle.sqlite.specs.State.{HasCleanDisk, Survives}
 use Rattle.sqlite.specs.Held.{state}
@@ -11,20 +11,21 @@ use Rattle.model.specs.Reply as replied
 use Rattle.model.specs.Tests.{refusal}
 use Rattle.model.specs.Effects.{effect}
 use Rattle.model.specs.Answers.{answer}
-use Rattle.tables.specs.Kept.{Kept, Tells}
+use Rattle.tables.specs.Kept.{Kept, HasWorld}
 use Rattle.store_types.specs.declared.replies.Answer.{Answer}
 use Rattle.store_types.specs.declared.replies.Stop.{Stop}
 use Rattle.store_types.specs.declared.replies.Stop.TheVariants.{Refused, Failed}
 use Rattle.store_types.specs.View.{answer_view, failure_view}
-use Rattle.store_steps.specs.Lasting.{Lasts}
-use Rattle.store_steps.specs.Leaving.{LeavesPassed}
+use Rattle.store_steps.specs.Durability.{LeavesOthers, StaysDurable}
+use Rattle.store_steps.specs.Crashes.{LeavesPassed}
 use Rattle.store_steps.specs.Disk.{reads_disk}
-use Rattle.store_types.specs.Meets.{Meets}
+use Rattle.store_steps.specs.Causes.{HasCause}
 
--- the same over a disk: an answer from it is the right one if the disk is clean
+-- what becomes of it in a world: an answer from the disk is the right one if that is clean
 abbrev pub MeetsOver : Type 0 → Settings → World → Caller → Request → Result Answer Stop → World → Type 0
 MeetsOver is_clean s w c q (Ok a) new = (refusal s w q ≡ None) × ((IsTrue (reads_disk q) → is_clean) → answer_view a ≡ answer s w c q) × (new ≡ effect s w q)
-MeetsOver is_clean s w c q (Err stop) new = Meets s w c q (Err stop) new
+MeetsOver is_clean s w c q (Err (Refused r)) new = (refusal s w q ≡ Some r) × (new ≡ w)
+MeetsOver is_clean s w c q (Err (Failed f)) new = new ≡ w
 
 -- what is replied
 abbrev pub reply_to : Result Answer Stop → replied.Reply
@@ -45,18 +46,23 @@ module _ {S : Type 0} (g : Ghosts S) where
   pub record IsMet (s : Settings) (c : Caller) (q : Request) (r : Result Answer Stop) (old new : Kept S) : Type 0 where
     pub dir : new.dir ≡ old.dir
     -- of each world of the tables before, what becomes of it is a world of them now
-    pub world : (w : World) → Tells g old w → (next : World) × MeetsOver (HasCleanDisk (state g new.connection)) s w c q r next × Tells g new next
+    pub world : (w : World) → HasWorld g old w → (next : World) × MeetsOver (HasCleanDisk (state g new.connection)) s w c q r next × HasWorld g new next
+    -- a failure has its cause
+    pub cause : (w : World) → HasWorld g old w → HasCause g q (reply_to r) old new
+    -- what is done leaves all else of the database as it was
+    pub others : IsAnswered r → LeavesOthers g old new
     -- a refusal leaves them as they were
     pub still : IsRefused r → new ≡ old
     -- what is done outlives a crash
-    pub lasts : IsAnswered r → Lasts g old new
+    pub lasts : IsAnswered r → StaysDurable g old new
     -- a crash leaves what it could leave before, or what is done where no test fails
-    pub survives : (w : World) → Tells g old w → Survives (state g old.connection) (state g new.connection)
+    pub survives : (w : World) → HasWorld g old w → Survives (state g old.connection) (state g new.connection)
         (λ db. LeavesPassed old.dir (state g old.connection).now db s w q)
 
   -- something is read of the disk: the worlds of the tables are as before
   pub record OnlyReads (old new : Kept S) : Type 0 where
     pub dir : new.dir ≡ old.dir
-    pub told : (w : World) → Tells g old w → Tells g new w
-    pub lasts : Lasts g old new
+    pub told : (w : World) → HasWorld g old w → HasWorld g new w
+    pub same : HasCleanDisk (state g new.connection) → IsTrue (state g new.connection).is_open → (state g new.connection).now ≡ (state g old.connection).now
+    pub lasts : StaysDurable g old new
     pub survives : Survives (state g old.connection) (state g new.connection) (λ _. ⊥)

@@ -17,7 +17,7 @@ use Rattle.store_types.specs.declared.replies.Answer.TheVariants.{Path, Record, 
 use Rattle.store_types.specs.declared.replies.Reply.{Reply}
 use Rattle.store_types.specs.declared.replies.Reply.TheVariants.{Done, Denied, Refused, Failed}
 
--- what is passed with its path; no bytes, where memory was refused as its archive came
+-- what is passed with its path; without bytes if its intake is spent (`Spent`)
 abbrev pub import_view : Imported → asked.Imported
 import_view i = record { path = i.path; nar_hash = i.nar_hash; refs = i.refs.items; deriver = i.deriver; ca = i.ca; nar = bytes_in i.nar }
 

@@ -2,7 +2,7 @@
 
 ghost use Rattle.std.specs.Prelude.{◌≡◌};
 ghost use Rattle.store_types.specs.Stops.{archive_stop, derivation_stop};
-ghost use Rattle.store_types.specs.declared.replies.Stop.TheVariants.{Failed as failed};
+ghost use Rattle.store_types.specs.declared.replies.Stop.TheVariants.{Failed as failed, Refused as refused};
 ghost use Rattle.tables_sql.specs.declared.failure.Failure.TheVariants.{Memory as memory};
 
 use drv::DrvError;
@@ -105,6 +105,14 @@ impl<T: Drop> From<AllocFailed<T>> for Stop {
 
     fn from(_e: AllocFailed<T>) -> Stop {
         Stop::Failed(Failure::Memory)
+    }
+}
+
+impl From<Refusal> for Stop {
+    ghost from_gives = { λ r e. e ≡ refused r };
+
+    fn from(refusal: Refusal) -> Stop {
+        Stop::Refused(refusal)
     }
 }
 

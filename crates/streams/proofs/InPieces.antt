@@ -5,7 +5,7 @@ use Rattle.std.proofs.lemmas.List.{take-take, length-take}
 use Rattle.std.proofs.KnownBytes.{Appends-trans}
 use Rattle.std.specs.Io.KnownBytes.{Appends}
 use Rattle.streams.specs.Cut.{piece_of}
-use Rattle.streams.specs.Sends.{AppendsFront}
+use Rattle.streams.specs.Sends.{AppendsPrefix}
 
 -- a front of a piece behind those before it
 behind : (bytes : List ℕ) (i n : ℕ) (piece : List ℕ) → piece ≡ piece_of i bytes → n ≤ 65536 → take (65536 * i) bytes ++ take n piece ≡ take (65536 * i + n) bytes
@@ -31,8 +31,8 @@ next_sent a b c bytes i piece is before now =
     subst (Appends a c) all (Appends-trans a b c _ _ before now)
 
 -- a front of one more
-pub front_sent : (a b c : Option (List ℕ)) (bytes : List ℕ) (i : ℕ) (piece : List ℕ) → piece ≡ piece_of i bytes → Appends a b (take (65536 * i) bytes) → AppendsFront b c piece
-    → AppendsFront a c bytes
+pub front_sent : (a b c : Option (List ℕ)) (bytes : List ℕ) (i : ℕ) (piece : List ℕ) → piece ≡ piece_of i bytes → Appends a b (take (65536 * i) bytes) → AppendsPrefix b c piece
+    → AppendsPrefix a c bytes
 front_sent a b c bytes i piece is before (n, below, now) =
     let size = piece_length bytes i piece is in
     let small : n ≤ 65536 = omega (arith, size.0, below) in

@@ -29,7 +29,7 @@ impl Model for Pieces {
 }
 
 /// Puts the next piece after the last one, which is full and becomes one of the whole ones.
-fn put_behind(whole: &mut Vec<Vec<u8>>, last: &mut Vec<u8>, next: Vec<u8>) -> Result<(), AllocError>
+fn push_piece(whole: &mut Vec<Vec<u8>>, last: &mut Vec<u8>, next: Vec<u8>) -> Result<(), AllocError>
     requires cut { AreCut (map (λ v. v.items) whole.old.items) last.old.items }
     requires full { 65536 ≤ length last.old.items }
     requires fits { length next.items ≤ 65536 }
@@ -64,12 +64,20 @@ fn make_room(
         return Ok(SIZE - last.len());
     }
     let next = Vec::with_capacity(alloc, SIZE)?;
-    put_behind(whole, last, next)?;
+    push_piece(whole, last, next)?;
     Ok(SIZE)
 }
 
 impl Pieces {
     /// No bytes. It takes no memory yet.
+    ///
+    /// ```rust
+    /// use streams::Pieces;
+    ///
+    /// let pieces = Pieces::new(alloc);
+    /// assert_eq!(rt; pieces.len(), 0);
+    /// assert_eq!(rt; pieces.count(), 0);
+    /// ```
     pub fn new(alloc: Global) -> Pieces
         ensures { result ≡ [] }
     {
@@ -81,6 +89,15 @@ impl Pieces {
     }
 
     /// How many bytes there are.
+    ///
+    /// ```rust
+    /// use streams::Pieces;
+    ///
+    /// let mut pieces = Pieces::new(alloc);
+    /// pieces.push(b"abc")?;
+    /// pieces.push(b"de")?;
+    /// assert_eq!(rt; pieces.len(), 5);
+    /// ```
     pub fn len(&self) -> usize
         ensures { result ≡ length self.now }
     {
@@ -88,6 +105,16 @@ impl Pieces {
     }
 
     /// How many pieces there are.
+    ///
+    /// ```rust
+    /// use streams::Pieces;
+    ///
+    /// let mut pieces = Pieces::new(alloc);
+    /// pieces.push(&[0; 65_536])?;
+    /// assert_eq!(rt; pieces.count(), 1);
+    /// pieces.push(b"a")?;
+    /// assert_eq!(rt; pieces.count(), 2);
+    /// ```
     pub fn count(&self) -> usize
         ensures { result ≡ count_of self.now }
     {
@@ -95,6 +122,15 @@ impl Pieces {
     }
 
     /// The piece at a place, counted from 0.
+    ///
+    /// ```rust
+    /// use streams::Pieces;
+    ///
+    /// let mut pieces = Pieces::new(alloc);
+    /// pieces.push(&[0; 65_536])?;
+    /// pieces.push(b"abc")?;
+    /// assert_eq!(rt; pieces.piece(1), b"abc".as_slice());
+    /// ```
     pub fn piece(&self, i: usize) -> &[u8]
         requires { 65536 * i < length self.now }
         ensures { result.now ≡ piece_of i self.now }
@@ -107,6 +143,15 @@ impl Pieces {
     }
 
     /// Appends bytes. Where memory is refused the bytes stay as they were.
+    ///
+    /// ```rust
+    /// use streams::Pieces;
+    ///
+    /// let mut pieces = Pieces::new(alloc);
+    /// pieces.push(b"my")?;
+    /// pieces.push(b"content")?;
+    /// assert_eq!(rt; pieces.piece(0), b"mycontent".as_slice());
+    /// ```
     ///
     /// # Errors
     ///
@@ -138,6 +183,14 @@ impl Pieces {
     /// Appends bytes that are given away: where they fit a piece and the last one is full, or there is none, they become
     /// the next piece as they are, and are copied otherwise. Where memory is refused the bytes stay as they were.
     ///
+    /// ```rust
+    /// use streams::Pieces;
+    ///
+    /// let mut pieces = Pieces::new(alloc);
+    /// pieces.append(Vec::from_slice(alloc, b"mycontent")?)?;
+    /// assert_eq!(rt; pieces.len(), 9);
+    /// ```
+    ///
     /// # Errors
     ///
     /// Memory was refused.
@@ -153,7 +206,7 @@ impl Pieces {
             return Ok(());
         }
         if self.last.len() == SIZE {
-            return put_behind(&mut self.whole, &mut self.last, bytes);
+            return push_piece(&mut self.whole, &mut self.last, bytes);
         }
         self.push(bytes.as_slice())
     }
@@ -187,6 +240,15 @@ impl Pieces {
     }
 
     /// All bytes in one buffer, for what can't be read in pieces. It asks for all of their memory at once.
+    ///
+    /// ```rust
+    /// use streams::Pieces;
+    ///
+    /// let mut pieces = Pieces::new(alloc);
+    /// pieces.push(&[0; 65_536])?;
+    /// pieces.push(b"abc")?;
+    /// assert_eq!(rt; pieces.joined()?.len(), 65_539);
+    /// ```
     ///
     /// # Errors
     ///

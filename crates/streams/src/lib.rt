@@ -2,6 +2,7 @@
 #![tactic(auto)]
 
 mod bytes;
+mod error;
 mod parts;
 mod receive;
 mod send;
@@ -9,6 +10,7 @@ mod sink;
 mod whole;
 
 pub use bytes::Pieces;
+pub use error::ReadError;
 pub use parts::{in_pieces, send_pieces};
 pub use receive::receive_at_most;
 pub use send::send_bytes;

@@ -2,9 +2,9 @@
 ghost use Rattle.std.specs.Prelude.{◌<◌, length};
 ghost use Rattle.streams.specs.Reads.{ReadsOn, Receives};
 
+use crate::error::ReadError;
 use crate::sink::Sink;
-use std::io;
-use std::io::{Error, ErrorKind, Read};
+use std::io::Read;
 
 /// How many bytes one read asks for at most.
 const PIECE: usize = 65_536;
@@ -14,11 +14,14 @@ fn read_on<R: Read, S: Sink>(
     input: &mut R,
     window: &mut [u8],
     sink: &mut S,
-) -> io::Result<Option<usize>>
+) -> Result<Option<usize>, ReadError>
     requires { 0 < length window.old }
     ensures { ReadsOn (length window.old) (R.remaining input.old) (R.remaining input.new) (S.taken sink.old) (S.taken sink.new) result }
 {
-    let count = input.read(window)?;
+    let count = match input.read(window) {
+        Ok(count) => count,
+        Err(_) => return Err(ReadError::Input),
+    };
     if count == 0 {
         return Ok(None);
     }
@@ -31,21 +34,18 @@ fn read_on<R: Read, S: Sink>(
 ///
 /// # Errors
 ///
-/// The fault of the input, that of an interrupted read too, or `OutOfMemory` where the sink was refused memory. The sink has then taken
-/// what came before.
+/// `Input` where the reader failed, whatever the kind of its fault, that of an interrupted read too: the sink has taken all that came.
+/// `Memory` where the sink was refused memory for a piece that came.
 pub fn receive_at_most<R: Read, S: Sink>(
     input: &mut R,
     most: usize,
     sink: &mut S,
-) -> io::Result<usize>
+) -> Result<usize, ReadError>
     ensures { Receives most (R.remaining input.old) (R.remaining input.new) (S.taken sink.old) (S.taken sink.new) result }
 {
     let mut window = [0; PIECE];
     let mut left = most;
-    for _ in 0..u64::MAX {
-        if left == 0 {
-            return Ok(most);
-        }
+    'reads: while left > 0 {
         let room = left.min(PIECE);
         match read_on(input, &mut window[..room], sink) {
             Ok(Some(count)) => left -= count,
@@ -53,5 +53,5 @@ pub fn receive_at_most<R: Read, S: Sink>(
             Err(fault) => return Err(fault),
         }
     }
-    Err(Error::from(ErrorKind::Interrupted))
+    Ok(most)
 }

@@ -1,11 +1,11 @@
 //! The bytes of an input, held whole.
-ghost use Rattle.std.specs.Prelude.{◌≡◌, [], IfOk, IfSome, take};
-ghost use Rattle.streams.specs.Reads.{TakesAtMost};
+ghost use Rattle.std.specs.Prelude.{◌≡◌, [], IfOk, IfSome, IsErrOf, take};
+ghost use Rattle.streams.specs.Reads.{ConsumesAtMost, TakesFewer, TakesSome};
 
+use crate::error::ReadError;
 use crate::receive::receive_at_most;
 use crate::sink::Sink;
 use std::alloc::{AllocError, Global};
-use std::io;
 use std::io::Read;
 use std::marker::Model;
 
@@ -68,10 +68,17 @@ impl Sink for Held {
 ///
 /// # Errors
 ///
-/// The fault of the input, or `OutOfMemory` where memory was refused.
-pub fn read_at_most<R: Read>(alloc: Global, input: &mut R, most: usize) -> io::Result<Vec<u8>>
+/// `Input` where the reader failed before these were read, whatever the kind of its fault; `Memory` where memory was refused for bytes
+/// that were read.
+pub fn read_at_most<R: Read>(
+    alloc: Global,
+    input: &mut R,
+    most: usize,
+) -> Result<Vec<u8>, ReadError>
     ensures bytes { IfOk result (λ bytes. IfSome (R.remaining input.old) (λ all. bytes.items ≡ take most all)) }
-    ensures within { TakesAtMost most (R.remaining input.old) (R.remaining input.new) }
+    ensures within { ConsumesAtMost most (R.remaining input.old) (R.remaining input.new) }
+    ensures input { IsErrOf result ReadError.Input → TakesFewer most (R.remaining input.old) (R.remaining input.new) }
+    ensures memory { IsErrOf result ReadError.Memory → TakesSome most (R.remaining input.old) (R.remaining input.new) }
 {
     let mut held = Held::new(alloc, most);
     match receive_at_most(input, most, &mut held) {

@@ -1,5 +1,5 @@
 -- A generation that is added to a profile, and taken back.
-use Rattle.std.proofs.Common.{◌≡◌, ℕ, List, Bool, true, false, ◌&&◌, cond, Some, None, Option, option_map, is_some, refl, sym, ap, ap₂, ◌∙◌, IsTrue}
+use Rattle.std.proofs.Common.{◌≡◌, ℕ, List, Bool, true, false, not, ◌&&◌, cond, Some, None, Option, option_map, is_some, refl, sym, ap, ap₂, ◌∙◌, IsTrue}
 use Rattle.std.specs.Prelude.{ℤ, pos}
 use Rattle.std.specs.Ordering.{eq_by_cmp, int_cmp, nat_cmp, ordering_then}
 use Rattle.std.specs.Cmp.{eq_by_cmp_equiv, nat_cmp_total}
@@ -9,14 +9,15 @@ use Rattle.tables_sql.proofs.Orders.{triple_total, triple_antisymmetric}
 use Rattle.paths.specs.Root.{bytes_cmp}
 use Rattle.model.specs.World.{Path, Pair, pair_cmp, Profile}
 use Rattle.model.specs.Profiles.{profile_or_new, put_at, switched, without_generation}
-use Rattle.tables_world.specs.Told.{IsSoundContents}
-use Rattle.tables_outline.specs.Outline.{Outline, with_profile, profile_of, current_of, without_added}
+use Rattle.tables_world.specs.Worlds.{IsSoundContents}
+use Rattle.tables_outline.specs.Outline.{OutlineValue, with_profile, profile_of, current_of, without_added}
 use Rattle.tables_outline.proofs.Orders.{nat_antisymmetric, pair_total, pair_antisymmetric}
 use Rattle.tables_outline.proofs.Puts.{tied_is, unput_put, has_put}
-use Rattle.tables.specs.Rewritten.{add_generation}
+use Rattle.tables.specs.Rewritten.{put_generation}
 use Rattle.tables.proofs.Kept.{Follows}
 use Rattle.tables.proofs.ProfileRows.{profile_follows}
-use Rattle.tables.proofs.ProfileWrites.{with_next, both_tied, numbers_tie, here, told_generation}
+use Rattle.tables.specs.Entries.{with_profile_by}
+use Rattle.tables.proofs.ProfileWrites.{both_tied, numbers_tie, here, told_generation}
 
 -- ---- the rows of the profile
 
@@ -24,6 +25,11 @@ triple_tied : (k j : Triple) → eq_by_cmp triple_cmp k j ≡ (eq_by_cmp bytes_c
 triple_tied k j =
     both_tied (bytes_cmp k.0 j.0) (ordering_then (bytes_cmp k.1 j.1) (int_cmp k.2 j.2))
     ∙ ap (λ b. eq_by_cmp bytes_cmp k.0 j.0 && b) (both_tied (bytes_cmp k.1 j.1) (int_cmp k.2 j.2))
+
+-- an entry of two texts and a number is taken away by a test of each
+pub without_triple : {X : Type 0} (m : finite.FinMap triple_cmp X) (owner name : List ℕ) (n : ℤ)
+    → finite.retain_keys m (λ k. not (eq_by_cmp bytes_cmp k.0 owner && (eq_by_cmp bytes_cmp k.1 name && eq_by_cmp int_cmp k.2 n))) ≡ finite.retain_keys m (λ k. not (eq_by_cmp triple_cmp k (owner, name, n)))
+without_triple m owner name n = λ i. finite.retain_keys m (λ k. not (sym (triple_tied k (owner, name, n)) i))
 
 -- in its first two columns it is this profile's, or it stays
 by_parts : (t : Path) (a b d r : Bool) (g : Option Path) → (a && b) ≡ r → cond (a && (b && d)) (Some t) g ≡ cond r (cond d (Some t) g) g
@@ -61,13 +67,13 @@ module _ (dir : List ℕ) (c : Contents) (rows : IsSoundContents dir c) (owned :
       by false e h = rows.numbers owner name z h
 
   -- a number gets a path, and a number becomes current
-  pub add_follows : (current : ℕ) → Follows dir (add_generation owned n t current) (with_next owned (λ p. switched (put_at p n t) current)) c
+  pub add_follows : (current : ℕ) → Follows dir (put_generation owned n t current) (with_profile_by owned (λ p. switched (put_at p n t) current)) c
   add_follows current =
       let it = profile_follows dir c rows (finite.insert c.profiles owned (pos current)) (finite.insert c.generations key t) owned (switched (put_at (here dir c rows owned) n t) current) (record {
         profile = finite.get-insert pair_total c.profiles owned (pos current);
         generation = each;
         numbers = numbers;
-      }) (with_next owned (λ p. switched (put_at p n t) current)) refl in
+      }) (with_profile_by owned (λ p. switched (put_at p n t) current)) refl in
       record { world = it.world; sound = it.sound }
 
 -- ---- the outline
@@ -86,7 +92,7 @@ put_again m k x y = finite.same_map pair_total pair_antisymmetric _ _ (λ q.
     by true g = refl
     by false g = refl
 
-module _ (old put : Outline) (owned key again : Pair) (n : ℕ) (target value : Path) (same : key ≡ owned) (same_again : again ≡ owned) (same_value : value ≡ target) (is : put ≡ with_profile old key (put_at (profile_of old key) n value)) where
+module _ (old put : OutlineValue) (owned key again : Pair) (n : ℕ) (target value : Path) (same : key ≡ owned) (same_again : again ≡ owned) (same_value : value ≡ target) (is : put ≡ with_profile old key (put_at (profile_of old key) n value)) where
   abbrev added : Profile
   added = put_at (profile_of old owned) n target
 
@@ -94,17 +100,17 @@ module _ (old put : Outline) (owned key again : Pair) (n : ℕ) (target value : 
   put_is = is ∙ ap₂ (λ k v. with_profile old k (put_at (profile_of old k) n v)) same same_value
 
   pub put_there : IsTrue (finite.contains_key put.profiles again)
-  put_there = ap₂ (λ (o : Outline) k. finite.contains_key o.profiles k) put_is same_again ∙ has_put pair_total pair_antisymmetric old.profiles owned added
+  put_there = ap₂ (λ (o : OutlineValue) k. finite.contains_key o.profiles k) put_is same_again ∙ has_put pair_total pair_antisymmetric old.profiles owned added
 
-  module _ (now : Outline) (current : ℕ) (switch : now ≡ with_profile put again (switched (profile_of put again) current)) where
+  module _ (now : OutlineValue) (current : ℕ) (switch : now ≡ with_profile put again (switched (profile_of put again) current)) where
     pub generation_put : now ≡ with_profile old owned (switched added current)
     generation_put =
-        switch ∙ ap₂ (λ (o : Outline) k. with_profile o k (switched (profile_of o k) current)) put_is same_again
+        switch ∙ ap₂ (λ (o : OutlineValue) k. with_profile o k (switched (profile_of o k) current)) put_is same_again
         ∙ ap (λ (o : Option Profile). with_profile (with_profile old owned added) owned (switched (profile_or_new o) current)) (get_put old.profiles owned added)
         ∙ ap (λ m. record old { profiles = m }) (put_again old.profiles owned added (switched added current))
 
     pub generation_there : IsTrue (finite.contains_key now.profiles again)
-    generation_there = ap₂ (λ (o : Outline) k. finite.contains_key o.profiles k) generation_put same_again ∙ has_put pair_total pair_antisymmetric old.profiles owned (switched added current)
+    generation_there = ap₂ (λ (o : OutlineValue) k. finite.contains_key o.profiles k) generation_put same_again ∙ has_put pair_total pair_antisymmetric old.profiles owned (switched added current)
 
     -- one that was added is taken away again
     taken : (o : Option Profile) → finite.get old.profiles owned ≡ o → finite.get (profile_or_new o).generations n ≡ None → (x : Profile) → x ≡ switched (put_at (profile_or_new o) n target) current
@@ -115,7 +121,7 @@ module _ (old put : Outline) (owned key again : Pair) (n : ℕ) (target value : 
         ∙ ap (λ (m : finite.FinMap nat_cmp Path). finite.insert (finite.insert old.profiles owned x) owned (record { generations = m; current = p.current })) (unput_put nat_cmp_total nat_antisymmetric p.generations n target None (sym new))
         ∙ unput_put pair_total pair_antisymmetric old.profiles owned x (Some p) (sym e)
 
-    pub generation_undone : finite.get (profile_of old owned).generations n ≡ None → (undone : Outline) (had : Option ℕ) → had ≡ current_of old key → undone ≡ record now { profiles = without_added now again n had } → undone ≡ old
+    pub generation_undone : finite.get (profile_of old owned).generations n ≡ None → (undone : OutlineValue) (had : Option ℕ) → had ≡ current_of old key → undone ≡ record now { profiles = without_added now again n had } → undone ≡ old
     generation_undone new undone had was back =
         back ∙ (λ i. record (generation_put i) { profiles = without_added (generation_put i) (same_again i) n ((was ∙ ap (current_of old) same) i) })
         ∙ ap (λ m. record old { profiles = m }) (taken (finite.get old.profiles owned) refl new (switched added current) refl)

@@ -5,28 +5,31 @@ use Rattle.std.specs.Cmp.{eq_by_cmp_equiv}
 use Rattle.std.specs.FinMap as finite
 use Rattle.std.proofs.lemmas.Bool.{false≢true}
 use Rattle.sha2.specs.Sha256.{sha256}
+use Rattle.sqlite_value.specs.Order.{Row}
+use Rattle.sqlite_schema.specs.declared.schema.Table.{Table}
 use Rattle.sqlite_trees.specs.declared.store.Store.{Ghosts}
-use Rattle.sqlite.specs.State.{HasCleanDisk, Survives}
-use Rattle.sqlite.specs.Held.{Held, state}
+use Rattle.sqlite.specs.State.{HasCleanDisk}
+use Rattle.sqlite.specs.Held.{state}
 use Rattle.paths.specs.Root.{bytes_cmp, Set, set_of}
 use Rattle.paths.specs.ContentAddress.{address_of}
 use Rattle.tables_sql.specs.Contents.{Contents, Stored, contents_of}
 use Rattle.tables_sql.specs.Entries.{stored}
-use Rattle.tables_sql.specs.Calls.{Leaves}
 use Rattle.model.specs.World.{Path, Object, World}
-use Rattle.model.specs.Sound.{IsSound}
 use Rattle.tables_world.specs.Pieces.{row_part, further_pieces}
 use Rattle.tables_world.specs.Rows.{address_in, object_in}
-use Rattle.tables_world.specs.Told.{rows_of, world_in}
-use Rattle.tables_outline.specs.Outline.{Outline, Outlined, outlined, outline_of, with_archive}
+use Rattle.tables_world.specs.Worlds.{rows_of, world_in}
+use Rattle.tables_outline.specs.Outline.{OutlineValue, Outlined, outlined, outline_of, with_archive}
 use Rattle.tables_outline.proofs.Orders.{bytes_total, bytes_antisymmetric}
 use Rattle.tables_outline.proofs.Puts.{unput_put}
 use Rattle.tables_outline.proofs.Told.{get-told}
-use Rattle.tables.specs.Rewritten.{put_object}
-use Rattle.tables.specs.Kept.{Kept, Agrees, Tells, IsWritten, LeavesWorld}
-use Rattle.tables.proofs.Inserted.{AreNew, object_of, object_follows, outline_follows, no_output, get-set_of}
+use Rattle.tables.specs.Rewritten.{LacksObject, put_object}
+use Rattle.tables.specs.Entries.{with_archived}
+use Rattle.tables.specs.Frames.{StaysSound}
+use Rattle.tables.specs.RowsPut.{ObjectRows}
+use Rattle.tables.specs.Kept.{Kept, Agrees}
+use Rattle.tables.proofs.Inserted.{AreNew, object_of, object_follows, outline_follows, no_output, no_piece, no_reference, get-set_of}
 use Rattle.tables.proofs.Parts.{same}
-use Rattle.tables.proofs.Kept.{Follows, agrees_done, told_done, survives_told}
+use Rattle.tables.proofs.Kept.{Follows, IsWrite}
 
 some_unit : (o : Option (Unit {0})) → cond (is_some o) (Some tt) None ≡ o
 some_unit None = refl
@@ -47,24 +50,31 @@ none_told f None h = refl
 none_told f (Some x) h = absurd (false≢true (ap is_some (sym h)))
 
 -- an object that the outline hasn't is in no row
-pub unstored : (c : Contents) (outline : Outline) (p : Path) → outline_of (world_in c) ≡ outline → finite.get outline.objects p ≡ None → finite.get c.objects p ≡ None
+pub unstored : (c : Contents) (outline : OutlineValue) (p : Path) → outline_of (world_in c) ≡ outline → finite.get outline.objects p ≡ None → finite.get c.objects p ≡ None
 unstored c outline p same none =
     none_told (object_in (rows_of c) p) (finite.get c.objects p) (sym (get-told bytes_total bytes_antisymmetric (object_in (rows_of c)) c.objects p)
-    ∙ none_told outlined (finite.get (world_in c).objects p) (sym (get-told bytes_total bytes_antisymmetric (λ _ x. outlined x) (world_in c).objects p) ∙ ap (λ (o : Outline). finite.get o.objects p) same ∙ none))
+    ∙ none_told outlined (finite.get (world_in c).objects p) (sym (get-told bytes_total bytes_antisymmetric (λ _ x. outlined x) (world_in c).objects p) ∙ ap (λ (o : OutlineValue). finite.get o.objects p) same ∙ none))
 
 -- what is found at the path of an object that was put
-pub found_put : (old put : Outline) (path key : Path) (given : Outlined) (found : Option Outlined) → key ≡ path → put ≡ record old { objects = finite.insert old.objects key given } → found ≡ finite.get put.objects path → found ≡ Some given
+pub found_put : (old put : OutlineValue) (path key : Path) (given : Outlined) (found : Option Outlined) → key ≡ path → put ≡ record old { objects = finite.insert old.objects key given } → found ≡ finite.get put.objects path → found ≡ Some given
 found_put old put path key given found same is at =
-    at ∙ ap (λ (o : Outline). finite.get o.objects path) is ∙ ap (λ k. finite.get (finite.insert old.objects k given) path) same
+    at ∙ ap (λ (o : OutlineValue). finite.get o.objects path) is ∙ ap (λ k. finite.get (finite.insert old.objects k given) path) same
     ∙ finite.get-insert bytes_total old.objects path given path ∙ ap (λ b. cond b (Some given) (finite.get old.objects path)) ((eq_by_cmp_equiv bytes_total).refl path)
 
 -- one that was put is taken away again
-pub object_undone : (old put undone : Outline) (path key : Path) (given : Outlined) → key ≡ path → put ≡ record old { objects = finite.insert old.objects key given } → finite.get old.objects path ≡ None → undone ≡ record put { objects = finite.remove put.objects path } → undone ≡ old
+pub object_undone : (old put undone : OutlineValue) (path key : Path) (given : Outlined) → key ≡ path → put ≡ record old { objects = finite.insert old.objects key given } → finite.get old.objects path ≡ None → undone ≡ record put { objects = finite.remove put.objects path } → undone ≡ old
 object_undone old put undone path key given same is none back =
-    back ∙ ap (λ (o : Outline). record o { objects = finite.remove o.objects path }) (is ∙ ap (λ k. record old { objects = finite.insert old.objects k given }) same)
+    back ∙ ap (λ (o : OutlineValue). record o { objects = finite.remove o.objects path }) (is ∙ ap (λ k. record old { objects = finite.insert old.objects k given }) same)
     ∙ ap (λ m. record old { objects = m }) (unput_put bytes_total bytes_antisymmetric old.objects path given None (sym none))
 
-module _ {S : Type 0} (g : Ghosts S) (k now : Kept S) (view : k ≡ now) (conn : Held S) (put : Outline) (path key nar : List ℕ) (given found : Outlined) (deriver ca : Option (String Global))
+-- the rows of one that is added, in other words
+pub object_rows : (nar : List ℕ) {base path : Path} {found given : Outlined} (deriver ca : Option (String Global)) → base ≡ path → found ≡ given → option_map string_bytes deriver ≡ given.deriver
+    → (t : Table) (values : Row) → ObjectRows base (stored (row_part nar) found.hash deriver ca) (finite.keys found.references) (finite.entries found.outputs) (further_pieces nar) t values
+    → ObjectRows path (record { nar = row_part nar; hash = given.hash; deriver = given.deriver; ca = option_map string_bytes ca }) (finite.keys given.references) (finite.entries given.outputs) (further_pieces nar) t values
+object_rows nar deriver ca at is same t values =
+    subst (λ (x : Type 0). x) (λ i. ObjectRows (at i) (record { nar = row_part nar; hash = (is i).hash; deriver = same i; ca = option_map string_bytes ca }) (finite.keys (is i).references) (finite.entries (is i).outputs) (further_pieces nar) t values)
+
+module _ {S : Type 0} (g : Ghosts S) (k now : Kept S) (view : k ≡ now) (put : OutlineValue) (path key nar : List ℕ) (given found : Outlined) (deriver ca : Option (String Global))
     (agrees : Agrees g k)
     (new : finite.get now.outline.objects path ≡ None)
     (size : given.size ≡ length nar)
@@ -73,7 +83,7 @@ module _ {S : Type 0} (g : Ghosts S) (k now : Kept S) (view : k ≡ now) (conn :
     (ca_is : address_in (option_map string_bytes ca) ≡ given.ca)
     (address : (text : List ℕ) → option_map string_bytes ca ≡ Some text → IsSome (address_of text))
     (found_is : found ≡ given)
-    (sound : (w : World) → Tells g now w → IsSound now.dir (record w { objects = finite.insert w.objects path (with_archive nar given) }))
+    (sound : StaysSound g now (with_archived path nar given))
   where
     abbrev row : Stored
     row = stored (row_part nar) found.hash deriver ca
@@ -108,8 +118,19 @@ module _ {S : Type 0} (g : Ghosts S) (k now : Kept S) (view : k ≡ now) (conn :
       sorted = finite.entries_sorted found.outputs;
     }
 
-    pub object_fits : HasCleanDisk (state g k.connection) → IsTrue (state g k.connection).is_open → (finite.get (contents_of (state g k.connection).now).objects path ≡ None) × ((name : List ℕ) → finite.get (contents_of (state g k.connection).now).outs (path, name) ≡ None)
-    object_fits clean is_open = ((are_new clean is_open).object, no_output k.dir path nar row (finite.keys found.references) (finite.entries found.outputs) (contents_of (state g k.connection).now) (agrees.rows clean is_open).sound (are_new clean is_open))
+    pub object_fits : HasCleanDisk (state g k.connection) → IsTrue (state g k.connection).is_open → LacksObject path (contents_of (state g k.connection).now)
+    object_fits clean is_open =
+        let c = contents_of (state g k.connection).now in
+        let rows = (agrees.rows clean is_open).sound in
+        let new = are_new clean is_open in
+        let rs = finite.keys found.references in
+        let es = finite.entries found.outputs in
+        record {
+          object = new.object;
+          references = no_reference k.dir path nar row rs es c rows new;
+          outputs = no_output k.dir path nar row rs es c rows new;
+          pieces = no_piece k.dir path nar row rs es c rows new;
+        }
 
     follows : HasCleanDisk (state g k.connection) → IsTrue (state g k.connection).is_open → Follows k.dir change (λ (w : World). record w { objects = finite.insert w.objects path object }) (contents_of (state g k.connection).now)
     follows clean is_open =
@@ -117,23 +138,14 @@ module _ {S : Type 0} (g : Ghosts S) (k now : Kept S) (view : k ≡ now) (conn :
         subst (λ (x : Object). Follows k.dir change (λ (w : World). record w { objects = finite.insert w.objects path x }) c) object_is
         (object_follows k.dir path nar row (finite.keys found.references) (finite.entries found.outputs) c (agrees.rows clean is_open).sound (are_new clean is_open))
 
-    abbrev outline_with : Outline → Outline
+    abbrev outline_with : OutlineValue → OutlineValue
     outline_with o = record o { objects = finite.insert o.objects path (outlined object) }
 
     law : (w : World) → outline_of (record w { objects = finite.insert w.objects path object }) ≡ outline_with (outline_of w)
     law w = outline_follows path object w
 
-    put_is : key ≡ path → put ≡ record k.outline { objects = finite.insert k.outline.objects key given } → put ≡ outline_with k.outline
+    pub put_is : key ≡ path → put ≡ record k.outline { objects = finite.insert k.outline.objects key given } → put ≡ outline_with k.outline
     put_is same is = is ∙ ap₂ (λ p v. record k.outline { objects = finite.insert k.outline.objects p v }) same (sym outlined_is)
 
-    module _ (survives : Survives (state g k.connection) (state g conn) (λ db. IsTrue (state g k.connection).is_open × Leaves (state g k.connection).now db (change (contents_of (state g k.connection).now)))) where
-      pub object_agrees : (HasCleanDisk (state g conn) → IsWritten (state g k.connection) (state g conn) change) → key ≡ path → put ≡ record k.outline { objects = finite.insert k.outline.objects key given } → conn.in_transaction ≡ false
-          → Agrees g (record { connection = conn; dir = k.dir; outline = put })
-      object_agrees written same is alone = agrees_done g k now view conn put change (λ (w : World). record w { objects = finite.insert w.objects path object }) outline_with law follows agrees sound _ survives written (put_is same is) alone
-
-      pub object_told : (HasCleanDisk (state g conn) → IsWritten (state g k.connection) (state g conn) change) → key ≡ path → put ≡ record k.outline { objects = finite.insert k.outline.objects key given }
-          → (w : World) → Tells g now w → Tells g (record { connection = conn; dir = k.dir; outline = put }) (record w { objects = finite.insert w.objects path object })
-      object_told written same is = told_done g k now view conn put change (λ (w : World). record w { objects = finite.insert w.objects path object }) outline_with law follows agrees sound _ survives written (put_is same is)
-
-      pub object_survives : (w : World) → Tells g now w → Survives (state g now.connection) (state g conn) (λ db. LeavesWorld now.dir (state g now.connection).now db (record w { objects = finite.insert w.objects path object }))
-      object_survives = survives_told g k now view conn put change (λ (w : World). record w { objects = finite.insert w.objects path object }) outline_with law follows agrees sound survives
+    pub object_write : IsWrite g k now change (with_archived path nar given) outline_with
+    object_write = record { view = view; law = law; follows = follows; agrees = agrees; sound = sound }

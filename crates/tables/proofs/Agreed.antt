@@ -6,19 +6,19 @@ use Rattle.sqlite.specs.State.{State, HasCleanDisk}
 use Rattle.sqlite.specs.Held.{Held, state}
 use Rattle.tables_sql.specs.Contents.{contents_of}
 use Rattle.tables_sql.specs.Calls.{IsReady, IsWhole}
-use Rattle.tables_world.specs.Told.{IsSoundContents, world_in}
-use Rattle.tables_world.specs.Rows.{three}
-use Rattle.tables_outline.specs.Outline.{Outline, outline_of}
+use Rattle.tables_world.specs.Worlds.{IsSoundContents, world_in}
+use Rattle.tables_schema.specs.declared.schema.Schema.TheVariants.{V3}
+use Rattle.tables_outline.specs.Outline.{OutlineValue, outline_of}
 use Rattle.tables.specs.Kept.{Kept, Agrees}
 use Rattle.tables_schema.specs.Finding.{HasNone}
 use Rattle.tables_make.specs.Making.{IsMade}
 use Rattle.paths.specs.Names.{is_store_dir}
 use Rattle.model.specs.World.{no_world}
 use Rattle.tables.proofs.Made.{made_tells}
-use Rattle.tables.specs.Taken.{IsFoundBy, AreRead, TakesOver, TakesNew}
+use Rattle.tables.specs.Opening.{IsFoundBy, AreRead, OpensExisting, OpensNew}
 
-module _ {S : Type 0} (g : Ghosts S) (conn : Held S) (db : Database) (own : List ℕ) (outline : Outline)
-    (same : HasCleanDisk (state g conn) → (state g conn).now ≡ db) (told : HasCleanDisk (state g conn) → AreRead three own db outline)
+module _ {S : Type 0} (g : Ghosts S) (conn : Held S) (db : Database) (own : List ℕ) (outline : OutlineValue)
+    (same : HasCleanDisk (state g conn) → (state g conn).now ≡ db) (told : HasCleanDisk (state g conn) → AreRead V3 own db outline)
   where
     abbrev pub kept : Kept S
     kept = record { connection = conn; dir = own; outline = outline }
@@ -34,7 +34,7 @@ module _ {S : Type 0} (g : Ghosts S) (conn : Held S) (db : Database) (own : List
       };
     }
 
-    pub took_over : (dir : List ℕ) → own ≡ dir → IsFoundBy three db → IsTrue (state g conn).is_open → HasCleanDisk (state g conn) → TakesOver g dir db kept
+    pub took_over : (dir : List ℕ) → own ≡ dir → IsFoundBy V3 db → IsTrue (state g conn).is_open → HasCleanDisk (state g conn) → OpensExisting g dir db kept
     took_over dir is found is_open clean = record {
       holds = record { tables = found.tables; readable = found.readable; sound = subst (λ (x : List ℕ). IsSoundContents x (contents_of db)) is (told clean).0 };
       is_open = is_open;
@@ -47,8 +47,8 @@ module _ {S : Type 0} (g : Ghosts S) (conn : Held S) (db : Database) (own : List
     }
 
 -- tables that were made
-module _ {S : Type 0} (g : Ghosts S) (conn : Held S) (old : State) (own : List ℕ) (outline : Outline) (valid : IsTrue (is_store_dir own)) (is : outline ≡ outline_of no_world)
+module _ {S : Type 0} (g : Ghosts S) (conn : Held S) (old : State) (own : List ℕ) (outline : OutlineValue) (valid : IsTrue (is_store_dir own)) (is : outline ≡ outline_of no_world)
     (made : HasCleanDisk (state g conn) → IsMade own old (state g conn))
   where
-    pub took_new : HasNone old.now.schema → HasCleanDisk (state g conn) → TakesNew g old.now (record { connection = conn; dir = own; outline = outline })
-    took_new none clean = record { none = none; is_open = (made clean).is_open; others = record { theirs = (made clean).theirs; frozen = (made clean).frozen }; told = made_tells g conn old own outline valid is made }
+    pub took_new : HasNone old.now.schema → HasCleanDisk (state g conn) → OpensNew g old.now (record { connection = conn; dir = own; outline = outline })
+    took_new none clean = record { none = none; is_open = (made clean).is_open; schema = (made clean).schema; theirs = (made clean).theirs; frozen = (made clean).frozen; told = made_tells g conn old own outline valid is made }

@@ -7,15 +7,15 @@ use Rattle.sqlite.proofs.StateLemmas.{survives_then}
 use Rattle.sqlite.specs.Held.{Held, state}
 use Rattle.tables_sql.specs.Contents.{contents_of}
 use Rattle.tables_sql.proofs.Steps.{clean_before}
-use Rattle.tables_world.specs.Rows.{Schema}
+use Rattle.tables_schema.specs.declared.schema.Schema.{Schema}
 use Rattle.model.specs.Sound.{IsSound}
-use Rattle.tables_world.specs.Told.{IsSoundBy, IsSoundContents, rows_of, world_in}
+use Rattle.tables_world.specs.Worlds.{IsSoundBy, IsSoundContents, rows_of, world_in}
 use Rattle.tables_world.proofs.Migrating.{migrates_soundly}
-use Rattle.tables_outline.specs.Outline.{Outline, outline_of}
+use Rattle.tables_outline.specs.Outline.{OutlineValue, outline_of}
 use Rattle.tables_make.specs.Migrated.{lacking, migrated_contents, IsGrown, IsMigrated, LeavesMigrated}
 use Rattle.tables_make.proofs.Grown.{grown_from}
 use Rattle.tables.specs.Kept.{Agrees}
-use Rattle.tables.specs.Taken.{IsFoundBy, AreRead, TakesMigrated, LeavesBrought}
+use Rattle.tables.specs.Opening.{IsFoundBy, AreRead, OpensMigrated, LeavesMigration}
 
 -- rows that were read from `a` to `b`, and then brought to the third schema from `b` to `d`
 module _ (schema : Schema) (dir : List ℕ) (a b d : State) (same : HasCleanDisk b → IsUnchanged a b) (sound : HasCleanDisk b → IsSoundBy schema dir (contents_of a.now)) where
@@ -27,9 +27,9 @@ module _ (schema : Schema) (dir : List ℕ) (a b d : State) (same : HasCleanDisk
       subst (λ (x : Database). IsGrown (lacking schema) (migrated_contents schema dir (contents_of x)) a d) (same clean).0.now_is
       (grown_from (lacking schema) (migrated_contents schema dir (contents_of b.now)) a b d (same clean) (done dir (sound_still clean)))
 
-  pub both_leave : (HasCleanDisk a → IsFoundBy schema a.now) → Survives a b (λ _. ⊥) → Survives b d (λ db. (x : List ℕ) → IsSoundBy schema x (contents_of b.now) → LeavesMigrated schema x b.now db) → Survives a d (LeavesBrought schema dir a.now)
+  pub both_leave : (HasCleanDisk a → IsFoundBy schema a.now) → Survives a b (λ _. ⊥) → Survives b d (λ db. (x : List ℕ) → IsSoundBy schema x (contents_of b.now) → LeavesMigrated schema x b.now db) → Survives a d (LeavesMigration schema dir a.now)
   both_leave found first last =
-      survives_then a b d (λ _. ⊥) (λ db. (x : List ℕ) → IsSoundBy schema x (contents_of b.now) → LeavesMigrated schema x b.now db) (LeavesBrought schema dir a.now) (λ clean db none. absurd none)
+      survives_then a b d (λ _. ⊥) (λ db. (x : List ℕ) → IsSoundBy schema x (contents_of b.now) → LeavesMigrated schema x b.now db) (LeavesMigration schema dir a.now) (λ clean db none. absurd none)
       (λ clean db l.
       let early : HasCleanDisk b = clean_before b d _ last clean in
       let it = found (clean_before a b _ first early) in (
@@ -38,7 +38,7 @@ module _ (schema : Schema) (dir : List ℕ) (a b d : State) (same : HasCleanDisk
       ))
       first last
 
-module _ {S : Type 0} (g : Ghosts S) (conn : Held S) (old : State) (schema : Schema) (dir own : List ℕ) (outline : Outline) (is : own ≡ dir)
+module _ {S : Type 0} (g : Ghosts S) (conn : Held S) (old : State) (schema : Schema) (dir own : List ℕ) (outline : OutlineValue) (is : own ≡ dir)
     (told : HasCleanDisk (state g conn) → AreRead schema dir old.now outline) (brought : HasCleanDisk (state g conn) → IsMigrated schema dir old (state g conn))
   where
     same_world : HasCleanDisk (state g conn) → world_in (contents_of (state g conn).now) ≡ world_in (contents_of old.now)
@@ -58,7 +58,7 @@ module _ {S : Type 0} (g : Ghosts S) (conn : Held S) (old : State) (schema : Sch
           };
     }
 
-    pub took_migrated : IsFoundBy schema old.now → HasCleanDisk (state g conn) → TakesMigrated g schema dir old.now (record { connection = conn; dir = own; outline = outline })
+    pub took_migrated : IsFoundBy schema old.now → HasCleanDisk (state g conn) → OpensMigrated g schema dir old.now (record { connection = conn; dir = own; outline = outline })
     took_migrated found clean =
         let it = brought clean in
         record {

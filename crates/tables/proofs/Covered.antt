@@ -16,9 +16,9 @@ use Rattle.tables_sql.specs.Contents.{Contents, Stored}
 use Rattle.model.specs.World.{Path}
 use Rattle.tables_world.specs.Pieces.{piece_size, joined, IsCut}
 use Rattle.tables_world.specs.Rows.{pieces_in, object_in}
-use Rattle.tables_world.specs.Told.{IsSoundContents, rows_of, world_in}
+use Rattle.tables_world.specs.Worlds.{IsSoundContents, rows_of, world_in}
 use Rattle.tables_world.proofs.Told.{get-reference, get-output, get-piece}
-use Rattle.tables_outline.specs.Outline.{Outline, Outlined, outlined, outline_of}
+use Rattle.tables_outline.specs.Outline.{OutlineValue, Outlined, outlined, outline_of}
 use Rattle.tables_outline.proofs.Orders.{bytes_total, bytes_antisymmetric, pair_total, pair_antisymmetric}
 use Rattle.tables_outline.proofs.Puts.{tied_is, get-kept}
 use Rattle.tables_outline.proofs.Told.{get-told}
@@ -35,13 +35,13 @@ some_of : {X : Type 0} (o : Option X) → is_some o ≡ true → (x : X) × (o �
 some_of None h = absurd (false≢true h)
 some_of (Some x) h = (x, refl)
 
-module _ (dir : List ℕ) (c : Contents) (outline : Outline) (rows : IsSoundContents dir c) (same_outline : outline_of (world_in c) ≡ outline) where
+module _ (dir : List ℕ) (c : Contents) (outline : OutlineValue) (rows : IsSoundContents dir c) (same_outline : outline_of (world_in c) ≡ outline) where
   abbrev told : Path → Stored → Outlined
   told p s = outlined (object_in (rows_of c) p s)
 
   found : (p : Path) (s : Stored) → finite.get c.objects p ≡ Some s → finite.get outline.objects p ≡ Some (told p s)
   found p s there =
-      ap (λ (x : Outline). finite.get x.objects p) (sym same_outline)
+      ap (λ (x : OutlineValue). finite.get x.objects p) (sym same_outline)
       ∙ get-told bytes_total bytes_antisymmetric (λ _ x. outlined x) (world_in c).objects p
       ∙ ap (option_map outlined) (get-told bytes_total bytes_antisymmetric (object_in (rows_of c)) c.objects p ∙ ap (option_map (object_in (rows_of c) p)) there)
 
@@ -65,7 +65,7 @@ still o alike m keep q there = by (keep q) (finite.get m q) (ap is_some (sym (ge
     by true g h = h
     by false g h = absurd (false≢true h)
 
-pub covers_less : (outline : Outline) (p : Path) (c : Contents) → Covers outline c → Covers outline (without_object p c)
+pub covers_less : (outline : OutlineValue) (p : Path) (c : Contents) → Covers outline c → Covers outline (without_object p c)
 covers_less outline p c h = record {
   references = λ q r there. h.references q r (still pair_total pair_antisymmetric c.refs (λ k. not (same k.0 p)) (q, r) there);
   outputs = λ q name there. h.outputs q name (still pair_total pair_antisymmetric c.outs (λ k. not (same k.0 p)) (q, name) there);
@@ -73,7 +73,7 @@ covers_less outline p c h = record {
 }
 
 -- of an object that it has it tells in other contents too that hold the same of it
-module _ (outline : Outline) (c : Contents) (p base : Path) (object : Outlined) (h : Covers outline c) (at : Some object ≡ finite.get outline.objects p) (same_path : base ≡ p) (d : Contents) where
+module _ (outline : OutlineValue) (c : Contents) (p base : Path) (object : Outlined) (h : Covers outline c) (at : Some object ≡ finite.get outline.objects p) (same_path : base ≡ p) (d : Contents) where
   this_one : (x : Outlined) → finite.get outline.objects p ≡ Some x → x ≡ object
   this_one x is = sym (same_Some object x (at ∙ is))
 
@@ -125,7 +125,7 @@ keyless {R = R} m part items is none q there =
     none_in R q (finite.entries m) (sym (length-map (finite.entries m) part) ∙ ap length (sym is) ∙ eqb-true (length items) 0 (sym none)) (ap is_some (sym (finite.get-entries m q)) ∙ there)
 
 -- of a path that the outline hasn't, the row of its object is all that goes
-pub alone_goes : (outline : Outline) (c : Contents) (p : Path) → Covers outline c → finite.get outline.objects p ≡ None
+pub alone_goes : (outline : OutlineValue) (c : Contents) (p : Path) → Covers outline c → finite.get outline.objects p ≡ None
     → record c { objects = finite.retain_keys c.objects (λ k. not (same k p)) } ≡ without_object p c
 alone_goes outline c p h none = λ i. record c {
   objects = finite.retain_keys c.objects (λ k. not (same k p));

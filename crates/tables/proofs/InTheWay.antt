@@ -8,12 +8,13 @@ use Rattle.sqlite_schema.specs.Names.{table_named, index_named, view_named}
 use Rattle.sqlite.specs.Does.{lacks_sequence}
 use Rattle.sqlite.specs.Effect.{Database}
 use Rattle.tables_schema.specs.Forms.{our_tables, all_tables, piece, temp_root}
-use Rattle.tables_schema.specs.Standing.{Stands, HasTables, tree_named, is_unreferred, is_alone, is_unguarded}
+use Rattle.tables_schema.specs.Intact.{IsIntact, HasTables, tree_named, is_unreferred, is_alone, is_unguarded}
 use Rattle.tables_schema.specs.Finding.{HasNone, IsFree, is_unawaited}
-use Rattle.tables_world.specs.Rows.{Schema, one, two, three}
+use Rattle.tables_schema.specs.declared.schema.Schema.{Schema}
+use Rattle.tables_schema.specs.declared.schema.Schema.TheVariants.{V1, V2, V3}
 use Rattle.tables.specs.declared.refusing.Cause.TheVariants.{BadSchema}
-use Rattle.tables.specs.InTheWay.{is_there, is_taken, has_ours, is_acted_on, is_awaited, is_kept_out, are_others_in_the_way}
-use Rattle.tables.specs.Taken.{HasTablesOf, HoldsBy, HasItsForm, HasFormsOf, IsThereBy, IsCause, IsNoStore, RefusesTheRest}
+use Rattle.tables.specs.InTheWay.{is_present, is_name_used, has_store_tables, is_acted_on, is_awaited, is_kept_out, are_others_in_the_way}
+use Rattle.tables.specs.Opening.{HasTablesOf, HoldsBy, HasItsForm, HasFormsOf, IsPresentBy, IsRefusal, IsNoStore, RefusesTheRest}
 
 -- ---- tests
 
@@ -74,55 +75,55 @@ module _ (s : Shown) where
   is_left_alone t = is_unreferred s (tree_named s t.name) && (is_alone s t.name (tree_named s t.name) && is_unguarded s (tree_named s t.name) t.primary)
 
   abbrev Untaken : Table → Type 0
-  Untaken t = is_taken s t ≡ false
+  Untaken t = is_name_used s t ≡ false
 
-  clear_there : (t : Table) → is_there s t ≡ true → is_left_alone t ≡ true → IsClear t
+  clear_there : (t : Table) → is_present s t ≡ true → is_left_alone t ≡ true → IsClear t
   clear_there t there alone =
-      or_from (is_acted_on s t) (is_awaited s t || is_kept_out s t) (and_right (is_there s t) (not (is_left_alone t)) (not_from_true (is_left_alone t) alone))
-      (or_from (is_awaited s t) (is_kept_out s t) (and_left (not (is_there s t)) (not (is_unawaited s t.name)) (not_from_true (is_there s t) there)) (and_left (not (is_there s t)) (lacks_sequence s) (not_from_true (is_there s t) there)))
+      or_from (is_acted_on s t) (is_awaited s t || is_kept_out s t) (and_right (is_present s t) (not (is_left_alone t)) (not_from_true (is_left_alone t) alone))
+      (or_from (is_awaited s t) (is_kept_out s t) (and_left (not (is_present s t)) (not (is_unawaited s t.name)) (not_from_true (is_present s t) there)) (and_left (not (is_present s t)) (lacks_sequence s) (not_from_true (is_present s t) there)))
 
-  clear_away : (t : Table) → is_there s t ≡ false → is_unawaited s t.name ≡ true → lacks_sequence s ≡ false → IsClear t
+  clear_away : (t : Table) → is_present s t ≡ false → is_unawaited s t.name ≡ true → lacks_sequence s ≡ false → IsClear t
   clear_away t away unawaited counted =
-      or_from (is_acted_on s t) (is_awaited s t || is_kept_out s t) (and_left (is_there s t) (not (is_left_alone t)) away)
-      (or_from (is_awaited s t) (is_kept_out s t) (and_right (not (is_there s t)) (not (is_unawaited s t.name)) (not_from_true (is_unawaited s t.name) unawaited)) (and_right (not (is_there s t)) (lacks_sequence s) counted))
+      or_from (is_acted_on s t) (is_awaited s t || is_kept_out s t) (and_left (is_present s t) (not (is_left_alone t)) away)
+      (or_from (is_awaited s t) (is_kept_out s t) (and_right (not (is_present s t)) (not (is_unawaited s t.name)) (not_from_true (is_unawaited s t.name) unawaited)) (and_right (not (is_present s t)) (lacks_sequence s) counted))
 
-  stands_formed : (t : Table) → Stands s t → HasItsForm s t
+  stands_formed : (t : Table) → IsIntact s t → HasItsForm s t
   stands_formed t h = (h.at, h.known)
 
-  stands_clear : (t : Table) → Stands s t → IsClear t
+  stands_clear : (t : Table) → IsIntact s t → IsClear t
   stands_clear t h = clear_there t (ap is_some h.known.named.0) (and_from _ _ h.unreferred (and_from _ _ h.alone h.unguarded))
 
-  clear_stands : (t : Table) → HasItsForm s t → IsClear t → Stands s t
+  clear_stands : (t : Table) → HasItsForm s t → IsClear t → IsIntact s t
   clear_stands t h clear =
-      let acts = not_both (is_there s t) (not (is_left_alone t)) (or_parts (is_acted_on s t) (is_awaited s t || is_kept_out s t) clear).0 (ap is_some h.1.named.0) in
+      let acts = not_both (is_present s t) (not (is_left_alone t)) (or_parts (is_acted_on s t) (is_awaited s t || is_kept_out s t) clear).0 (ap is_some h.1.named.0) in
       let alone = both (is_unreferred s (tree_named s t.name)) (is_alone s t.name (tree_named s t.name) && is_unguarded s (tree_named s t.name) t.primary) (not_back (is_left_alone t) acts) in
       let last = both (is_alone s t.name (tree_named s t.name)) (is_unguarded s (tree_named s t.name) t.primary) alone.1 in
       record { at = h.0; known = h.1; unreferred = alone.0; alone = last.0; unguarded = last.1 }
 
   free_untaken : (t : Table) → IsFree s t.name → Untaken t
-  free_untaken t h = or_from (is_there s t) (is_some (index_named s t.name) || is_some (view_named s t.name)) (ap is_some h.table) (or_from (is_some (index_named s t.name)) (is_some (view_named s t.name)) (ap is_some h.index) (ap is_some h.view))
+  free_untaken t h = or_from (is_present s t) (is_some (index_named s t.name) || is_some (view_named s t.name)) (ap is_some h.table) (or_from (is_some (index_named s t.name)) (is_some (view_named s t.name)) (ap is_some h.index) (ap is_some h.view))
 
   free_clear : lacks_sequence s ≡ false → (t : Table) → IsFree s t.name → IsClear t
   free_clear counted t h = clear_away t (ap is_some h.table) h.unawaited counted
 
   -- the parts of what is clear though it isn't there
-  away : (t : Table) → Untaken t → is_there s t ≡ false
-  away t h = (or_parts (is_there s t) (is_some (index_named s t.name) || is_some (view_named s t.name)) h).0
+  away : (t : Table) → Untaken t → is_present s t ≡ false
+  away t h = (or_parts (is_present s t) (is_some (index_named s t.name) || is_some (view_named s t.name)) h).0
 
   clear_free : (t : Table) → Untaken t → IsClear t → IsFree s t.name
   clear_free t h clear =
-      let rest = or_parts (is_some (index_named s t.name)) (is_some (view_named s t.name)) (or_parts (is_there s t) (is_some (index_named s t.name) || is_some (view_named s t.name)) h).1 in
+      let rest = or_parts (is_some (index_named s t.name)) (is_some (view_named s t.name)) (or_parts (is_present s t) (is_some (index_named s t.name) || is_some (view_named s t.name)) h).1 in
       let waits = (or_parts (is_awaited s t) (is_kept_out s t) (or_parts (is_acted_on s t) (is_awaited s t || is_kept_out s t) clear).1).0 in
       record {
         table = none_of (table_named s t.name) (away t h);
         index = none_of (index_named s t.name) rest.0;
         view = none_of (view_named s t.name) rest.1;
-        unawaited = not_back (is_unawaited s t.name) (not_both (not (is_there s t)) (not (is_unawaited s t.name)) waits (not_from_false (is_there s t) (away t h)));
+        unawaited = not_back (is_unawaited s t.name) (not_both (not (is_present s t)) (not (is_unawaited s t.name)) waits (not_from_false (is_present s t) (away t h)));
       }
 
   clear_counted : (t : Table) → Untaken t → IsClear t → lacks_sequence s ≡ false
   clear_counted t h clear =
-      not_both (not (is_there s t)) (lacks_sequence s) (or_parts (is_awaited s t) (is_kept_out s t) (or_parts (is_acted_on s t) (is_awaited s t || is_kept_out s t) clear).1).1 (not_from_false (is_there s t) (away t h))
+      not_both (not (is_present s t)) (lacks_sequence s) (or_parts (is_awaited s t) (is_kept_out s t) (or_parts (is_acted_on s t) (is_awaited s t || is_kept_out s t) clear).1).1 (not_from_false (is_present s t) (away t h))
 
   -- ---- all of them
 
@@ -133,52 +134,52 @@ module _ (s : Shown) where
   each_clear h = apart IsClear (any_none is_hindered all_tables h)
 
   formed : HasTables s → AllByRecursion (HasItsForm s) our_tables
-  formed h = mapped (Stands s) (HasItsForm s) stands_formed our_tables h
+  formed h = mapped (IsIntact s) (HasItsForm s) stands_formed our_tables h
 
   formed_clear : HasTables s → AllByRecursion IsClear our_tables
-  formed_clear h = mapped (Stands s) IsClear stands_clear our_tables h
+  formed_clear h = mapped (IsIntact s) IsClear stands_clear our_tables h
 
   standing : AllByRecursion (HasItsForm s) our_tables → AllByRecursion IsClear our_tables → HasTables s
-  standing h k = zipped (HasItsForm s) IsClear (Stands s) clear_stands our_tables h k
+  standing h k = zipped (HasItsForm s) IsClear (IsIntact s) clear_stands our_tables h k
 
   -- tables of a schema have their forms, and are clear
   forms_of : (schema : Schema) → HasTablesOf schema s → HasFormsOf schema s × (are_others_in_the_way s ≡ false)
-  forms_of one h = (
+  forms_of V1 h = (
     (formed h.0, free_untaken piece h.1, free_untaken temp_root h.2),
     all_clear (formed_clear h.0) (free_clear h.3 piece h.1) (free_clear h.3 temp_root h.2),
   )
-  forms_of two h = (
+  forms_of V2 h = (
     (formed h.0, stands_formed piece h.1, free_untaken temp_root h.2),
     all_clear (formed_clear h.0) (stands_clear piece h.1) (free_clear h.3 temp_root h.2),
   )
-  forms_of three h = (
+  forms_of V3 h = (
     (formed h.0, stands_formed piece h.1, stands_formed temp_root h.2),
     all_clear (formed_clear h.0) (stands_clear piece h.1) (stands_clear temp_root h.2),
   )
 
   tables_of : (schema : Schema) → HasFormsOf schema s → are_others_in_the_way s ≡ false → HasTablesOf schema s
-  tables_of one h clear =
+  tables_of V1 h clear =
       let it = each_clear clear in
       (standing h.0 it.0, clear_free piece h.1 it.1.0, clear_free temp_root h.2 it.1.1, clear_counted temp_root h.2 it.1.1)
-  tables_of two h clear =
+  tables_of V2 h clear =
       let it = each_clear clear in
       (standing h.0 it.0, clear_stands piece h.1 it.1.0, clear_free temp_root h.2 it.1.1, clear_counted temp_root h.2 it.1.1)
-  tables_of three h clear =
+  tables_of V3 h clear =
       let it = each_clear clear in
       (standing h.0 it.0, clear_stands piece h.1 it.1.0, clear_stands temp_root h.2 it.1.1)
 
   -- none of our tables: nothing of ours is there, and nothing stands in the way
-  none_apart : HasNone s → (has_ours s ≡ false) × (are_others_in_the_way s ≡ false)
+  none_apart : HasNone s → (has_store_tables s ≡ false) × (are_others_in_the_way s ≡ false)
   none_apart h = (
-    none_any (is_taken s) all_tables
+    none_any (is_name_used s) all_tables
         (together Untaken (mapped (λ (t : Table). IsFree s t.name) Untaken free_untaken our_tables h.free) (free_untaken piece h.further.0) (free_untaken temp_root h.further.1.0)),
     all_clear (mapped (λ (t : Table). IsFree s t.name) IsClear (free_clear h.counted) our_tables h.free) (free_clear h.counted piece h.further.0) (free_clear h.counted temp_root h.further.1.0),
   )
 
-  none_of_ours : has_ours s ≡ false → are_others_in_the_way s ≡ false → HasNone s
+  none_of_ours : has_store_tables s ≡ false → are_others_in_the_way s ≡ false → HasNone s
   none_of_ours ours clear =
       let it = each_clear clear in
-      let untaken = apart Untaken (any_none (is_taken s) all_tables ours) in
+      let untaken = apart Untaken (any_none (is_name_used s) all_tables ours) in
       record {
         free = zipped Untaken IsClear (λ (t : Table). IsFree s t.name) clear_free our_tables untaken.0 it.0;
         further = (clear_free piece untaken.1.0 it.1.0, (clear_free temp_root untaken.1.1 it.1.1, tt));
@@ -187,26 +188,26 @@ module _ (s : Shown) where
 
 -- ---- a store
 
-there_by : (schema : Schema) (dir : List ℕ) (db : Database) → HoldsBy schema dir db → IsThereBy schema dir db
+there_by : (schema : Schema) (dir : List ℕ) (db : Database) → HoldsBy schema dir db → IsPresentBy schema dir db
 there_by schema dir db h = record { forms = (forms_of db.schema schema h.tables).0; readable = h.readable; sound = h.sound }
 
-holds_by : (schema : Schema) (dir : List ℕ) (db : Database) → IsThereBy schema dir db → are_others_in_the_way db.schema ≡ false → HoldsBy schema dir db
+holds_by : (schema : Schema) (dir : List ℕ) (db : Database) → IsPresentBy schema dir db → are_others_in_the_way db.schema ≡ false → HoldsBy schema dir db
 holds_by schema dir db h clear = record { tables = tables_of db.schema schema h.forms clear; readable = h.readable; sound = h.sound }
 
 -- where there is no store, nor nothing, this is why
-pub no_store_cause : (dir : List ℕ) (db : Database) → IsNoStore db → IsCause dir db BadSchema
+pub no_store_cause : (dir : List ℕ) (db : Database) → IsNoStore db → IsRefusal dir db BadSchema
 no_store_cause dir db h = by (are_others_in_the_way db.schema) refl
   where
-    ours : (b : Bool) → has_ours db.schema ≡ b → are_others_in_the_way db.schema ≡ false → IsTrue (has_ours db.schema)
+    ours : (b : Bool) → has_store_tables db.schema ≡ b → are_others_in_the_way db.schema ≡ false → IsTrue (has_store_tables db.schema)
     ours true is clear = is
     ours false is clear = absurd (h.0 (none_of_ours db.schema is clear))
 
-    by : (b : Bool) → are_others_in_the_way db.schema ≡ b → IsCause dir db BadSchema
+    by : (b : Bool) → are_others_in_the_way db.schema ≡ b → IsRefusal dir db BadSchema
     by true is = inr is
-    by false is = inl (ours (has_ours db.schema) refl is, λ d there. h.1 d (there.0, holds_by there.0 d db there.1 is))
+    by false is = inl (ours (has_store_tables db.schema) refl is, λ d there. h.1 d (there.0, holds_by there.0 d db there.1 is))
 
 -- and where this is why there is none
-pub cause_no_store : (dir : List ℕ) (db : Database) → IsCause dir db BadSchema → IsNoStore db
+pub cause_no_store : (dir : List ℕ) (db : Database) → IsRefusal dir db BadSchema → IsNoStore db
 cause_no_store dir db (inl h) = (λ none. false≢true (sym (none_apart db.schema none).0 ∙ h.0), λ d holds. h.1 d (holds.0, there_by holds.0 d db holds.1))
 cause_no_store dir db (inr h) = (λ none. false≢true (sym (none_apart db.schema none).1 ∙ h), λ d holds. false≢true (sym (forms_of db.schema holds.0 holds.1.tables).1 ∙ h))
 

@@ -16,7 +16,7 @@ use Rattle.model.specs.World.{Path, Object, World}
 use Rattle.model.specs.Sound.{IsSound}
 use Rattle.tables_world.specs.Pieces.{piece_size, joined, IsCut, row_part, further_pieces}
 use Rattle.tables_world.specs.Rows.{references_in, outputs_in, pieces_in, archive_in, object_in, address_in}
-use Rattle.tables_world.specs.Told.{IsSoundContents, rows_of, world_in}
+use Rattle.tables_world.specs.Worlds.{IsSoundContents, rows_of, world_in}
 use Rattle.tables_outline.specs.Outline.{outlined, outline_of}
 use Rattle.tables.specs.Rewritten.{put_object}
 use Rattle.tables_outline.proofs.Orders.{bytes_total, bytes_antisymmetric}
@@ -68,13 +68,13 @@ module _ (dir : List ℕ) (p : Path) (nar : List ℕ) (o : Stored) (rs : List Pa
   abbrev after : Contents
   after = put_object p o rs es (further_pieces nar) c
 
-  no_reference : (r : Path) → finite.get c.refs (p, r) ≡ None
+  pub no_reference : (r : Path) → finite.get c.refs (p, r) ≡ None
   no_reference r = none_of (finite.get c.refs (p, r)) (λ there. false≢true (ap is_some (sym new.object) ∙ rows.references p r there))
 
   pub no_output : (n : Path) → finite.get c.outs (p, n) ≡ None
   no_output n = none_of (finite.get c.outs (p, n)) (λ there. false≢true (ap is_some (sym new.object) ∙ rows.outputs p n there))
 
-  no_piece : (n : ℤ) → finite.get c.pieces (p, n) ≡ None
+  pub no_piece : (n : ℤ) → finite.get c.pieces (p, n) ≡ None
   no_piece n = none_of (finite.get c.pieces (p, n)) (λ there. false≢true (ap is_some (sym new.object) ∙ rows.pieces p n there))
 
   -- a piece of a path, after it

@@ -1,4 +1,4 @@
--- Sound settings, objects and roots are sound rows, and what they put into an index is the outline of their world.
+-- Sound settings, objects and roots are sound rows, and what they put into an outline is the outline of their world.
 use Rattle.std.proofs.Common.{◌≡◌, ℕ, List, Some, None, Option, option_map, is_some, map, refl, sym, ap, subst, ◌∙◌, IsTrue, codes}
 use Rattle.std.specs.Prelude.{◌↔◌, MatchOption, Bool, false, IsFalse}
 use Rattle.std.specs.FinMap as finite
@@ -8,17 +8,19 @@ use Rattle.paths.specs.Names.{is_store_dir}
 use Rattle.paths.specs.Root.{bytes_cmp}
 use Rattle.tables_sql.specs.Contents.{Contents, Stored}
 use Rattle.model.specs.World.{Path, Object, no_world}
-use Rattle.tables_world.specs.Rows.{Schema, schema_text, has_pieces, has_temporary, settings, object_in}
+use Rattle.tables_world.specs.Rows.{settings, object_in}
+use Rattle.tables_schema.specs.declared.schema.Schema.{Schema}
+use Rattle.tables_schema.specs.Schemas.{schema_text, has_pieces, has_temporary}
 use Rattle.tables_world.specs.Parts.{AreSoundParts}
-use Rattle.tables_world.specs.Told.{rows_of, world_in, IsSoundBy}
+use Rattle.tables_world.specs.Worlds.{rows_of, world_in, IsSoundBy}
 use Rattle.tables_world.proofs.Columns.{object_at}
 use Rattle.model.proofs.Empty.{no_entries}
 use Rattle.tables_world.proofs.SoundParts.{sound_by_parts}
-use Rattle.tables_outline.specs.Outline.{Outline, outlined, outline_of}
+use Rattle.tables_outline.specs.Outline.{OutlineValue, outlined, outline_of}
 use Rattle.tables_outline.proofs.Orders.{bytes_total, bytes_antisymmetric}
 use Rattle.tables_outline.proofs.Told.{has-told}
-use Rattle.tables_objects.specs.Taken.{AreSoundInPieces}
-use Rattle.tables_roots.specs.Taken.{Objects, AreAllSound, AreObjects, with_roots}
+use Rattle.tables_objects.specs.Loaded.{AreSoundInPieces}
+use Rattle.tables_roots.specs.Loaded.{Objects, AreAllSound, AreObjects, with_roots}
 
 module _ (schema : Schema) (dir : List ℕ) (c : Contents) where
   parts : IsTrue (is_store_dir dir) → c.meta ≡ settings schema dir → (IsFalse (has_pieces schema) → c.pieces ≡ finite.empty) → (IsFalse (has_temporary schema) → c.temp_roots ≡ finite.empty)
@@ -65,13 +67,13 @@ module _ (schema : Schema) (dir : List ℕ) (c : Contents) where
         (sound.objects.objects p o.0 o.1).path;
   }
 
--- a new index has no objects
+-- a new outline has no objects
 pub none_yet : (outline_of no_world).objects ≡ finite.empty
 none_yet = ap (λ (es : List (Path × Object)). finite.from_entries {R = bytes_cmp} (map (λ e. (e.0, outlined e.1)) es)) (no_entries Object bytes_cmp)
 
--- an index with all objects and all roots of the rows
-pub whole_outline : (c : Contents) (o : Outline) → o ≡ record (outline_of no_world) { objects = (outline_of (world_in c)).objects } → with_roots o c ≡ outline_of (world_in c)
-whole_outline c o is = ap (λ (x : Outline). with_roots x c) is
+-- an outline with all objects and all roots of the rows
+pub whole_outline : (c : Contents) (o : OutlineValue) → o ≡ record (outline_of no_world) { objects = (outline_of (world_in c)).objects } → with_roots o c ≡ outline_of (world_in c)
+whole_outline c o is = ap (λ (x : OutlineValue). with_roots x c) is
 
 -- ---- what each test says of all rows
 

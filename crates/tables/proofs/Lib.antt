@@ -3,11 +3,12 @@ pub mod AddedObjects
 pub mod Agreed
 pub mod Begun
 pub mod Brought
+pub mod Causes
 pub mod Chosen
 pub mod Covered
 pub mod Cuts
 pub mod Failing
-pub mod Found
+pub mod FoundTables
 pub mod Free
 pub mod InTheWay
 pub mod Inserted
@@ -24,6 +25,7 @@ pub mod ProfileRows
 pub mod ProfileWrites
 pub mod PutPairs
 pub mod PutRoots
+pub mod Reasons
 pub mod ReadArchives
 pub mod Removed
 pub mod RemovedObjects

@@ -1,10 +1,8 @@
 -- What is left of lists, from some place on.
 use Rattle.std.proofs.Common.{◌≡◌, ℕ, zero, suc, ◌+◌, ◌<◌, List, [], ◌∷◌, map, length, get_or, drop, drop-cons, arith, refl, sym, ap, ap₂, ◌∙◌}
-use Rattle.std.proofs.Common.{true, T, IsTrue, Bool, false, String, Global, string_bytes}
+use Rattle.std.proofs.Common.{String, Global, string_bytes}
 use Rattle.std.specs.List.{zip}
-use Rattle.std.specs.declared.cmp.Ordering.{Ordering}
 use Rattle.std.specs.FinMap as finite
-use Rattle.std.specs.FinMap.Entries.{is_sorted}
 use Rattle.tables_outline.proofs.Ordered.{mapped_length}
 use Rattle.paths.specs.Root.{bytes_cmp}
 use Rattle.model.specs.World.{Path}
@@ -45,13 +43,6 @@ no_pairs_left f (x ∷ xs) (y ∷ ys) h = let h' : length ys ≡ length xs = ome
 pub zipped : {K X : Type 0} (es : List (K × X)) → zip (map (λ e. e.0) es) (map (λ e. e.1) es) ≡ es
 zipped [] = refl
 zipped (e ∷ es) = ap (λ l. e ∷ l) (zipped es)
-
-is_true : (b : Bool) → T b → IsTrue b
-is_true true h = refl
-is_true false h = absurd h
-
-pub sorted_is : {K X : Type 0} {R : K → K → Ordering} (m : finite.FinMap R X) → IsTrue (is_sorted R (finite.entries m))
-sorted_is m = is_true _ (finite.entries_sorted m)
 
 -- as many values as names
 pub keys_count : (m : finite.FinMap bytes_cmp Path) (names : List (String Global)) (paths : List Path) → map string_bytes names ≡ finite.keys m → paths ≡ finite.values m → length paths ≡ length names

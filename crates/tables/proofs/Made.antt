@@ -10,12 +10,12 @@ use Rattle.tables_schema.specs.Finding.{HasNone, IsFree}
 use Rattle.tables_make.specs.Making.{IsMade, first_contents}
 use Rattle.paths.specs.Names.{is_store_dir}
 use Rattle.model.specs.World.{no_world}
-use Rattle.tables_world.specs.Rows.{three}
+use Rattle.tables_schema.specs.declared.schema.Schema.TheVariants.{V3}
 use Rattle.tables_world.proofs.NewRows.{tells_nothing, new_rows_sound}
 use Rattle.tables_world.proofs.NewWorld.{new_world_sound}
-use Rattle.tables_world.specs.Told.{IsSoundContents, world_in}
-use Rattle.tables.specs.Kept.{Agrees, Tells}
-use Rattle.tables_outline.specs.Outline.{Outline, outline_of}
+use Rattle.tables_world.specs.Worlds.{IsSoundContents, world_in}
+use Rattle.tables.specs.Kept.{Agrees, HasWorld}
+use Rattle.tables_outline.specs.Outline.{OutlineValue, outline_of}
 
 abbrev no_schema : Schema
 no_schema = record { tables = []; indexes = []; views = [] }
@@ -32,12 +32,12 @@ empty_has_none s is = subst HasNone (sym is) (record {
 })
 
 sound_first : (dir : List ℕ) → IsTrue (is_store_dir dir) → IsSoundContents dir (first_contents dir)
-sound_first dir h = new_rows_sound three dir h
+sound_first dir h = new_rows_sound V3 dir h
 
 tells_first : (dir : List ℕ) → world_in (first_contents dir) ≡ no_world
-tells_first dir = tells_nothing three dir
+tells_first dir = tells_nothing V3 dir
 
-module _ {S : Type 0} (g : Ghosts S) (conn : Held S) (old : State) (dir : List ℕ) (outline : Outline) (valid : IsTrue (is_store_dir dir)) (is : outline ≡ outline_of no_world)
+module _ {S : Type 0} (g : Ghosts S) (conn : Held S) (old : State) (dir : List ℕ) (outline : OutlineValue) (valid : IsTrue (is_store_dir dir)) (is : outline ≡ outline_of no_world)
     (made : HasCleanDisk (state g conn) → IsMade dir old (state g conn))
   where
     pub made_agrees : conn.in_transaction ≡ false → Agrees g (record { connection = conn; dir = dir; outline = outline })
@@ -53,7 +53,7 @@ module _ {S : Type 0} (g : Ghosts S) (conn : Held S) (old : State) (dir : List �
           };
     }
 
-    pub made_tells : Tells g (record { connection = conn; dir = dir; outline = outline }) no_world
+    pub made_tells : HasWorld g (record { connection = conn; dir = dir; outline = outline }) no_world
     made_tells = record {
       outline = sym is;
       rows = λ clean _. ap world_in (made clean).contents ∙ tells_first dir;

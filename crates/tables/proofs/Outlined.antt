@@ -10,7 +10,7 @@ use Rattle.std.proofs.lemmas.Option.{same_Some}
 use Rattle.paths.specs.Root.{bytes_cmp, Set, set_of}
 use Rattle.live.proofs.Order.{contains_key-set_of, same_set}
 use Rattle.model.specs.World.{Path, Object, World, roots_of}
-use Rattle.tables_outline.specs.Outline.{Outline, Outlined, outlined, outline_of, rise}
+use Rattle.tables_outline.specs.Outline.{OutlineValue, Outlined, outlined, outline_of, rise}
 use Rattle.tables_outline.proofs.Orders.{bytes_total, bytes_antisymmetric}
 use Rattle.tables_outline.proofs.Told.{get-told}
 use Rattle.tables_outline.proofs.Ordered.{both_T, from_both, listed_as}
@@ -47,13 +47,13 @@ pub entries_outlined : (w : World) → finite.entries (outline_of w).objects ≡
 entries_outlined w = listed_as bytes_total bytes_antisymmetric _ (sorted_mapped bytes_cmp outlined (finite.entries w.objects) (finite.entries_sorted w.objects))
 
 -- the same roots
-pub roots_outlined : (w : World) (o : Outline) → outline_of w ≡ o → roots_of (rooted o) ≡ roots_of w
-roots_outlined w o is = ap (λ (x : Outline). roots_of (rooted x)) (sym is)
+pub roots_outlined : (w : World) (o : OutlineValue) → outline_of w ≡ o → roots_of (rooted o) ≡ roots_of w
+roots_outlined w o is = ap (λ (x : OutlineValue). roots_of (rooted x)) (sym is)
 
 -- an object that has this archive and this outline, or none of either
-pub object_found : (w : World) (o : Outline) (p : Path) (found : Option Found) → outline_of w ≡ o → option_map (λ (x : Found). x.summary) found ≡ finite.get o.objects p
+pub object_found : (w : World) (o : OutlineValue) (p : Path) (found : Option Found) → outline_of w ≡ o → option_map (λ (x : Found). x.summary) found ≡ finite.get o.objects p
     → option_map (λ (x : Found). x.nar) found ≡ option_map (λ (x : Object). x.nar) (finite.get w.objects p) → option_map object_view found ≡ finite.get w.objects p
-object_found w o p found is summary nar = by found (finite.get w.objects p) (summary ∙ ap (λ (x : Outline). finite.get x.objects p) (sym is) ∙ get-told bytes_total bytes_antisymmetric (λ _ x. outlined x) w.objects p) nar
+object_found w o p found is summary nar = by found (finite.get w.objects p) (summary ∙ ap (λ (x : OutlineValue). finite.get x.objects p) (sym is) ∙ get-told bytes_total bytes_antisymmetric (λ _ x. outlined x) w.objects p) nar
   where
     by : (found : Option Found) (there : Option Object) → option_map (λ (x : Found). x.summary) found ≡ option_map outlined there → option_map (λ (x : Found). x.nar) found ≡ option_map (λ (x : Object). x.nar) there → option_map object_view found ≡ there
     by None None s n = refl
@@ -64,8 +64,8 @@ object_found w o p found is summary nar = by found (finite.get w.objects p) (sum
         ap Some (λ i. record { nar = same_Some f.nar x.nar n i; references = (same i).references; deriver = (same i).deriver; ca = (same i).ca; outputs = (same i).outputs })
 
 -- no object, where the outline has none
-pub none_found : (w : World) (o : Outline) (p : Path) → outline_of w ≡ o → None ≡ finite.get o.objects p → None ≡ finite.get w.objects p
-none_found w o p is none = by (finite.get w.objects p) (none ∙ ap (λ (x : Outline). finite.get x.objects p) (sym is) ∙ get-told bytes_total bytes_antisymmetric (λ _ x. outlined x) w.objects p)
+pub none_found : (w : World) (o : OutlineValue) (p : Path) → outline_of w ≡ o → None ≡ finite.get o.objects p → None ≡ finite.get w.objects p
+none_found w o p is none = by (finite.get w.objects p) (none ∙ ap (λ (x : OutlineValue). finite.get x.objects p) (sym is) ∙ get-told bytes_total bytes_antisymmetric (λ _ x. outlined x) w.objects p)
   where
     by : (there : Option Object) → None ≡ option_map outlined there → None ≡ there
     by None h = refl

@@ -8,7 +8,8 @@ use Rattle.sqlite.proofs.StateLemmas.{survives_then, survives_weaker}
 use Rattle.tables_sql.specs.Calls.{KeepsShown}
 use Rattle.tables_sql.proofs.Steps.{shown_then}
 use Rattle.tables.specs.declared.refusing.Cause.{Cause}
-use Rattle.tables.specs.Taken.{LeavesTaken, IsCause}
+use Rattle.tables.specs.Opening.{LeavesOpening, IsCause}
+use Rattle.tables.proofs.Causes.{cause_before}
 
 before : (a b : State) (P : Trees → Type 0) → Survives a b P → HasCleanDisk b → HasCleanDisk a
 before a b P h clean = omega (arith, h.clean, clean)
@@ -31,40 +32,40 @@ module _ {T E : Type 0} (f : T → State) (h : E → State) where
   among (Err e) P Q more took = tt
 
   module _ (r : Result T E) (a b : State) (dir : List ℕ) (same : HasCleanDisk b → IsUnchanged a b) (first : Survives a b (λ _. ⊥))
-      (next : MatchResult r (λ t. Survives b (f t) (LeavesTaken dir b.now)) (λ e. Survives b (h e) (LeavesTaken dir b.now)))
+      (next : MatchResult r (λ t. Survives b (f t) (LeavesOpening dir b.now)) (λ e. Survives b (h e) (LeavesOpening dir b.now)))
     where
-      one : (c : State) → Survives b c (LeavesTaken dir b.now) → Survives a c (LeavesTaken dir a.now)
-      one c s = survives_then a b c (λ _. ⊥) (LeavesTaken dir b.now) (LeavesTaken dir a.now) (λ clean db none. absurd none)
-          (λ clean db left. subst (λ (x : Database). LeavesTaken dir x db) (same (before b c (LeavesTaken dir b.now) s clean)).0.now_is left) first s
+      one : (c : State) → Survives b c (LeavesOpening dir b.now) → Survives a c (LeavesOpening dir a.now)
+      one c s = survives_then a b c (λ _. ⊥) (LeavesOpening dir b.now) (LeavesOpening dir a.now) (λ clean db none. absurd none)
+          (λ clean db left. subst (λ (x : Database). LeavesOpening dir x db) (same (before b c (LeavesOpening dir b.now) s clean)).0.now_is left) first s
 
-      pub both_survive : MatchResult r (λ t. Survives a (f t) (LeavesTaken dir a.now)) (λ e. Survives a (h e) (LeavesTaken dir a.now))
+      pub both_survive : MatchResult r (λ t. Survives a (f t) (LeavesOpening dir a.now)) (λ e. Survives a (h e) (LeavesOpening dir a.now))
       both_survive = by r next
         where
-          by : (q : Result T E) → MatchResult q (λ t. Survives b (f t) (LeavesTaken dir b.now)) (λ e. Survives b (h e) (LeavesTaken dir b.now))
-              → MatchResult q (λ t. Survives a (f t) (LeavesTaken dir a.now)) (λ e. Survives a (h e) (LeavesTaken dir a.now))
+          by : (q : Result T E) → MatchResult q (λ t. Survives b (f t) (LeavesOpening dir b.now)) (λ e. Survives b (h e) (LeavesOpening dir b.now))
+              → MatchResult q (λ t. Survives a (f t) (LeavesOpening dir a.now)) (λ e. Survives a (h e) (LeavesOpening dir a.now))
           by (Ok t) s = one (f t) s
           by (Err e) s = one (h e) s
 
       pub both_same : (HasCleanDisk b → KeepsShown a b) → IfErr r (λ e. HasCleanDisk (h e) → KeepsShown b (h e)) → IfErr r (λ e. HasCleanDisk (h e) → KeepsShown a (h e))
       both_same kept = by r next
         where
-          by : (q : Result T E) → MatchResult q (λ t. Survives b (f t) (LeavesTaken dir b.now)) (λ e. Survives b (h e) (LeavesTaken dir b.now))
+          by : (q : Result T E) → MatchResult q (λ t. Survives b (f t) (LeavesOpening dir b.now)) (λ e. Survives b (h e) (LeavesOpening dir b.now))
               → IfErr q (λ e. HasCleanDisk (h e) → KeepsShown b (h e)) → IfErr q (λ e. HasCleanDisk (h e) → KeepsShown a (h e))
           by (Ok t) s later = tt
-          by (Err e) s later = λ clean. shown_then a b (h e) (kept (before b (h e) (LeavesTaken dir b.now) s clean)) (later clean)
+          by (Err e) s later = λ clean. shown_then a b (h e) (kept (before b (h e) (LeavesOpening dir b.now) s clean)) (later clean)
 
-      pub same_cause : (k : E → Cause) → IfErr r (λ e. HasCleanDisk (h e) → IsCause dir b.now (k e)) → IfErr r (λ e. HasCleanDisk (h e) → IsCause dir a.now (k e))
+      pub same_cause : (k : E → Cause) → IfErr r (λ e. HasCleanDisk (h e) → IsCause dir b (h e) (k e)) → IfErr r (λ e. HasCleanDisk (h e) → IsCause dir a (h e) (k e))
       same_cause k = by r next
         where
-          by : (q : Result T E) → MatchResult q (λ t. Survives b (f t) (LeavesTaken dir b.now)) (λ e. Survives b (h e) (LeavesTaken dir b.now))
-              → IfErr q (λ e. HasCleanDisk (h e) → IsCause dir b.now (k e)) → IfErr q (λ e. HasCleanDisk (h e) → IsCause dir a.now (k e))
+          by : (q : Result T E) → MatchResult q (λ t. Survives b (f t) (LeavesOpening dir b.now)) (λ e. Survives b (h e) (LeavesOpening dir b.now))
+              → IfErr q (λ e. HasCleanDisk (h e) → IsCause dir b (h e) (k e)) → IfErr q (λ e. HasCleanDisk (h e) → IsCause dir a (h e) (k e))
           by (Ok t) s later = tt
-          by (Err e) s later = λ clean. subst (λ (x : Database). IsCause dir x (k e)) (same (before b (h e) (LeavesTaken dir b.now) s clean)).0.now_is (later clean)
+          by (Err e) s later = λ clean. cause_before a b (h e) (same (before b (h e) (LeavesOpening dir b.now) s clean)) first dir (k e) (later clean)
 
       pub same_took : (P : Database → T → Type 0) → IfOk r (λ t. HasCleanDisk (f t) → P b.now t) → IfOk r (λ t. HasCleanDisk (f t) → P a.now t)
       same_took P = by r next
         where
-          by : (q : Result T E) → MatchResult q (λ t. Survives b (f t) (LeavesTaken dir b.now)) (λ e. Survives b (h e) (LeavesTaken dir b.now))
+          by : (q : Result T E) → MatchResult q (λ t. Survives b (f t) (LeavesOpening dir b.now)) (λ e. Survives b (h e) (LeavesOpening dir b.now))
               → IfOk q (λ t. HasCleanDisk (f t) → P b.now t) → IfOk q (λ t. HasCleanDisk (f t) → P a.now t)
-          by (Ok t) s later = λ clean. subst (λ (x : Database). P x t) (same (before b (f t) (LeavesTaken dir b.now) s clean)).0.now_is (later clean)
+          by (Ok t) s later = λ clean. subst (λ (x : Database). P x t) (same (before b (f t) (LeavesOpening dir b.now) s clean)).0.now_is (later clean)
           by (Err e) s later = tt

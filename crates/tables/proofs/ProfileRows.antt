@@ -9,7 +9,7 @@ use Rattle.tables_sql.specs.Contents.{Contents, triple_cmp}
 use Rattle.model.specs.World.{Path, Pair, pair_cmp, Profile, World}
 use Rattle.model.specs.Sound.{IsSound}
 use Rattle.tables_world.specs.Rows.{generations_in, profile_in, number_in}
-use Rattle.tables_world.specs.Told.{IsSoundContents, rows_of, world_in}
+use Rattle.tables_world.specs.Worlds.{IsSoundContents, rows_of, world_in}
 use Rattle.tables_world.proofs.Columns.{generation_at, profile_at}
 use Rattle.tables_outline.proofs.Orders.{nat_antisymmetric, pair_total, pair_antisymmetric}
 use Rattle.tables_outline.proofs.Puts.{tied_is}

@@ -8,49 +8,35 @@ use Rattle.std.specs.Cmp.{eq_by_cmp_equiv, nat_cmp_total, int_cmp_total}
 use Rattle.std.specs.FinMap as finite
 use Rattle.std.proofs.lemmas.Bool.{false≢true}
 use Rattle.sqlite_trees.specs.declared.store.Store.{Ghosts}
-use Rattle.sqlite.specs.State.{HasCleanDisk, Survives}
-use Rattle.sqlite.specs.Held.{Held, state}
+use Rattle.sqlite.specs.State.{HasCleanDisk}
+use Rattle.sqlite.specs.Held.{state}
 use Rattle.tables_sql.specs.Contents.{Contents, Triple, contents_of}
 use Rattle.tables_sql.proofs.Orders.{triple_total, triple_antisymmetric}
-use Rattle.tables_sql.specs.Calls.{Leaves}
 use Rattle.paths.specs.Root.{bytes_cmp}
 use Rattle.model.specs.World.{World, Path, Pair, pair_cmp, Profile}
 use Rattle.model.specs.Profiles.{profile_or_new, profile_at, switched, without_generation}
-use Rattle.model.specs.Sound.{IsSound}
 use Rattle.tables_world.specs.Rows.{profile_in, number_in}
-use Rattle.tables_world.specs.Told.{IsSoundContents, rows_of, world_in}
+use Rattle.tables_world.specs.Worlds.{IsSoundContents, rows_of, world_in}
 use Rattle.tables_world.proofs.Columns.{generation_at}
 use Rattle.tables_world.proofs.Columns as columns
-use Rattle.tables_outline.specs.Outline.{Outline, with_profile, profile_of}
+use Rattle.tables_outline.specs.Outline.{OutlineValue, with_profile, profile_of}
 use Rattle.tables_outline.proofs.Orders.{pair_total, pair_antisymmetric}
 use Rattle.tables_outline.proofs.Puts.{tied_is, get-kept}
-use Rattle.tables.specs.Kept.{Kept, Agrees, Tells, IsWritten, LeavesWorld}
-use Rattle.tables.proofs.Kept.{Follows, agrees_done, told_done, survives_told}
+use Rattle.tables.specs.Entries.{with_profile_by}
+use Rattle.tables.specs.Frames.{StaysSound}
+use Rattle.tables.specs.Kept.{Kept, Agrees}
+use Rattle.tables.proofs.Kept.{Follows, IsWrite}
 use Rattle.tables.proofs.ProfileRows.{profile_follows}
 
 -- a profile is changed
 module _ (owned : Pair) (next : Profile → Profile) where
-  abbrev pub with_next : World → World
-  with_next w = record w { profiles = finite.insert w.profiles owned (next (profile_at w owned)) }
-
-  abbrev pub outline_next : Outline → Outline
+  abbrev pub outline_next : OutlineValue → OutlineValue
   outline_next o = with_profile o owned (next (profile_of o owned))
 
-  module _ (f : Contents → Contents) {S : Type 0} (g : Ghosts S) (k now : Kept S) (view : k ≡ now) (conn : Held S) (outline : Outline)
-      (agrees : Agrees g k) (sound : (w : World) → Tells g now w → IsSound now.dir (with_next w))
-      (follows : HasCleanDisk (state g k.connection) → IsTrue (state g k.connection).is_open → Follows k.dir f with_next (contents_of (state g k.connection).now))
-      (survives : Survives (state g k.connection) (state g conn) (λ db. IsTrue (state g k.connection).is_open × Leaves (state g k.connection).now db (f (contents_of (state g k.connection).now))))
-    where
-      pub profile_agrees : (HasCleanDisk (state g conn) → IsWritten (state g k.connection) (state g conn) f) → outline ≡ outline_next k.outline → conn.in_transaction ≡ false
-          → Agrees g (record { connection = conn; dir = k.dir; outline = outline })
-      profile_agrees written is alone = agrees_done g k now view conn outline f with_next outline_next (λ w. refl) follows agrees sound _ survives written is alone
-
-      pub profile_told : (HasCleanDisk (state g conn) → IsWritten (state g k.connection) (state g conn) f) → outline ≡ outline_next k.outline
-          → (w : World) → Tells g now w → Tells g (record { connection = conn; dir = k.dir; outline = outline }) (with_next w)
-      profile_told written is = told_done g k now view conn outline f with_next outline_next (λ w. refl) follows agrees sound _ survives written is
-
-      pub profile_survive : (w : World) → Tells g now w → Survives (state g now.connection) (state g conn) (λ db. LeavesWorld now.dir (state g now.connection).now db (with_next w))
-      profile_survive = survives_told g k now view conn outline f with_next outline_next (λ w. refl) follows agrees sound survives
+  pub profile_write : (f : Contents → Contents) {S : Type 0} (g : Ghosts S) (k now : Kept S) → k ≡ now → Agrees g k → StaysSound g now (with_profile_by owned next)
+      → (HasCleanDisk (state g k.connection) → IsTrue (state g k.connection).is_open → Follows k.dir f (with_profile_by owned next) (contents_of (state g k.connection).now))
+      → IsWrite g k now f (with_profile_by owned next) outline_next
+  profile_write f g k now view agrees sound follows = record { view = view; law = λ w. refl; follows = follows; agrees = agrees; sound = sound }
 
 -- ---- the rows of the profile
 
@@ -95,13 +81,13 @@ module _ (dir : List ℕ) (c : Contents) (rows : IsSoundContents dir c) (owned :
       by false t = refl
 
   -- a number becomes current
-  pub switch_follows : (n : ℕ) → Follows dir (λ x. record x { profiles = finite.insert x.profiles owned (pos n) }) (with_next owned (λ p. switched p n)) c
+  pub switch_follows : (n : ℕ) → Follows dir (λ x. record x { profiles = finite.insert x.profiles owned (pos n) }) (with_profile_by owned (λ p. switched p n)) c
   switch_follows n =
       let it = profile_follows dir c rows (finite.insert c.profiles owned (pos n)) c.generations owned (switched here n) (record {
         profile = finite.get-insert pair_total c.profiles owned (pos n);
         generation = of_either;
         numbers = rows.numbers;
-      }) (with_next owned (λ p. switched p n)) refl in
+      }) (with_profile_by owned (λ p. switched p n)) refl in
       record { world = it.world; sound = it.sound }
 
   -- ---- a generation goes
@@ -130,14 +116,14 @@ module _ (dir : List ℕ) (c : Contents) (rows : IsSoundContents dir c) (owned :
   still false g h = absurd (false≢true h)
 
   pub drop_follows : (n : ℕ) → IsTrue (finite.contains_key (world_in c).profiles owned)
-      → Follows dir (λ x. record x { generations = finite.retain_keys x.generations (λ k. not (eq_by_cmp bytes_cmp k.0 owned.0 && (eq_by_cmp bytes_cmp k.1 owned.1 && eq_by_cmp int_cmp k.2 (pos n)))) }) (with_next owned (λ p. without_generation p n)) c
+      → Follows dir (λ x. record x { generations = finite.retain_keys x.generations (λ k. not (eq_by_cmp bytes_cmp k.0 owned.0 && (eq_by_cmp bytes_cmp k.1 owned.1 && eq_by_cmp int_cmp k.2 (pos n)))) }) (with_profile_by owned (λ p. without_generation p n)) c
   drop_follows n there =
       let it = profile_follows dir c rows c.profiles (finite.retain_keys c.generations (λ k. not (gone n k))) owned (without_generation here n) (record {
         profile = λ q. same_row q (eq_by_cmp pair_cmp q owned) refl;
         generation = λ q m. left_of n (q.0, q.1, pos m)
             ∙ each q m (eq_by_cmp pair_cmp q owned) refl;
         numbers = λ owner name z h. rows.numbers owner name z (still (not (gone n (owner, name, z))) (finite.get c.generations (owner, name, z)) (ap is_some (sym (left_of n (owner, name, z))) ∙ h));
-      }) (with_next owned (λ p. without_generation p n)) refl in
+      }) (with_profile_by owned (λ p. without_generation p n)) refl in
       record { world = it.world; sound = it.sound }
     where
       same_row : (q : Pair) (b : Bool) → eq_by_cmp pair_cmp q owned ≡ b → finite.get c.profiles q ≡ cond b (Some (pos here.current)) (finite.get c.profiles q)

@@ -20,15 +20,15 @@ use Rattle.tables_sql.specs.declared.pieces.Piece.{Piece}
 use Rattle.model.specs.World.{Path, Object, World}
 use Rattle.tables_world.specs.Pieces.{joined, IsCut}
 use Rattle.tables_world.specs.Rows.{pieces_in, archive_in, object_in}
-use Rattle.tables_world.specs.Told.{rows_of, world_in}
+use Rattle.tables_world.specs.Worlds.{rows_of, world_in}
 use Rattle.tables_outline.proofs.Orders.{bytes_total, bytes_antisymmetric}
 use Rattle.tables_outline.proofs.Ordered.{both_T, from_both, listed_as}
 use Rattle.tables_outline.proofs.Puts.{tied_is}
 use Rattle.tables_outline.proofs.Told.{get-told}
-use Rattle.tables_outline.specs.Outline.{Outline, Outlined, outlined}
+use Rattle.tables_outline.specs.Outline.{OutlineValue, Outlined, outlined}
 use Rattle.tables.proofs.AddedObjects.{none_told}
 use Rattle.tables.proofs.Cuts.{size_is}
-use Rattle.tables.specs.Kept.{Kept, Agrees, Tells}
+use Rattle.tables.specs.Kept.{Kept, Agrees, HasWorld}
 
 -- ---- the pieces of a path, as a read lists them
 
@@ -132,9 +132,9 @@ in_world c path = ap (option_map nar_of) (get-told bytes_total bytes_antisymmetr
 
 pub archive_told : {S : Type 0} (g : Ghosts S) (k now : Kept S) → k ≡ now → (base path : Path) (nar : Option (List ℕ)) → base ≡ path
     → HasCleanDisk (state g k.connection) → IsTrue (state g k.connection).is_open → nar ≡ option_map (archive_in (rows_of (contents_of (state g k.connection).now)) base) (finite.get (contents_of (state g k.connection).now).objects base)
-    → (w : World) → Tells g now w → nar ≡ option_map nar_of (finite.get w.objects path)
+    → (w : World) → HasWorld g now w → nar ≡ option_map nar_of (finite.get w.objects path)
 archive_told g k now view base path nar same clean is_open is w t =
-    let told = subst (λ (n : Kept _). Tells g n w) (sym view) t in
+    let told = subst (λ (n : Kept _). HasWorld g n w) (sym view) t in
     let c = contents_of (state g k.connection).now in
     is ∙ ap (λ p. option_map (archive_in (rows_of c) p) (finite.get c.objects p)) same ∙ sym (in_world c path) ∙ ap (λ (v : World). option_map nar_of (finite.get v.objects path)) (told.rows clean is_open)
 
@@ -154,13 +154,13 @@ module _ {S : Type 0} (g : Ghosts S) (k : Kept S) (agrees : Agrees g k) (base pa
   -- it has as many bytes as the outline says
   pub archive_size : (found : Outlined) (size : ℕ) → Some found ≡ finite.get k.outline.objects path → size ≡ found.size → (o : Stored) → finite.get contents.objects base ≡ Some o → length (archive_in (rows_of contents) base o) ≡ size
   archive_size found size at is o there =
-      let told = at ∙ ap (λ (x : Outline). finite.get x.objects path) (sym (agrees.rows clean is_open).same) ∙ get-told bytes_total bytes_antisymmetric (λ _ x. outlined x) (world_in contents).objects path in
+      let told = at ∙ ap (λ (x : OutlineValue). finite.get x.objects path) (sym (agrees.rows clean is_open).same) ∙ get-told bytes_total bytes_antisymmetric (λ _ x. outlined x) (world_in contents).objects path in
       let stored = get-told bytes_total bytes_antisymmetric (object_in (rows_of contents)) contents.objects path ∙ ap (option_map (object_in (rows_of contents) path)) (ap (finite.get contents.objects) (sym same) ∙ there) in
       ap (λ p. length (archive_in (rows_of contents) p o)) same ∙ sym (is ∙ ap (λ (x : Outlined). x.size) (some_told outlined (finite.get (world_in contents).objects path) (object_in (rows_of contents) path o) found stored told))
 
 -- a path that the outline hasn't has none
-pub none_kept : {S : Type 0} (g : Ghosts S) (k now : Kept S) → k ≡ now → (path : Path) → None ≡ finite.get k.outline.objects path → (w : World) → Tells g now w → None ≡ option_map nar_of (finite.get w.objects path)
+pub none_kept : {S : Type 0} (g : Ghosts S) (k now : Kept S) → k ≡ now → (path : Path) → None ≡ finite.get k.outline.objects path → (w : World) → HasWorld g now w → None ≡ option_map nar_of (finite.get w.objects path)
 none_kept g k now view path none w t =
-    let told = subst (λ (n : Kept _). Tells g n w) (sym view) t in
+    let told = subst (λ (n : Kept _). HasWorld g n w) (sym view) t in
     let gone = get-told bytes_total bytes_antisymmetric (λ _ x. outlined x) w.objects path in
-    sym (ap (option_map nar_of) (none_told outlined (finite.get w.objects path) (sym gone ∙ ap (λ (x : Outline). finite.get x.objects path) told.outline ∙ sym none)))
+    sym (ap (option_map nar_of) (none_told outlined (finite.get w.objects path) (sym gone ∙ ap (λ (x : OutlineValue). finite.get x.objects path) told.outline ∙ sym none)))

@@ -14,9 +14,9 @@ use Rattle.model.specs.World.{Path, Object, World}
 use Rattle.model.specs.Sound.{IsSound}
 use Rattle.tables_world.specs.Pieces.{joined, IsCut}
 use Rattle.tables_world.specs.Rows.{references_in, outputs_in, pieces_in, archive_in, object_in, address_in}
-use Rattle.tables_world.specs.Told.{IsSoundContents, rows_of, world_in}
+use Rattle.tables_world.specs.Worlds.{IsSoundContents, rows_of, world_in}
 use Rattle.tables_world.proofs.Told.{get-reference, get-output, get-piece}
-use Rattle.tables_outline.specs.Outline.{Outline, outlined, outline_of}
+use Rattle.tables_outline.specs.Outline.{OutlineValue, outlined, outline_of}
 use Rattle.tables_outline.proofs.Orders.{bytes_total, bytes_antisymmetric, pair_total, pair_antisymmetric}
 use Rattle.tables_outline.proofs.Puts.{get-kept, retained}
 use Rattle.tables_outline.proofs.Told.{get-told}
@@ -64,13 +64,13 @@ without_next p ps c = λ i. record c {
 
 -- ---- of an outline
 
-abbrev pub outline_without : List Path → Outline → Outline
+abbrev pub outline_without : List Path → OutlineValue → OutlineValue
 outline_without ps o = record o { objects = finite.retain_keys o.objects (λ p. not (holds ps p)) }
 
-pub outline_none : (o : Outline) → outline_without [] o ≡ o
+pub outline_none : (o : OutlineValue) → outline_without [] o ≡ o
 outline_none o = ap (λ m. record o { objects = m }) (none_gone bytes_total bytes_antisymmetric (λ (k : Path). k) o.objects)
 
-pub outline_next : (p : Path) (ps : List Path) (o : Outline) → outline_without ps (record o { objects = finite.remove o.objects p }) ≡ outline_without (p ∷ ps) o
+pub outline_next : (p : Path) (ps : List Path) (o : OutlineValue) → outline_without ps (record o { objects = finite.remove o.objects p }) ≡ outline_without (p ∷ ps) o
 outline_next p ps o = ap (λ m. record o { objects = m })
     (ap (λ m. finite.retain_keys m (λ q. not (holds ps q))) (sym (retained bytes_total bytes_antisymmetric o.objects p)) ∙ one_more bytes_total bytes_antisymmetric (λ (k : Path). k) o.objects p ps)
 

@@ -14,12 +14,12 @@ use Rattle.tables_sql.proofs.Orders.{kept_total, kept_antisymmetric}
 use Rattle.model.specs.World.{Path, Temporary, temporary_cmp, World}
 use Rattle.model.specs.Sound.{IsSound}
 use Rattle.tables_world.specs.Rows.{number_in, temporary_in}
-use Rattle.tables_world.specs.Told.{IsSoundContents, rows_of, world_in}
+use Rattle.tables_world.specs.Worlds.{IsSoundContents, rows_of, world_in}
 use Rattle.tables_world.proofs.Columns.{temporary_at}
 use Rattle.tables_outline.proofs.Orders.{temporary_total, temporary_antisymmetric}
 use Rattle.tables_outline.proofs.Puts.{get-kept, tied_is}
-use Rattle.tables_outline.specs.Sessions.{is_of_session, without_session}
-use Rattle.tables.specs.Sessions.{keeps}
+use Rattle.tables_outline.specs.Temporary.{is_of_session, without_session}
+use Rattle.tables.specs.Temporary.{keeps}
 use Rattle.tables.proofs.Kept.{Follows}
 
 -- ---- two keys are the same in one order where they are in another

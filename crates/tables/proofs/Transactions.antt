@@ -9,8 +9,8 @@ use Rattle.sqlite.specs.Held.{Held, state}
 use Rattle.tables_sql.specs.Contents.{Contents, contents_of}
 use Rattle.tables_schema.specs.Forms.{piece, temp_root}
 use Rattle.tables_sql.specs.Frozen.{SparesUnshown}
-use Rattle.tables_sql.specs.Calls.{HasFurther, IsReady, IsUnderWay, IsWhole, IsCommitted, KeepsTheirs, Changes, Leaves}
-use Rattle.tables_sql.proofs.Frozen.{frozen_of}
+use Rattle.tables_sql.specs.Calls.{HasFurther, IsReady, IsUnderWay, IsWhole, IsCommitted, KeepsTheirs, Changes}
+use Rattle.tables_sql.proofs.Frozen.{frozen_of, listed_of}
 use Rattle.tables_sql.proofs.Steps.{changes_by, changes_none}
 use Rattle.tables_sql.proofs.Under.{piece_after, temp_root_after}
 use Rattle.tables.specs.Kept.{IsWritten}
@@ -41,13 +41,6 @@ changes_at a b f h same is = record {
 pub changes_nothing : (s : State) (f : Contents → Contents) → IsUnderWay s → IsTrue s.is_open → f (contents_of s.now) ≡ contents_of s.now → Changes s s f
 changes_nothing s f under is_open same = changes_at s s (λ c. c) f (sym same) (changes_none s under is_open)
 
--- the same of a whole write
-pub survives_as : {a b : State} (f h : Contents → Contents) → f ≡ h → Survives a b (λ db. IsTrue a.is_open × Leaves a.now db (f (contents_of a.now))) → Survives a b (λ db. IsTrue a.is_open × Leaves a.now db (h (contents_of a.now)))
-survives_as {a} {b} f h same = subst (λ (k : Contents → Contents). Survives a b (λ db. IsTrue a.is_open × Leaves a.now db (k (contents_of a.now)))) same
-
-pub written_as : {a b : State} (f h : Contents → Contents) → f ≡ h → (HasCleanDisk b → IsWritten a b f) → HasCleanDisk b → IsWritten a b h
-written_as {a} {b} f h same = subst (λ (k : Contents → Contents). HasCleanDisk b → IsWritten a b k) same
-
 -- the tables of pieces and of temporary roots still stand after a write
 pub pieces_stand : (a b : State) (f : Contents → Contents) → (HasCleanDisk b → Changes a b f) → Survives a b (λ _. ⊥) → (HasCleanDisk a → IsTrue a.is_open → HasFurther a.now piece) → HasCleanDisk b → HasFurther b.now piece
 pieces_stand a b f done survives there clean =
@@ -75,6 +68,7 @@ written {S} g conn start b c f P is done before after there clean k =
     record {
       was_open = h.was_open;
       is_open = k.is_open;
+      schema = ap (λ (d : Database). d.schema) k.now ∙ h.schema;
       contents = ap contents_of k.now ∙ h.contents;
       theirs = subst (λ (d : Database). KeepsTheirs (state g conn).now d) (sym k.now) h.theirs;
       unshown = subst (λ (d : Database). SparesUnshown (state g conn).now d) (sym k.now) h.unshown;
@@ -86,4 +80,5 @@ written {S} g conn start b c f P is done before after there clean k =
 pub others_kept : (a b : State) (f : Contents → Contents) (P : Trees → Type 0) → Survives a b P → (HasCleanDisk a → IsTrue a.is_open → IsReady a) → HasCleanDisk b → IsWritten a b f → KeepsOthers a.now b.now
 others_kept a b f P survives ready clean it =
     let early : HasCleanDisk a = omega (arith, survives.clean, clean) in
-    record { theirs = it.theirs; frozen = frozen_of a.now b.now.trees (ready early it.was_open).ours.sound it.unshown }
+    let sound = (ready early it.was_open).ours.sound in
+    record { schema = it.schema; listed = listed_of a.now b.now.trees sound it.unshown; theirs = it.theirs; frozen = frozen_of a.now b.now.trees sound it.unshown }

@@ -6,7 +6,7 @@ use Rattle.sqlite.specs.Effect.{Database}
 use Rattle.sqlite.specs.State.{State, HasCleanDisk, Survives}
 use Rattle.sqlite.specs.Held.{Held, state}
 use Rattle.tables_sql.specs.Calls.{KeepsShown}
-use Rattle.tables.specs.Taken.{LeavesTaken, unlimited}
+use Rattle.tables.specs.Opening.{LeavesOpening, unlimited}
 
 pub cleared : {S : Type 0} (g : Ghosts S) (old new : Held S) → new ≡ record old { step_limit = None } → state g new ≡ unlimited (state g old)
 cleared g old new is = ap (state g) is
@@ -27,6 +27,6 @@ module _ {T E : Type 0} (f : T → State) (h : E → State) (r : Result T E) (a 
       by (Ok t) kept = tt
       by (Err e) kept = λ clean. record { was_open = (kept clean).was_open; now = (kept clean).now; committed = (kept clean).committed }
 
-  pub survive_of : (dir : List ℕ) → MatchResult r (λ t. Survives b (f t) (LeavesTaken dir b.now)) (λ e. Survives b (h e) (LeavesTaken dir b.now))
-      → MatchResult r (λ t. Survives (unlimited a) (f t) (LeavesTaken dir a.now)) (λ e. Survives (unlimited a) (h e) (LeavesTaken dir a.now))
-  survive_of dir told = subst (λ (s : State). MatchResult r (λ t. Survives s (f t) (LeavesTaken dir s.now)) (λ e. Survives s (h e) (LeavesTaken dir s.now))) same told
+  pub survive_of : (dir : List ℕ) → MatchResult r (λ t. Survives b (f t) (LeavesOpening dir b.now)) (λ e. Survives b (h e) (LeavesOpening dir b.now))
+      → MatchResult r (λ t. Survives (unlimited a) (f t) (LeavesOpening dir a.now)) (λ e. Survives (unlimited a) (h e) (LeavesOpening dir a.now))
+  survive_of dir told = subst (λ (s : State). MatchResult r (λ t. Survives s (f t) (LeavesOpening dir s.now)) (λ e. Survives s (h e) (LeavesOpening dir s.now))) same told

@@ -13,7 +13,7 @@ module _ {S D : Type 0} {g : disk.Ghosts D} where
   -- no connection was opened: what isn't a database is no store
   abbrev pub file_cause : NoFile S D g → Cause
   file_cause (file.Refused failure left) = option_map_or Failed failure BadSchema
-  file_cause (file.Untold it) = Failed it.failure
+  file_cause (file.Unreadable it) = Failed it.failure
 
   -- or one was, and it isn't opened as a store
   abbrev pub cause_of : Unopened S D g → Cause

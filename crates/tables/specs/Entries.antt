@@ -1,32 +1,41 @@
 -- Entries as callers give them and get them: roots by their names, generations by their numbers, objects with their archives.
-use Rattle.std.specs.Prelude.{ℕ, Option, Some, None}
+use Rattle.std.specs.Prelude.{ℕ, List, Option, Some, None}
 use Rattle.std.specs.FinMap as finite
 use Rattle.model.specs.World.{Path, Pair, Profile, World}
 use Rattle.model.specs.World as world
 use Rattle.model.specs.Profiles.{profile_at, put_at, switched}
-use Rattle.tables_outline.specs.Outline.{with_archive}
+use Rattle.model.specs.Effects.{with_permanent, without_permanent, with_user_root, without_user_root, with_profile}
+use Rattle.tables_outline.specs.Outline.{Outlined, with_archive}
 use Rattle.tables.specs.declared.entries.Object.{Object}
 use Rattle.tables.specs.declared.named_roots.RootName.{RootName}
 use Rattle.tables.specs.declared.named_roots.RootName.TheVariants.{Permanent, User}
 
 -- the root of this name has this target
 abbrev pub with_root : RootName → Path → World → World
-with_root (Permanent name) target w = record w { permanent = finite.insert w.permanent name.now target }
-with_root (User owner name) target w = record w { user_roots = finite.insert w.user_roots (owner.now, name.now) target }
+with_root (Permanent name) target w = with_permanent w name.now target
+with_root (User owner name) target w = with_user_root w (owner.now, name.now) target
 
 -- there is no root of this name
 abbrev pub without_root : RootName → World → World
-without_root (Permanent name) w = record w { permanent = finite.remove w.permanent name.now }
-without_root (User owner name) w = record w { user_roots = finite.remove w.user_roots (owner.now, name.now) }
+without_root (Permanent name) w = without_permanent w name.now
+without_root (User owner name) w = without_user_root w (owner.now, name.now)
 
 -- a profile with a path at a number, if one is given, and with a current number
 abbrev pub numbered : Option (ℕ × Path) → ℕ → Profile → Profile
 numbered None current p = switched p current
 numbered (Some e) current p = switched (put_at p e.0 e.1) current
 
--- the profile of an owner and a name is changed so
+-- the profile of an owner and a name is changed
+abbrev pub with_profile_by : Pair → (Profile → Profile) → World → World
+with_profile_by owned change w = with_profile w owned (change (profile_at w owned))
+
+-- it gets a path at a number, if one is given, and a current number
 abbrev pub with_numbers : Pair → Option (ℕ × Path) → ℕ → World → World
-with_numbers owned given current w = record w { profiles = finite.insert w.profiles owned (numbered given current (profile_at w owned)) }
+with_numbers owned given current = with_profile_by owned (numbered given current)
+
+-- the object of a path: an archive, and what its summary says
+abbrev pub with_archived : Path → List ℕ → Outlined → World → World
+with_archived path nar o w = record w { objects = finite.insert w.objects path (with_archive nar o) }
 
 -- an object of the world: the archive, and what its summary says
 abbrev pub object_view : Object → world.Object

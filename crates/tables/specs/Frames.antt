@@ -4,10 +4,12 @@ use Rattle.sqlite_trees.specs.declared.store.Store.{Ghosts}
 use Rattle.sqlite.specs.State.{HasCleanDisk, Survives}
 use Rattle.sqlite.specs.Held.{Held, state}
 use Rattle.tables_sql.specs.Contents.{Contents, contents_of}
-use Rattle.tables_sql.specs.Calls.{IsDurable, IsReady, IsWhole, KeepsShown, Leaves}
+use Rattle.tables_sql.specs.declared.failure.Failure.{Failure}
+use Rattle.tables_sql.specs.Calls.{IsDurable, IsReady, IsWhole, KeepsShown, LeavesRows}
 use Rattle.model.specs.World.{World}
 use Rattle.model.specs.Sound.{IsSound}
-use Rattle.tables.specs.Kept.{Kept, Tells, IsWritten, LeavesWorld}
+use Rattle.tables.specs.Failures.{Rows, HasReason}
+use Rattle.tables.specs.Kept.{Kept, HasWorld, IsWritten, LeavesWorld}
 use Rattle.tables.specs.Others.{KeepsOthers}
 
 module _ {S : Type 0} (g : Ghosts S) where
@@ -27,28 +29,32 @@ module _ {S : Type 0} (g : Ghosts S) where
     pub failed : HasCleanDisk (state g new) → OnErr result (KeepsShown (state g old) (state g new))
     pub durable : OnOk result (IsTrue (state g new).is_open → IsDurable (state g new))
     pub was_open : HasCleanDisk (state g new) → OnOk result (IsTrue (state g old).is_open × IsTrue (state g new).is_open)
-    pub survives : Survives (state g old) (state g new) (λ db. IsTrue (state g old).is_open × Leaves (state g old).now db (change (contents_of (state g old).now)))
+    pub survives : Survives (state g old) (state g new) (λ db. IsTrue (state g old).is_open × LeavesRows (state g old).now db (change (contents_of (state g old).now)))
 
   -- ---- a write, over tables
 
   -- the change leaves each world of the tables sound
   abbrev pub StaysSound : Kept S → (World → World) → Type 0
-  StaysSound old change = (w : World) → Tells g old w → IsSound old.dir (change w)
+  StaysSound old change = (w : World) → HasWorld g old w → IsSound old.dir (change w)
 
   -- The change is made in one transaction and in memory, or not at all.
   pub record CommitsChange {T E : Type 0} (old new : Kept S) (result : Result T E) (change : World → World) : Type 0 where
     -- the store directory stays
     pub dir : new.dir ≡ old.dir
     -- each world that the tables had is changed
-    pub done : OnOk result ((w : World) → Tells g old w → Tells g new (change w))
+    pub done : OnOk result ((w : World) → HasWorld g old w → HasWorld g new (change w))
     -- tables of other programs are as they were
     pub others : HasCleanDisk (state g new.connection) → OnOk result (KeepsOthers (state g old.connection).now (state g new.connection).now)
     -- a write that fails changes nothing
-    pub failed : OnErr result ((w : World) → Tells g old w → Tells g new w)
+    pub failed : OnErr result ((w : World) → HasWorld g old w → HasWorld g new w)
     -- after one that is done, a crash leaves nothing else while the connection is open
     pub durable : OnOk result (IsTrue (state g new.connection).is_open → IsDurable (state g new.connection))
     -- once a fault has shut the connection, no write is done
     pub was_open : HasCleanDisk (state g new.connection) → OnOk result (IsTrue (state g old.connection).is_open × IsTrue (state g new.connection).is_open)
     -- a crash leaves what it could leave before, or sound rows of the changed world
-    pub survives : (w : World) → Tells g old w → Survives (state g old.connection) (state g new.connection)
+    pub survives : (w : World) → HasWorld g old w → Survives (state g old.connection) (state g new.connection)
         (λ db. LeavesWorld old.dir (state g old.connection).now db (change w))
+
+  -- why it isn't, by the rows that it puts
+  abbrev pub FailsToChange : {T : Type 0} → Kept S → Kept S → Result T Failure → Rows → Type 0
+  FailsToChange old new result rows = HasReason g old.connection new.connection result rows

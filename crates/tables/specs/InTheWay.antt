@@ -6,32 +6,32 @@ use Rattle.sqlite_schema.specs.declared.schema.Table.{Table}
 use Rattle.sqlite_schema.specs.Names.{table_named, index_named, view_named}
 use Rattle.sqlite.specs.Does.{lacks_sequence}
 use Rattle.tables_schema.specs.Forms.{all_tables}
-use Rattle.tables_schema.specs.Standing.{tree_named, is_unreferred, is_alone, is_unguarded}
+use Rattle.tables_schema.specs.Intact.{tree_named, is_unreferred, is_alone, is_unguarded}
 use Rattle.tables_schema.specs.Finding.{is_unawaited}
 
 -- a table has the name of this one of the store's
-abbrev pub is_there : Schema → Table → Bool
-is_there s t = is_some (table_named s t.name)
+abbrev pub is_present : Schema → Table → Bool
+is_present s t = is_some (table_named s t.name)
 
 -- something has its name: a table, an index, or a view, a trigger or a table that the schema doesn't show
-abbrev pub is_taken : Schema → Table → Bool
-is_taken s t = is_there s t || (is_some (index_named s t.name) || is_some (view_named s t.name))
+abbrev pub is_name_used : Schema → Table → Bool
+is_name_used s t = is_present s t || (is_some (index_named s t.name) || is_some (view_named s t.name))
 
 -- some of the store's tables are there: one of the eleven names is taken
-abbrev pub has_ours : Schema → Bool
-has_ours s = list_any (is_taken s) all_tables
+abbrev pub has_store_tables : Schema → Bool
+has_store_tables s = list_any (is_name_used s) all_tables
 
 -- it is there, and something acts on it: a foreign key refers to it, a table of another name has its tree, or a unique index other than that of its key keeps rows out of it
 abbrev pub is_acted_on : Schema → Table → Bool
-is_acted_on s t = is_there s t && not (is_unreferred s (tree_named s t.name) && (is_alone s t.name (tree_named s t.name) && is_unguarded s (tree_named s t.name) t.primary))
+is_acted_on s t = is_present s t && not (is_unreferred s (tree_named s t.name) && (is_alone s t.name (tree_named s t.name) && is_unguarded s (tree_named s t.name) t.primary))
 
 -- it isn't there, and a foreign key waits for it
 abbrev pub is_awaited : Schema → Table → Bool
-is_awaited s t = not (is_there s t) && not (is_unawaited s t.name)
+is_awaited s t = not (is_present s t) && not (is_unawaited s t.name)
 
 -- it isn't there, and can't be made: a table counts its rowids, and there is no counter
 abbrev pub is_kept_out : Schema → Table → Bool
-is_kept_out s t = not (is_there s t) && lacks_sequence s
+is_kept_out s t = not (is_present s t) && lacks_sequence s
 
 -- one of these of one of the store's tables: tables of other programs are in the way
 abbrev pub are_others_in_the_way : Schema → Bool

@@ -1,10 +1,12 @@
 pub mod Causes
 pub mod Entries
+pub mod Failures
 pub mod Frames
 pub mod InTheWay
 pub mod Kept
 pub mod Opened
 pub mod Others
 pub mod Rewritten
-pub mod Sessions
-pub mod Taken
+pub mod RowsPut
+pub mod Temporary
+pub mod Opening

@@ -17,7 +17,7 @@ use Rattle.tables.specs.Kept.{Kept}
 use Rattle.tables.specs.declared.refusing.Cause.{Cause}
 use Rattle.tables.specs.declared.refusing.Unopened.{Unopened}
 use Rattle.tables.specs.declared.refusing.Unopened.TheVariants.{File, Store}
-use Rattle.tables.specs.Taken.{TakesUp, LeavesTaken, IsCause}
+use Rattle.tables.specs.Opening.{OpensStore, LeavesOpening, IsCause}
 
 module _ {D : Type 0} {g : disk.Ghosts D} where
   -- The files held this, a connection opened over them, and it was opened as the store of a directory.
@@ -26,9 +26,9 @@ module _ {D : Type 0} {g : disk.Ghosts D} where
     pub conn : Held (FileStore D g)
     pub opened : IsAsOpened held was conn
     pub found : HasCleanDisk (file_state t.connection) → FindsIn held (file_state conn)
-    pub took : HasCleanDisk (file_state t.connection) → TakesUp over_files dir (file_state conn).now t
+    pub took : HasCleanDisk (file_state t.connection) → OpensStore over_files dir (file_state conn).now t
     pub durable : IsTrue (file_state t.connection).is_open → IsDurable (file_state t.connection)
-    pub survives : Survives (file_state conn) (file_state t.connection) (LeavesTaken dir (file_state conn).now)
+    pub survives : Survives (file_state conn) (file_state t.connection) (LeavesOpening dir (file_state conn).now)
 
   -- The files held this, a connection opened over them, and it isn't opened as the store of a directory, for this cause: it shows what it showed.
   pub record IsRefused (held : Image) (dir : List ℕ) (left : Held (FileStore D g)) (cause : Cause) : Type 0 where
@@ -36,11 +36,11 @@ module _ {D : Type 0} {g : disk.Ghosts D} where
     pub conn : Held (FileStore D g)
     pub opened : IsAsOpened held was conn
     pub found : HasCleanDisk (file_state left) → FindsIn held (file_state conn)
-    pub because : HasCleanDisk (file_state left) → IsCause dir (file_state conn).now cause
+    pub because : HasCleanDisk (file_state left) → IsCause dir (file_state conn) (file_state left) cause
     pub alone : left.in_transaction ≡ false
     pub same : HasCleanDisk (file_state left) → KeepsShown (file_state conn) (file_state left)
     pub durable : IsTrue (file_state left).is_open → IsDurable (file_state left)
-    pub survives : Survives (file_state conn) (file_state left) (LeavesTaken dir (file_state conn).now)
+    pub survives : Survives (file_state conn) (file_state left) (LeavesOpening dir (file_state conn).now)
 
 module _ {S : Type 0} {c : calls.Ghosts Host} {start : Ghosts S} {g : disk.Ghosts (Modelled Host S c start)} where
   -- Why files that held this aren't opened as a store: no connection is opened over them, or one is and the store isn't.

@@ -1,13 +1,15 @@
 -- Rows that are added, one after another, and rows that go.
-use Rattle.std.specs.Prelude.{◌≡◌, ◌<◌, List, [], ◌∷◌, ℕ, ℤ, not, pos, Some, IsTrue}
+use Rattle.std.specs.Prelude.{⊤, ◌≡◌, ◌<◌, List, [], ◌∷◌, ℕ, ℤ, false, not, pos, Some, None, IsTrue}
 use Rattle.std.specs.declared.cmp.Ordering.{Ordering}
 use Rattle.std.specs.FinMap as finite
+use Rattle.std.specs.List.{AllByRecursion}
+use Rattle.std.specs.Ordering.{eq_by_cmp}
 use Rattle.live.specs.Graph.{same, holds}
 use Rattle.tables_sql.specs.Contents.{Pair, PairSet, Contents, Stored, pair_cmp, numbered_cmp}
 use Rattle.model.specs.World.{Path}
 use Rattle.model.specs.World as world
 use Rattle.tables_world.specs.Pieces.{piece_size}
-use Rattle.tables_outline.specs.Outline.{Outline, Outlined}
+use Rattle.tables_outline.specs.Outline.{OutlineValue, Outlined}
 
 -- a set of references, and some of this path
 abbrev pub put_references : Path → List Path → PairSet → PairSet
@@ -36,14 +38,31 @@ put_object p o references outputs pieces c = record c {
   pieces = put_pieces p pieces c.pieces;
 }
 
+-- no row is of the object of this path
+pub record LacksObject (p : Path) (c : Contents) : Type 0 where
+  pub object : finite.get c.objects p ≡ None
+  pub references : (r : Path) → finite.get c.refs (p, r) ≡ None
+  pub outputs : (name : List ℕ) → finite.get c.outs (p, name) ≡ None
+  pub pieces : (n : ℤ) → finite.get c.pieces (p, n) ≡ None
+
+-- keys in an order, each another than those after it
+abbrev pub AreApart : {K : Type 0} → (K → K → Ordering) → List K → Type 0
+AreApart R [] = ⊤
+AreApart R (k ∷ ks) = AllByRecursion (λ j. eq_by_cmp R j k ≡ false) ks × AreApart R ks
+
+-- such keys, none of which a map has
+pub record AreFree {K X : Type 0} {R : K → K → Ordering} (m : finite.FinMap R X) (ks : List K) : Type 0 where
+  pub apart : AreApart R ks
+  pub free : AllByRecursion (λ k. finite.get m k ≡ None) ks
+
 -- a set of pairs, and some more
 abbrev pub put_pairs : List Pair → PairSet → PairSet
 put_pairs [] m = m
 put_pairs (p ∷ ps) m = put_pairs ps (finite.insert m p tt)
 
--- the rows of a profile with a generation more, and with this current number
-abbrev pub add_generation : world.Pair → ℕ → Path → ℕ → Contents → Contents
-add_generation owned n t current c = record c { profiles = finite.insert c.profiles owned (pos current); generations = finite.insert c.generations (owned.0, owned.1, pos n) t }
+-- the rows of a profile with a path at a number, and with this current number
+abbrev pub put_generation : world.Pair → ℕ → Path → ℕ → Contents → Contents
+put_generation owned n t current c = record c { profiles = finite.insert c.profiles owned (pos current); generations = finite.insert c.generations (owned.0, owned.1, pos n) t }
 
 -- the rows without those of one path's object
 abbrev pub without_object : Path → Contents → Contents
@@ -65,7 +84,7 @@ without_objects ps c = record c {
 
 -- What rows have besides those of objects, an outline lists: each reference, output or further piece is an object's that has this
 -- reference, this output, or more bytes of its archive than its row holds.
-pub record Covers (outline : Outline) (c : Contents) : Type 0 where
+pub record Covers (outline : OutlineValue) (c : Contents) : Type 0 where
   pub references : (p r : Path) → IsTrue (finite.contains_key c.refs (p, r)) → (x : Outlined) × (finite.get outline.objects p ≡ Some x) × IsTrue (finite.contains_key x.references r)
   pub outputs : (p : Path) (name : List ℕ) → IsTrue (finite.contains_key c.outs (p, name)) → (x : Outlined) × (finite.get outline.objects p ≡ Some x) × IsTrue (finite.contains_key x.outputs name)
   pub pieces : (p : Path) (n : ℤ) → IsTrue (finite.contains_key c.pieces (p, n)) → (x : Outlined) × (finite.get outline.objects p ≡ Some x) × (piece_size < x.size)

@@ -5,19 +5,19 @@ ghost use Rattle.sqlite.specs.State.{HasCleanDisk, Survives};
 ghost use Rattle.sqlite.specs.Held.{state};
 ghost use Rattle.tables_sql.specs.Calls.{KeepsShown, IsDurable};
 ghost use Rattle.tables_open.specs.Opened.{IsFound};
-ghost use Rattle.tables.specs.Taken.{TakesUp, LeavesTaken, IsCause, unlimited};
+ghost use Rattle.tables.specs.Opening.{OpensStore, LeavesOpening, IsCause, unlimited};
 
-use crate::earlier::take_earlier;
+use crate::earlier::open_earlier;
+use crate::found::{open_existing, open_new};
 use crate::keeping::Tables;
 use crate::refusing::{Cause, Unadopted};
-use crate::taking::{take_new, take_ours};
 use paths::StoreDir;
 use sqlite::{Alter, Connection};
 use std::alloc::Global;
 use tables_open::file;
-use tables_open::file::{Opened, Untold};
+use tables_open::file::{Opened, Unreadable};
+use tables_schema::Schema;
 use tables_schema::recognising::Recognised;
-use tables_world::Schema;
 
 /// Opens a store over a connection of which is known what its database has of the store's tables.
 pub(crate) fn take<S: Alter>(
@@ -29,18 +29,19 @@ pub(crate) fn take<S: Alter>(
     requires alone { conn.in_transaction ≡ false }
     requires found { HasCleanDisk (state S.Store conn) → IsFound found (state S.Store conn) }
     ensures dir { IfOk result (λ t. t.dir ≡ dir.now) }
-    ensures took { IfOk result (λ t. HasCleanDisk (state S.Store t.connection) → TakesUp S.Store dir.now (state S.Store conn).now t) }
+    ensures took { IfOk result (λ t. HasCleanDisk (state S.Store t.connection) → OpensStore S.Store dir.now (state S.Store conn).now t) }
     ensures alone { IfErr result (λ e. e.conn.in_transaction ≡ false) }
-    ensures cause { IfErr result (λ e. HasCleanDisk (state S.Store e.conn) → IsCause dir.now (state S.Store conn).now e.cause) }
+    ensures cause { IfErr result
+        (λ e. HasCleanDisk (state S.Store e.conn) → IsCause dir.now (state S.Store conn) (state S.Store e.conn) e.cause) }
     ensures same { IfErr result (λ e. HasCleanDisk (state S.Store e.conn) → KeepsShown (state S.Store conn) (state S.Store e.conn)) }
     ensures durable { MatchResult result (λ t. IsTrue (state S.Store t.connection).is_open → IsDurable (state S.Store t.connection)) (λ e. IsTrue (state S.Store e.conn).is_open → IsDurable (state S.Store e.conn)) }
-    ensures survives { MatchResult result (λ t. Survives (state S.Store conn) (state S.Store t.connection) (LeavesTaken dir.now (state S.Store conn).now)) (λ e. Survives (state S.Store conn) (state S.Store e.conn) (LeavesTaken dir.now (state S.Store conn).now)) }
+    ensures survives { MatchResult result (λ t. Survives (state S.Store conn) (state S.Store t.connection) (LeavesOpening dir.now (state S.Store conn).now)) (λ e. Survives (state S.Store conn) (state S.Store e.conn) (LeavesOpening dir.now (state S.Store conn).now)) }
 {
     match found {
-        Recognised::Nothing => take_new(alloc, conn, dir),
-        Recognised::First => take_earlier(alloc, conn, dir, Schema::One),
-        Recognised::Second => take_earlier(alloc, conn, dir, Schema::Two),
-        Recognised::Third => take_ours(alloc, conn, dir),
+        Recognised::Nothing => open_new(alloc, conn, dir),
+        Recognised::Tables(Schema::V1) => open_earlier(alloc, conn, dir, Schema::V1),
+        Recognised::Tables(Schema::V2) => open_earlier(alloc, conn, dir, Schema::V2),
+        Recognised::Tables(Schema::V3) => open_existing(alloc, conn, dir),
         Recognised::Other => {
             let cause = Cause::BadSchema;
             Err(Unadopted { conn, cause })
@@ -49,27 +50,28 @@ pub(crate) fn take<S: Alter>(
 }
 
 /// Opens a store over a connection that has no limit on steps.
-fn take_unlimited<S: Alter>(
+fn adopt_unlimited<S: Alter>(
     alloc: Global,
     conn: Connection<S>,
     dir: &StoreDir,
 ) -> Result<Tables<S>, Unadopted<S>>
     requires alone { conn.in_transaction ≡ false }
     ensures dir { IfOk result (λ t. t.dir ≡ dir.now) }
-    ensures took { IfOk result (λ t. HasCleanDisk (state S.Store t.connection) → TakesUp S.Store dir.now (state S.Store conn).now t) }
+    ensures took { IfOk result (λ t. HasCleanDisk (state S.Store t.connection) → OpensStore S.Store dir.now (state S.Store conn).now t) }
     ensures alone { IfErr result (λ e. e.conn.in_transaction ≡ false) }
-    ensures cause { IfErr result (λ e. HasCleanDisk (state S.Store e.conn) → IsCause dir.now (state S.Store conn).now e.cause) }
+    ensures cause { IfErr result
+        (λ e. HasCleanDisk (state S.Store e.conn) → IsCause dir.now (state S.Store conn) (state S.Store e.conn) e.cause) }
     ensures same { IfErr result (λ e. HasCleanDisk (state S.Store e.conn) → KeepsShown (state S.Store conn) (state S.Store e.conn)) }
     ensures durable { MatchResult result (λ t. IsTrue (state S.Store t.connection).is_open → IsDurable (state S.Store t.connection)) (λ e. IsTrue (state S.Store e.conn).is_open → IsDurable (state S.Store e.conn)) }
-    ensures survives { MatchResult result (λ t. Survives (state S.Store conn) (state S.Store t.connection) (LeavesTaken dir.now (state S.Store conn).now)) (λ e. Survives (state S.Store conn) (state S.Store e.conn) (LeavesTaken dir.now (state S.Store conn).now)) }
+    ensures survives { MatchResult result (λ t. Survives (state S.Store conn) (state S.Store t.connection) (LeavesOpening dir.now (state S.Store conn).now)) (λ e. Survives (state S.Store conn) (state S.Store e.conn) (LeavesOpening dir.now (state S.Store conn).now)) }
 {
-    match file::take_up(alloc, conn) {
+    match file::inspect(alloc, conn) {
         Ok(opened) => {
             let Opened { conn, found } = opened;
             take(alloc, conn, found, dir)
         }
         Err(untold) => {
-            let Untold { conn, failure } = untold;
+            let Unreadable { conn, failure } = untold;
             let cause = Cause::Failed(failure);
             Err(Unadopted { conn, cause })
         }
@@ -79,6 +81,22 @@ fn take_unlimited<S: Alter>(
 /// Opens a connection as the store of a directory. All of its rows are read and tested; where it has none of the store's tables, they
 /// are made, and those of an earlier schema are brought to the third. At an error the connection is returned, with the tables as they
 /// were. A limit on steps is cleared in either case.
+///
+/// ```rust
+/// use paths::StoreDir;
+/// use tables::{Cause, Tables, Unadopted};
+///
+/// let (nix, gnu) = (StoreDir::parse(alloc, "/nix/store")?, StoreDir::parse(alloc, "/gnu/store")?);
+/// let conn = Tables::open_in_memory(alloc, &nix)?.release();
+/// let cause = match tables::adopt(alloc, conn, &gnu) {
+///     Ok(tables) => {
+///         drop(tables.release());
+///         None
+///     }
+///     Err(Unadopted { conn: _conn, cause }) => Some(cause),
+/// };
+/// assert_eq!(rt; cause, Some(Cause::OtherStoreDir));
+/// ```
 ///
 /// # Errors
 ///
@@ -92,13 +110,14 @@ pub fn adopt<S: Alter>(
 ) -> Result<Tables<S>, Unadopted<S>>
     requires alone { conn.in_transaction ≡ false }
     ensures dir { IfOk result (λ t. t.dir ≡ dir.now) }
-    ensures took { IfOk result (λ t. HasCleanDisk (state S.Store t.connection) → TakesUp S.Store dir.now (state S.Store conn).now t) }
+    ensures took { IfOk result (λ t. HasCleanDisk (state S.Store t.connection) → OpensStore S.Store dir.now (state S.Store conn).now t) }
     ensures alone { IfErr result (λ e. e.conn.in_transaction ≡ false) }
-    ensures cause { IfErr result (λ e. HasCleanDisk (state S.Store e.conn) → IsCause dir.now (state S.Store conn).now e.cause) }
+    ensures cause { IfErr result
+        (λ e. HasCleanDisk (state S.Store e.conn) → IsCause dir.now (unlimited (state S.Store conn)) (state S.Store e.conn) e.cause) }
     ensures same { IfErr result (λ e. HasCleanDisk (state S.Store e.conn) → KeepsShown (state S.Store conn) (state S.Store e.conn)) }
     ensures durable { MatchResult result (λ t. IsTrue (state S.Store t.connection).is_open → IsDurable (state S.Store t.connection)) (λ e. IsTrue (state S.Store e.conn).is_open → IsDurable (state S.Store e.conn)) }
-    ensures survives { MatchResult result (λ t. Survives (unlimited (state S.Store conn)) (state S.Store t.connection) (LeavesTaken dir.now (state S.Store conn).now)) (λ e. Survives (unlimited (state S.Store conn)) (state S.Store e.conn) (LeavesTaken dir.now (state S.Store conn).now)) }
+    ensures survives { MatchResult result (λ t. Survives (unlimited (state S.Store conn)) (state S.Store t.connection) (LeavesOpening dir.now (state S.Store conn).now)) (λ e. Survives (unlimited (state S.Store conn)) (state S.Store e.conn) (LeavesOpening dir.now (state S.Store conn).now)) }
 {
     conn.set_step_limit(None);
-    take_unlimited(alloc, conn, dir)
+    adopt_unlimited(alloc, conn, dir)
 }

@@ -1,14 +1,14 @@
 //! Opening tables of an earlier schema: they are brought to the third.
 
-ghost use Rattle.std.specs.Prelude.{◌≡◌, List, ℕ, false, IsTrue, IfOk, IfErr, OnOk, OnErr, MatchResult};
+ghost use Rattle.std.specs.Prelude.{◌≡◌, ◌≢◌, List, ℕ, false, IsTrue, IfOk, IfErr, OnOk, OnErr, MatchResult};
 ghost use Rattle.sqlite.specs.State.{HasCleanDisk, Survives};
 ghost use Rattle.sqlite.specs.Held.{state};
 ghost use Rattle.tables_sql.specs.Contents.{contents_of};
 ghost use Rattle.tables_sql.specs.Calls.{KeepsShown, IsReady};
-ghost use Rattle.tables_world.specs.Told.{IsSoundBy};
-ghost use Rattle.tables_world.specs.View.{schema_view};
+ghost use Rattle.tables_schema.specs.declared.schema.Schema.TheVariants.{V3};
+ghost use Rattle.tables_world.specs.Worlds.{IsSoundBy};
 ghost use Rattle.tables_make.specs.Migrated.{IsMigrated, LeavesMigrated};
-ghost use Rattle.tables.specs.Taken.{IsFoundBy, AreRead, TakesMigrated, LeavesBrought, IsCause};
+ghost use Rattle.tables.specs.Opening.{IsFoundBy, AreRead, OpensMigrated, LeavesMigration, IsCause};
 
 use crate::keeping::Tables;
 use crate::refusing::{Cause, Unadopted};
@@ -16,24 +16,25 @@ use crate::rows::{Taken, read_as};
 use paths::StoreDir;
 use sqlite::{Alter, Connection};
 use std::alloc::Global;
+use tables_schema::Schema;
 use tables_sql::failure::Failure;
-use tables_world::Schema;
 
 /// Brings the tables of a schema to the third, which those of the third are.
 fn bring<S: Alter>(alloc: Global, conn: &mut Connection<S>, schema: Schema) -> Result<(), Failure>
     requires alone { conn.old.in_transaction ≡ false }
     requires is_open { HasCleanDisk (state S.Store conn.old) → IsTrue (state S.Store conn.old).is_open }
     requires ready { HasCleanDisk (state S.Store conn.old) → IsReady (state S.Store conn.old) }
-    requires found { HasCleanDisk (state S.Store conn.old) → IsFoundBy (schema_view schema) (state S.Store conn.old).now }
+    requires found { HasCleanDisk (state S.Store conn.old) → IsFoundBy schema (state S.Store conn.old).now }
     ensures alone { conn.new.in_transaction ≡ false }
-    ensures done { HasCleanDisk (state S.Store conn.new) → OnOk result ((dir : List ℕ) → IsSoundBy (schema_view schema) dir (contents_of (state S.Store conn.old).now) → IsMigrated (schema_view schema) dir (state S.Store conn.old) (state S.Store conn.new)) }
+    ensures done { HasCleanDisk (state S.Store conn.new) → OnOk result ((dir : List ℕ) → IsSoundBy schema dir (contents_of (state S.Store conn.old).now) → IsMigrated schema dir (state S.Store conn.old) (state S.Store conn.new)) }
     ensures failed { HasCleanDisk (state S.Store conn.new) → OnErr result (KeepsShown (state S.Store conn.old) (state S.Store conn.new)) }
-    ensures survives { Survives (state S.Store conn.old) (state S.Store conn.new) (λ db. (dir : List ℕ) → IsSoundBy (schema_view schema) dir (contents_of (state S.Store conn.old).now) → LeavesMigrated (schema_view schema) dir (state S.Store conn.old).now db) }
+    ensures needed { OnErr result (schema ≢ V3) }
+    ensures survives { Survives (state S.Store conn.old) (state S.Store conn.new) (λ db. (dir : List ℕ) → IsSoundBy schema dir (contents_of (state S.Store conn.old).now) → LeavesMigrated schema dir (state S.Store conn.old).now db) }
 {
     match schema {
-        Schema::One => tables_make::from_first(alloc, conn),
-        Schema::Two => tables_make::from_second(conn),
-        Schema::Three => Ok(()),
+        Schema::V1 => tables_make::from_first(alloc, conn),
+        Schema::V2 => tables_make::from_second(conn),
+        Schema::V3 => Ok(()),
     }
 }
 
@@ -46,14 +47,15 @@ fn read_and_bring<S: Alter>(
 ) -> Result<Taken, Cause>
     requires alone { conn.old.in_transaction ≡ false }
     requires ready { HasCleanDisk (state S.Store conn.old) → IsReady (state S.Store conn.old) }
-    requires found { HasCleanDisk (state S.Store conn.old) → IsFoundBy (schema_view schema) (state S.Store conn.old).now }
+    requires found { HasCleanDisk (state S.Store conn.old) → IsFoundBy schema (state S.Store conn.old).now }
     ensures alone { conn.new.in_transaction ≡ false }
     ensures dir { IfOk result (λ r. r.dir ≡ dir.now) }
-    ensures told { HasCleanDisk (state S.Store conn.new) → IfOk result (λ r. AreRead (schema_view schema) dir.now (state S.Store conn.old).now r.index) }
-    ensures brought { HasCleanDisk (state S.Store conn.new) → OnOk result (IsMigrated (schema_view schema) dir.now (state S.Store conn.old) (state S.Store conn.new)) }
-    ensures cause { HasCleanDisk (state S.Store conn.new) → IfErr result (λ e. IsCause dir.now (state S.Store conn.old).now e) }
+    ensures told { HasCleanDisk (state S.Store conn.new) → IfOk result (λ r. AreRead schema dir.now (state S.Store conn.old).now r.outline) }
+    ensures brought { HasCleanDisk (state S.Store conn.new) → OnOk result (IsMigrated schema dir.now (state S.Store conn.old) (state S.Store conn.new)) }
+    ensures cause { HasCleanDisk (state S.Store conn.new)
+        → IfErr result (IsCause dir.now (state S.Store conn.old) (state S.Store conn.new)) }
     ensures same { HasCleanDisk (state S.Store conn.new) → OnErr result (KeepsShown (state S.Store conn.old) (state S.Store conn.new)) }
-    ensures survives { Survives (state S.Store conn.old) (state S.Store conn.new) (LeavesBrought (schema_view schema) dir.now (state S.Store conn.old).now) }
+    ensures survives { Survives (state S.Store conn.old) (state S.Store conn.new) (LeavesMigration schema dir.now (state S.Store conn.old).now) }
 {
     let taken = read_as(alloc, conn, dir, schema)?;
     match bring(alloc, conn, schema) {
@@ -63,7 +65,7 @@ fn read_and_bring<S: Alter>(
 }
 
 /// Opens a connection that holds the tables of a schema, brought to the third.
-pub(crate) fn take_earlier<S: Alter>(
+pub(crate) fn open_earlier<S: Alter>(
     alloc: Global,
     mut conn: Connection<S>,
     dir: &StoreDir,
@@ -71,18 +73,19 @@ pub(crate) fn take_earlier<S: Alter>(
 ) -> Result<Tables<S>, Unadopted<S>>
     requires alone { conn.in_transaction ≡ false }
     requires ready { HasCleanDisk (state S.Store conn) → IsReady (state S.Store conn) }
-    requires found { HasCleanDisk (state S.Store conn) → IsFoundBy (schema_view schema) (state S.Store conn).now }
+    requires found { HasCleanDisk (state S.Store conn) → IsFoundBy schema (state S.Store conn).now }
     ensures dir { IfOk result (λ t. t.dir ≡ dir.now) }
-    ensures took { IfOk result (λ t. HasCleanDisk (state S.Store t.connection) → TakesMigrated S.Store (schema_view schema) dir.now (state S.Store conn).now t) }
+    ensures took { IfOk result (λ t. HasCleanDisk (state S.Store t.connection) → OpensMigrated S.Store schema dir.now (state S.Store conn).now t) }
     ensures alone { IfErr result (λ e. e.conn.in_transaction ≡ false) }
-    ensures cause { IfErr result (λ e. HasCleanDisk (state S.Store e.conn) → IsCause dir.now (state S.Store conn).now e.cause) }
+    ensures cause { IfErr result
+        (λ e. HasCleanDisk (state S.Store e.conn) → IsCause dir.now (state S.Store conn) (state S.Store e.conn) e.cause) }
     ensures same { IfErr result (λ e. HasCleanDisk (state S.Store e.conn) → KeepsShown (state S.Store conn) (state S.Store e.conn)) }
-    ensures survives { MatchResult result (λ t. Survives (state S.Store conn) (state S.Store t.connection) (LeavesBrought (schema_view schema) dir.now (state S.Store conn).now)) (λ e. Survives (state S.Store conn) (state S.Store e.conn) (LeavesBrought (schema_view schema) dir.now (state S.Store conn).now)) }
+    ensures survives { MatchResult result (λ t. Survives (state S.Store conn) (state S.Store t.connection) (LeavesMigration schema dir.now (state S.Store conn).now)) (λ e. Survives (state S.Store conn) (state S.Store e.conn) (LeavesMigration schema dir.now (state S.Store conn).now)) }
 {
     match read_and_bring(alloc, &mut conn, dir, schema) {
         Ok(taken) => {
-            let Taken { dir: own, index } = taken;
-            Ok(Tables::over(alloc, conn, own, index))
+            let Taken { dir: own, outline } = taken;
+            Ok(Tables::over(alloc, conn, own, outline))
         }
         Err(cause) => Err(Unadopted { conn, cause }),
     }

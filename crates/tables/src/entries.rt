@@ -6,11 +6,11 @@ ghost use Rattle.sqlite.specs.State.{HasCleanDisk, Survives};
 ghost use Rattle.sqlite.specs.Held.{state};
 ghost use Rattle.tables_sql.specs.Calls.{KeepsShown};
 ghost use Rattle.model.specs.World.{World, roots_of};
-ghost use Rattle.tables_outline.specs.Index.{profile_view};
+ghost use Rattle.tables_outline.specs.View.{profile_view};
 ghost use Rattle.tables_outline.specs.Outline.{outlined};
 ghost use Rattle.tables_listing.specs.View.{root_view};
 ghost use Rattle.tables.specs.Entries.{object_view};
-ghost use Rattle.tables.specs.Kept.{Tells};
+ghost use Rattle.tables.specs.Kept.{HasWorld};
 
 use crate::keeping::Tables;
 use crate::user_roots::owned;
@@ -72,18 +72,36 @@ fn copied(alloc: Global, object: &Summary) -> Result<Summary, AllocError>
 
 impl<S: Alter> Tables<S> {
     /// All objects and roots. The only error is that memory was refused.
+    ///
+    /// ```rust
+    /// use tables::RootName;
+    ///
+    /// tables.put_root(RootName::User("ann", "editor"), path)?;
+    /// let all = tables.snapshot()?;
+    /// assert!(rt; all.objects.contains_key(path));
+    /// for root in &all.roots {
+    ///     assert_eq!(rt; root.label.as_str(), "gcroots/per-user/ann/editor");
+    /// }
+    /// ```
     pub fn snapshot(&self) -> Result<Snapshot<'_>, AllocError>
-        ensures objects { IfOk result (λ it. (w : World) → Tells S.Store self.now w
+        ensures objects { IfOk result (λ it. (w : World) → HasWorld S.Store self.now w
             → it.objects.now.entries ≡ map (λ e. (e.0, outlined e.1)) (finite.entries w.objects)) }
-        ensures roots { IfOk result (λ it. (w : World) → Tells S.Store self.now w
+        ensures roots { IfOk result (λ it. (w : World) → HasWorld S.Store self.now w
             → map root_view it.roots.items ≡ roots_of w) }
     {
-        let roots = root_list(self.alloc, &self.index)?;
-        let objects = self.index.objects();
+        let roots = root_list(self.alloc, &self.outline)?;
+        let objects = self.outline.objects();
         Ok(Snapshot { objects, roots })
     }
 
     /// The object of a path, if it has one. Its archive is read from the disk, the rest from memory. Nothing changes.
+    ///
+    /// ```rust
+    /// if let Some(object) = tables.object(path)? {
+    ///     assert_eq!(rt; object.nar.len(), 128);
+    ///     assert!(rt; object.summary.references().is_empty());
+    /// }
+    /// ```
     ///
     /// # Errors
     ///
@@ -91,8 +109,8 @@ impl<S: Alter> Tables<S> {
     pub fn object(&mut self, path: &StorePath) -> Result<Option<Object>, Failure>
         ensures dir { self.new.dir ≡ self.old.dir }
         ensures found { HasCleanDisk (state S.Store self.new.connection) → IfOk result (λ o. (w : World)
-            → Tells S.Store self.old w → option_map object_view o ≡ finite.get w.objects path.now) }
-        ensures same { (w : World) → Tells S.Store self.old w → Tells S.Store self.new w }
+            → HasWorld S.Store self.old w → option_map object_view o ≡ finite.get w.objects path.now) }
+        ensures same { (w : World) → HasWorld S.Store self.old w → HasWorld S.Store self.new w }
         ensures was_open { HasCleanDisk (state S.Store self.new.connection) → IfOk result (λ o. IsTrue (is_some o)
             → IsTrue (state S.Store self.old.connection).is_open × IsTrue (state S.Store self.new.connection).is_open) }
         ensures shown { HasCleanDisk (state S.Store self.new.connection)
@@ -102,7 +120,7 @@ impl<S: Alter> Tables<S> {
         let Some(nar) = self.archive(path)? else {
             return Ok(None);
         };
-        let Some(object) = self.index.object(path) else {
+        let Some(object) = self.outline.object(path) else {
             return Ok(None);
         };
         let summary = copied(self.alloc, object)?;
@@ -110,11 +128,17 @@ impl<S: Alter> Tables<S> {
     }
 
     /// The profile of an owner and a name, if there is one. The only error is that memory was refused.
+    ///
+    /// ```rust
+    /// assert!(rt; tables.profile("ann", "default")?.is_none());
+    /// tables.put_profile("ann", "default", Some((1, path)), 1)?;
+    /// assert!(rt; tables.profile("ann", "default")?.is_some_and(|profile| profile.has_generation(1)));
+    /// ```
     pub fn profile(&self, owner: &str, name: &str) -> Result<Option<&Profile>, AllocError>
-        ensures { IfOk result (λ p. (w : World) → Tells S.Store self.now w
+        ensures { IfOk result (λ p. (w : World) → HasWorld S.Store self.now w
             → option_map (λ q. profile_view q.now) p ≡ finite.get w.profiles (owner.now, name.now)) }
     {
         let key = owned(self.alloc, owner, name)?;
-        Ok(self.index.profile(&key))
+        Ok(self.outline.profile(&key))
     }
 }

@@ -16,6 +16,13 @@ use tables_open::file::Opened;
 /// Opens the file at a path as the store of a directory; where the file is missing or has none of our tables, they are made.
 /// `start` stands for what the file held, which no code reads: a theorem is stated over any, and a program passes `Unknown`.
 ///
+/// ```rust
+/// use tables::Unknown;
+///
+/// let tables = tables::open(rt, "nixkeep.db", dir, Unknown)?;
+/// drop(tables.release());
+/// ```
+///
 /// # Errors
 ///
 /// `sqlite` didn't open the file, what it holds can't be read, or it isn't opened as a store. Then the database is as it was.

@@ -1,16 +1,11 @@
 //! The tables: a connection, and the outline of what its rows say.
 
-ghost use Rattle.std.specs.Prelude.{◌≡◌, false, IsTrue, None, OnOk, OnErr, length};
+ghost use Rattle.std.specs.Prelude.{◌≡◌, false, None, length};
 ghost use Rattle.std.specs.FinMap as finite;
-ghost use Rattle.sqlite.specs.State.{HasCleanDisk, Survives};
-ghost use Rattle.sqlite.specs.Held.{state};
-ghost use Rattle.tables_sql.specs.Calls.{IsDurable};
-ghost use Rattle.model.specs.World.{World};
-ghost use Rattle.model.specs.Sound.{IsSound};
 ghost use Rattle.sha2.specs.Sha256.{sha256};
-ghost use Rattle.tables_outline.specs.Outline.{with_archive};
-ghost use Rattle.tables.specs.Kept.{Tells, LeavesWorld};
-ghost use Rattle.tables.specs.Others.{KeepsOthers};
+ghost use Rattle.tables.specs.Entries.{with_archived};
+ghost use Rattle.tables.specs.Frames.{StaysSound, CommitsChange, FailsToChange};
+ghost use Rattle.tables.specs.RowsPut.{AddedRows};
 
 use crate::change;
 use crate::objects::InsertObject;
@@ -20,7 +15,7 @@ use sqlite::{Alter, Connection};
 use std::alloc::Global;
 use std::marker::Model;
 use streams::Pieces;
-use tables_outline::{Index, Summary};
+use tables_outline::{Outline, Summary};
 use tables_sql::failure::Failure;
 
 /// The tables of a store, over a connection of their own.
@@ -28,7 +23,7 @@ pub struct Tables<S: Alter> {
     pub(crate) alloc: Global,
     pub(crate) connection: Connection<S>,
     pub(crate) dir: StoreDir,
-    pub(crate) index: Index,
+    pub(crate) outline: Outline,
 }
 
 impl<S: Alter> Model for Tables<S> {
@@ -38,20 +33,34 @@ impl<S: Alter> Model for Tables<S> {
 
     ghost coded = { kept_code S.code };
 
-    ghost view = { λ t. record { connection = t.connection; dir = t.dir; outline = t.index } };
+    ghost view = { λ t. record { connection = t.connection; dir = t.dir; outline = t.outline } };
 
-    ghost invariant = { λ t. Agrees S.Store (record { connection = t.connection; dir = t.dir; outline = t.index }) };
+    ghost invariant = { λ t. Agrees S.Store (record { connection = t.connection; dir = t.dir; outline = t.outline }) };
 }
 
 impl<S: Alter> Tables<S> {
     /// What is kept in memory: all that the tables hold but the bytes of archives, lent.
-    pub fn index(&self) -> &Index
+    ///
+    /// ```rust
+    /// let object = tables.outline().object(path);
+    /// assert_eq!(rt; object.map(|object| object.size()), Some(128));
+    /// ```
+    pub fn outline(&self) -> &Outline
         ensures { result.now ≡ self.now.outline }
     {
-        &self.index
+        &self.outline
     }
 
     /// The connection, given up. It is outside a transaction.
+    ///
+    /// ```rust
+    /// use paths::StoreDir;
+    /// use tables::Tables;
+    ///
+    /// let tables = Tables::open_in_memory(alloc, &StoreDir::parse(alloc, "/nix/store")?)?;
+    /// let conn = tables.release();
+    /// assert!(rt; conn.is_autocommit());
+    /// ```
     pub fn release(self) -> Connection<S>
         ensures alone { result.in_transaction ≡ false }
         ensures same { result ≡ self.connection }
@@ -60,12 +69,27 @@ impl<S: Alter> Tables<S> {
             alloc: _alloc,
             connection,
             dir: _dir,
-            index: _index,
+            outline: _index,
         } = self;
         connection
     }
 
     /// Adds an object under a path that has none: its archive, and the summary of it. That the world is sound then is the caller's condition.
+    ///
+    /// ```rust
+    /// use nar::Node;
+    /// use paths::Ca;
+    /// use sha2::{Digest, Sha256};
+    /// use tables::{Pieces, Summary};
+    ///
+    /// let mut archive = Vec::new(alloc);
+    /// nar::write(&Node::Regular { executable: false, contents: b"mycontent\n" }, &mut archive)?;
+    /// let (hash, ca) = (Sha256::digest(&archive), Some(Ca::of_text(b"mycontent\n")));
+    /// let object = Summary::new(128, hash, Vec::new(alloc), None, ca, Vec::new(alloc), Vec::new(alloc));
+    /// let mut nar = Pieces::new(alloc);
+    /// nar.append(archive)?;
+    /// tables.insert_object(path, &nar, object)?;
+    /// ```
     ///
     /// # Errors
     ///
@@ -79,20 +103,14 @@ impl<S: Alter> Tables<S> {
         requires new { finite.get self.old.outline.objects path.now ≡ None }
         requires size { object.size ≡ length nar.now }
         requires hash { object.hash ≡ sha256 nar.now }
-        requires sound { (w : World) → Tells S.Store self.old w → IsSound self.old.dir (record w { objects = finite.insert w.objects path.now (with_archive nar.now object) }) }
-        ensures dir { self.new.dir ≡ self.old.dir }
-        ensures done { OnOk result ((w : World) → Tells S.Store self.old w → Tells S.Store self.new (record w { objects = finite.insert w.objects path.now (with_archive nar.now object) })) }
-        ensures others { HasCleanDisk (state S.Store self.new.connection) → OnOk result (KeepsOthers (state S.Store self.old.connection).now (state S.Store self.new.connection).now) }
-        ensures failed { OnErr result ((w : World) → Tells S.Store self.old w → Tells S.Store self.new w) }
-        ensures durable { OnOk result (IsTrue (state S.Store self.new.connection).is_open → IsDurable (state S.Store self.new.connection)) }
-        ensures was_open { HasCleanDisk (state S.Store self.new.connection) → OnOk result (IsTrue (state S.Store self.old.connection).is_open × IsTrue (state S.Store self.new.connection).is_open) }
-        ensures survives { (w : World) → Tells S.Store self.old w → Survives (state S.Store self.old.connection) (state S.Store self.new.connection)
-            (λ db. LeavesWorld self.old.dir (state S.Store self.old.connection).now db (record w { objects = finite.insert w.objects path.now (with_archive nar.now object) })) }
+        requires sound { StaysSound S.Store self.old (with_archived path.now nar.now object) }
+        ensures frame { CommitsChange S.Store self.old self.new result (with_archived path.now nar.now object) }
+        ensures cause { FailsToChange S.Store self.old self.new result (AddedRows path.now nar.now object) }
     {
         let texts = texts_of(self.alloc, &object)?;
         let key = path.clone()?;
-        self.index.insert_object(key, object)?;
-        let Some(object) = self.index.object(path) else {
+        self.outline.insert_object(key, object)?;
+        let Some(object) = self.outline.object(path) else {
             unreachable!()
         };
         let insert = InsertObject {
@@ -104,7 +122,7 @@ impl<S: Alter> Tables<S> {
         match change::commit(&mut self.connection, &insert) {
             Ok(()) => Ok(()),
             Err(failure) => {
-                self.index.remove_object(path);
+                self.outline.remove_object(path);
                 Err(failure)
             }
         }

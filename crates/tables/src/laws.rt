@@ -1,7 +1,7 @@
 //! Laws of the definitions: each is the contract of a function that does nothing.
 
 ghost use Rattle.tables.specs.Kept.{HaveAWorld};
-ghost use Rattle.tables.specs.Taken.{RefusesTheRest};
+ghost use Rattle.tables.specs.Opening.{RefusesTheRest};
 
 use sqlite::Alter;
 

@@ -2,16 +2,17 @@
 #![tactic(auto)]
 
 mod adopting;
-mod beside;
 mod change;
 mod cutting;
 mod earlier;
 mod entries;
 mod files;
+mod found;
 mod generations;
 mod keeping;
 mod laws;
 mod named_roots;
+mod object_rows;
 mod objects;
 mod opening;
 mod permanent;
@@ -24,7 +25,6 @@ mod roots;
 mod rows;
 mod runtime;
 mod sessions;
-mod taking;
 mod temporary;
 mod texts;
 mod user_roots;
@@ -41,5 +41,5 @@ pub use refusing::{Cause, Unadopted, Unopened};
 pub use sqlite::{Alter, Connection, MemStore, Start, Unknown};
 pub use streams::Pieces;
 pub use tables_listing::{Kind, Root};
-pub use tables_outline::{Index, Profile, Summary};
+pub use tables_outline::{Outline, Profile, Summary};
 pub use tables_sql::failure::Failure;

@@ -1,7 +1,8 @@
 //! Permanent and user roots, put and dropped by their names.
 
 ghost use Rattle.tables.specs.Entries.{with_root, without_root};
-ghost use Rattle.tables.specs.Frames.{CommitsChange, StaysSound};
+ghost use Rattle.tables.specs.Frames.{StaysSound, CommitsChange, FailsToChange};
+ghost use Rattle.tables.specs.RowsPut.{NoRow, RootRow};
 
 use crate::keeping::Tables;
 use paths::StorePath;
@@ -20,12 +21,20 @@ pub enum RootName<'a> {
 impl<S: Alter> Tables<S> {
     /// Puts a root, whether one of this name was there or not. That the world is sound then is the caller's condition.
     ///
+    /// ```rust
+    /// use tables::RootName;
+    ///
+    /// tables.put_root(RootName::User("ann", "editor"), path)?;
+    /// assert_eq!(rt; tables.outline().user_roots().len(), 1);
+    /// ```
+    ///
     /// # Errors
     ///
     /// Memory was refused, a row is too large, or the disk failed, and then nothing has changed.
     pub fn put_root(&mut self, name: RootName<'_>, target: &StorePath) -> Result<(), Failure>
         requires { StaysSound S.Store self.old (with_root name target.now) }
-        ensures { CommitsChange S.Store self.old self.new result (with_root name.entry target.now) }
+        ensures frame { CommitsChange S.Store self.old self.new result (with_root name.entry target.now) }
+        ensures cause { FailsToChange S.Store self.old self.new result (RootRow name.entry target.now) }
     {
         match name {
             RootName::Permanent(name) => self.put_permanent(name, target),
@@ -35,12 +44,21 @@ impl<S: Alter> Tables<S> {
 
     /// Drops a root, if it is there. That the world is sound then is the caller's condition.
     ///
+    /// ```rust
+    /// use tables::RootName;
+    ///
+    /// tables.put_root(RootName::Permanent("system"), path)?;
+    /// tables.drop_root(RootName::Permanent("system"))?;
+    /// assert!(rt; tables.outline().permanent_roots().is_empty());
+    /// ```
+    ///
     /// # Errors
     ///
     /// Memory was refused or the disk failed, and then nothing has changed.
     pub fn drop_root(&mut self, name: RootName<'_>) -> Result<(), Failure>
         requires { StaysSound S.Store self.old (without_root name) }
-        ensures { CommitsChange S.Store self.old self.new result (without_root name.entry) }
+        ensures frame { CommitsChange S.Store self.old self.new result (without_root name.entry) }
+        ensures cause { FailsToChange S.Store self.old self.new result NoRow }
     {
         match name {
             RootName::Permanent(name) => self.drop_permanent(name),

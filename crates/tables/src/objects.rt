@@ -1,15 +1,15 @@
 //! Objects, as the rows have them.
 
-ghost use Rattle.std.specs.Prelude.{◌≡◌, IsTrue, List, ℕ, None, OnOk, OnErr, length, map, string_bytes};
+ghost use Rattle.std.specs.Prelude.{◌≡◌, IsTrue, OnOk, OnErr, length, map, string_bytes};
 ghost use Rattle.std.specs.List.{zip};
 ghost use Rattle.std.specs.FinMap as finite;
-ghost use Rattle.std.specs.FinMap.Entries.{is_sorted};
-ghost use Rattle.paths.specs.Root.{bytes_cmp};
 ghost use Rattle.sqlite.specs.State.{HasCleanDisk, KeepsCommit, Survives};
 ghost use Rattle.sqlite.specs.Held.{state};
 ghost use Rattle.tables_sql.specs.Calls.{IsUnderWay, Changes};
 ghost use Rattle.tables_sql.specs.Contents.{contents_of};
-ghost use Rattle.tables.specs.Rewritten.{put_references, put_outputs};
+ghost use Rattle.tables.specs.Failures.{HasReason};
+ghost use Rattle.tables.specs.Rewritten.{AreFree, put_references, put_outputs};
+ghost use Rattle.tables.specs.RowsPut.{RowsOf, ReferenceRow, OutputRow};
 
 use crate::change::Change;
 use crate::cutting::{first_of, put_pieces};
@@ -21,7 +21,7 @@ use tables_outline::Summary;
 use tables_rows::{objects, outputs, references};
 use tables_sql::failure::Failure;
 
-/// Adds rows for the references of one path.
+/// Adds rows for the references of one path that has none, each another.
 pub(crate) fn put_references<S: Alter>(
     tx: &mut Transaction<'_, S>,
     base: &str,
@@ -29,10 +29,14 @@ pub(crate) fn put_references<S: Alter>(
 ) -> Result<(), Failure>
     requires under_way { HasCleanDisk (state S.Store tx.old.conn.now) → IsUnderWay (state S.Store tx.old.conn.now) }
     requires is_open { HasCleanDisk (state S.Store tx.old.conn.now) → IsTrue (state S.Store tx.old.conn.now).is_open }
+    requires free { HasCleanDisk (state S.Store tx.old.conn.now)
+        → AreFree (contents_of (state S.Store tx.old.conn.now).now).refs (map (λ t. (base.now, t)) targets.now) }
     ensures same_reference { tx.new.conn.ghost_name ≡ tx.old.conn.ghost_name }
     ensures done { HasCleanDisk (state S.Store tx.new.conn.now) → OnOk result (Changes (state S.Store tx.old.conn.now) (state S.Store tx.new.conn.now)
         (λ c. record c { refs = put_references base.now targets.now c.refs })) }
     ensures failed { HasCleanDisk (state S.Store tx.new.conn.now) → OnErr result (KeepsCommit (state S.Store tx.old.conn.now) (state S.Store tx.new.conn.now)) }
+    ensures cause { HasReason S.Store tx.old.conn.now tx.new.conn.now result
+        (RowsOf (ReferenceRow base.now) targets.now) }
     ensures survives { Survives (state S.Store tx.old.conn.now) (state S.Store tx.new.conn.now) (λ _. ⊥) }
 {
     'targets: for target in targets {
@@ -51,12 +55,15 @@ pub(crate) fn put_outputs<S: Alter>(
     requires under_way { HasCleanDisk (state S.Store tx.old.conn.now) → IsUnderWay (state S.Store tx.old.conn.now) }
     requires is_open { HasCleanDisk (state S.Store tx.old.conn.now) → IsTrue (state S.Store tx.old.conn.now).is_open }
     requires count { length outputs.now ≡ length names.now }
-    requires ordered { IsTrue (is_sorted bytes_cmp (zip (map string_bytes names.now) outputs.now)) }
-    requires free { HasCleanDisk (state S.Store tx.old.conn.now) → (name : List ℕ) → finite.get (contents_of (state S.Store tx.old.conn.now).now).outs (base.now, name) ≡ None }
+    requires free { HasCleanDisk (state S.Store tx.old.conn.now)
+        → AreFree (contents_of (state S.Store tx.old.conn.now).now).outs
+        (map (λ e. (base.now, e.0)) (zip (map string_bytes names.now) outputs.now)) }
     ensures same_reference { tx.new.conn.ghost_name ≡ tx.old.conn.ghost_name }
     ensures done { HasCleanDisk (state S.Store tx.new.conn.now) → OnOk result (Changes (state S.Store tx.old.conn.now) (state S.Store tx.new.conn.now)
         (λ c. record c { outs = put_outputs base.now (zip (map string_bytes names.now) outputs.now) c.outs })) }
     ensures failed { HasCleanDisk (state S.Store tx.new.conn.now) → OnErr result (KeepsCommit (state S.Store tx.old.conn.now) (state S.Store tx.new.conn.now)) }
+    ensures cause { HasReason S.Store tx.old.conn.now tx.new.conn.now result
+        (RowsOf (OutputRow base.now) (zip (map string_bytes names.now) outputs.now)) }
     ensures survives { Survives (state S.Store tx.old.conn.now) (state S.Store tx.new.conn.now) (λ _. ⊥) }
 {
     'outputs: for i in 0..names.len() {
@@ -77,11 +84,14 @@ pub(crate) struct InsertObject<'a> {
 impl<'a> Change for InsertObject<'a> {
     ghost use Rattle.tables_sql.specs.Entries.{stored};
     ghost use Rattle.tables_world.specs.Pieces.{row_part, further_pieces};
-    ghost use Rattle.tables.specs.Rewritten.{put_object};
+    ghost use Rattle.tables.specs.Rewritten.{LacksObject, put_object};
+    ghost use Rattle.tables.specs.RowsPut.{ObjectRows};
 
     ghost change = { λ o c. put_object o.base.now (stored (row_part o.nar.now) o.object.now.hash o.texts.now.deriver o.texts.now.ca) (finite.keys o.object.now.references) (finite.entries o.object.now.outputs) (further_pieces o.nar.now) c };
 
-    ghost fits = { λ o c. (finite.get c.objects o.base.now ≡ None) × ((name : List ℕ) → finite.get c.outs (o.base.now, name) ≡ None) };
+    ghost fits = { λ o c. LacksObject o.base.now c };
+
+    ghost rows = { λ o. ObjectRows o.base.now (stored (row_part o.nar.now) o.object.now.hash o.texts.now.deriver o.texts.now.ca) (finite.keys o.object.now.references) (finite.entries o.object.now.outputs) (further_pieces o.nar.now) };
 
     fn write<S: Alter>(&self, tx: &mut Transaction<'_, S>) -> Result<(), Failure> {
         objects::insert(

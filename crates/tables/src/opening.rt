@@ -3,46 +3,61 @@
 ghost use Rattle.std.specs.Prelude.{◌≡◌, IfOk};
 ghost use Rattle.sqlite.specs.Steps.{over_memory};
 ghost use Rattle.model.specs.World.{no_world};
-ghost use Rattle.tables.specs.Kept.{Agrees, Tells};
+ghost use Rattle.tables.specs.Kept.{Agrees, HasWorld};
 
 use crate::keeping::Tables;
 use paths::StoreDir;
 use sqlite::{Alter, Connection, MemStore};
 use std::alloc::Global;
 use tables_make::making;
-use tables_outline::Index;
+use tables_outline::Outline;
 use tables_sql::failure::Failure;
 
 impl<S: Alter> Tables<S> {
     /// The tables over a connection whose rows are sound in a store directory, and have this outline.
-    pub fn over(alloc: Global, connection: Connection<S>, dir: StoreDir, index: Index) -> Tables<S>
-        requires { Agrees S.Store (record { connection = connection; dir = dir; outline = index }) }
-        ensures { result ≡ record { connection = connection; dir = dir; outline = index } }
+    pub fn over(
+        alloc: Global,
+        connection: Connection<S>,
+        dir: StoreDir,
+        outline: Outline,
+    ) -> Tables<S>
+        requires { Agrees S.Store (record { connection = connection; dir = dir; outline = outline }) }
+        ensures { result ≡ record { connection = connection; dir = dir; outline = outline } }
     {
         Tables {
             alloc,
             connection,
             dir,
-            index,
+            outline,
         }
     }
 }
 
 impl Tables<MemStore> {
     /// The tables of a store in memory, in which there is nothing yet.
+    ///
+    /// ```rust
+    /// use paths::StoreDir;
+    /// use tables::Tables;
+    ///
+    /// let tables = Tables::open_in_memory(alloc, &StoreDir::parse(alloc, "/nix/store")?)?;
+    /// let is_empty = tables.outline().objects().is_empty();
+    /// drop(tables.release());
+    /// assert!(rt; is_empty);
+    /// ```
     pub fn open_in_memory(alloc: Global, dir: &StoreDir) -> Result<Tables<MemStore>, Failure>
         ensures dir { IfOk result (λ t. t.dir ≡ dir.now) }
-        ensures told { IfOk result (λ t. Tells over_memory t no_world) }
+        ensures told { IfOk result (λ t. HasWorld over_memory t no_world) }
     {
         let kept = dir.clone()?;
         let mut connection = Connection::open_in_memory(alloc)?;
         making::make(&mut connection, dir.as_str())?;
-        let index = Index::new(alloc);
+        let outline = Outline::new(alloc);
         Ok(Tables {
             alloc,
             connection,
             dir: kept,
-            index,
+            outline,
         })
     }
 }

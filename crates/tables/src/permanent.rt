@@ -1,11 +1,26 @@
 //! Permanent roots, as the rows have them.
 
-ghost use Rattle.std.specs.Prelude.{◌≡◌};
+ghost use Rattle.std.specs.FinMap as finite;
+ghost use Rattle.tables_rows.specs.Frames.{IsInside, StaysInside, Makes};
+ghost use Rattle.tables.specs.Failures.{HasReason};
+ghost use Rattle.tables.specs.RowsPut.{PermanentRow};
 
 use crate::change::Change;
 use sqlite::{Alter, Transaction};
 use tables_rows::permanent;
 use tables_sql::failure::Failure;
+
+/// Puts a permanent root in place of the one of its name, if there is one.
+fn replace<S: Alter>(tx: &mut Transaction<'_, S>, name: &str, target: &str) -> Result<(), Failure>
+    requires { IsInside S.Store tx.old.conn }
+    ensures frame { StaysInside S.Store tx.old.conn tx.new.conn result }
+    ensures done { Makes S.Store tx.old.conn tx.new.conn result
+        (λ c. record c { permanent = finite.insert c.permanent name.now target.now }) }
+    ensures cause { HasReason S.Store tx.old.conn.now tx.new.conn.now result (PermanentRow name.now target.now) }
+{
+    permanent::delete(tx, name)?;
+    permanent::insert(tx, name, target)
+}
 
 /// A permanent root gets a target, whether it had one or not.
 #[derive(Drop)]
@@ -17,14 +32,16 @@ pub(crate) struct PutPermanent<'a> {
 impl<'a> Change for PutPermanent<'a> {
     ghost use Rattle.std.specs.Prelude.{⊤};
     ghost use Rattle.std.specs.FinMap as finite;
+    ghost use Rattle.tables.specs.RowsPut.{PermanentRow};
 
     ghost change = { λ p c. record c { permanent = finite.insert c.permanent p.name.now p.target.now } };
 
     ghost fits = { λ p c. ⊤ };
 
+    ghost rows = { λ p. PermanentRow p.name.now p.target.now };
+
     fn write<S: Alter>(&self, tx: &mut Transaction<'_, S>) -> Result<(), Failure> {
-        permanent::delete(tx, self.name)?;
-        permanent::insert(tx, self.name, self.target)
+        replace(tx, self.name, self.target)
     }
 }
 
@@ -37,10 +54,13 @@ pub(crate) struct DropPermanent<'a> {
 impl<'a> Change for DropPermanent<'a> {
     ghost use Rattle.std.specs.Prelude.{⊤};
     ghost use Rattle.std.specs.FinMap as finite;
+    ghost use Rattle.tables.specs.RowsPut.{NoRow};
 
     ghost change = { λ p c. record c { permanent = finite.remove c.permanent p.name.now } };
 
     ghost fits = { λ p c. ⊤ };
+
+    ghost rows = { λ p. NoRow };
 
     fn write<S: Alter>(&self, tx: &mut Transaction<'_, S>) -> Result<(), Failure> {
         permanent::delete(tx, self.name)

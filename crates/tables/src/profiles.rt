@@ -1,10 +1,12 @@
 //! Profiles, as the rows have them.
 
-ghost use Rattle.std.specs.Prelude.{◌≡◌, IsTrue, OnOk, OnErr, pos};
+ghost use Rattle.std.specs.Prelude.{◌≡◌, OnOk, OnErr, pos};
 ghost use Rattle.std.specs.FinMap as finite;
 ghost use Rattle.sqlite.specs.State.{HasCleanDisk, KeepsCommit, Survives};
 ghost use Rattle.sqlite.specs.Held.{state};
 ghost use Rattle.tables_sql.specs.Calls.{IsUnderWay, Changes};
+ghost use Rattle.tables.specs.Failures.{HasReason};
+ghost use Rattle.tables.specs.RowsPut.{ProfileRow};
 
 use crate::change::Change;
 use sqlite::{Alter, Transaction};
@@ -23,6 +25,8 @@ pub(crate) fn put_current<S: Alter>(
     ensures done { HasCleanDisk (state S.Store tx.new.conn.now) → OnOk result (Changes (state S.Store tx.old.conn.now) (state S.Store tx.new.conn.now)
         (λ c. record c { profiles = finite.insert c.profiles (owner.now, name.now) (pos current) })) }
     ensures failed { HasCleanDisk (state S.Store tx.new.conn.now) → OnErr result (KeepsCommit (state S.Store tx.old.conn.now) (state S.Store tx.new.conn.now)) }
+    ensures cause { HasReason S.Store tx.old.conn.now tx.new.conn.now result
+        (ProfileRow (owner.now, name.now) current) }
     ensures survives { Survives (state S.Store tx.old.conn.now) (state S.Store tx.new.conn.now) (λ _. ⊥) }
 {
     profiles::delete(tx, owner, name)?;
@@ -45,6 +49,8 @@ impl<'a> Change for Switch<'a> {
 
     ghost fits = { λ p c. ⊤ };
 
+    ghost rows = { λ p. ProfileRow (p.owner.now, p.name.now) p.number };
+
     fn write<S: Alter>(&self, tx: &mut Transaction<'_, S>) -> Result<(), Failure> {
         put_current(tx, self.owner, self.name, self.number)
     }
@@ -63,19 +69,22 @@ impl<'a> Change for DropGeneration<'a> {
     ghost use Rattle.std.specs.Ordering.{eq_by_cmp, int_cmp};
     ghost use Rattle.std.specs.FinMap as finite;
     ghost use Rattle.paths.specs.Root.{bytes_cmp};
+    ghost use Rattle.tables.specs.RowsPut.{NoRow};
 
     ghost change = { λ p c. record c { generations = finite.retain_keys c.generations (λ k. not (eq_by_cmp bytes_cmp k.0 p.owner.now && (eq_by_cmp bytes_cmp k.1 p.name.now && eq_by_cmp int_cmp k.2 (pos p.number)))) } };
 
     ghost fits = { λ p c. ⊤ };
+
+    ghost rows = { λ p. NoRow };
 
     fn write<S: Alter>(&self, tx: &mut Transaction<'_, S>) -> Result<(), Failure> {
         generations::delete(tx, self.owner, self.name, self.number)
     }
 }
 
-/// A profile gets a generation that it hadn't, and a current number. It is made if it isn't there.
+/// A profile gets a path at a number, whether it had one there or not, and a current number. It is made if it isn't there.
 #[derive(Drop)]
-pub(crate) struct AddGeneration<'a> {
+pub(crate) struct PutGeneration<'a> {
     pub(crate) owner: &'a str,
     pub(crate) name: &'a str,
     pub(crate) number: u32,
@@ -83,17 +92,22 @@ pub(crate) struct AddGeneration<'a> {
     pub(crate) current: u32,
 }
 
-impl<'a> Change for AddGeneration<'a> {
+impl<'a> Change for PutGeneration<'a> {
     ghost use Rattle.std.specs.Prelude.{⊤, pos};
     ghost use Rattle.std.specs.FinMap as finite;
-    ghost use Rattle.tables.specs.Rewritten.{add_generation};
+    ghost use Rattle.tables.specs.Rewritten.{put_generation};
+    ghost use Rattle.tables.specs.RowsPut.{GenerationRows};
 
-    ghost change = { λ p c. add_generation (p.owner.now, p.name.now) p.number p.target.now p.current c };
+    ghost change = { λ p c. put_generation (p.owner.now, p.name.now) p.number p.target.now p.current c };
 
     ghost fits = { λ p c. ⊤ };
 
+    ghost rows = { λ p. GenerationRows (p.owner.now, p.name.now) p.number p.target.now p.current };
+
     fn write<S: Alter>(&self, tx: &mut Transaction<'_, S>) -> Result<(), Failure> {
+        let number = self.number;
         put_current(tx, self.owner, self.name, self.current)?;
-        generations::insert(tx, self.owner, self.name, self.number, self.target)
+        generations::delete(tx, self.owner, self.name, number)?;
+        generations::insert(tx, self.owner, self.name, number, self.target)
     }
 }

@@ -11,8 +11,8 @@ ghost use Rattle.tables_sql.specs.Calls.{IsReady, HasFurther, KeepsShown};
 ghost use Rattle.model.specs.World.{World};
 ghost use Rattle.tables_world.specs.Pieces.{IsCut};
 ghost use Rattle.tables_world.specs.Rows.{archive_in, pieces_in};
-ghost use Rattle.tables_world.specs.Told.{rows_of};
-ghost use Rattle.tables.specs.Kept.{Tells};
+ghost use Rattle.tables_world.specs.Worlds.{rows_of};
+ghost use Rattle.tables.specs.Kept.{HasWorld};
 
 use crate::cutting::PIECE_SIZE;
 use crate::keeping::Tables;
@@ -73,15 +73,19 @@ pub(crate) fn read_archive<S: Alter>(
 
 impl<S: Alter> Tables<S> {
     /// The archive of a path, if it is valid. It is read from the disk, and nothing changes.
+    ///
+    /// ```rust
+    /// assert_eq!(rt; tables.archive(path)?.map(|nar| nar.len()), Some(128));
+    /// ```
     pub fn archive(&mut self, path: &StorePath) -> Result<Option<Pieces>, Failure>
         ensures dir { self.new.dir ≡ self.old.dir }
-        ensures found { HasCleanDisk (state S.Store self.new.connection) → IfOk result (λ nar. (w : World) → Tells S.Store self.old w → nar ≡ option_map (λ o. o.nar) (finite.get w.objects path.now)) }
-        ensures same { (w : World) → Tells S.Store self.old w → Tells S.Store self.new w }
+        ensures found { HasCleanDisk (state S.Store self.new.connection) → IfOk result (λ nar. (w : World) → HasWorld S.Store self.old w → nar ≡ option_map (λ o. o.nar) (finite.get w.objects path.now)) }
+        ensures same { (w : World) → HasWorld S.Store self.old w → HasWorld S.Store self.new w }
         ensures was_open { HasCleanDisk (state S.Store self.new.connection) → IfOk result (λ nar. IsTrue (is_some nar) → IsTrue (state S.Store self.old.connection).is_open × IsTrue (state S.Store self.new.connection).is_open) }
         ensures shown { HasCleanDisk (state S.Store self.new.connection) → KeepsShown (state S.Store self.old.connection) (state S.Store self.new.connection) }
         ensures survives { Survives (state S.Store self.old.connection) (state S.Store self.new.connection) (λ _. ⊥) }
     {
-        let Some(object) = self.index.object(path) else {
+        let Some(object) = self.outline.object(path) else {
             return Ok(None);
         };
         let size = object.size();

@@ -38,6 +38,13 @@ pub enum Unopened<S: Alter, D: Disk> {
 
 impl<S: Alter, D: Disk> Unopened<S, D> {
     /// Why the file isn't opened as a store. What isn't a database is no store: `BadSchema`.
+    ///
+    /// ```rust
+    /// use tables::Cause;
+    ///
+    /// // Of a file with the text `no database`:
+    /// assert_eq!(rt; unopened.cause(), Cause::BadSchema);
+    /// ```
     pub fn cause(&self) -> Cause
         ensures { result ≡ cause_of self.now }
     {
@@ -51,7 +58,7 @@ impl<S: Alter, D: Disk> Unopened<S, D> {
                 Some(failure) => Cause::Failed(*failure),
                 None => Cause::BadSchema,
             },
-            Unopened::File(file::Unopened::Untold(untold)) => Cause::Failed(untold.failure),
+            Unopened::File(file::Unopened::Unreadable(untold)) => Cause::Failed(untold.failure),
             Unopened::Store(unadopted) => unadopted.cause,
         }
     }

@@ -1,4 +1,4 @@
-//! Objects that go, as the rows and the index have them.
+//! Objects that go, as the rows and the outline have them.
 
 ghost use Rattle.std.specs.Prelude.{◌≡◌, IsTrue, OnOk, OnErr, not};
 ghost use Rattle.std.specs.FinMap as finite;
@@ -8,37 +8,40 @@ ghost use Rattle.live.specs.Graph.{holds};
 ghost use Rattle.tables_schema.specs.Forms.{piece};
 ghost use Rattle.tables_sql.specs.Calls.{IsUnderWay, HasFurther, Changes};
 ghost use Rattle.tables_sql.specs.Contents.{contents_of};
+ghost use Rattle.tables.specs.Failures.{HasReason};
 ghost use Rattle.tables.specs.Frames.{CommitsRows, MayCommit};
+ghost use Rattle.tables.specs.RowsPut.{NoRow};
 ghost use Rattle.tables.specs.Rewritten.{Covers, without_object, without_objects};
 
-use crate::beside::{delete_outputs, delete_pieces, delete_references};
 use crate::change;
 use crate::change::Change;
+use crate::object_rows::{delete_outputs, delete_pieces, delete_references};
 use paths::StorePath;
 use sqlite::{Alter, Connection, Transaction};
 use std::alloc::Global;
-use tables_outline::Index;
+use tables_outline::Outline;
 use tables_rows::objects;
 use tables_sql::failure::Failure;
 
-/// Removes the rows of one object, if it is there: its own, and those that belong to it by the index.
+/// Removes the rows of one object, if it is there: its own, and those that belong to it by the outline.
 fn delete_object<S: Alter>(
     tx: &mut Transaction<'_, S>,
-    index: &Index,
+    outline: &Outline,
     path: &StorePath,
 ) -> Result<(), Failure>
     requires under_way { HasCleanDisk (state S.Store tx.old.conn.now) → IsUnderWay (state S.Store tx.old.conn.now) }
     requires stands { HasCleanDisk (state S.Store tx.old.conn.now) → IsTrue (state S.Store tx.old.conn.now).is_open → HasFurther (state S.Store tx.old.conn.now).now piece }
-    requires covers { HasCleanDisk (state S.Store tx.old.conn.now) → IsTrue (state S.Store tx.old.conn.now).is_open → Covers index.now (contents_of (state S.Store tx.old.conn.now).now) }
+    requires covers { HasCleanDisk (state S.Store tx.old.conn.now) → IsTrue (state S.Store tx.old.conn.now).is_open → Covers outline.now (contents_of (state S.Store tx.old.conn.now).now) }
     ensures same_reference { tx.new.conn.ghost_name ≡ tx.old.conn.ghost_name }
     ensures done { HasCleanDisk (state S.Store tx.new.conn.now) → OnOk result (Changes (state S.Store tx.old.conn.now) (state S.Store tx.new.conn.now)
         (λ c. without_object path.now c)) }
     ensures failed { HasCleanDisk (state S.Store tx.new.conn.now) → OnErr result (KeepsCommit (state S.Store tx.old.conn.now) (state S.Store tx.new.conn.now)) }
+    ensures cause { HasReason S.Store tx.old.conn.now tx.new.conn.now result NoRow }
     ensures survives { Survives (state S.Store tx.old.conn.now) (state S.Store tx.new.conn.now) (λ _. ⊥) }
 {
     let base = path.as_str();
     objects::delete(tx, base)?;
-    let Some(object) = index.object(path) else {
+    let Some(object) = outline.object(path) else {
         return Ok(());
     };
     delete_references(tx, base, object)?;
@@ -49,38 +52,39 @@ fn delete_object<S: Alter>(
 /// Removes the rows of some objects.
 fn delete_objects<S: Alter>(
     tx: &mut Transaction<'_, S>,
-    index: &Index,
+    outline: &Outline,
     paths: &[StorePath],
 ) -> Result<(), Failure>
     requires under_way { HasCleanDisk (state S.Store tx.old.conn.now) → IsUnderWay (state S.Store tx.old.conn.now) }
     requires is_open { HasCleanDisk (state S.Store tx.old.conn.now) → IsTrue (state S.Store tx.old.conn.now).is_open }
     requires stands { HasCleanDisk (state S.Store tx.old.conn.now) → HasFurther (state S.Store tx.old.conn.now).now piece }
-    requires covers { HasCleanDisk (state S.Store tx.old.conn.now) → Covers index.now (contents_of (state S.Store tx.old.conn.now).now) }
+    requires covers { HasCleanDisk (state S.Store tx.old.conn.now) → Covers outline.now (contents_of (state S.Store tx.old.conn.now).now) }
     ensures same_reference { tx.new.conn.ghost_name ≡ tx.old.conn.ghost_name }
     ensures done { HasCleanDisk (state S.Store tx.new.conn.now) → OnOk result (Changes (state S.Store tx.old.conn.now) (state S.Store tx.new.conn.now)
         (λ c. without_objects paths.now c)) }
     ensures failed { HasCleanDisk (state S.Store tx.new.conn.now) → OnErr result (KeepsCommit (state S.Store tx.old.conn.now) (state S.Store tx.new.conn.now)) }
+    ensures cause { HasReason S.Store tx.old.conn.now tx.new.conn.now result NoRow }
     ensures survives { Survives (state S.Store tx.old.conn.now) (state S.Store tx.new.conn.now) (λ _. ⊥) }
 {
     'paths: for path in paths {
-        delete_object(tx, index, path)?;
+        delete_object(tx, outline, path)?;
     }
     Ok(())
 }
 
-/// Takes some objects out of an index. It takes no memory.
-pub(crate) fn remove_all(index: &mut Index, paths: &[StorePath])
-    ensures { index.new ≡ record index.old { objects = finite.retain_keys index.old.objects (λ p. not (holds paths.now p)) } }
+/// Takes some objects out of an outline. It takes no memory.
+pub(crate) fn remove_all(outline: &mut Outline, paths: &[StorePath])
+    ensures { outline.new ≡ record outline.old { objects = finite.retain_keys outline.old.objects (λ p. not (holds paths.now p)) } }
 {
     'paths: for path in paths {
-        index.remove_object(path);
+        outline.remove_object(path);
     }
 }
 
-/// Some objects go, if they are there: a first one and the rest. The index is that of the rows before.
+/// Some objects go, if they are there: a first one and the rest. The outline is that of the rows before.
 #[derive(Drop)]
 pub(crate) struct RemoveObjects<'a> {
-    pub(crate) index: &'a Index,
+    pub(crate) outline: &'a Outline,
     pub(crate) first: &'a StorePath,
     pub(crate) rest: &'a [StorePath],
 }
@@ -90,11 +94,13 @@ impl<'a> Change for RemoveObjects<'a> {
 
     ghost change = { λ o c. without_objects (o.first.now ∷ o.rest.now) c };
 
-    ghost fits = { λ o c. Covers o.index.now c };
+    ghost fits = { λ o c. Covers o.outline.now c };
+
+    ghost rows = { λ o. NoRow };
 
     fn write<S: Alter>(&self, tx: &mut Transaction<'_, S>) -> Result<(), Failure> {
-        delete_object(tx, self.index, self.first)?;
-        delete_objects(tx, self.index, self.rest)
+        delete_object(tx, self.outline, self.first)?;
+        delete_objects(tx, self.outline, self.rest)
     }
 }
 
@@ -111,26 +117,36 @@ impl Change for RemoveNone {
 
     ghost fits = { λ o c. ⊤ };
 
+    ghost rows = { λ o. NoRow };
+
     fn write<S: Alter>(&self, tx: &mut Transaction<'_, S>) -> Result<(), Failure> {
         let _none = objects::get_within(self.alloc, tx, "")?;
         Ok(())
     }
 }
 
-/// Removes the rows of some objects in one transaction. The index is that of the rows before.
+/// Removes the rows of some objects in one transaction. The outline is that of the rows before.
 pub(crate) fn delete_rows<S: Alter>(
     alloc: Global,
     conn: &mut Connection<S>,
-    index: &Index,
+    outline: &Outline,
     paths: &[StorePath],
 ) -> Result<(), Failure>
     requires frame { MayCommit S.Store conn.old }
     requires covers { HasCleanDisk (state S.Store conn.old) → IsTrue (state S.Store conn.old).is_open
-        → Covers index.now (contents_of (state S.Store conn.old).now) }
-    ensures { CommitsRows S.Store conn.old conn.new result (without_objects paths.now) }
+        → Covers outline.now (contents_of (state S.Store conn.old).now) }
+    ensures frame { CommitsRows S.Store conn.old conn.new result (without_objects paths.now) }
+    ensures cause { HasReason S.Store conn.old conn.new result NoRow }
 {
     match paths.split_first() {
-        Some((first, rest)) => change::commit(conn, &RemoveObjects { index, first, rest }),
+        Some((first, rest)) => change::commit(
+            conn,
+            &RemoveObjects {
+                outline,
+                first,
+                rest,
+            },
+        ),
         None => change::commit(conn, &RemoveNone { alloc }),
     }
 }

@@ -1,16 +1,12 @@
 //! Roots are put and dropped, one transaction a call. That the world is sound then is the caller's condition. A call fails when it runs out
 //! of memory, for a row too large, or for a fault of the disk, and then nothing has changed.
 
-ghost use Rattle.std.specs.Prelude.{◌≡◌, IsTrue, OnOk, OnErr};
-ghost use Rattle.std.specs.FinMap as finite;
-ghost use Rattle.sqlite.specs.State.{HasCleanDisk, Survives};
-ghost use Rattle.sqlite.specs.Held.{state};
-ghost use Rattle.tables_sql.specs.Calls.{IsDurable};
-ghost use Rattle.model.specs.World.{World, pair_cmp};
-ghost use Rattle.model.specs.Sound.{IsSound};
+ghost use Rattle.std.specs.Prelude.{map};
+ghost use Rattle.model.specs.World.{pair_cmp};
+ghost use Rattle.model.specs.Effects.{with_permanent, without_permanent, with_user_root, without_user_root, with_runtime};
 ghost use Rattle.tables_outline.specs.Maps.{labelled_bytes, seen_set};
-ghost use Rattle.tables.specs.Kept.{Tells, LeavesWorld};
-ghost use Rattle.tables.specs.Others.{KeepsOthers};
+ghost use Rattle.tables.specs.Frames.{StaysSound, CommitsChange, FailsToChange};
+ghost use Rattle.tables.specs.RowsPut.{NoRow, RowsOf, PermanentRow, UserRootRow, RuntimeRow};
 
 use crate::change;
 use crate::keeping::Tables;
@@ -24,20 +20,19 @@ use tables_sql::failure::Failure;
 
 impl<S: Alter> Tables<S> {
     /// Puts a permanent root, whether one of this name was there or not.
+    ///
+    /// ```rust
+    /// tables.put_permanent("system", path)?;
+    /// assert_eq!(rt; tables.outline().permanent_roots().get("system"), Some(path));
+    /// ```
     pub fn put_permanent(&mut self, name: &str, target: &StorePath) -> Result<(), Failure>
-        requires sound { (w : World) → Tells S.Store self.old w → IsSound self.old.dir (record w { permanent = finite.insert w.permanent name.now target.now }) }
-        ensures dir { self.new.dir ≡ self.old.dir }
-        ensures done { OnOk result ((w : World) → Tells S.Store self.old w → Tells S.Store self.new (record w { permanent = finite.insert w.permanent name.now target.now })) }
-        ensures others { HasCleanDisk (state S.Store self.new.connection) → OnOk result (KeepsOthers (state S.Store self.old.connection).now (state S.Store self.new.connection).now) }
-        ensures failed { OnErr result ((w : World) → Tells S.Store self.old w → Tells S.Store self.new w) }
-        ensures durable { OnOk result (IsTrue (state S.Store self.new.connection).is_open → IsDurable (state S.Store self.new.connection)) }
-        ensures was_open { HasCleanDisk (state S.Store self.new.connection) → OnOk result (IsTrue (state S.Store self.old.connection).is_open × IsTrue (state S.Store self.new.connection).is_open) }
-        ensures survives { (w : World) → Tells S.Store self.old w → Survives (state S.Store self.old.connection) (state S.Store self.new.connection)
-            (λ db. LeavesWorld self.old.dir (state S.Store self.old.connection).now db (record w { permanent = finite.insert w.permanent name.now target.now })) }
+        requires sound { StaysSound S.Store self.old (λ w. with_permanent w name.now target.now) }
+        ensures frame { CommitsChange S.Store self.old self.new result (λ w. with_permanent w name.now target.now) }
+        ensures cause { FailsToChange S.Store self.old self.new result (PermanentRow name.now target.now) }
     {
         let key = String::from_str(self.alloc, name)?;
         let value = target.clone()?;
-        let had = self.index.put_permanent(key, value)?;
+        let had = self.outline.put_permanent(key, value)?;
         let put = PutPermanent {
             name,
             target: target.as_str(),
@@ -48,27 +43,27 @@ impl<S: Alter> Tables<S> {
                 Ok(())
             }
             Err(failure) => {
-                self.index.undo_permanent(name, had);
+                self.outline.undo_permanent(name, had);
                 Err(failure)
             }
         }
     }
 
     /// Drops a permanent root, if it is there.
+    ///
+    /// ```rust
+    /// tables.put_permanent("system", path)?;
+    /// tables.drop_permanent("system")?;
+    /// assert!(rt; tables.outline().permanent_roots().is_empty());
+    /// ```
     pub fn drop_permanent(&mut self, name: &str) -> Result<(), Failure>
-        requires sound { (w : World) → Tells S.Store self.old w → IsSound self.old.dir (record w { permanent = finite.remove w.permanent name.now }) }
-        ensures dir { self.new.dir ≡ self.old.dir }
-        ensures done { OnOk result ((w : World) → Tells S.Store self.old w → Tells S.Store self.new (record w { permanent = finite.remove w.permanent name.now })) }
-        ensures others { HasCleanDisk (state S.Store self.new.connection) → OnOk result (KeepsOthers (state S.Store self.old.connection).now (state S.Store self.new.connection).now) }
-        ensures failed { OnErr result ((w : World) → Tells S.Store self.old w → Tells S.Store self.new w) }
-        ensures durable { OnOk result (IsTrue (state S.Store self.new.connection).is_open → IsDurable (state S.Store self.new.connection)) }
-        ensures was_open { HasCleanDisk (state S.Store self.new.connection) → OnOk result (IsTrue (state S.Store self.old.connection).is_open × IsTrue (state S.Store self.new.connection).is_open) }
-        ensures survives { (w : World) → Tells S.Store self.old w → Survives (state S.Store self.old.connection) (state S.Store self.new.connection)
-            (λ db. LeavesWorld self.old.dir (state S.Store self.old.connection).now db (record w { permanent = finite.remove w.permanent name.now })) }
+        requires sound { StaysSound S.Store self.old (λ w. without_permanent w name.now) }
+        ensures frame { CommitsChange S.Store self.old self.new result (λ w. without_permanent w name.now) }
+        ensures cause { FailsToChange S.Store self.old self.new result NoRow }
     {
         match change::commit(&mut self.connection, &DropPermanent { name }) {
             Ok(()) => {
-                self.index.drop_permanent(name);
+                self.outline.drop_permanent(name);
                 Ok(())
             }
             Err(failure) => Err(failure),
@@ -76,26 +71,26 @@ impl<S: Alter> Tables<S> {
     }
 
     /// Puts a user root, whether one of this owner and name was there or not.
+    ///
+    /// ```rust
+    /// tables.put_user_root("ann", "editor", path)?;
+    /// assert_eq!(rt; tables.outline().user_roots().len(), 1);
+    /// ```
     pub fn put_user_root(
         &mut self,
         owner: &str,
         name: &str,
         target: &StorePath,
     ) -> Result<(), Failure>
-        requires sound { (w : World) → Tells S.Store self.old w → IsSound self.old.dir (record w { user_roots = finite.insert w.user_roots (owner.now, name.now) target.now }) }
-        ensures dir { self.new.dir ≡ self.old.dir }
-        ensures done { OnOk result ((w : World) → Tells S.Store self.old w → Tells S.Store self.new (record w { user_roots = finite.insert w.user_roots (owner.now, name.now) target.now })) }
-        ensures others { HasCleanDisk (state S.Store self.new.connection) → OnOk result (KeepsOthers (state S.Store self.old.connection).now (state S.Store self.new.connection).now) }
-        ensures failed { OnErr result ((w : World) → Tells S.Store self.old w → Tells S.Store self.new w) }
-        ensures durable { OnOk result (IsTrue (state S.Store self.new.connection).is_open → IsDurable (state S.Store self.new.connection)) }
-        ensures was_open { HasCleanDisk (state S.Store self.new.connection) → OnOk result (IsTrue (state S.Store self.old.connection).is_open × IsTrue (state S.Store self.new.connection).is_open) }
-        ensures survives { (w : World) → Tells S.Store self.old w → Survives (state S.Store self.old.connection) (state S.Store self.new.connection)
-            (λ db. LeavesWorld self.old.dir (state S.Store self.old.connection).now db (record w { user_roots = finite.insert w.user_roots (owner.now, name.now) target.now })) }
+        requires sound { StaysSound S.Store self.old (λ w. with_user_root w (owner.now, name.now) target.now) }
+        ensures frame { CommitsChange S.Store self.old self.new result
+            (λ w. with_user_root w (owner.now, name.now) target.now) }
+        ensures cause { FailsToChange S.Store self.old self.new result (UserRootRow (owner.now, name.now) target.now) }
     {
         let key = owned(self.alloc, owner, name)?;
         let again = owned(self.alloc, owner, name)?;
         let value = target.clone()?;
-        let had = self.index.put_user_root(key, value)?;
+        let had = self.outline.put_user_root(key, value)?;
         let put = PutUserRoot {
             owner,
             name,
@@ -107,28 +102,29 @@ impl<S: Alter> Tables<S> {
                 Ok(())
             }
             Err(failure) => {
-                self.index.undo_user_root(&again, had);
+                self.outline.undo_user_root(&again, had);
                 Err(failure)
             }
         }
     }
 
     /// Drops a user root, if it is there.
+    ///
+    /// ```rust
+    /// tables.put_user_root("ann", "editor", path)?;
+    /// tables.drop_user_root("ann", "editor")?;
+    /// assert!(rt; tables.outline().user_roots().is_empty());
+    /// ```
     pub fn drop_user_root(&mut self, owner: &str, name: &str) -> Result<(), Failure>
-        requires sound { (w : World) → Tells S.Store self.old w → IsSound self.old.dir (record w { user_roots = finite.remove w.user_roots (owner.now, name.now) }) }
-        ensures dir { self.new.dir ≡ self.old.dir }
-        ensures done { OnOk result ((w : World) → Tells S.Store self.old w → Tells S.Store self.new (record w { user_roots = finite.remove w.user_roots (owner.now, name.now) })) }
-        ensures others { HasCleanDisk (state S.Store self.new.connection) → OnOk result (KeepsOthers (state S.Store self.old.connection).now (state S.Store self.new.connection).now) }
-        ensures failed { OnErr result ((w : World) → Tells S.Store self.old w → Tells S.Store self.new w) }
-        ensures durable { OnOk result (IsTrue (state S.Store self.new.connection).is_open → IsDurable (state S.Store self.new.connection)) }
-        ensures was_open { HasCleanDisk (state S.Store self.new.connection) → OnOk result (IsTrue (state S.Store self.old.connection).is_open × IsTrue (state S.Store self.new.connection).is_open) }
-        ensures survives { (w : World) → Tells S.Store self.old w → Survives (state S.Store self.old.connection) (state S.Store self.new.connection)
-            (λ db. LeavesWorld self.old.dir (state S.Store self.old.connection).now db (record w { user_roots = finite.remove w.user_roots (owner.now, name.now) })) }
+        requires sound { StaysSound S.Store self.old (λ w. without_user_root w (owner.now, name.now)) }
+        ensures frame { CommitsChange S.Store self.old self.new result
+            (λ w. without_user_root w (owner.now, name.now)) }
+        ensures cause { FailsToChange S.Store self.old self.new result NoRow }
     {
         let key = owned(self.alloc, owner, name)?;
         match change::commit(&mut self.connection, &DropUserRoot { owner, name }) {
             Ok(()) => {
-                self.index.drop_user_root(&key);
+                self.outline.drop_user_root(&key);
                 Ok(())
             }
             Err(failure) => Err(failure),
@@ -136,20 +132,26 @@ impl<S: Alter> Tables<S> {
     }
 
     /// Makes the runtime roots these, each a label and a target, in place of all that there were.
+    ///
+    /// ```rust
+    /// use std::collections::BTreeSet;
+    ///
+    /// let mut roots = BTreeSet::new(alloc);
+    /// roots.insert((String::from_str(alloc, "/proc/1/exe")?, path.clone()?))?;
+    /// tables.replace_runtime(roots)?;
+    /// assert_eq!(rt; tables.outline().runtime_roots().len(), 1);
+    /// ```
     pub fn replace_runtime(&mut self, roots: BTreeSet<(String, StorePath)>) -> Result<(), Failure>
-        requires sound { (w : World) → Tells S.Store self.old w → IsSound self.old.dir (record w { runtime = seen_set pair_cmp labelled_bytes roots.keys }) }
-        ensures dir { self.new.dir ≡ self.old.dir }
-        ensures done { OnOk result ((w : World) → Tells S.Store self.old w → Tells S.Store self.new (record w { runtime = seen_set pair_cmp labelled_bytes roots.keys })) }
-        ensures others { HasCleanDisk (state S.Store self.new.connection) → OnOk result (KeepsOthers (state S.Store self.old.connection).now (state S.Store self.new.connection).now) }
-        ensures failed { OnErr result ((w : World) → Tells S.Store self.old w → Tells S.Store self.new w) }
-        ensures durable { OnOk result (IsTrue (state S.Store self.new.connection).is_open → IsDurable (state S.Store self.new.connection)) }
-        ensures was_open { HasCleanDisk (state S.Store self.new.connection) → OnOk result (IsTrue (state S.Store self.old.connection).is_open × IsTrue (state S.Store self.new.connection).is_open) }
-        ensures survives { (w : World) → Tells S.Store self.old w → Survives (state S.Store self.old.connection) (state S.Store self.new.connection)
-            (λ db. LeavesWorld self.old.dir (state S.Store self.old.connection).now db (record w { runtime = seen_set pair_cmp labelled_bytes roots.keys })) }
+        requires sound { StaysSound S.Store self.old
+            (λ w. with_runtime w (seen_set pair_cmp labelled_bytes roots.keys)) }
+        ensures frame { CommitsChange S.Store self.old self.new result
+            (λ w. with_runtime w (seen_set pair_cmp labelled_bytes roots.keys)) }
+        ensures cause { FailsToChange S.Store self.old self.new result
+            (RowsOf RuntimeRow (map labelled_bytes roots.keys)) }
     {
         match change::commit(&mut self.connection, &ReplaceRuntime { roots: &roots }) {
             Ok(()) => {
-                self.index.replace_runtime(roots);
+                self.outline.replace_runtime(roots);
                 Ok(())
             }
             Err(failure) => {

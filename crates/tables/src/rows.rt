@@ -5,26 +5,26 @@ ghost use Rattle.sqlite.specs.State.{HasCleanDisk, IsUnchanged, Survives};
 ghost use Rattle.sqlite.specs.Held.{state};
 ghost use Rattle.tables_sql.specs.Contents.{contents_of};
 ghost use Rattle.tables_sql.specs.Calls.{IsReady, KeepsShown};
-ghost use Rattle.tables_world.specs.Told.{IsSoundBy, world_in};
-ghost use Rattle.tables_world.specs.View.{schema_view};
+ghost use Rattle.tables_world.specs.Worlds.{IsSoundBy, world_in};
 ghost use Rattle.tables_outline.specs.Outline.{outline_of};
-ghost use Rattle.tables.specs.Taken.{HasFurtherOf, IsFoundBy, AreRead, IsCause};
+ghost use Rattle.tables_rows.specs.Frames.{FailsInReads};
+ghost use Rattle.tables.specs.Opening.{HasFurtherOf, IsFoundBy, AreRead, IsCause};
 
 use crate::refusing::Cause;
 use paths::StoreDir;
 use sqlite::{Alter, Connection};
 use std::alloc::Global;
-use tables_objects::take_objects;
-use tables_outline::Index;
-use tables_roots::{settings, take_roots};
+use tables_objects::load_objects;
+use tables_outline::Outline;
+use tables_roots::{load_roots, settings};
+use tables_schema::Schema;
 use tables_sql::failure::Failure;
-use tables_world::Schema;
 
 /// What the rows of a store say: its directory, and all that is kept in memory.
 #[derive(Drop)]
 pub(crate) struct Taken {
     pub(crate) dir: StoreDir,
-    pub(crate) index: Index,
+    pub(crate) outline: Outline,
 }
 
 /// The store directory and the outline of the rows, if they are sound by their schema.
@@ -35,27 +35,28 @@ fn read<S: Alter>(
 ) -> Result<Option<Taken>, Failure>
     requires alone { conn.old.in_transaction ≡ false }
     requires ready { HasCleanDisk (state S.Store conn.old) → IsTrue (state S.Store conn.old).is_open → IsReady (state S.Store conn.old) }
-    requires further { HasCleanDisk (state S.Store conn.old) → IsTrue (state S.Store conn.old).is_open → HasFurtherOf (schema_view schema) (state S.Store conn.old).now }
+    requires further { HasCleanDisk (state S.Store conn.old) → IsTrue (state S.Store conn.old).is_open → HasFurtherOf schema (state S.Store conn.old).now }
     ensures alone { conn.new.in_transaction ≡ false }
     ensures told { HasCleanDisk (state S.Store conn.new) → IfOk result (λ o. MatchOption o
-        ((dir : List ℕ) → ¬ IsSoundBy (schema_view schema) dir (contents_of (state S.Store conn.old).now))
-        (λ r. IsSoundBy (schema_view schema) r.dir (contents_of (state S.Store conn.old).now) × (outline_of (world_in (contents_of (state S.Store conn.old).now)) ≡ r.index))) }
+        ((dir : List ℕ) → ¬ IsSoundBy schema dir (contents_of (state S.Store conn.old).now))
+        (λ r. IsSoundBy schema r.dir (contents_of (state S.Store conn.old).now) × (outline_of (world_in (contents_of (state S.Store conn.old).now)) ≡ r.outline))) }
     ensures unchanged { HasCleanDisk (state S.Store conn.new) → OnOk result (IsUnchanged (state S.Store conn.old) (state S.Store conn.new)) }
     ensures same { HasCleanDisk (state S.Store conn.new) → KeepsShown (state S.Store conn.old) (state S.Store conn.new) }
     ensures ready { HasCleanDisk (state S.Store conn.new) → IsTrue (state S.Store conn.new).is_open → IsReady (state S.Store conn.new) }
+    ensures cause { FailsInReads S.Store conn.old conn.new result }
     ensures survives { Survives (state S.Store conn.old) (state S.Store conn.new) (λ _. ⊥) }
 {
     let Some(dir) = settings::read(alloc, conn, schema)? else {
         return Ok(None);
     };
-    let mut index = Index::new(alloc);
-    if !take_objects(alloc, conn, schema, &dir, &mut index)? {
+    let mut outline = Outline::new(alloc);
+    if !load_objects(alloc, conn, schema, &dir, &mut outline)? {
         return Ok(None);
     }
-    if !take_roots(alloc, conn, schema, &mut index)? {
+    if !load_roots(alloc, conn, schema, &mut outline)? {
         return Ok(None);
     }
-    Ok(Some(Taken { dir, index }))
+    Ok(Some(Taken { dir, outline }))
 }
 
 fn is_same(a: &StoreDir, b: &StoreDir) -> bool
@@ -73,12 +74,13 @@ pub(crate) fn read_as<S: Alter>(
 ) -> Result<Taken, Cause>
     requires alone { conn.old.in_transaction ≡ false }
     requires ready { HasCleanDisk (state S.Store conn.old) → IsReady (state S.Store conn.old) }
-    requires found { HasCleanDisk (state S.Store conn.old) → IsFoundBy (schema_view schema) (state S.Store conn.old).now }
+    requires found { HasCleanDisk (state S.Store conn.old) → IsFoundBy schema (state S.Store conn.old).now }
     ensures alone { conn.new.in_transaction ≡ false }
     ensures dir { IfOk result (λ r. r.dir ≡ dir.now) }
-    ensures told { HasCleanDisk (state S.Store conn.new) → IfOk result (λ r. AreRead (schema_view schema) r.dir (state S.Store conn.old).now r.index) }
+    ensures told { HasCleanDisk (state S.Store conn.new) → IfOk result (λ r. AreRead schema r.dir (state S.Store conn.old).now r.outline) }
     ensures unchanged { HasCleanDisk (state S.Store conn.new) → OnOk result (IsUnchanged (state S.Store conn.old) (state S.Store conn.new)) }
-    ensures cause { HasCleanDisk (state S.Store conn.new) → IfErr result (λ e. IsCause dir.now (state S.Store conn.old).now e) }
+    ensures cause { HasCleanDisk (state S.Store conn.new)
+        → IfErr result (IsCause dir.now (state S.Store conn.old) (state S.Store conn.new)) }
     ensures same { HasCleanDisk (state S.Store conn.new) → KeepsShown (state S.Store conn.old) (state S.Store conn.new) }
     ensures ready { HasCleanDisk (state S.Store conn.new) → IsTrue (state S.Store conn.new).is_open → IsReady (state S.Store conn.new) }
     ensures survives { Survives (state S.Store conn.old) (state S.Store conn.new) (λ _. ⊥) }

@@ -1,11 +1,15 @@
 //! Runtime roots, as the rows have them.
 
 ghost use Rattle.std.specs.Prelude.{◌≡◌, IsTrue, OnOk, OnErr, map};
+ghost use Rattle.std.specs.FinMap as finite;
 ghost use Rattle.sqlite.specs.State.{HasCleanDisk, KeepsCommit, Survives};
 ghost use Rattle.sqlite.specs.Held.{state};
+ghost use Rattle.tables_sql.specs.Contents.{contents_of};
 ghost use Rattle.tables_sql.specs.Calls.{IsUnderWay, Changes};
 ghost use Rattle.tables_outline.specs.Maps.{labelled_bytes};
+ghost use Rattle.tables.specs.Failures.{HasReason};
 ghost use Rattle.tables.specs.Rewritten.{put_pairs};
+ghost use Rattle.tables.specs.RowsPut.{RowsOf, RuntimeRow};
 
 use crate::change::Change;
 use paths::StorePath;
@@ -14,19 +18,25 @@ use std::collections::BTreeSet;
 use tables_rows::runtime;
 use tables_sql::failure::Failure;
 
-/// Adds rows for these runtime roots.
+/// Adds rows for these runtime roots, where there is none.
 pub(crate) fn put_runtime<S: Alter>(
     tx: &mut Transaction<'_, S>,
     roots: &BTreeSet<(String, StorePath)>,
 ) -> Result<(), Failure>
     requires under_way { HasCleanDisk (state S.Store tx.old.conn.now) → IsUnderWay (state S.Store tx.old.conn.now) }
     requires is_open { HasCleanDisk (state S.Store tx.old.conn.now) → IsTrue (state S.Store tx.old.conn.now).is_open }
+    requires none { HasCleanDisk (state S.Store tx.old.conn.now)
+        → (contents_of (state S.Store tx.old.conn.now).now).runtime ≡ finite.empty }
     ensures same_reference { tx.new.conn.ghost_name ≡ tx.old.conn.ghost_name }
     ensures done { HasCleanDisk (state S.Store tx.new.conn.now) → OnOk result (Changes (state S.Store tx.old.conn.now) (state S.Store tx.new.conn.now)
         (λ c. record c { runtime = put_pairs (map labelled_bytes roots.now.keys) c.runtime })) }
     ensures failed { HasCleanDisk (state S.Store tx.new.conn.now) → OnErr result (KeepsCommit (state S.Store tx.old.conn.now) (state S.Store tx.new.conn.now)) }
+    ensures cause { HasReason S.Store tx.old.conn.now tx.new.conn.now result
+        (RowsOf RuntimeRow (map labelled_bytes roots.now.keys)) }
     ensures survives { Survives (state S.Store tx.old.conn.now) (state S.Store tx.new.conn.now) (λ _. ⊥) }
 {
+    // Labels and targets rise.
+    let _count = roots.len();
     'roots: for root in roots.iter() {
         runtime::insert(tx, root.0.as_str(), root.1.as_str())?;
     }
@@ -47,6 +57,8 @@ impl<'a> Change for ReplaceRuntime<'a> {
     ghost change = { λ p c. record c { runtime = seen_set pair_cmp labelled_bytes p.roots.now.keys } };
 
     ghost fits = { λ p c. ⊤ };
+
+    ghost rows = { λ p. RowsOf RuntimeRow (map labelled_bytes p.roots.now.keys) };
 
     fn write<S: Alter>(&self, tx: &mut Transaction<'_, S>) -> Result<(), Failure> {
         runtime::delete_all(tx)?;

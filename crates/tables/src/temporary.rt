@@ -2,7 +2,7 @@
 
 ghost use Rattle.std.specs.Prelude.{◌≡◌, IfOk};
 ghost use Rattle.tables_outline.specs.Maps.{temporary_bytes};
-ghost use Rattle.tables.specs.Sessions.{keeps};
+ghost use Rattle.tables.specs.Temporary.{keeps};
 
 use crate::change::Change;
 use paths::StorePath;
@@ -11,7 +11,7 @@ use std::alloc::{AllocError, Global};
 use tables_rows::temp_roots;
 use tables_sql::failure::Failure;
 
-/// A path that a session of an owner keeps, as the index has it.
+/// A path that a session of an owner keeps, as the outline has it.
 pub(crate) fn kept(
     alloc: Global,
     owner: &str,
@@ -36,10 +36,13 @@ pub(crate) struct PutTemporary<'a> {
 impl<'a> Change for PutTemporary<'a> {
     ghost use Rattle.std.specs.Prelude.{⊤, pos};
     ghost use Rattle.std.specs.FinMap as finite;
+    ghost use Rattle.tables.specs.RowsPut.{TemporaryRow};
 
     ghost change = { λ p c. record c { temp_roots = finite.insert c.temp_roots (p.owner.now, pos p.session, p.target.now) tt } };
 
     ghost fits = { λ p c. ⊤ };
+
+    ghost rows = { λ p. TemporaryRow (keeps p.owner.now p.session p.target.now) };
 
     fn write<S: Alter>(&self, tx: &mut Transaction<'_, S>) -> Result<(), Failure> {
         temp_roots::delete(tx, self.owner, self.session, self.target)?;
@@ -59,10 +62,13 @@ impl<'a> Change for EndSession<'a> {
     ghost use Rattle.std.specs.Ordering.{eq_by_cmp, int_cmp};
     ghost use Rattle.std.specs.FinMap as finite;
     ghost use Rattle.tables_sql.specs.Contents.{texts_cmp};
+    ghost use Rattle.tables.specs.RowsPut.{NoRow};
 
     ghost change = { λ p c. record c { temp_roots = finite.retain_keys c.temp_roots (λ k. not (eq_by_cmp texts_cmp k.0 p.owner.now && eq_by_cmp int_cmp k.1 (pos p.session))) } };
 
     ghost fits = { λ p c. ⊤ };
+
+    ghost rows = { λ p. NoRow };
 
     fn write<S: Alter>(&self, tx: &mut Transaction<'_, S>) -> Result<(), Failure> {
         temp_roots::delete_of(tx, self.owner, self.session)

@@ -29,10 +29,13 @@ pub(crate) struct PutUserRoot<'a> {
 impl<'a> Change for PutUserRoot<'a> {
     ghost use Rattle.std.specs.Prelude.{⊤};
     ghost use Rattle.std.specs.FinMap as finite;
+    ghost use Rattle.tables.specs.RowsPut.{UserRootRow};
 
     ghost change = { λ p c. record c { user_roots = finite.insert c.user_roots (p.owner.now, p.name.now) p.target.now } };
 
     ghost fits = { λ p c. ⊤ };
+
+    ghost rows = { λ p. UserRootRow (p.owner.now, p.name.now) p.target.now };
 
     fn write<S: Alter>(&self, tx: &mut Transaction<'_, S>) -> Result<(), Failure> {
         user_roots::delete(tx, self.owner, self.name)?;
@@ -50,10 +53,13 @@ pub(crate) struct DropUserRoot<'a> {
 impl<'a> Change for DropUserRoot<'a> {
     ghost use Rattle.std.specs.Prelude.{⊤};
     ghost use Rattle.std.specs.FinMap as finite;
+    ghost use Rattle.tables.specs.RowsPut.{NoRow};
 
     ghost change = { λ p c. record c { user_roots = finite.remove c.user_roots (p.owner.now, p.name.now) } };
 
     ghost fits = { λ p c. ⊤ };
+
+    ghost rows = { λ p. NoRow };
 
     fn write<S: Alter>(&self, tx: &mut Transaction<'_, S>) -> Result<(), Failure> {
         user_roots::delete(tx, self.owner, self.name)

@@ -8,13 +8,13 @@ ghost use Rattle.tables_listing.specs.View.{root_view};
 use crate::all_roots::all_roots;
 use crate::root::Root;
 use std::alloc::{AllocError, Global};
-use tables_outline::Index;
+use tables_outline::Outline;
 
-/// All roots of an index, each once, in the order of roots. The only error is that memory was refused.
-pub fn root_list(alloc: Global, index: &Index) -> Result<Vec<Root>, AllocError>
-    ensures { IfOk result (λ v. map root_view v.items ≡ roots_of (rooted index.now)) }
+/// All roots of an outline, each once, in the order of roots. The only error is that memory was refused.
+pub fn root_list(alloc: Global, outline: &Outline) -> Result<Vec<Root>, AllocError>
+    ensures { IfOk result (λ v. map root_view v.items ≡ roots_of (rooted outline.now)) }
 {
-    let roots = all_roots(alloc, index)?;
+    let roots = all_roots(alloc, outline)?;
     let mut listed = Vec::new(alloc);
     for root in roots {
         listed.push(root)?;

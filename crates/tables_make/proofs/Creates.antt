@@ -30,7 +30,7 @@ use Rattle.sqlite.specs.State.{State, Writes, Executes}
 use Rattle.sqlite.proofs.Callers.{IsPlain, command_of, statement_of, runs_as}
 use Rattle.tables_schema.specs.Forms.{strict}
 use Rattle.tables_schema.specs.Finding.{IsFree}
-use Rattle.tables_schema.specs.Standing.{IsNamed, tree_named}
+use Rattle.tables_schema.specs.Intact.{IsNamed, tree_named}
 use Rattle.tables_sql.specs.Contents.{Bytes}
 use Rattle.tables_make.specs.Making.{IsMaking, Makes, all_created, placed, index_of, is_clear, are_apart}
 use Rattle.tables_sql.proofs.Means.{Means, IsMeant, understood_as}

@@ -10,11 +10,11 @@ use Rattle.sqlite.specs.Does.{lacks_sequence}
 use Rattle.sqlite.specs.Effect.{Database, IsDatabase}
 use Rattle.sqlite.specs.State.{State}
 use Rattle.tables_schema.specs.Forms.{piece, temp_root, our_tables}
-use Rattle.tables_schema.specs.Standing.{Stands, tree_named}
+use Rattle.tables_schema.specs.Intact.{IsIntact, tree_named}
 use Rattle.tables_schema.specs.Finding.{IsFree, HasFirst, HasSecond}
 use Rattle.tables_sql.specs.Contents.{rows_named, rows_if_any}
 use Rattle.tables_sql.specs.Texts.{AreReadableRows, HasReadableRows}
-use Rattle.tables_sql.specs.Calls.{IsKeyed, IsOurs, HasFurther, KeepsFurther, IsUnderWay}
+use Rattle.tables_sql.specs.Calls.{IsKeyed, IsStoreDatabase, HasFurther, KeepsFurther, IsUnderWay}
 use Rattle.tables_sql.proofs.Contents.{contents_alike}
 use Rattle.tables_make.proofs.Creates.{tree_is}
 use Rattle.tables_sql.proofs.FurtherTables.{if_any_named, if_any_free}
@@ -27,36 +27,36 @@ use Rattle.tables_make.proofs.Stood.{Parts, table_of, StandsAs, all_still, all_s
 
 -- ---- the tables that were there
 
-as_it_stands : (s : Schema) (t : Table) → Stands s t → StandsAs s (record t { tree = tree_named s t.name })
+as_it_stands : (s : Schema) (t : Table) → IsIntact s t → StandsAs s (record t { tree = tree_named s t.name })
 as_it_stands s t it = record { at = it.at; named = it.known.named; by_tree = it.known.by_tree; unreferred = it.unreferred; alone = it.alone; unguarded = it.unguarded }
 
 module _ (a b : Database) (sound : IsDatabase b) (fs : List Parts) (made : b.schema ≡ all_created a.schema (map table_of fs)) (kept : AllByRecursion (λ t. b.trees t.tree ≡ a.trees t.tree) a.schema.tables) where
-  stays : (f : Parts) → Stands a.schema (table_of f) → StandsAs b.schema (record (table_of f) { tree = tree_named a.schema f.0 })
+  stays : (f : Parts) → IsIntact a.schema (table_of f) → StandsAs b.schema (record (table_of f) { tree = tree_named a.schema f.0 })
   stays f it =
       let t : Table = record (table_of f) { tree = tree_named a.schema f.0 } in
       subst (λ (s : Schema). StandsAs s t) (sym made) (all_still a.schema fs t (as_it_stands a.schema (table_of f) it))
 
-  still_stands : (f : Parts) → Stands a.schema (table_of f) → Stands b.schema (table_of f)
+  still_stands : (f : Parts) → IsIntact a.schema (table_of f) → IsIntact b.schema (table_of f)
   still_stands f it = one_stands b sound f (tree_named a.schema f.0) (stays f it)
 
-  rows_still : (f : Parts) → Stands a.schema (table_of f) → rows_named b f.0 ≡ rows_named a f.0
+  rows_still : (f : Parts) → IsIntact a.schema (table_of f) → rows_named b f.0 ≡ rows_named a f.0
   rows_still f it =
       let t : Table = record (table_of f) { tree = tree_named a.schema f.0 } in
       let now = stays f it in
       ap b.trees (tree_is b.schema t now.at now.named) ∙ all-slice_get (λ (u : Table). b.trees u.tree ≡ a.trees u.tree) a.schema.tables it.at t it.known.named.1 kept
 
-  same_rows : AllByRecursion (Stands a.schema) our_tables → AllByRecursion (λ t. rows_named b t.name ≡ rows_named a t.name) our_tables
+  same_rows : AllByRecursion (IsIntact a.schema) our_tables → AllByRecursion (λ t. rows_named b t.name ≡ rows_named a t.name) our_tables
   same_rows has = all-map (λ (t : Table). rows_named b t.name ≡ rows_named a t.name) table_of nine
-      (all_weaker (λ f. Stands a.schema (table_of f)) (λ f. rows_named b f.0 ≡ rows_named a f.0) rows_still nine (all_from_map (Stands a.schema) table_of nine has))
+      (all_weaker (λ f. IsIntact a.schema (table_of f)) (λ f. rows_named b f.0 ≡ rows_named a f.0) rows_still nine (all_from_map (IsIntact a.schema) table_of nine has))
 
-  ours_still : IsOurs a → IsOurs b
+  ours_still : IsStoreDatabase a → IsStoreDatabase b
   unfolding HasReadableRows
   ours_still ours =
       let Same = λ (t : Table). rows_named b t.name ≡ rows_named a t.name in
       let same = same_rows ours.has in
       record {
         sound = sound;
-        has = all-map (Stands b.schema) table_of nine (all_weaker (λ f. Stands a.schema (table_of f)) (λ f. Stands b.schema (table_of f)) still_stands nine (all_from_map (Stands a.schema) table_of nine ours.has));
+        has = all-map (IsIntact b.schema) table_of nine (all_weaker (λ f. IsIntact a.schema (table_of f)) (λ f. IsIntact b.schema (table_of f)) still_stands nine (all_from_map (IsIntact a.schema) table_of nine ours.has));
         keyed = all_both Same (λ t. IsKeyed (rows_named a t.name)) (λ t. IsKeyed (rows_named b t.name)) (λ t is. subst IsKeyed (sym is)) our_tables same ours.keyed;
         readable = all_both Same (λ t. AreReadableRows t (rows_named a t.name)) (λ t. AreReadableRows t (rows_named b t.name)) (λ t is. subst (AreReadableRows t) (sym is)) our_tables same ours.readable;
       }
@@ -76,7 +76,7 @@ pub record IsKept (a b : Database) (t : Table) : Type 0 where
   pub stands : HasFurther a t → HasFurther b t
 
 module _ (fs : List Parts) (apart : are_apart (map table_of fs) ≡ true) (a b : State) (under : IsUnderWay a) (free : AllByRecursion (λ t. IsFree a.now.schema t.name) (map table_of fs)) (h : Makes (map table_of fs) a b) where
-  abbrev ours : IsOurs a.now
+  abbrev ours : IsStoreDatabase a.now
   ours = under.ours h.was_open
 
   made : AllByRecursion (StandsAs b.now.schema) (placed a.now.schema (map table_of fs))
@@ -84,14 +84,14 @@ module _ (fs : List Parts) (apart : are_apart (map table_of fs) ≡ true) (a b :
 
   -- each stands, with no row
   pub these : AllByRecursion (λ t. HasFurther b.now t × (rows_named b.now t.name ≡ [])) (map table_of fs)
-  these = all_both (Stands b.now.schema) (λ t. rows_named b.now t.name ≡ []) (λ t. HasFurther b.now t × (rows_named b.now t.name ≡ [])) (λ t stand none. (made_further b.now t stand none, none)) (map table_of fs)
+  these = all_both (IsIntact b.now.schema) (λ t. rows_named b.now t.name ≡ []) (λ t. HasFurther b.now t × (rows_named b.now t.name ≡ [])) (λ t stand none. (made_further b.now t stand none, none)) (map table_of fs)
       (each_stands b.now h.sound a.now.schema fs made) (by_names (λ n. b.now.trees n ≡ []) b.now.schema a.now.schema fs made h.empty)
 
   -- neither before nor after is there a row
   pub new_kept : (t : Table) → IsFree a.now.schema t.name → HasFurther b.now t × (rows_named b.now t.name ≡ []) → IsKept a.now b.now t
   new_kept t unused it = record { rows = if_any_named b.now t it.0.stands ∙ it.1 ∙ sym (if_any_free a.now t.name unused); stands = λ there. it.0 }
 
-  pub old_kept : (f : Parts) → Stands a.now.schema (table_of f) → IsKept a.now b.now (table_of f)
+  pub old_kept : (f : Parts) → IsIntact a.now.schema (table_of f) → IsKept a.now b.now (table_of f)
   old_kept f stands = record {
     rows = if_any_named b.now (table_of f) (still_stands a.now b.now h.sound fs h.schema h.kept f stands) ∙ rows_still a.now b.now h.sound fs h.schema h.kept f stands ∙ sym (if_any_named a.now (table_of f) stands);
     stands = further_still a.now b.now h.sound fs h.schema h.kept f;

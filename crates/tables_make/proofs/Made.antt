@@ -13,14 +13,14 @@ use Rattle.sqlite_tied.specs.Compute.{everything}
 use Rattle.sqlite.specs.Effect.{Database, IsDatabase}
 use Rattle.sqlite.specs.State.{State}
 use Rattle.tables_schema.specs.Forms.{meta, object, refs, outs, permanent, user_root, profile, generation, runtime, piece, temp_root, our_tables, further_tables, all_tables, is_our_name}
-use Rattle.tables_schema.specs.Standing.{Stands}
+use Rattle.tables_schema.specs.Intact.{IsIntact}
 use Rattle.tables_schema.specs.Finding.{IsFree, HasNone}
 use Rattle.tables_sql.specs.Contents.{Bytes, contents_of, map_of, rows_named}
 use Rattle.tables_sql.specs.Texts.{AreReadableRows, HasReadableRows}
 use Rattle.tables_sql.specs.Calls.{IsKeyed, IsWhole, HasFurther}
 use Rattle.tables_sql.proofs.Contents.{contents_alike}
 use Rattle.tables_sql.proofs.Lists.{one_list}
-use Rattle.tables_make.specs.Making.{IsMade, IsMadeIn, IsMadeOf, LeavesMade, AreSettings, first_contents, placed, ours_created, other_tables, others_placed}
+use Rattle.tables_make.specs.Making.{IsMade, IsMadeIn, IsMadeOf, LeavesMade, AreSettings, first_contents, placed, store_tables_created, other_tables, others_placed}
 use Rattle.tables_make.proofs.FrozenThen.{frozen_before}
 use Rattle.tables_sql.proofs.FurtherTables.{if_any_named}
 use Rattle.tables_sql.proofs.ReadableFurther.{whole_readable}
@@ -44,15 +44,15 @@ pub together : (P : Table → Type 0) → AllByRecursion P our_tables → AllByR
 together P = all-append P our_tables further_tables
 
 -- all eleven stand, each with its tree
-standing : (old : Database) → IsDatabase old → HasNone old.schema → AllByRecursion (StandsAs (ours_created old.schema)) (placed old.schema all_tables)
-unfolding ours_created digits everything
+standing : (old : Database) → IsDatabase old → HasNone old.schema → AllByRecursion (StandsAs (store_tables_created old.schema)) (placed old.schema all_tables)
+unfolding store_tables_created digits everything
 standing old sound none = all_stand old.schema (part meta ∷ others) refl (together (λ t. IsFree old.schema t.name) none.free none.further) (are_low old sound)
 
 no_rows : (t : Table) (rows : List Row) → rows ≡ [] → AreReadableRows t rows
 no_rows t rows is = subst (AreReadableRows t) (sym is) (λ row at there low. absurd there)
 
 -- a further table that holds no row
-pub made_further : (d : Database) (t : Table) → Stands d.schema t → rows_named d t.name ≡ [] → HasFurther d t
+pub made_further : (d : Database) (t : Table) → IsIntact d.schema t → rows_named d t.name ≡ [] → HasFurther d t
 made_further d t stands none = record { stands = stands; keyed = subst IsKeyed (sym none) keyed_none; readable = no_rows t _ none }
 
 module _ (dir : Bytes) (s : Schema) (d : Database) (sound : IsDatabase d) (stand : AllByRecursion (StandsAs d.schema) (placed s all_tables)) (settings : AreSettings dir (d.trees (next_tree s))) (empty : AllByRecursion (λ t. d.trees t.tree ≡ []) (others_placed s)) where
@@ -64,8 +64,8 @@ module _ (dir : Bytes) (s : Schema) (d : Database) (sound : IsDatabase d) (stand
   unfolding others_placed
   none = by_names (λ n. d.trees n ≡ []) d.schema (created s meta) others stand.1 empty
 
-  stands : AllByRecursion (Stands d.schema) our_tables × (Stands d.schema piece × Stands d.schema temp_root)
-  stands = apart (Stands d.schema) (each_stands d sound s (part meta ∷ others) stand)
+  stands : AllByRecursion (IsIntact d.schema) our_tables × (IsIntact d.schema piece × IsIntact d.schema temp_root)
+  stands = apart (IsIntact d.schema) (each_stands d sound s (part meta ∷ others) stand)
 
   pieces : rows_named d piece.name ≡ []
   pieces = none.1.1.1.1.1.1.1.1.0
@@ -122,9 +122,9 @@ made_is dir old new sound none utf8 h =
     }
 
 pub leaves_made : (dir : Bytes) (old : Database) (trees : Trees) → IsDatabase old → HasNone old.schema → IsUtf8 dir → IsMadeOf dir old trees → LeavesMade dir old trees
-unfolding ours_created
+unfolding store_tables_created
 leaves_made dir old trees sound none utf8 h =
-    let d : Database = record { schema = ours_created old.schema; trees = trees } in
+    let d : Database = record { schema = store_tables_created old.schema; trees = trees } in
     let stand = standing old sound none in
     let whole = whole_made dir old.schema d h.sound stand h.settings h.empty utf8 in
     record {

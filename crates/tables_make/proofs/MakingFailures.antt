@@ -58,9 +58,9 @@ module _ (s : Schema) (text : List ℕ) (title : Bytes) (cs : List Column) (key 
   its : (t : Table) → table_defined_by text ≡ Ok t → t ≡ form
   its t is = same_value (sym is ∙ accepted.defined)
 
-  taken_index : (index : Index) × Has (automatics form 0 0 form.uniques) index × (is_used s index.name ≡ true) → LacksNames s (form ∷ [])
-  taken_index (index, inl same, used) = ap (λ b. b || false) (ap (λ (x : Index). is_used s x.name) (sym same) ∙ used)
-  taken_index (index, inr none, used) = absurd none
+  loaded_outline : (index : Index) × Has (automatics form 0 0 form.uniques) index × (is_used s index.name ≡ true) → LacksNames s (form ∷ [])
+  loaded_outline (index, inl same, used) = ap (λ b. b || false) (ap (λ (x : Index). is_used s x.name) (sym same) ∙ used)
+  loaded_outline (index, inr none, used) = absurd none
 
   not_wide : (k : List ℕ) × Has form.uniques k × (2 ^ 64 ≤ index_reals (table_reals form) k) → ⊥
   not_wide (k, inl same, wide) = absurd (omega (arith, leb-false _ _ accepted.key, ap (index_reals (table_reals form)) same, wide))
@@ -70,7 +70,7 @@ module _ (s : Schema) (text : List ℕ) (title : Bytes) (cs : List Column) (key 
   refused_table : IsFree s title → (why : Refusal) → RefusesTable s text why → LacksNumbers s (form ∷ []) ⊎ LacksNames s (form ∷ [])
   refused_table free (Invalid e) h = absurd (let no = sym accepted.defined ∙ h in cc)
   refused_table free NameTaken (t, is, inl used) = absurd (let no = sym (none_used s title (free.table, free.index, free.view)) ∙ ap (λ (x : Table). is_used s x.name) (sym (its t is)) ∙ used in cc)
-  refused_table free NameTaken (t, is, inr taken) = inr (taken_index (subst (λ (x : Table). (index : Index) × Has (automatics x 0 0 x.uniques) index × (is_used s index.name ≡ true)) (its t is) taken))
+  refused_table free NameTaken (t, is, inr taken) = inr (loaded_outline (subst (λ (x : Table). (index : Index) × Has (automatics x 0 0 x.uniques) index × (is_used s index.name ≡ true)) (its t is) taken))
   refused_table free BadName (t, is, inl odd) = absurd (odd (subst (λ (x : Table). IsUtf8 x.name) (sym (its t is)) accepted.named))
   refused_table free BadName (t, is, inr own) = absurd (let no = sym accepted.own ∙ ap (λ (x : Table). is_reserved x.name) (sym (its t is)) ∙ own.0 in cc)
   refused_table free TooBig (t, is, inl many) = inl (let few : length t.uniques ≡ 1 = ap (λ (x : Table). length x.uniques) (its t is) in omega (arith, few, many))

@@ -13,8 +13,11 @@ use Rattle.tables_sql.specs.Contents.{Stored, Contents, texts_cmp, numbered_cmp}
 use Rattle.tables_sql.proofs.Orders.{texts_total, texts_antisymmetric, numbered_total, numbered_antisymmetric}
 use Rattle.model.specs.World.{Path}
 use Rattle.tables_world.specs.Pieces.{piece_size, row_part, further_pieces}
-use Rattle.tables_world.specs.Rows.{Schema, one, two, three, schema_text, settings, cut_row as cut_row_in, migrated}
-use Rattle.tables_world.specs.Told.{rows_of, IsSoundBy}
+use Rattle.tables_world.specs.Rows.{settings, cut_row as cut_row_in, migrated}
+use Rattle.tables_schema.specs.declared.schema.Schema.{Schema}
+use Rattle.tables_schema.specs.declared.schema.Schema.TheVariants.{V1, V2, V3}
+use Rattle.tables_schema.specs.Schemas.{schema_text}
+use Rattle.tables_world.specs.Worlds.{rows_of, IsSoundBy}
 use Rattle.tables_world.proofs.Migrating.{rising, or_none, piece_of, get-migrated_piece, get-migrated_row}
 use Rattle.tables_world.proofs.Told.{whole}
 use Rattle.tables_make.specs.Cutting.{cut_found, cut_object, cut_objects, renumbered}
@@ -28,12 +31,12 @@ tied_is q p h = texts_antisymmetric q p ((Equal-is (bytes_cmp q p)).0 h)
 
 -- ---- the settings
 
-same_settings : (schema : Schema) (dir : List ℕ) → finite.insert (settings schema dir) (codes "schema") (schema_text three) ≡ settings three dir
-same_settings schema dir = finite.same_map texts_total texts_antisymmetric (finite.insert (settings schema dir) (codes "schema") (schema_text three)) (settings three dir) (λ q.
-    finite.get-insert texts_total (settings schema dir) (codes "schema") (schema_text three) q
-    ∙ ap (cond (eq_by_cmp texts_cmp q (codes "schema")) (Some (schema_text three))) (got schema q)
+same_settings : (schema : Schema) (dir : List ℕ) → finite.insert (settings schema dir) (codes "schema") (schema_text V3) ≡ settings V3 dir
+same_settings schema dir = finite.same_map texts_total texts_antisymmetric (finite.insert (settings schema dir) (codes "schema") (schema_text V3)) (settings V3 dir) (λ q.
+    finite.get-insert texts_total (settings schema dir) (codes "schema") (schema_text V3) q
+    ∙ ap (cond (eq_by_cmp texts_cmp q (codes "schema")) (Some (schema_text V3))) (got schema q)
     ∙ by q (eq_by_cmp texts_cmp q (codes "schema")) (eq_by_cmp texts_cmp q (codes "store-dir")) refl refl
-    ∙ sym (got three q))
+    ∙ sym (got V3 q))
   where
     got : (s : Schema) (q : List ℕ) → finite.get (settings s dir) q ≡ cond (eq_by_cmp texts_cmp q (codes "store-dir")) (Some dir) (cond (eq_by_cmp texts_cmp q (codes "schema")) (Some (schema_text s)) (finite.get (finite.empty {R = texts_cmp}) q))
     got s q =
@@ -41,8 +44,8 @@ same_settings schema dir = finite.same_map texts_total texts_antisymmetric (fini
         ∙ ap (cond (eq_by_cmp texts_cmp q (codes "store-dir")) (Some dir)) (finite.get-insert texts_total finite.empty (codes "schema") (schema_text s) q)
 
     by : (q : List ℕ) (a b : Bool) → eq_by_cmp texts_cmp q (codes "schema") ≡ a → eq_by_cmp texts_cmp q (codes "store-dir") ≡ b
-        → cond a (Some (schema_text three)) (cond b (Some dir) (cond a (Some (schema_text schema)) (finite.get (finite.empty {R = texts_cmp}) q)))
-        ≡ cond b (Some dir) (cond a (Some (schema_text three)) (finite.get (finite.empty {R = texts_cmp}) q))
+        → cond a (Some (schema_text V3)) (cond b (Some dir) (cond a (Some (schema_text schema)) (finite.get (finite.empty {R = texts_cmp}) q)))
+        ≡ cond b (Some dir) (cond a (Some (schema_text V3)) (finite.get (finite.empty {R = texts_cmp}) q))
     by q true true s d = absurd (false≢true (sym (ap (λ k. eq_by_cmp texts_cmp k (codes "store-dir")) (tied_is q (codes "schema") s)) ∙ d))
     by q true false s d = refl
     by q false b s d = refl
@@ -148,8 +151,8 @@ module _ (dir : List ℕ) (c : Contents) (none : c.pieces ≡ finite.empty) wher
   unfolding all
   there q = sym (finite.contains_key-keys c.objects q)
 
-  same_objects : (cut_objects all c).objects ≡ (migrated one dir (rows_of c)).objects
-  same_objects = finite.same_map texts_total texts_antisymmetric (cut_objects all c).objects (migrated one dir (rows_of c)).objects (λ q.
+  same_objects : (cut_objects all c).objects ≡ (migrated V1 dir (rows_of c)).objects
+  same_objects = finite.same_map texts_total texts_antisymmetric (cut_objects all c).objects (migrated V1 dir (rows_of c)).objects (λ q.
       some_objects all q c
       ∙ ap (λ b. cond b (option_map cut_stored (finite.get c.objects q)) (finite.get c.objects q)) (there q)
       ∙ by q (finite.get c.objects q)
@@ -159,8 +162,8 @@ module _ (dir : List ℕ) (c : Contents) (none : c.pieces ≡ finite.empty) wher
       by q None = refl
       by q (Some o) = ap (λ (nar : List ℕ). Some (record o { nar = row_part nar })) (sym (whole c q o none))
 
-  same_pieces : (cut_objects all c).pieces ≡ (migrated one dir (rows_of c)).pieces
-  same_pieces = finite.same_map numbered_total numbered_antisymmetric (cut_objects all c).pieces (migrated one dir (rows_of c)).pieces (λ k.
+  same_pieces : (cut_objects all c).pieces ≡ (migrated V1 dir (rows_of c)).pieces
+  same_pieces = finite.same_map numbered_total numbered_antisymmetric (cut_objects all c).pieces (migrated V1 dir (rows_of c)).pieces (λ k.
       some_pieces all k.0 k.1 c
       ∙ ap (λ b. cond b (option_or (piece_at k.1 (finite.get c.objects k.0)) (finite.get c.pieces k)) (finite.get c.pieces k)) (there k.0)
       ∙ ap (λ x. cond (is_some (finite.get c.objects k.0)) (option_or (piece_at k.1 (finite.get c.objects k.0)) x) x) (ap (λ (m : Pieces). finite.get m k) none ∙ finite.get-empty numbered_cmp k)
@@ -172,16 +175,16 @@ module _ (dir : List ℕ) (c : Contents) (none : c.pieces ≡ finite.empty) wher
       by q n (Some o) = or_none (find_entry int_cmp n (further_pieces o.nar)) ∙ ap (λ nar. find_entry int_cmp n (further_pieces nar)) (sym (whole c q o none))
 
 -- what is written of a migration from the first schema is the whole of it
-pub first_written : (dir : List ℕ) (c : Contents) → IsSoundBy one dir c → renumbered (cut_objects (finite.keys c.objects) c) ≡ migrated_contents one dir c
+pub first_written : (dir : List ℕ) (c : Contents) → IsSoundBy V1 dir c → renumbered (cut_objects (finite.keys c.objects) c) ≡ migrated_contents V1 dir c
 unfolding all
 first_written dir c sound =
     let none : c.pieces ≡ finite.empty = sound.no_pieces refl in
-    let meta : finite.insert c.meta (codes "schema") (schema_text three) ≡ settings three dir = ap (λ m. finite.insert m (codes "schema") (schema_text three)) sound.settings_are ∙ same_settings one dir in
+    let meta : finite.insert c.meta (codes "schema") (schema_text V3) ≡ settings V3 dir = ap (λ m. finite.insert m (codes "schema") (schema_text V3)) sound.settings_are ∙ same_settings V1 dir in
     ap renumbered (others_kept (finite.keys c.objects) c)
     ∙ (λ i. record c { meta = meta i; objects = same_objects dir c none i; pieces = same_pieces dir c none i })
 
 -- and so of one from the second
-pub second_written : (dir : List ℕ) (c : Contents) → IsSoundBy two dir c → renumbered c ≡ migrated_contents two dir c
+pub second_written : (dir : List ℕ) (c : Contents) → IsSoundBy V2 dir c → renumbered c ≡ migrated_contents V2 dir c
 second_written dir c sound =
-    let meta : finite.insert c.meta (codes "schema") (schema_text three) ≡ settings three dir = ap (λ m. finite.insert m (codes "schema") (schema_text three)) sound.settings_are ∙ same_settings two dir in
+    let meta : finite.insert c.meta (codes "schema") (schema_text V3) ≡ settings V3 dir = ap (λ m. finite.insert m (codes "schema") (schema_text V3)) sound.settings_are ∙ same_settings V2 dir in
     λ i. record c { meta = meta i }

@@ -28,7 +28,7 @@ use Rattle.sqlite.specs.Effect.{Database, IsDatabase}
 use Rattle.sqlite.specs.State.{State}
 use Rattle.tables_sql.specs.declared.failure.Failure.{Failure}
 use Rattle.tables_schema.specs.Forms.{meta}
-use Rattle.tables_schema.specs.Standing.{Stands, tree_named}
+use Rattle.tables_schema.specs.Intact.{IsIntact, tree_named}
 use Rattle.tables_schema.specs.Finding.{IsFree}
 use Rattle.tables_sql.specs.Contents.{Bytes, rows_named}
 use Rattle.tables_sql.specs.Failures.{FailsWith, IsWriteFailure, IsTooLarge, HasNoRowidLeft}
@@ -123,7 +123,7 @@ unfolding IsTooLarge
 too_long db word value own short large = oversized db.schema (tree_named db.schema meta.name) (next_rowid (rows_named db meta.name)) word value own short large
 
 module _ (a : State) (free : IsFree a.now.schema (codes "meta")) (sound : IsDatabase a.now) where
-  stands_in : (db : Database) → IsDatabase db → db.schema ≡ created a.now.schema meta → Stands db.schema meta
+  stands_in : (db : Database) → IsDatabase db → db.schema ≡ created a.now.schema meta → IsIntact db.schema meta
   unfolding everything
   stands_in db sound_there made =
       (each_stands db sound_there a.now.schema (part meta ∷ []) (subst (λ s. AllByRecursion (StandsAs s) (placed a.now.schema (meta ∷ []))) (sym made) (all_stand a.now.schema (part meta ∷ []) refl (free, tt) (are_low a.now sound)))).0

@@ -17,11 +17,11 @@ use Rattle.sqlite.specs.Does.{lacks_sequence}
 use Rattle.sqlite.specs.Effect.{Database, IsDatabase}
 use Rattle.sqlite.specs.State.{State, Shows, ExecutesInside}
 use Rattle.tables_schema.specs.Forms.{meta}
-use Rattle.tables_schema.specs.Standing.{IsNamed, tree_named}
+use Rattle.tables_schema.specs.Intact.{IsNamed, tree_named}
 use Rattle.tables_sql.specs.Contents.{Bytes, texts_cmp, is_pair, pair_of, map_of, rows_named}
 use Rattle.tables_sql.specs.Texts.{AreReadableRows}
 use Rattle.tables_sql.specs.Calls.{IsKeyed}
-use Rattle.tables_make.specs.Making.{IsMaking, Makes, MakesMeta, MakesAll, IsMadeOf, AreSettings, first_settings, IsPut, HasMeta, Puts, IsMadeIn, all_created, placed, ours_created, others_placed, other_tables}
+use Rattle.tables_make.specs.Making.{IsMaking, Makes, MakesMeta, MakesAll, IsMadeOf, AreSettings, first_settings, IsPut, HasMeta, Puts, IsMadeIn, all_created, placed, store_tables_created, others_placed, other_tables}
 use Rattle.tables_schema.specs.Finding.{IsFree}
 use Rattle.tables_sql.proofs.Orders.{texts_total, texts_antisymmetric}
 use Rattle.tables_sql.proofs.Truths.{cast_null, free_of}
@@ -146,7 +146,7 @@ meta_made dir a b c d free h p q =
 -- ---- all eleven
 
 pub all_made : (dir : Bytes) (a b e : State) → MakesMeta dir a b → Makes other_tables b e → MakesAll dir a e
-unfolding ours_created others_placed
+unfolding store_tables_created others_placed
 all_made dir a b e h rest =
     let s = a.now.schema in
     let later : AllByRecursion (λ t. e.now.trees t.tree ≡ b.now.trees t.tree) (s.tables ++ record meta { tree = next_tree s } ∷ []) = subst (λ (x : Schema). AllByRecursion (λ t. e.now.trees t.tree ≡ b.now.trees t.tree) x.tables) h.schema rest.kept in
@@ -177,7 +177,7 @@ committed_made dir a b m n now is_open h k = record {
   was_open = subst IsTrue is_open h.was_open;
   is_open = k.is_open;
   sound = subst IsDatabase (sym k.now_is) h.sound;
-  schema = ap (λ (d : Database). d.schema) k.now_is ∙ h.schema ∙ ap (λ (d : Database). ours_created d.schema) now;
+  schema = ap (λ (d : Database). d.schema) k.now_is ∙ h.schema ∙ ap (λ (d : Database). store_tables_created d.schema) now;
   made = subst (λ (d : Database). IsMadeOf dir d n.now.trees) now (subst (λ (d : Database). IsMadeOf dir b.now d.trees) (sym k.now_is) h.made);
   settled = k.now_is ∙ sym k.committed_is;
 }

@@ -11,7 +11,7 @@ use Rattle.sqlite.specs.Effect.{Database}
 use Rattle.sqlite.specs.State.{State, IsUnchanged}
 use Rattle.tables_schema.specs.Forms.{piece, temp_root, is_our_name}
 use Rattle.tables_sql.specs.Contents.{Stored, Contents, contents_of, texts_cmp}
-use Rattle.tables_sql.specs.Calls.{IsOurs, IsUnderWay, HasFurther, KeepsFurther, KeepsTheirs, Changes}
+use Rattle.tables_sql.specs.Calls.{IsStoreDatabase, IsUnderWay, HasFurther, KeepsFurther, KeepsTheirs, Changes}
 use Rattle.tables_sql.proofs.Orders.{texts_total, texts_antisymmetric}
 use Rattle.model.specs.World.{Path}
 use Rattle.tables_world.specs.Pieces.{piece_size, row_part, pieces_by, further_pieces}
@@ -32,7 +32,7 @@ changes_nothing a b under same =
       contents = ap contents_of now;
       theirs = subst (λ (x : Database). KeepsTheirs a.now x) (sym now) (all_of (λ (t : Table). is_our_name t.name ≡ false → a.now.trees t.tree ≡ a.now.trees t.tree) (λ t other. refl) a.now.schema.tables);
       unshown = λ tree hidden. ap (λ (x : Database). x.trees tree) now;
-      ours = subst IsOurs (sym now) (under.ours same.0.was_open);
+      ours = subst IsStoreDatabase (sym now) (under.ours same.0.was_open);
       further = (λ there. subst (λ (x : Database). HasFurther x piece) (sym now) there, (λ there. subst (λ (x : Database). HasFurther x temp_root) (sym now) there, tt));
       committed = same.0.committed_is;
       mode = same.0.mode ∙ under.mode;

@@ -23,7 +23,7 @@ use Rattle.sqlite_catalog.specs.Change.{created, next_tree}
 use Rattle.sqlite_catalog.specs.Listing.{IsIndexRow, IsTableRow}
 use Rattle.sqlite.specs.Effect.{Database, IsDatabase}
 use Rattle.tables_schema.specs.Forms.{strict}
-use Rattle.tables_schema.specs.Standing.{IsNamed, Stands, is_unreferred, is_alone, is_unguarded, points_at, tree_named}
+use Rattle.tables_schema.specs.Intact.{IsNamed, IsIntact, is_unreferred, is_alone, is_unguarded, points_at, tree_named}
 use Rattle.tables_schema.specs.Finding.{IsFree}
 use Rattle.tables_sql.specs.Contents.{Bytes}
 use Rattle.tables_make.specs.Making.{all_created, placed, are_apart}
@@ -189,12 +189,12 @@ tree_low db sound at t there =
     let row = (zipped_left IsTableRow _ db.schema.tables t sound.lists.listed.tables (has_got db.schema.tables at t there)).2 in
     lt-leb (2 ^ 31) t.tree (omega (arith, row.described.low))
 
-pub one_stands : (db : Database) → IsDatabase db → (f : Parts) (tree : ℕ) → StandsAs db.schema (record (table_of f) { tree = tree }) → Stands db.schema (table_of f)
+pub one_stands : (db : Database) → IsDatabase db → (f : Parts) (tree : ℕ) → StandsAs db.schema (record (table_of f) { tree = tree }) → IsIntact db.schema (table_of f)
 one_stands db sound f tree it =
     let now = subst (λ n. StandsAs db.schema (record (table_of f) { tree = n })) (sym (tree_is db.schema (record (table_of f) { tree = tree }) it.at it.named)) it in
     record { at = now.at; known = record { named = now.named; by_tree = now.by_tree; low = tree_low db sound now.at _ now.named.1 }; unreferred = now.unreferred; alone = now.alone; unguarded = now.unguarded }
 
-pub each_stands : (db : Database) → IsDatabase db → (s : Schema) (fs : List Parts) → AllByRecursion (StandsAs db.schema) (placed s (map table_of fs)) → AllByRecursion (Stands db.schema) (map table_of fs)
+pub each_stands : (db : Database) → IsDatabase db → (s : Schema) (fs : List Parts) → AllByRecursion (StandsAs db.schema) (placed s (map table_of fs)) → AllByRecursion (IsIntact db.schema) (map table_of fs)
 each_stands db sound s [] h = tt
 each_stands db sound s (f ∷ fs) h = (one_stands db sound f (next_tree s) h.0, each_stands db sound (created s (table_of f)) fs h.1)
 

@@ -4,7 +4,8 @@ use Rattle.std.specs.FinMap as finite
 use Rattle.tables_sql.specs.Contents.{Stored, Contents, numbered_cmp}
 use Rattle.model.specs.World.{Path}
 use Rattle.tables_world.specs.Pieces.{row_part, further_pieces}
-use Rattle.tables_world.specs.Rows.{three, schema_text}
+use Rattle.tables_schema.specs.declared.schema.Schema.TheVariants.{V3}
+use Rattle.tables_schema.specs.Schemas.{schema_text}
 
 -- pieces, and some of this path
 abbrev pub put_pieces : Path → List (ℤ × List ℕ) → finite.FinMap numbered_cmp (List ℕ) → finite.FinMap numbered_cmp (List ℕ)
@@ -30,4 +31,4 @@ cut_objects (p ∷ ps) c = cut_objects ps (cut_object p c)
 
 -- the setting says the third schema
 abbrev pub renumbered : Contents → Contents
-renumbered c = record c { meta = finite.insert c.meta (codes "schema") (schema_text three) }
+renumbered c = record c { meta = finite.insert c.meta (codes "schema") (schema_text V3) }

@@ -6,7 +6,7 @@ use Rattle.sqlite.specs.Effect.{Database}
 use Rattle.sqlite.specs.State.{State}
 use Rattle.tables_sql.specs.Contents.{contents_of}
 use Rattle.tables_sql.specs.Frozen.{SparesFrozen}
-use Rattle.tables_sql.specs.Calls.{IsOurs, HasFurther, KeepsFurther, KeepsTheirs}
+use Rattle.tables_sql.specs.Calls.{IsStoreDatabase, HasFurther, KeepsFurther, KeepsTheirs}
 use Rattle.tables_make.specs.Making.{all_created}
 
 -- a database with these tables in addition to what it has
@@ -21,7 +21,7 @@ pub record MakesFurther (tables : List Table) (old new : State) : Type 0 where
   pub contents : contents_of new.now ≡ contents_of old.now
   pub theirs : KeepsTheirs old.now new.now
   pub frozen : SparesFrozen old.now new.now
-  pub ours : IsOurs new.now
+  pub ours : IsStoreDatabase new.now
   pub stand : AllByRecursion (HasFurther new.now) tables
   pub further : KeepsFurther old.now new.now
   pub committed : new.committed ≡ old.committed

@@ -1,6 +1,6 @@
 pub use Rattle.tables_schema.specs.Forms
 pub use Rattle.tables_schema.specs.OurTables
-pub use Rattle.tables_schema.specs.Standing
+pub use Rattle.tables_schema.specs.Intact
 pub use Rattle.tables_schema.specs.Finding
 pub use Rattle.tables_sql.specs.Contents
 pub use Rattle.tables_sql.specs.Texts

@@ -17,7 +17,7 @@ use Rattle.sqlite.specs.State.{State}
 use Rattle.tables_schema.specs.Forms.{meta, object, refs, outs, permanent, user_root, profile, generation, runtime, piece, temp_root, all_tables}
 use Rattle.tables_schema.specs.declared.our_table.OurTable.{OurTable}
 use Rattle.tables_schema.specs.declared.our_table.OurTable.TheVariants.{Meta, Object, Refs, Outs, Permanent, UserRoot, Profile, Generation, Runtime, Piece, TempRoot}
-use Rattle.tables_schema.specs.Standing.{IsNamed, tree_named}
+use Rattle.tables_schema.specs.Intact.{IsNamed, tree_named}
 use Rattle.tables_schema.specs.Finding.{IsFree}
 use Rattle.tables_sql.specs.Contents.{Bytes, Contents, contents_of, texts_cmp, is_pair, pair_of, map_of, rows_named}
 use Rattle.tables_sql.specs.Frozen.{KeepsFrozen, SparesFrozen}
@@ -69,8 +69,8 @@ abbrev pub other_tables : List Table
 other_tables = object ∷ refs ∷ outs ∷ permanent ∷ user_root ∷ profile ∷ generation ∷ runtime ∷ piece ∷ temp_root ∷ []
 
 -- all eleven made, and where all but `meta` are then
-unfoldable pub ours_created : Schema → Schema
-ours_created s = all_created s all_tables
+unfoldable pub store_tables_created : Schema → Schema
+store_tables_created s = all_created s all_tables
 
 unfoldable pub others_placed : Schema → List Table
 others_placed s = placed (created s meta) other_tables
@@ -103,7 +103,7 @@ pub record AreSettings (dir : Bytes) (rows : List Row) : Type 0 where
 
 -- each table keeps its rows, also a frozen one, and ours are as they are made
 pub record IsMadeOf (dir : Bytes) (db : Database) (trees : Trees) : Type 0 where
-  pub sound : IsDatabase (record { schema = ours_created db.schema; trees = trees })
+  pub sound : IsDatabase (record { schema = store_tables_created db.schema; trees = trees })
   pub kept : AllByRecursion (λ t. trees t.tree ≡ db.trees t.tree) db.schema.tables
   pub settings : AreSettings dir (trees (next_tree db.schema))
   pub empty : AllByRecursion (λ t. trees t.tree ≡ []) (others_placed db.schema)
@@ -113,7 +113,7 @@ pub record IsMadeOf (dir : Bytes) (db : Database) (trees : Trees) : Type 0 where
 pub record IsMade (dir : Bytes) (old new : State) : Type 0 where
   pub was_open : IsTrue old.is_open
   pub is_open : IsTrue new.is_open
-  pub schema : new.now.schema ≡ ours_created old.now.schema
+  pub schema : new.now.schema ≡ store_tables_created old.now.schema
   pub contents : contents_of new.now ≡ first_contents dir
   pub theirs : KeepsTheirs old.now new.now
   pub frozen : SparesFrozen old.now new.now
@@ -123,15 +123,15 @@ pub record IsMade (dir : Bytes) (old new : State) : Type 0 where
 
 -- What a crash may leave of the making, if it leaves any of it: all eleven tables are there, hold the settings alone, and can be read, and those of other programs have the rows that they had.
 pub record LeavesMade (dir : Bytes) (db : Database) (trees : Trees) : Type 0 where
-  pub whole : IsWhole (record { schema = ours_created db.schema; trees = trees })
-  pub readable : AreReadable (contents_of (record { schema = ours_created db.schema; trees = trees }))
-  pub left : Leaves (record db { schema = ours_created db.schema }) trees (first_contents dir)
+  pub whole : IsWhole (record { schema = store_tables_created db.schema; trees = trees })
+  pub readable : AreReadable (contents_of (record { schema = store_tables_created db.schema; trees = trees }))
+  pub left : Leaves (record db { schema = store_tables_created db.schema }) trees (first_contents dir)
 
 -- all eleven were made at once, as their trees have them
 pub record IsMadeIn (dir : Bytes) (old new : State) : Type 0 where
   pub was_open : IsTrue old.is_open
   pub is_open : IsTrue new.is_open
-  pub schema : new.now.schema ≡ ours_created old.now.schema
+  pub schema : new.now.schema ≡ store_tables_created old.now.schema
   pub sound : IsDatabase new.now
   pub made : IsMadeOf dir old.now new.now.trees
   pub settled : new.now ≡ new.committed
@@ -196,7 +196,7 @@ pub record MakesAll (dir : Bytes) (old new : State) : Type 0 where
   pub was_open : IsTrue old.is_open
   pub is_open : IsTrue new.is_open
   pub sound : IsDatabase new.now
-  pub schema : new.now.schema ≡ ours_created old.now.schema
+  pub schema : new.now.schema ≡ store_tables_created old.now.schema
   pub made : IsMadeOf dir old.now new.now.trees
   pub committed : new.committed ≡ old.committed
   pub mode : new.in_transaction ≡ true

@@ -9,8 +9,10 @@ use Rattle.tables_sql.specs.Frozen.{SparesFrozen}
 use Rattle.tables_sql.specs.Calls.{IsReady, IsWhole, KeepsTheirs, Remains, Leaves}
 use Rattle.tables_make.specs.Making.{all_created}
 use Rattle.tables_make.specs.Further.{grown}
-use Rattle.tables_world.specs.Rows.{Schema, one, two, three, Rows, migrated}
-use Rattle.tables_world.specs.Told.{rows_of}
+use Rattle.tables_world.specs.Rows.{Rows, migrated}
+use Rattle.tables_schema.specs.declared.schema.Schema.{Schema}
+use Rattle.tables_schema.specs.declared.schema.Schema.TheVariants.{V1, V2, V3}
+use Rattle.tables_world.specs.Worlds.{rows_of}
 
 -- the contents of which these are the rows
 abbrev pub contents_from : Rows → Contents
@@ -34,9 +36,9 @@ migrated_contents from dir c = contents_from (migrated from dir (rows_of c))
 
 -- the tables that a schema lacks
 abbrev pub lacking : Schema → List Table
-lacking one = piece ∷ temp_root ∷ []
-lacking two = temp_root ∷ []
-lacking three = []
+lacking V1 = piece ∷ temp_root ∷ []
+lacking V2 = temp_root ∷ []
+lacking V3 = []
 
 -- Inside a transaction, which goes on: these tables were made after all that was there, and ours were left with these contents. All eleven
 -- are there, and other tables have the rows that they had, also where the schema doesn't show them.

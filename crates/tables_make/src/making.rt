@@ -13,8 +13,8 @@ ghost use Rattle.tables_sql.specs.Calls.{IsDurable};
 
 use crate::creating;
 use sqlite::{Alter, Connection, Transaction, params};
+use tables_schema::Schema;
 use tables_schema::our_table::{OurTable, schema_tables};
-use tables_schema::recognising::Recognised;
 use tables_sql::failure::Failure;
 
 fn put<S: Alter>(tx: &mut Transaction<'_, S>, word: &str, value: &str) -> Result<(), Failure>
@@ -55,7 +55,7 @@ fn make_all<S: Alter>(tx: &mut Transaction<'_, S>, store_dir: &str) -> Result<()
     ensures survives { Survives (state S.Store tx.old.conn.now) (state S.Store tx.new.conn.now) (λ _. ⊥) }
 {
     settle(tx, store_dir)?;
-    creating::all(tx, &schema_tables(Recognised::Third)[1..])
+    creating::all(tx, &schema_tables(Schema::V3)[1..])
 }
 
 #[tactic(auto, using(crate::proofs::Settles::committed_made))]

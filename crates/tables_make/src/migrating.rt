@@ -8,8 +8,8 @@ ghost use Rattle.tables_schema.specs.Finding.{HasFirst, HasSecond};
 ghost use Rattle.tables_sql.specs.Contents.{contents_of};
 ghost use Rattle.tables_sql.specs.Calls.{IsReady, IsUnderWay, Changes, HasFurther, KeepsShown, Leaves, IsDurable};
 ghost use Rattle.tables_make.specs.Further.{grown};
-ghost use Rattle.tables_world.specs.Rows.{one, two};
-ghost use Rattle.tables_world.specs.Told.{IsSoundBy};
+ghost use Rattle.tables_schema.specs.declared.schema.Schema.TheVariants.{V1, V2};
+ghost use Rattle.tables_world.specs.Worlds.{IsSoundBy};
 ghost use Rattle.tables_make.specs.Cutting.{cut_objects, renumbered};
 ghost use Rattle.tables_make.specs.Migrated.{lacking, Grows, IsGrown, IsMigrated, LeavesMigrated};
 
@@ -49,7 +49,7 @@ fn write_first<S: Alter>(
     requires under_way { HasCleanDisk (state S.Store tx.old.conn.now) → IsUnderWay (state S.Store tx.old.conn.now) }
     requires first { HasCleanDisk (state S.Store tx.old.conn.now) → IsTrue (state S.Store tx.old.conn.now).is_open → HasFirst (state S.Store tx.old.conn.now).now.schema }
     ensures same_reference { tx.new.conn.ghost_name ≡ tx.old.conn.ghost_name }
-    ensures done { HasCleanDisk (state S.Store tx.new.conn.now) → OnOk result (Grows (lacking one) (renumbered (cut_objects (map string_bytes bases.now) (contents_of (state S.Store tx.old.conn.now).now))) (state S.Store tx.old.conn.now) (state S.Store tx.new.conn.now)) }
+    ensures done { HasCleanDisk (state S.Store tx.new.conn.now) → OnOk result (Grows (lacking V1) (renumbered (cut_objects (map string_bytes bases.now) (contents_of (state S.Store tx.old.conn.now).now))) (state S.Store tx.old.conn.now) (state S.Store tx.new.conn.now)) }
     ensures failed { HasCleanDisk (state S.Store tx.new.conn.now) → OnErr result (KeepsCommit (state S.Store tx.old.conn.now) (state S.Store tx.new.conn.now)) }
     ensures survives { Survives (state S.Store tx.old.conn.now) (state S.Store tx.new.conn.now) (λ _. ⊥) }
 {
@@ -67,10 +67,10 @@ fn commit_first<S: Alter>(
     requires ready { HasCleanDisk (state S.Store conn.old) → IsTrue (state S.Store conn.old).is_open → IsReady (state S.Store conn.old) }
     requires first { HasCleanDisk (state S.Store conn.old) → IsTrue (state S.Store conn.old).is_open → HasFirst (state S.Store conn.old).now.schema }
     ensures alone { conn.new.in_transaction ≡ false }
-    ensures done { HasCleanDisk (state S.Store conn.new) → OnOk result (IsGrown (lacking one) (renumbered (cut_objects (map string_bytes bases.now) (contents_of (state S.Store conn.old).now))) (state S.Store conn.old) (state S.Store conn.new)) }
+    ensures done { HasCleanDisk (state S.Store conn.new) → OnOk result (IsGrown (lacking V1) (renumbered (cut_objects (map string_bytes bases.now) (contents_of (state S.Store conn.old).now))) (state S.Store conn.old) (state S.Store conn.new)) }
     ensures failed { HasCleanDisk (state S.Store conn.new) → OnErr result (KeepsShown (state S.Store conn.old) (state S.Store conn.new)) }
     ensures durable { OnOk result (IsTrue (state S.Store conn.new).is_open → IsDurable (state S.Store conn.new)) }
-    ensures survives { Survives (state S.Store conn.old) (state S.Store conn.new) (λ db. Leaves (grown (lacking one) (state S.Store conn.old).now) db (renumbered (cut_objects (map string_bytes bases.now) (contents_of (state S.Store conn.old).now)))) }
+    ensures survives { Survives (state S.Store conn.old) (state S.Store conn.new) (λ db. Leaves (grown (lacking V1) (state S.Store conn.old).now) db (renumbered (cut_objects (map string_bytes bases.now) (contents_of (state S.Store conn.old).now)))) }
 {
     let mut tx = transaction::begin(conn);
     write_first(alloc, &mut tx, bases)?;
@@ -88,10 +88,10 @@ pub fn from_first<S: Alter>(alloc: Global, conn: &mut Connection<S>) -> Result<(
     requires ready { HasCleanDisk (state S.Store conn.old) → IsTrue (state S.Store conn.old).is_open → IsReady (state S.Store conn.old) }
     requires first { HasCleanDisk (state S.Store conn.old) → IsTrue (state S.Store conn.old).is_open → HasFirst (state S.Store conn.old).now.schema }
     ensures alone { conn.new.in_transaction ≡ false }
-    ensures done { HasCleanDisk (state S.Store conn.new) → OnOk result ((dir : List ℕ) → IsSoundBy one dir (contents_of (state S.Store conn.old).now) → IsMigrated one dir (state S.Store conn.old) (state S.Store conn.new)) }
+    ensures done { HasCleanDisk (state S.Store conn.new) → OnOk result ((dir : List ℕ) → IsSoundBy V1 dir (contents_of (state S.Store conn.old).now) → IsMigrated V1 dir (state S.Store conn.old) (state S.Store conn.new)) }
     ensures failed { HasCleanDisk (state S.Store conn.new) → OnErr result (KeepsShown (state S.Store conn.old) (state S.Store conn.new)) }
     ensures durable { OnOk result (IsTrue (state S.Store conn.new).is_open → IsDurable (state S.Store conn.new)) }
-    ensures survives { Survives (state S.Store conn.old) (state S.Store conn.new) (λ db. (dir : List ℕ) → IsSoundBy one dir (contents_of (state S.Store conn.old).now) → LeavesMigrated one dir (state S.Store conn.old).now db) }
+    ensures survives { Survives (state S.Store conn.old) (state S.Store conn.new) (λ db. (dir : List ℕ) → IsSoundBy V1 dir (contents_of (state S.Store conn.old).now) → LeavesMigrated V1 dir (state S.Store conn.old).now db) }
 {
     let bases = objects::keys(alloc, conn)?;
     commit_first(alloc, conn, &bases)
@@ -103,7 +103,7 @@ fn write_second<S: Alter>(tx: &mut Transaction<'_, S>) -> Result<(), Failure>
     requires second { HasCleanDisk (state S.Store tx.old.conn.now) → IsTrue (state S.Store tx.old.conn.now).is_open → HasSecond (state S.Store tx.old.conn.now).now.schema }
     requires pieces { HasCleanDisk (state S.Store tx.old.conn.now) → IsTrue (state S.Store tx.old.conn.now).is_open → HasFurther (state S.Store tx.old.conn.now).now piece }
     ensures same_reference { tx.new.conn.ghost_name ≡ tx.old.conn.ghost_name }
-    ensures done { HasCleanDisk (state S.Store tx.new.conn.now) → OnOk result (Grows (lacking two) (renumbered (contents_of (state S.Store tx.old.conn.now).now)) (state S.Store tx.old.conn.now) (state S.Store tx.new.conn.now)) }
+    ensures done { HasCleanDisk (state S.Store tx.new.conn.now) → OnOk result (Grows (lacking V2) (renumbered (contents_of (state S.Store tx.old.conn.now).now)) (state S.Store tx.old.conn.now) (state S.Store tx.new.conn.now)) }
     ensures failed { HasCleanDisk (state S.Store tx.new.conn.now) → OnErr result (KeepsCommit (state S.Store tx.old.conn.now) (state S.Store tx.new.conn.now)) }
     ensures survives { Survives (state S.Store tx.old.conn.now) (state S.Store tx.new.conn.now) (λ _. ⊥) }
 {
@@ -123,10 +123,10 @@ pub fn from_second<S: Alter>(conn: &mut Connection<S>) -> Result<(), Failure>
     requires second { HasCleanDisk (state S.Store conn.old) → IsTrue (state S.Store conn.old).is_open → HasSecond (state S.Store conn.old).now.schema }
     requires pieces { HasCleanDisk (state S.Store conn.old) → IsTrue (state S.Store conn.old).is_open → HasFurther (state S.Store conn.old).now piece }
     ensures alone { conn.new.in_transaction ≡ false }
-    ensures done { HasCleanDisk (state S.Store conn.new) → OnOk result ((dir : List ℕ) → IsSoundBy two dir (contents_of (state S.Store conn.old).now) → IsMigrated two dir (state S.Store conn.old) (state S.Store conn.new)) }
+    ensures done { HasCleanDisk (state S.Store conn.new) → OnOk result ((dir : List ℕ) → IsSoundBy V2 dir (contents_of (state S.Store conn.old).now) → IsMigrated V2 dir (state S.Store conn.old) (state S.Store conn.new)) }
     ensures failed { HasCleanDisk (state S.Store conn.new) → OnErr result (KeepsShown (state S.Store conn.old) (state S.Store conn.new)) }
     ensures durable { OnOk result (IsTrue (state S.Store conn.new).is_open → IsDurable (state S.Store conn.new)) }
-    ensures survives { Survives (state S.Store conn.old) (state S.Store conn.new) (λ db. (dir : List ℕ) → IsSoundBy two dir (contents_of (state S.Store conn.old).now) → LeavesMigrated two dir (state S.Store conn.old).now db) }
+    ensures survives { Survives (state S.Store conn.old) (state S.Store conn.new) (λ db. (dir : List ℕ) → IsSoundBy V2 dir (contents_of (state S.Store conn.old).now) → LeavesMigrated V2 dir (state S.Store conn.old).now db) }
 {
     let mut tx = transaction::begin(conn);
     write_second(&mut tx)?;

@@ -7,13 +7,13 @@ use Rattle.paths.specs.Root.{bytes_cmp}
 use Rattle.tables_sql.specs.Contents.{Contents, Stored}
 use Rattle.model.specs.World.{Path, Object}
 use Rattle.tables_world.specs.Rows.{object_in}
-use Rattle.tables_world.specs.Told.{rows_of, world_in}
+use Rattle.tables_world.specs.Worlds.{rows_of, world_in}
 use Rattle.tables_world.proofs.Columns.{object_at}
 use Rattle.tables_outline.specs.Outline.{Outlined, outlined, outline_of}
 use Rattle.tables_outline.proofs.Orders.{bytes_total, bytes_antisymmetric}
 use Rattle.tables_outline.proofs.Puts.{tied_is}
 use Rattle.tables_outline.proofs.Told.{get-told}
-use Rattle.tables_objects.specs.Taken.{Objects, with_stored, with_object, with_objects}
+use Rattle.tables_objects.specs.Loaded.{Objects, with_stored, with_object, with_objects}
 
 module _ (c : Contents) where
   -- the outline of the object of a path

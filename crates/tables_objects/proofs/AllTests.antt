@@ -11,13 +11,15 @@ use Rattle.tables_sql.specs.Contents.{Contents, Numbered, Stored}
 use Rattle.tables_sql.proofs.Orders.{numbered_total, numbered_antisymmetric}
 use Rattle.model.specs.World.{Path}
 use Rattle.tables_world.specs.Pieces.{IsCut}
-use Rattle.tables_world.specs.Rows.{Schema, has_pieces, archive_in, references_in, outputs_in, pieces_in}
-use Rattle.tables_world.specs.Told.{rows_of, world_in}
+use Rattle.tables_world.specs.Rows.{archive_in, references_in, outputs_in, pieces_in}
+use Rattle.tables_schema.specs.declared.schema.Schema.{Schema}
+use Rattle.tables_schema.specs.Schemas.{has_pieces}
+use Rattle.tables_world.specs.Worlds.{rows_of, world_in}
 use Rattle.tables_world.specs.Parts.{IsSoundRow}
 use Rattle.tables_outline.specs.Outline.{outline_of}
 use Rattle.tables_outline.proofs.Orders.{bytes_total, bytes_antisymmetric, pair_total, pair_antisymmetric}
 use Rattle.tables_outline.proofs.Puts.{tied_is}
-use Rattle.tables_objects.specs.Taken.{Objects, IsCutBy, IsSoundOne, is_object, is_reference, is_output, is_owned, AreSoundInPieces}
+use Rattle.tables_objects.specs.Loaded.{Objects, IsCutBy, IsSoundOne, is_object, is_reference, is_output, is_owned, AreSoundInPieces}
 use Rattle.tables_objects.proofs.Lists.{both_so, and_so}
 use Rattle.tables_objects.proofs.EachEntry.{each_entry, tested_entries}
 use Rattle.tables_objects.proofs.AllObjects.{has_here}

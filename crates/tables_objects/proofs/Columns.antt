@@ -17,7 +17,7 @@ use Rattle.tables_sql.specs.Entries.{reference_of, output_of, piece_in, numbered
 use Rattle.tables_sql.proofs.Orders.{numbered_total, numbered_antisymmetric}
 use Rattle.model.specs.World.{Path}
 use Rattle.tables_world.specs.Rows.{references_in, outputs_in, pieces_in}
-use Rattle.tables_world.specs.Told.{rows_of}
+use Rattle.tables_world.specs.Worlds.{rows_of}
 use Rattle.tables_outline.proofs.Orders.{bytes_total, bytes_antisymmetric, pair_total, pair_antisymmetric}
 use Rattle.tables_outline.proofs.Ordered.{both_T, from_both, listed_as}
 use Rattle.tables_outline.proofs.Puts.{tied_is}

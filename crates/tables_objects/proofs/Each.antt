@@ -6,9 +6,9 @@ use Rattle.sqlite.specs.State.{State, IsUnchanged}
 use Rattle.tables_sql.specs.Calls.{KeepsShown}
 use Rattle.tables_sql.specs.Contents.{Contents}
 use Rattle.model.specs.World.{Path}
-use Rattle.tables_world.specs.Rows.{Schema}
-use Rattle.tables_outline.specs.Outline.{Outline}
-use Rattle.tables_objects.specs.Taken.{IsSoundOne, with_object, with_objects}
+use Rattle.tables_schema.specs.declared.schema.Schema.{Schema}
+use Rattle.tables_outline.specs.Outline.{OutlineValue}
+use Rattle.tables_objects.specs.Loaded.{IsSoundOne, with_object, with_objects}
 
 -- what is left begins with the item at this place
 pub left_at : {A : Type 0} (xs : List A) (i : ℕ) (x : A) → i < length xs → x ≡ get_or xs i x → drop i xs ≡ x ∷ drop (i + 1) xs
@@ -47,16 +47,16 @@ module _ (schema : Schema) (dir : List ℕ) (c : Contents) (all : List Path) whe
   pub decides_all : (left : List (String Global)) → left ≡ [] → Decides left → AllByRecursion P all
   decides_all left none h = let now : Decides [] = subst Decides none h in now.0 tt
 
-module _ (c : Contents) (o : Outline) (all : List Path) where
-  abbrev pub Makes : List (String Global) → Outline → Type 0
+module _ (c : Contents) (o : OutlineValue) (all : List Path) where
+  abbrev pub Makes : List (String Global) → OutlineValue → Type 0
   Makes left now = record now { objects = with_objects c (map string_bytes left) now.objects } ≡ record o { objects = with_objects c all o.objects }
 
-  pub makes_next : (left rest : List (String Global)) (x : String Global) (now next : Outline) → left ≡ x ∷ rest → next ≡ record now { objects = with_object c (string_bytes x) now.objects } → Makes left now → Makes rest next
+  pub makes_next : (left rest : List (String Global)) (x : String Global) (now next : OutlineValue) → left ≡ x ∷ rest → next ≡ record now { objects = with_object c (string_bytes x) now.objects } → Makes left now → Makes rest next
   makes_next left rest x now next split is h =
-      ap (λ (n : Outline). record n { objects = with_objects c (map string_bytes rest) n.objects }) is
+      ap (λ (n : OutlineValue). record n { objects = with_objects c (map string_bytes rest) n.objects }) is
       ∙ ap (λ (l : List (String Global)). record now { objects = with_objects c (map string_bytes l) now.objects }) (sym split) ∙ h
 
-  pub makes_all : (left : List (String Global)) (now : Outline) → left ≡ [] → Makes left now → now ≡ record o { objects = with_objects c all o.objects }
+  pub makes_all : (left : List (String Global)) (now : OutlineValue) → left ≡ [] → Makes left now → now ≡ record o { objects = with_objects c all o.objects }
   makes_all left now none h = sym (ap (λ (l : List (String Global)). record now { objects = with_objects c (map string_bytes l) now.objects }) none) ∙ h
 
 -- an answer in other words

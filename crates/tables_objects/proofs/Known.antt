@@ -15,7 +15,7 @@ use Rattle.tables_sql.specs.Entries.{reference_of, output_of, numbered_in}
 use Rattle.model.specs.World.{Path, Pair}
 use Rattle.tables_objects.specs.Known.{lent, is_known, is_known_reference, is_known_output, is_known_piece}
 use Rattle.tables_objects.specs.Rising.{Rises}
-use Rattle.tables_objects.specs.Taken.{Objects, is_object, is_reference, is_output, is_owned}
+use Rattle.tables_objects.specs.Loaded.{Objects, is_object, is_reference, is_output, is_owned}
 use Rattle.tables_objects.proofs.Lists.{map-append}
 use Rattle.tables_objects.proofs.OwnRows.{keys_rise}
 

@@ -11,7 +11,7 @@ use Rattle.nar.specs.Outcome.{outcome_of}
 use Rattle.nar.proofs.Decided.{outcome_archive}
 use Rattle.intake.specs.declared.arriving.Arrived.{Arrived}
 use Rattle.intake.specs.Arriving.{fault_of}
-use Rattle.intake.specs.Told.{IsTold}
+use Rattle.intake.specs.Described.{DescribesBytes}
 use Rattle.paths.specs.StorePath.{is_derivation}
 use Rattle.paths.specs.ContentAddress.{ContentAddress}
 use Rattle.model.specs.World.{Path}
@@ -61,7 +61,7 @@ pub tree_found : (r : Result Tree NarError) → fault_of r ≡ None → (t : Tre
 tree_found (Ok t) none = (t, refl)
 tree_found (Err e) none = let no : ⊥ = cc in absurd no
 
-module _ (dir : List ℕ) (p : Path) (a : Arrived) (told : IsTold a) (sound : a.fault ≡ None) where
+module _ (dir : List ℕ) (p : Path) (a : Arrived) (told : DescribesBytes a) (sound : a.fault ≡ None) where
   found : (t : Tree) × (outcome_of a.pieces ≡ Ok t)
   found = tree_found (outcome_of a.pieces) (sym told.fault ∙ sound)
 
@@ -78,7 +78,7 @@ no_fault None h = refl
 no_fault (Some e) h = absurd (false≢true (sym h))
 
 -- bytes with a fault are no sound archive
-pub no_archive : (dir : List ℕ) (p : Path) (a : Arrived) (hash : List ℕ) (ca : Option ContentAddress) (refs : List Path) (outputs : List (List ℕ × Path)) → IsTold a → is_some a.fault ≡ true
+pub no_archive : (dir : List ℕ) (p : Path) (a : Arrived) (hash : List ℕ) (ca : Option ContentAddress) (refs : List Path) (outputs : List (List ℕ × Path)) → DescribesBytes a → is_some a.fault ≡ true
     → ¬ IsSoundArchive dir p a.pieces hash ca refs outputs
 no_archive dir p a hash ca refs outputs told faulty = λ s.
     let tree = s.recorded.tree in

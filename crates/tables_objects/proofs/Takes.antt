@@ -12,15 +12,16 @@ use Rattle.tables_sql.specs.declared.pieces.Piece.{Piece}
 use Rattle.tables_sql.specs.Entries.{stored_of}
 use Rattle.model.specs.World.{Path}
 use Rattle.model.specs.Objects.{outputs_at}
-use Rattle.tables_world.specs.Rows.{Schema, address_in, archive_in, references_in, outputs_in, pieces_in, object_in}
-use Rattle.tables_world.specs.Told.{rows_of}
+use Rattle.tables_world.specs.Rows.{address_in, archive_in, references_in, outputs_in, pieces_in, object_in}
+use Rattle.tables_schema.specs.declared.schema.Schema.{Schema}
+use Rattle.tables_world.specs.Worlds.{rows_of}
 use Rattle.tables_world.specs.Parts.{IsSoundRow}
 use Rattle.tables_outline.specs.Outline.{Outlined, outlined}
 use Rattle.tables_objects.specs.declared.reading.ObjectRows.{ObjectRows}
 use Rattle.tables_objects.specs.Cut.{parts_of, whole_of}
 use Rattle.tables_objects.specs.Tested.{IsSoundAt, kept_of, named_of, targets_of}
 use Rattle.tables_objects.specs.Rows.{AreRowsOf}
-use Rattle.tables_objects.specs.Taken.{Objects, IsCutBy, IsSoundOne, with_stored, with_object}
+use Rattle.tables_objects.specs.Loaded.{Objects, IsCutBy, IsSoundOne, with_stored, with_object}
 use Rattle.tables_objects.proofs.Paths.{set_again}
 use Rattle.tables_objects.proofs.SoundRows.{row_of_tested, tested_of_row}
 

@@ -2,5 +2,5 @@ pub mod Cut
 pub mod Known
 pub mod Rising
 pub mod Rows
-pub mod Taken
+pub mod Loaded
 pub mod Tested

@@ -5,7 +5,7 @@ use Rattle.tables_sql.specs.Contents.{Contents}
 use Rattle.tables_sql.specs.Entries.{stored_of, reference_of, output_of, numbered_in}
 use Rattle.model.specs.World.{Path}
 use Rattle.tables_world.specs.Rows.{pieces_in}
-use Rattle.tables_world.specs.Told.{rows_of}
+use Rattle.tables_world.specs.Worlds.{rows_of}
 use Rattle.tables_objects.specs.Cut.{parts_of}
 use Rattle.tables_objects.specs.declared.reading.ObjectRows.{ObjectRows}
 use Rattle.tables_objects.specs.declared.joined.Joined.{Joined}

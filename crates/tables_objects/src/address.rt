@@ -3,8 +3,8 @@
 ghost use Rattle.std.specs.Prelude.{◌≡◌, IfOk};
 ghost use Rattle.std.specs.List.{list_any};
 ghost use Rattle.std.specs.Str.{bytes_eq};
-ghost use Rattle.paths.specs.Facts.{TellsFor};
-ghost use Rattle.intake.specs.Told.{IsTold};
+ghost use Rattle.paths.specs.Facts.{HasFactsFor};
+ghost use Rattle.intake.specs.Described.{DescribesBytes};
 ghost use Rattle.tables_objects.specs.Tested as tested;
 
 use intake::Arrived;
@@ -25,8 +25,8 @@ fn refers_to(refs: &[StorePath], path: &StorePath) -> bool
 
 /// What an address of such a method asks for of an archive: its contents are hashed for that of a text alone.
 fn facts(method: Method, archive: &Arrived) -> Facts
-    requires told { IsTold archive.now }
-    ensures { TellsFor method archive.now.pieces result }
+    requires told { DescribesBytes archive.now }
+    ensures { HasFactsFor method archive.now.pieces result }
 {
     match method {
         Method::Text => archive.facts(),
@@ -47,7 +47,7 @@ pub(crate) fn fits_address(
     ca: Option<Ca>,
     refs: &[StorePath],
 ) -> Result<bool, AllocError>
-    requires told { IsTold archive.now }
+    requires told { DescribesBytes archive.now }
     ensures { IfOk result (λ ok. ok ≡ tested.fits_address ca dir.now path.now refs.now archive.now.pieces) }
 {
     let Some(ca) = ca else {

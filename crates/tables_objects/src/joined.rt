@@ -1,4 +1,5 @@
-//! All rows of references and outputs, and which pieces there are: read once, and tested against the objects of the index.
+//! All rows of references and outputs, and which pieces there are: read once, and tested against the objects of the outline.
+#![tactic(auto, using(tables_sql::proofs::TestFailures::read_fails, tables_sql::proofs::TestFailures::read_passed, tables_sql::proofs::TestFailures::memory_passed, tables_sql::proofs::TestFailures::read_then, tables_sql::proofs::TestFailures::read_then_passed))]
 
 ghost use Rattle.std.specs.Prelude.{◌≡◌, ◌&&◌, false, IsTrue, IsFalse, IfOk, map};
 ghost use Rattle.std.specs.List.{list_all};
@@ -8,22 +9,22 @@ ghost use Rattle.sqlite.specs.Held.{state};
 ghost use Rattle.tables_schema.specs.Forms.{piece};
 ghost use Rattle.tables_sql.specs.Contents.{contents_of};
 ghost use Rattle.tables_sql.specs.Calls.{HasFurther, IsReady, KeepsShown};
-ghost use Rattle.tables_world.specs.Rows.{has_pieces};
-ghost use Rattle.tables_world.specs.View.{schema_view};
+ghost use Rattle.tables_rows.specs.Frames.{FailsInReads};
+ghost use Rattle.tables_schema.specs.Schemas.{has_pieces};
 ghost use Rattle.tables_sql.specs.Entries.{numbered_in, output_of, reference_of};
 ghost use Rattle.tables_objects.specs.Rows.{AreJoined};
-ghost use Rattle.tables_objects.specs.Taken.{is_output, is_owned, is_reference};
+ghost use Rattle.tables_objects.specs.Loaded.{is_output, is_owned, is_reference};
 
 use crate::members::{are_outputs, are_owned, are_references, paths_in};
 use sqlite::{Alter, Connection};
 use std::alloc::{AllocError, Global};
-use tables_outline::Index;
+use tables_outline::Outline;
 use tables_rows::{outputs, pieces, references};
+use tables_schema::Schema;
 use tables_sql::failure::Failure;
 use tables_sql::outputs::Output;
 use tables_sql::pieces::PieceKey;
 use tables_sql::references::Reference;
-use tables_world::Schema;
 
 /// All references and outputs, and which pieces there are, each in order.
 #[derive(Drop)]
@@ -42,9 +43,10 @@ fn keys_of<S: Alter>(
     requires alone { conn.old.in_transaction ≡ false }
     requires ready { HasCleanDisk (state S.Store conn.old) → IsTrue (state S.Store conn.old).is_open → IsReady (state S.Store conn.old) }
     requires opened { HasCleanDisk (state S.Store conn.old) → IsTrue (state S.Store conn.old).is_open }
-    requires stands { HasCleanDisk (state S.Store conn.old) → IsTrue (has_pieces (schema_view schema)) → IsTrue (state S.Store conn.old).is_open → HasFurther (state S.Store conn.old).now piece }
-    requires no_table { HasCleanDisk (state S.Store conn.old) → IsFalse (has_pieces (schema_view schema)) → IsTrue (state S.Store conn.old).is_open → (contents_of (state S.Store conn.old).now).pieces ≡ finite.empty }
+    requires stands { HasCleanDisk (state S.Store conn.old) → IsTrue (has_pieces schema) → IsTrue (state S.Store conn.old).is_open → HasFurther (state S.Store conn.old).now piece }
+    requires no_table { HasCleanDisk (state S.Store conn.old) → IsFalse (has_pieces schema) → IsTrue (state S.Store conn.old).is_open → (contents_of (state S.Store conn.old).now).pieces ≡ finite.empty }
     ensures alone { conn.new.in_transaction ≡ false }
+    ensures cause { FailsInReads S.Store conn.old conn.new result }
     ensures reads { HasCleanDisk (state S.Store conn.new) → IfOk result (λ all. IsUnchanged (state S.Store conn.old) (state S.Store conn.new)
         × (map numbered_in all.items ≡ finite.keys (contents_of (state S.Store conn.old).now).pieces)) }
     ensures same { HasCleanDisk (state S.Store conn.new) → KeepsShown (state S.Store conn.old) (state S.Store conn.new) }
@@ -65,9 +67,10 @@ pub(crate) fn read_joined<S: Alter>(
 ) -> Result<Joined, Failure>
     requires alone { conn.old.in_transaction ≡ false }
     requires ready { HasCleanDisk (state S.Store conn.old) → IsTrue (state S.Store conn.old).is_open → IsReady (state S.Store conn.old) }
-    requires stands { HasCleanDisk (state S.Store conn.old) → IsTrue (has_pieces (schema_view schema)) → IsTrue (state S.Store conn.old).is_open → HasFurther (state S.Store conn.old).now piece }
-    requires no_table { HasCleanDisk (state S.Store conn.old) → IsFalse (has_pieces (schema_view schema)) → IsTrue (state S.Store conn.old).is_open → (contents_of (state S.Store conn.old).now).pieces ≡ finite.empty }
+    requires stands { HasCleanDisk (state S.Store conn.old) → IsTrue (has_pieces schema) → IsTrue (state S.Store conn.old).is_open → HasFurther (state S.Store conn.old).now piece }
+    requires no_table { HasCleanDisk (state S.Store conn.old) → IsFalse (has_pieces schema) → IsTrue (state S.Store conn.old).is_open → (contents_of (state S.Store conn.old).now).pieces ≡ finite.empty }
     ensures alone { conn.new.in_transaction ≡ false }
+    ensures cause { FailsInReads S.Store conn.old conn.new result }
     ensures reads { HasCleanDisk (state S.Store conn.new) → IfOk result (λ all. IsUnchanged (state S.Store conn.old) (state S.Store conn.new) × AreJoined (contents_of (state S.Store conn.old).now) all) }
     ensures same { HasCleanDisk (state S.Store conn.new) → KeepsShown (state S.Store conn.old) (state S.Store conn.new) }
     ensures ready { HasCleanDisk (state S.Store conn.new) → IsTrue (state S.Store conn.new).is_open → IsReady (state S.Store conn.new) }
@@ -84,11 +87,15 @@ pub(crate) fn read_joined<S: Alter>(
 }
 
 /// Whether each reference, each output and each piece belongs to an object, and each reference leads to one.
-pub(crate) fn are_joined(alloc: Global, index: &Index, joined: &Joined) -> Result<bool, AllocError>
-    ensures { IfOk result (λ ok. ok ≡ ((list_all (is_reference index.now.objects) (map reference_of joined.now.references.items) && list_all (is_output index.now.objects) (map output_of joined.now.outputs.items))
-        && list_all (is_owned index.now.objects) (map numbered_in joined.now.pieces.items))) }
+pub(crate) fn are_joined(
+    alloc: Global,
+    outline: &Outline,
+    joined: &Joined,
+) -> Result<bool, AllocError>
+    ensures { IfOk result (λ ok. ok ≡ ((list_all (is_reference outline.now.objects) (map reference_of joined.now.references.items) && list_all (is_output outline.now.objects) (map output_of joined.now.outputs.items))
+        && list_all (is_owned outline.now.objects) (map numbered_in joined.now.pieces.items))) }
 {
-    let paths = paths_in(alloc, index)?;
+    let paths = paths_in(alloc, outline)?;
     if !are_references(&paths, &joined.references) {
         return Ok(false);
     }

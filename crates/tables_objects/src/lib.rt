@@ -5,6 +5,8 @@ mod address;
 mod cutting;
 mod groups;
 mod joined;
+mod loading;
+mod loading_each;
 mod members;
 mod objects;
 mod outputs;
@@ -12,8 +14,6 @@ mod passing;
 mod reading;
 mod recorded;
 mod references;
-mod taken;
-mod taking;
 mod texts;
 
-pub use taken::take_objects;
+pub use loading::load_objects;

@@ -12,7 +12,7 @@ ghost use Rattle.tables_objects.specs.Rising.{Rises};
 use crate::groups::first_of;
 use paths::StorePath;
 use std::alloc::{AllocError, Global};
-use tables_outline::Index;
+use tables_outline::Outline;
 use tables_sql::outputs::Output;
 use tables_sql::pieces::PieceKey;
 use tables_sql::references::Reference;
@@ -20,12 +20,12 @@ use tables_sql::references::Reference;
 /// The paths of all objects, lent, in order.
 pub(crate) fn paths_in<'a>(
     alloc: Global,
-    index: &'a Index,
+    outline: &'a Outline,
 ) -> Result<Vec<&'a StorePath>, AllocError>
-    ensures { IfOk result (λ v. lent v.items ≡ finite.keys index.now.objects) }
+    ensures { IfOk result (λ v. lent v.items ≡ finite.keys outline.now.objects) }
 {
     let mut paths = Vec::new(alloc);
-    'objects: for path in index.objects().keys() {
+    'objects: for path in outline.objects().keys() {
         paths.push(path)?;
     }
     Ok(paths)

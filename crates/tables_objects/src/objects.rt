@@ -6,7 +6,7 @@ ghost use Rattle.std.specs.FinMap as finite;
 ghost use Rattle.sha2.specs.Sha256.{sha256};
 ghost use Rattle.paths.specs.Root.{bytes_cmp, set_of};
 ghost use Rattle.tables_sql.specs.Entries.{stored_of};
-ghost use Rattle.intake.specs.Told.{IsTold};
+ghost use Rattle.intake.specs.Described.{DescribesBytes};
 ghost use Rattle.model.specs.Objects.{outputs_at};
 ghost use Rattle.tables_outline.specs.Outline.{rise};
 ghost use Rattle.tables_objects.specs.Cut.{parts_of, whole_of};
@@ -37,7 +37,7 @@ fn sound_outputs(
     archive: &Arrived,
     rows: &[Output],
 ) -> Result<Option<Listed>, AllocError>
-    requires told { IsTold archive.now }
+    requires told { DescribesBytes archive.now }
     requires sound { archive.now.fault ≡ None }
     ensures { IfOk result (λ o. MatchOption o
         (¬ (IsRecorded dir.now path.now archive.now.pieces × (named_of rows.now ≡ finite.entries (outputs_at dir.now path.now archive.now.pieces))))
@@ -83,7 +83,7 @@ fn sound_archive(
     ca: Option<Ca>,
     outputs: &[Output],
 ) -> Result<Option<Summary>, AllocError>
-    requires told { IsTold archive.now }
+    requires told { DescribesBytes archive.now }
     requires refs { IsTrue (rise refs.items) }
     ensures { IfOk result (λ o. MatchOption o
         (¬ IsSoundArchive dir.now path.now archive.now.pieces hash.now ca refs.items (named_of outputs.now))

@@ -1,7 +1,7 @@
 //! An archive as its row and its pieces hold it.
 
 ghost use Rattle.std.specs.Prelude.{◌≡◌, ◌++◌, IfOk};
-ghost use Rattle.intake.specs.Told.{IsTold};
+ghost use Rattle.intake.specs.Described.{DescribesBytes};
 ghost use Rattle.tables_world.specs.Pieces.{joined};
 ghost use Rattle.tables_objects.specs.Cut.{parts_of};
 
@@ -30,7 +30,7 @@ pub(crate) fn archive_of(
     pieces: Vec<Piece>,
 ) -> Result<Arrived, AllocError>
     ensures pieces { IfOk result (λ a. a.pieces ≡ row.items ++ joined (parts_of pieces.items)) }
-    ensures told { IfOk result IsTold }
+    ensures told { IfOk result DescribesBytes }
 {
     Arrived::of_pieces(alloc, gathered(alloc, row, pieces)?)
 }

@@ -8,7 +8,7 @@ use Rattle.sqlite_schema.specs.declared.command.Command.TheVariants.{Select}
 use Rattle.sqlite.specs.declared.error.Error.{Error}
 use Rattle.sqlite.specs.State.{State, FailsToQuery}
 use Rattle.tables_schema.specs.Forms.{strict}
-use Rattle.tables_schema.specs.Standing.{Stands}
+use Rattle.tables_schema.specs.Intact.{IsIntact}
 use Rattle.tables_sql.specs.Queries.{IsSelect}
 use Rattle.tables_sql.specs.Failures.{failure_of, FailsWith}
 use Rattle.tables_sql.proofs.Scans.{IsScan}
@@ -26,7 +26,7 @@ pub record Asks (name : List ℕ) (columns : List Column) (key : List ℕ) (text
   pub scan : (tree : ℕ) → IsScan (query tree) tree
   pub is : Compiles name columns key text 0 (λ at tree. Select (record { lets = []; body = query tree }) names)
   pub reads : IsSelect text
-  pub fails : (old new : State) → (IsTrue old.is_open → Stands old.now.schema (strict name columns key)) → QueryFails text old new
+  pub fails : (old new : State) → (IsTrue old.is_open → IsIntact old.now.schema (strict name columns key)) → QueryFails text old new
 
 -- as the read of all its entries asks, or of a part of each
 pub asks_all : {K X Y T : Type 0} (d : Description K X) {p : Part d Y} {ShowsItem : Row → T → Type 0} {item : T → K × Y} {IsLegible : Row → Type 0} (q : PartReading d p ShowsItem item IsLegible) {text : List ℕ} {test : K → Bool} (s : Selection d q text [] test)

@@ -2,14 +2,16 @@
 use Rattle.std.proofs.Common.{◌≡◌, ◌≢◌, ◌↔◌, ◌<◌, ◌++◌, List, [], ◌∷◌, length, arith, Bool, true, false, Result, Ok, Err, IfOk, IsTrue, refl, sym, ap, subst, ◌∙◌}
 use Rattle.std.specs.List.{AllByRecursion}
 use Rattle.sqlite_wal.specs.Recovery.{Image}
-use Rattle.sqlite_schema.specs.declared.schema.Schema.{Schema}
+use Rattle.sqlite_schema.specs.declared.schema.Schema.{Schema as Shown}
 use Rattle.sqlite_schema.specs.declared.schema.Table.{Table}
 use Rattle.sqlite.specs.State.{State, IsUnchanged}
 use Rattle.sqlite.specs.Files.{AreFoundIn}
 use Rattle.sqlite.specs.Start.{FindsIn}
 use Rattle.tables_schema.specs.declared.recognising.Recognised.{Recognised}
-use Rattle.tables_schema.specs.declared.recognising.Recognised.TheVariants.{First, Second, Third, Nothing, Other}
-use Rattle.tables_schema.specs.Standing.{Stands}
+use Rattle.tables_schema.specs.declared.recognising.Recognised.TheVariants.{Nothing, Tables, Other}
+use Rattle.tables_schema.specs.declared.schema.Schema.{Schema}
+use Rattle.tables_schema.specs.declared.schema.Schema.TheVariants.{V1, V2, V3}
+use Rattle.tables_schema.specs.Intact.{IsIntact}
 use Rattle.tables_sql.specs.Texts.{AreReadable, AreReadableRows, HasReadableRows}
 use Rattle.tables_schema.specs.declared.our_table.OurTable.{OurTable}
 use Rattle.tables_schema.specs.OurTables.{schema_tables, form}
@@ -19,7 +21,7 @@ use Rattle.sqlite.specs.Effect.{Database, IsDatabase}
 use Rattle.tables_sql.specs.declared.failure.Failure.{Failure}
 use Rattle.tables_schema.specs.Forms.{piece, our_tables, further_tables}
 use Rattle.tables_sql.specs.Contents.{contents_of, rows_named}
-use Rattle.tables_sql.specs.Calls.{IsKeyed, IsOurs, IsWhole, HasFurther, IsReady}
+use Rattle.tables_sql.specs.Calls.{IsKeyed, IsStoreDatabase, IsWhole, HasFurther, IsReady}
 use Rattle.sqlite.proofs.Callers.{unchanged_then}
 use Rattle.tables_sql.proofs.ReadableMaps.{readable_by_maps}
 use Rattle.tables_sql.proofs.ReadableFurther.{pieces_by_maps, temp_roots_by_maps, no_pieces, no_temp_roots}
@@ -76,16 +78,14 @@ module _ (r : Recognised) (a n : State) (by : IsRecognised r a.now.schema) (same
   )
 
 -- there are no tables of ours, or they are no schema's
-pub found_none : (r : Recognised) (a n : State) → IsRecognised r a.now.schema → IsUnchanged a n → a.now ≡ a.committed → r ≢ First → r ≢ Second → r ≢ Third → IsFound r n
-found_none First a n by same settled one two three = absurd (one refl)
-found_none Second a n by same settled one two three = absurd (two refl)
-found_none Third a n by same settled one two three = absurd (three refl)
-found_none r a n by same settled one two three = record {
+pub found_none : (r : Recognised) (a n : State) → IsRecognised r a.now.schema → IsUnchanged a n → a.now ≡ a.committed → ((v : Schema) → r ≢ Tables v) → IsFound r n
+found_none (Tables v) a n by same settled not = absurd (not v refl)
+found_none r a n by same settled not = record {
   by_schema = subst (IsBySchema r) (sym same.0.now_is) (record {
     nothing = by.nothing;
-    first = (λ is. absurd (one is), λ both. by.first.1 both.0);
-    second = (λ is. absurd (two is), λ both. by.second.1 both.0);
-    third = (λ is. absurd (three is), λ both. by.third.1 both.0);
+    first = (λ is. absurd (not V1 is), λ both. by.first.1 both.0);
+    second = (λ is. absurd (not V2 is), λ both. by.second.1 both.0);
+    third = (λ is. absurd (not V3 is), λ both. by.third.1 both.0);
   });
   ready = tt;
   settled = settled_still r a n by same settled;
@@ -104,36 +104,36 @@ module _ (a n : State) (b : Bool) (sound : IsDatabase a.now) (settled : a.now �
   abbrev Readable : Table → Type 0
   Readable t = AreReadableRows t (rows_named a.now t.name)
 
-  ready_by : IsUnchanged a n → IsOurs a.now → IsReady n
-  ready_by same ours = record { ours = subst IsOurs (sym same.0.now_is) ours; settled = same.0.now_is ∙ settled ∙ sym same.0.committed_is }
+  ready_by : IsUnchanged a n → IsStoreDatabase a.now → IsReady n
+  ready_by same ours = record { ours = subst IsStoreDatabase (sym same.0.now_is) ours; settled = same.0.now_is ∙ settled ∙ sym same.0.committed_is }
 
-  pub found_by : (r : Recognised) → 0 < length (schema_tables r) → IsRecognised r a.now.schema → Tested (schema_tables r) a n b → (b ≡ true → IsFound r n) × (b ≡ false → IsFound Other n)
+  pub found_by : (v : Schema) → IsRecognised (Tables v) a.now.schema → Tested (schema_tables v) a n b → (b ≡ true → IsFound (Tables v) n) × (b ≡ false → IsFound Other n)
   unfolding HasReadableRows
-  found_by First some by told =
+  found_by V1 by told =
       let has = by.first.0 refl in
       let maps = readable_by_maps a.now sound has.0 told.1 _ _ (no_pieces a.now has.1) (no_temp_roots a.now has.2) in
-      found_if First a n by told.0 settled (HasReadableRows a.now) b told.2 (λ rows. maps.0 (rows, tt, tt), λ readable. (maps.1 readable).0)
+      found_if (Tables V1) a n by told.0 settled (HasReadableRows a.now) b told.2 (λ rows. maps.0 (rows, tt, tt), λ readable. (maps.1 readable).0)
       (λ rows. ready_by told.0 (record { sound = sound; has = has.0; keyed = told.1; readable = rows })) (λ is. absurd cc)
-  found_by Second some by told =
+  found_by V2 by told =
       let has = by.second.0 refl in
       let keyed = one_list Keyed our_tables (piece ∷ []) told.1 in
       let maps = readable_by_maps a.now sound has.0 keyed.0 _ _ (pieces_by_maps a.now sound has.1 keyed.1.0) (no_temp_roots a.now has.2) in
-      found_if Second a n by told.0 settled (AllByRecursion Readable (our_tables ++ piece ∷ [])) b told.2
+      found_if (Tables V2) a n by told.0 settled (AllByRecursion Readable (our_tables ++ piece ∷ [])) b told.2
       (λ rows. let each = one_list Readable our_tables (piece ∷ []) rows in maps.0 (each.0, each.1.0, tt), λ readable. let all = maps.1 readable in all-append Readable our_tables (piece ∷ []) all.0 (all.1, tt))
       (λ rows.
       let each = one_list Readable our_tables (piece ∷ []) rows in (
         ready_by told.0 (record { sound = sound; has = has.0; keyed = keyed.0; readable = each.0 }),
         subst (λ (d : Database). HasFurther d piece) (sym told.0.0.now_is) (record { stands = has.1; keyed = keyed.1.0; readable = each.1.0 }),
       )) (λ is. absurd cc)
-  found_by Third some by told =
+  found_by V3 by told =
       let has = by.third.0 refl in
       let keyed = one_list Keyed our_tables further_tables told.1 in
       let maps = readable_by_maps a.now sound has.0 keyed.0 _ _ (pieces_by_maps a.now sound has.1 keyed.1.0) (temp_roots_by_maps a.now sound has.2 keyed.1.1.0) in
-      found_if Third a n by told.0 settled (AllByRecursion Readable (our_tables ++ further_tables)) b told.2
+      found_if (Tables V3) a n by told.0 settled (AllByRecursion Readable (our_tables ++ further_tables)) b told.2
       (λ rows. let each = one_list Readable our_tables further_tables rows in maps.0 (each.0, each.1.0, each.1.1.0), λ readable. let all = maps.1 readable in all-append Readable our_tables further_tables all.0 (all.1, (all.2, tt)))
       (λ rows.
       let each = one_list Readable our_tables further_tables rows in
-      let ours : IsOurs a.now = record { sound = sound; has = has.0; keyed = keyed.0; readable = each.0 } in (
+      let ours : IsStoreDatabase a.now = record { sound = sound; has = has.0; keyed = keyed.0; readable = each.0 } in (
         ready_by told.0 ours,
         subst IsWhole (sym told.0.0.now_is) (record {
           ours = ours;
@@ -141,17 +141,18 @@ module _ (a n : State) (b : Bool) (sound : IsDatabase a.now) (settled : a.now �
           temp_roots = record { stands = has.2; keyed = keyed.1.1.0; readable = each.1.1.0 };
         }),
       )) (λ is. absurd cc)
-  found_by Nothing some by told = absurd (omega (arith, some))
-  found_by Other some by told = absurd (omega (arith, some))
 
 -- ---- which tables stand, and why it fails
 
-pub stand_by : (r : Recognised) (s : Schema) → IsRecognised r s → AllByRecursion (λ t. Stands s (form t)) (schema_tables r)
-stand_by First s by = (by.first.0 refl).0
-stand_by Second s by = let has = by.second.0 refl in all-append (Stands s) our_tables (piece ∷ []) has.0 (has.1, tt)
-stand_by Third s by = let has = by.third.0 refl in all-append (Stands s) our_tables further_tables has.0 (has.1, (has.2, tt))
-stand_by Nothing s by = tt
-stand_by Other s by = tt
+pub stand_by : (v : Schema) (s : Shown) → IsRecognised (Tables v) s → AllByRecursion (λ t. IsIntact s (form t)) (schema_tables v)
+stand_by V1 s by = (by.first.0 refl).0
+stand_by V2 s by = let has = by.second.0 refl in all-append (IsIntact s) our_tables (piece ∷ []) has.0 (has.1, tt)
+stand_by V3 s by = let has = by.third.0 refl in all-append (IsIntact s) our_tables further_tables has.0 (has.1, (has.2, tt))
+
+pub some_tables : (v : Schema) → 0 < length (schema_tables v)
+some_tables V1 = omega arith
+some_tables V2 = omega arith
+some_tables V3 = omega arith
 
 -- what the file held is what the last commit still is
 pub held_still : (image : Image) (old new : State) → new.committed ≡ old.committed → FindsIn image old → FindsIn image new

@@ -42,7 +42,7 @@ use Rattle.sqlite_rules.proofs.ProbeLemmas.{has_mapped, mapped_has}
 use Rattle.sqlite.specs.State.{State, IsUnchanged}
 use Rattle.sqlite.specs.Values.{IsInt}
 use Rattle.tables_schema.specs.Forms.{strict}
-use Rattle.tables_schema.specs.Standing.{Stands, tree_named}
+use Rattle.tables_schema.specs.Intact.{IsIntact, tree_named}
 use Rattle.tables_sql.specs.Contents.{rows_named}
 use Rattle.tables_sql.specs.Calls.{IsKeyed}
 use Rattle.tables_sql.specs.Queries.{IsAnswered}
@@ -152,7 +152,7 @@ abbrev pub ShowsApart : List ℕ → State → State → Type 0
 ShowsApart text old new = (rows : List Row) × IsAnswered text [] old new rows × ShowIds rows
 
 -- each row of the table has a rowid of its own, and nothing changes
-pub keyed_if : (name : List ℕ) (columns : List Column) (key : List ℕ) (text : List ℕ) (order : List (Term × Key)) (old new : State) → Stands old.now.schema (strict name columns key)
+pub keyed_if : (name : List ℕ) (columns : List Column) (key : List ℕ) (text : List ℕ) (order : List (Term × Key)) (old new : State) → IsIntact old.now.schema (strict name columns key)
     → {count : ℕ} → Compiles name columns key text count (λ at tree. Select (whole order tree) (codes "rowid" ∷ [])) → ShowsApart text old new → IsUnchanged old new × IsKeyed (rows_named old.now name)
 keyed_if name columns key text order old new stands is h =
     let tree = tree_named old.now.schema name in

@@ -10,7 +10,7 @@ use Rattle.sqlite_schema.specs.declared.schema.Column.{Column}
 use Rattle.sqlite_schema.specs.declared.command.Command.TheVariants.{Select}
 use Rattle.sqlite.specs.State.{State, IsUnchanged}
 use Rattle.tables_schema.specs.Forms.{strict}
-use Rattle.tables_schema.specs.Standing.{Stands, tree_named}
+use Rattle.tables_schema.specs.Intact.{IsIntact, tree_named}
 use Rattle.tables_sql.specs.Contents.{rows_named}
 use Rattle.tables_sql.specs.Texts.{IsReadable, IsReadableRow, AreReadableRows}
 use Rattle.tables_sql.specs.Queries.{IsAnswered}
@@ -49,7 +49,7 @@ Tells text old new b = (rows : List Row) × IsAnswered text [] old new rows × (
 module _ (name : List ℕ) (columns : List Column) (key : List ℕ) (text : List ℕ) (names : List (List ℕ)) (query : ℕ → Query) (scan : (tree : ℕ) → IsScan (query tree) tree) (whole : (tree : ℕ) → (query tree).filter ≡ [])
     {count : ℕ} (is : Compiles name columns key text count (λ at tree. Select (record { lets = []; body = query tree }) names)) where
   -- nothing changes, and the texts of the table are UTF-8 exactly where those are that were shown
-  pub told_if : (old new : State) → Stands old.now.schema (strict name columns key) → ((tree : ℕ) (r : Row) → Has (rows_named old.now name) r → IsReadableRow (shows (query tree) [] r) ↔ AreOfUtf8 (length columns) r)
+  pub told_if : (old new : State) → IsIntact old.now.schema (strict name columns key) → ((tree : ℕ) (r : Row) → Has (rows_named old.now name) r → IsReadableRow (shows (query tree) [] r) ↔ AreOfUtf8 (length columns) r)
       → (b : Bool) → Tells text old new b → IsUnchanged old new × (IsTrue b ↔ AreReadableRows (strict name columns key) (rows_named old.now name))
   told_if old new stands each b h =
       let tree = tree_named old.now.schema name in

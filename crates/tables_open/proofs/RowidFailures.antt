@@ -18,7 +18,7 @@ use Rattle.sqlite_schema.specs.declared.schema.Column.{Column}
 use Rattle.sqlite_schema.specs.declared.command.Command.TheVariants.{Select}
 use Rattle.sqlite.specs.State.{State, Shown as Answered}
 use Rattle.tables_schema.specs.Forms.{strict}
-use Rattle.tables_schema.specs.Standing.{Stands, tree_named}
+use Rattle.tables_schema.specs.Intact.{IsIntact, tree_named}
 use Rattle.tables_sql.specs.Contents.{rows_named}
 use Rattle.tables_sql.specs.Calls.{IsKeyed}
 use Rattle.tables_sql.specs.declared.failure.Failure.{Failure}
@@ -60,7 +60,7 @@ ids_from order tree db rows answer keyed =
     (ints_of rows, ints, ints_distinct (ints_of rows) (subst (IsDistinct tie) ints shown))
 
 -- where each row has a rowid of its own, those are shown
-pub ids_if : (name : List ℕ) (columns : List Column) (key : List ℕ) (text : List ℕ) (order : List (Term × Key)) (old new : State) → Stands old.now.schema (strict name columns key)
+pub ids_if : (name : List ℕ) (columns : List Column) (key : List ℕ) (text : List ℕ) (order : List (Term × Key)) (old new : State) → IsIntact old.now.schema (strict name columns key)
     → {count : ℕ} → Compiles name columns key text count (λ at tree. Select (whole order tree) names) → (rows : List Row) → Answered text [] old new rows → IsKeyed (rows_named old.now name) → ShowIds rows
 ids_if name columns key text order old new stands is rows shown keyed =
     let tree = tree_named old.now.schema name in
@@ -73,7 +73,7 @@ ids_if name columns key text order old new stands is rows shown keyed =
 abbrev pub FailsToCheck : List ℕ → State → State → Failure → Type 0
 FailsToCheck text old new f = IsQueryFailure text [] old new f ⊎ ((rows : List Row) × HasBegunWith text [] old new rows × ((f ≡ Memory) ⊎ ((f ≡ Disk) × ¬ ShowIds rows)))
 
-module _ (name : List ℕ) (columns : List Column) (key : List ℕ) (text : List ℕ) (order : List (Term × Key)) (old new : State) (at : IsTrue old.is_open → Stands old.now.schema (strict name columns key)) (it : Asks name columns key text names (query order)) where
+module _ (name : List ℕ) (columns : List Column) (key : List ℕ) (text : List ℕ) (order : List (Term × Key)) (old new : State) (at : IsTrue old.is_open → IsIntact old.now.schema (strict name columns key)) (it : Asks name columns key text names (query order)) where
   pub check_fails : (f : Failure) → FailsToCheck text old new f → FailsToTest old new (¬ IsKeyed (rows_named old.now name)) f
   check_fails f (inl h) = test_fails old new text _ (it.fails old new at) f h
   check_fails f (inr (rows, given, inl memory)) = subst (FailsToTest old new (¬ IsKeyed (rows_named old.now name))) (sym memory) tt

@@ -20,7 +20,7 @@ use Rattle.sqlite_resolve.specs.Program.{program}
 use Rattle.sqlite_resolve.specs.Scope.{Name, find as found_in, in_level, only, hit, column_in, is_among, is_rowid, rowid_in}
 use Rattle.sqlite_tied.specs.Compute.{everything}
 use Rattle.tables_schema.specs.Forms.{strict}
-use Rattle.tables_schema.specs.Standing.{IsKnown}
+use Rattle.tables_schema.specs.Intact.{IsKnown}
 use Rattle.tables_sql.specs.Queries.{IsSelect}
 use Rattle.tables_sql.proofs.Means.{plain_state}
 use Rattle.tables_sql.proofs.ReadFailures.{standing_read_fails}

@@ -10,7 +10,7 @@ use Rattle.sqlite_schema.specs.declared.schema.Table.{Table}
 use Rattle.sqlite.specs.Effect.{Database, IsDatabase}
 use Rattle.sqlite.specs.State.{State, IsUnchanged}
 use Rattle.tables_schema.specs.Forms.{strict}
-use Rattle.tables_schema.specs.Standing.{Stands}
+use Rattle.tables_schema.specs.Intact.{IsIntact}
 use Rattle.tables_sql.specs.Contents.{rows_named}
 use Rattle.tables_sql.specs.Texts.{IsReadableRow, AreReadableRows}
 use Rattle.tables_sql.specs.Calls.{IsKeyed}
@@ -33,16 +33,16 @@ FailsOfTexts text old new f = IsQueryFailure text [] old new f ⊎ ((f ≡ Memor
 -- what both tests of a table say by these texts
 pub record AreTests (t : Table) (rowids texts : List ℕ) : Type 1 where
   pub rowids_read : IsSelect rowids
-  pub keyed : (old new : State) → Stands old.now.schema t → ShowsApart rowids old new → IsUnchanged old new × IsKeyed (rows_named old.now t.name)
-  pub unkeyed : (old new : State) → (IsTrue old.is_open → Stands old.now.schema t) → (f : Failure) → FailsToCheck rowids old new f → FailsToTest old new (¬ IsKeyed (rows_named old.now t.name)) f
+  pub keyed : (old new : State) → IsIntact old.now.schema t → ShowsApart rowids old new → IsUnchanged old new × IsKeyed (rows_named old.now t.name)
+  pub unkeyed : (old new : State) → (IsTrue old.is_open → IsIntact old.now.schema t) → (f : Failure) → FailsToCheck rowids old new f → FailsToTest old new (¬ IsKeyed (rows_named old.now t.name)) f
   pub texts_read : IsSelect texts
-  pub told : (old new : State) → IsDatabase old.now → Stands old.now.schema t → (b : Bool) → Tells texts old new b → IsUnchanged old new × (IsTrue b ↔ AreReadableRows t (rows_named old.now t.name))
-  pub untold : (old new : State) → (IsTrue old.is_open → Stands old.now.schema t) → (f : Failure) → FailsOfTexts texts old new f → FailsToTest old new ⊥ f
+  pub told : (old new : State) → IsDatabase old.now → IsIntact old.now.schema t → (b : Bool) → Tells texts old new b → IsUnchanged old new × (IsTrue b ↔ AreReadableRows t (rows_named old.now t.name))
+  pub untold : (old new : State) → (IsTrue old.is_open → IsIntact old.now.schema t) → (f : Failure) → FailsOfTexts texts old new f → FailsToTest old new ⊥ f
 
 -- the queries mean so: the second shows texts that are UTF-8 where all of a row are
 pub tests_by : (name : List ℕ) (columns : List Column) (key : List ℕ) {rowids texts : List ℕ} (order : List (Term × Key)) → Asks name columns key rowids names (query order) → {shown : List (List ℕ)} {reading : ℕ → Query} → Asks name columns key texts shown reading
     → ((tree : ℕ) → (reading tree).filter ≡ [])
-    → ((db : Database) → IsDatabase db → Stands db.schema (strict name columns key) → (tree : ℕ) (r : Row) → Has (rows_named db name) r → IsReadableRow (shows (reading tree) [] r) ↔ AreOfUtf8 (length columns) r)
+    → ((db : Database) → IsDatabase db → IsIntact db.schema (strict name columns key) → (tree : ℕ) (r : Row) → Has (rows_named db name) r → IsReadableRow (shows (reading tree) [] r) ↔ AreOfUtf8 (length columns) r)
     → AreTests (strict name columns key) rowids texts
 tests_by name columns key {rowids} {texts} order of_rowids {shown} {reading} of_texts whole each = record {
   rowids_read = of_rowids.reads;

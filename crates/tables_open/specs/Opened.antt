@@ -1,5 +1,5 @@
 -- What opening a connection says of it, and why a file isn't opened.
-use Rattle.std.specs.Prelude.{◌≡◌, ◌↔◌, ◌⊎◌, ⊤, true, false, ℤ, List, map, Option, Some, None, IsTrue}
+use Rattle.std.specs.Prelude.{◌≡◌, ◌≢◌, ◌↔◌, ◌⊎◌, ⊤, true, false, ℤ, List, map, Option, Some, None, IsTrue}
 use Rattle.std.specs.List.{AllByRecursion, IsDistinct}
 use Rattle.std.specs.Ordering.{eq_by_cmp, int_cmp}
 use Rattle.sqlite_value.specs.declared.value.Value.TheVariants.{Int}
@@ -8,6 +8,10 @@ use Rattle.sqlite_disk.specs.declared.Disk as disk
 use Rattle.sqlite_disk.specs.declared.calls.Calls as calls
 use Rattle.sqlite_disk.specs.declared.modelled.Modelled.{Modelled}
 use Rattle.sqlite_disk.specs.declared.start.Start.{Ghosts}
+use Rattle.std.specs.IoError.{error_kind}
+use Rattle.std.specs.declared.io.ErrorKind.TheVariants as kind
+use Rattle.sqlite_std_file.specs.declared.pair.OpenError.{OpenError}
+use Rattle.sqlite_std_file.specs.declared.pair.OpenError.TheVariants as host
 use Rattle.sqlite_std_file.specs.File.{IsFresh}
 use Rattle.sqlite_std_file.specs.declared.host.Host.{Host}
 use Rattle.sqlite_wal.specs.Recovery.{Image}
@@ -26,10 +30,11 @@ use Rattle.sqlite.specs.declared.error.Error.TheVariants.{SqliteFailure}
 use Rattle.sqlite.specs.declared.error.ErrorCode.TheVariants.{CannotOpen, OutOfMemory, DatabaseBusy}
 use Rattle.tables_sql.specs.declared.failure.Failure.{Failure}
 use Rattle.tables_open.specs.declared.file.Unopened.{Unopened}
-use Rattle.tables_open.specs.declared.file.Unopened.TheVariants.{Refused, Untold}
+use Rattle.tables_open.specs.declared.file.Unopened.TheVariants.{Refused, Unreadable}
 use Rattle.tables_schema.specs.declared.recognising.Recognised.{Recognised}
-use Rattle.tables_schema.specs.declared.recognising.Recognised.TheVariants.{First, Second, Third, Nothing, Other}
-use Rattle.tables_schema.specs.Standing.{Stands}
+use Rattle.tables_schema.specs.declared.recognising.Recognised.TheVariants.{Nothing, Tables, Other}
+use Rattle.tables_schema.specs.declared.schema.Schema.TheVariants.{V1, V2, V3}
+use Rattle.tables_schema.specs.Intact.{IsIntact}
 use Rattle.tables_schema.specs.Finding.{HasNone, HasFirst, HasSecond, HasThird}
 use Rattle.tables_schema.specs.Forms.{piece, all_tables}
 use Rattle.tables_sql.specs.Contents.{contents_of, rows_named}
@@ -37,26 +42,34 @@ use Rattle.tables_sql.specs.Texts.{AreReadable}
 use Rattle.tables_sql.specs.Calls.{IsKeyed, IsWhole, HasFurther, IsReady, KeepsShown}
 use Rattle.tables_sql.specs.Failures.{opening_failure, FailsToTest}
 
+-- Which error of `sqlite` one of the host's is at opening: out of memory where it says so, busy where somebody else has the file open, else that the file can't be opened.
+abbrev pub IsOpeningError : OpenError → Error → Type 0
+IsOpeningError host.OutOfMemory e = e ≡ SqliteFailure OutOfMemory
+IsOpeningError host.Busy e = e ≡ SqliteFailure DatabaseBusy
+IsOpeningError host.HotJournal e = e ≡ SqliteFailure CannotOpen
+IsOpeningError (host.Io fault) e =
+    ((error_kind fault ≡ kind.OutOfMemory) × (e ≡ SqliteFailure OutOfMemory)) ⊎ ((error_kind fault ≢ kind.OutOfMemory) × (e ≡ SqliteFailure CannotOpen))
+
 -- by which schema the store's tables are there, if they are
 pub record IsRecognised (r : Recognised) (s : Schema) : Type 0 where
   pub nothing : r ≡ Nothing ↔ HasNone s
-  pub first : r ≡ First ↔ HasFirst s
-  pub second : r ≡ Second ↔ HasSecond s
-  pub third : r ≡ Third ↔ HasThird s
+  pub first : r ≡ Tables V1 ↔ HasFirst s
+  pub second : r ≡ Tables V2 ↔ HasSecond s
+  pub third : r ≡ Tables V3 ↔ HasThird s
 
 -- by which schema the database has our tables, with texts that can be read; or it has none of them, or is something else
 pub record IsBySchema (r : Recognised) (db : Database) : Type 0 where
   pub nothing : r ≡ Nothing ↔ HasNone db.schema
-  pub first : r ≡ First ↔ HasFirst db.schema × AreReadable (contents_of db)
-  pub second : r ≡ Second ↔ HasSecond db.schema × AreReadable (contents_of db)
-  pub third : r ≡ Third ↔ HasThird db.schema × AreReadable (contents_of db)
+  pub first : r ≡ Tables V1 ↔ HasFirst db.schema × AreReadable (contents_of db)
+  pub second : r ≡ Tables V2 ↔ HasSecond db.schema × AreReadable (contents_of db)
+  pub third : r ≡ Tables V3 ↔ HasThird db.schema × AreReadable (contents_of db)
 
 -- where the store's tables are there by a schema the connection is ready, and the further tables of that schema can be read and written too
 abbrev pub IsReadyBy : Recognised → State → Type 0
 IsReadyBy Nothing s = ⊤
-IsReadyBy First s = IsReady s
-IsReadyBy Second s = IsReady s × HasFurther s.now piece
-IsReadyBy Third s = IsReady s × IsWhole s.now
+IsReadyBy (Tables V1) s = IsReady s
+IsReadyBy (Tables V2) s = IsReady s × HasFurther s.now piece
+IsReadyBy (Tables V3) s = IsReady s × IsWhole s.now
 IsReadyBy Other s = ⊤
 
 -- this is what the database has of the store's tables; and if it holds the tables of a schema, it is ready
@@ -72,7 +85,7 @@ ShowIds rows = (ids : List ℤ) × (map (λ row. column row 0) rows ≡ map Int 
 -- the store's tables are there by one of the schemas, and in one of those that are there two rows share a rowid or a rowid is no integer
 abbrev pub HasUnkeyed : Database → Type 0
 HasUnkeyed db =
-    (HasFirst db.schema ⊎ (HasSecond db.schema ⊎ HasThird db.schema)) × ¬ AllByRecursion (λ t. Stands db.schema t → IsKeyed (rows_named db t.name)) all_tables
+    (HasFirst db.schema ⊎ (HasSecond db.schema ⊎ HasThird db.schema)) × ¬ AllByRecursion (λ t. IsIntact db.schema t → IsKeyed (rows_named db t.name)) all_tables
 
 -- Why opening failed. That is what its test may have found.
 abbrev pub FailsToOpen : State → State → Failure → Type 0
@@ -104,4 +117,4 @@ module _ {S : Type 0} {c : calls.Ghosts Host} {start : Ghosts S} {g : disk.Ghost
   -- Why files that held this weren't opened: `sqlite` refused them for an error, of which this is the failure; or it opened them, and what they hold of the store's tables can't be read.
   abbrev pub FailsToOpenFile : Image → Unopened (FileStore (Modelled Host S c start) g) (Modelled Host S c start) g → Type 0
   FailsToOpenFile held (Refused failure left) = (e : Error) × (failure ≡ opening_failure e) × Refuses e left
-  FailsToOpenFile held (Untold it) = (was : _) × IsAsOpened held was it.conn × (HasCleanDisk (file_state it.conn) → FailsToOpen (file_state was) (file_state it.conn) it.failure)
+  FailsToOpenFile held (Unreadable it) = (was : _) × IsAsOpened held was it.conn × (HasCleanDisk (file_state it.conn) → FailsToOpen (file_state was) (file_state it.conn) it.failure)

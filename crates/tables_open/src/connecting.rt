@@ -4,7 +4,7 @@ ghost use Rattle.std.specs.Prelude.{◌≡◌, ◌⊎◌, codes, true, false, No
 ghost use Rattle.sqlite_wal.specs.Files.{image_at};
 ghost use Rattle.sqlite_std_file.specs.File.{file_is_usable, IsFresh};
 ghost use Rattle.sqlite.specs.Opening.{is_open_error};
-ghost use Rattle.tables_open.specs.Opened.{IsOpenedOver, Refuses};
+ghost use Rattle.tables_open.specs.Opened.{IsOpenedOver, IsOpeningError, Refuses};
 
 use crate::options::options;
 use sqlite::{Connection, Error, ErrorCode, FileFrom, FileStore, Leftover, Start};
@@ -16,6 +16,20 @@ use std::rt::HostRuntime;
 const NO_MEMORY: Error = Error::SqliteFailure(ErrorCode::OutOfMemory);
 
 const CANNOT_OPEN: Error = Error::SqliteFailure(ErrorCode::CannotOpen);
+
+/// Which error of `sqlite` one of the host's is: out of memory where it says so, busy where somebody else has the file open, else that the file
+/// can't be opened.
+fn opening_error(error: OpenError) -> Error
+    ensures { IsOpeningError error result }
+{
+    match error {
+        OpenError::OutOfMemory => NO_MEMORY,
+        OpenError::Busy => Error::SqliteFailure(ErrorCode::DatabaseBusy),
+        OpenError::HotJournal => CANNOT_OPEN,
+        OpenError::Io(error) if error.kind() == ErrorKind::OutOfMemory => NO_MEMORY,
+        OpenError::Io(_) => CANNOT_OPEN,
+    }
+}
 
 /// The file at a path and its log. Neither memory nor a URI is one, as for `sqlite`.
 fn open_pair<S: Start>(rt: &HostRuntime, path: &str, start: S) -> Result<Files<FileFrom<S>>, Error>
@@ -29,10 +43,7 @@ fn open_pair<S: Start>(rt: &HostRuntime, path: &str, start: S) -> Result<Files<F
     }
     match sqlite_std_file::open(rt, path, start) {
         Ok(files) => Ok(files),
-        Err(OpenError::OutOfMemory) => Err(NO_MEMORY),
-        Err(OpenError::Busy) => Err(Error::SqliteFailure(ErrorCode::DatabaseBusy)),
-        Err(OpenError::Io(error)) if error.kind() == ErrorKind::OutOfMemory => Err(NO_MEMORY),
-        Err(_) => Err(CANNOT_OPEN),
+        Err(error) => Err(opening_error(error)),
     }
 }
 

@@ -28,7 +28,7 @@ pub struct Opened<S: Alter> {
 }
 
 /// A database that was opened, but what it has of the store's tables can't be read.
-pub struct Untold<S: Alter> {
+pub struct Unreadable<S: Alter> {
     /// The connection, as it was, outside a transaction.
     pub conn: Connection<S>,
     /// Why it can't be read.
@@ -45,7 +45,7 @@ pub enum Unopened<S: Alter, D: Disk> {
         left: Option<Leftover<D>>,
     },
     /// The database was opened, but what it has of the store's tables can't be read.
-    Untold(Untold<S>),
+    Unreadable(Unreadable<S>),
 }
 
 /// Which failure kept a file from being opened; none, where it is something else than a database.
@@ -64,7 +64,7 @@ fn opening_failure(error: Error) -> Option<Failure>
 
 /// Opens a connection: finds what its database has of the store's tables. Nothing changes, and where it can't be read, the connection is
 /// returned with the failure.
-pub fn take_up<S: Alter>(alloc: Global, mut conn: Connection<S>) -> Result<Opened<S>, Untold<S>>
+pub fn inspect<S: Alter>(alloc: Global, mut conn: Connection<S>) -> Result<Opened<S>, Unreadable<S>>
     requires alone { conn.in_transaction ≡ false }
     ensures alone { MatchResult result (λ it. it.conn.in_transaction ≡ false) (λ e. e.conn.in_transaction ≡ false) }
     ensures found { IfOk result (λ it. HasCleanDisk (state S.Store it.conn) → IsFound it.found (state S.Store it.conn)) }
@@ -75,7 +75,7 @@ pub fn take_up<S: Alter>(alloc: Global, mut conn: Connection<S>) -> Result<Opene
 {
     match opening::open(alloc, &mut conn) {
         Ok(found) => Ok(Opened { conn, found }),
-        Err(failure) => Err(Untold { conn, failure }),
+        Err(failure) => Err(Unreadable { conn, failure }),
     }
 }
 
@@ -97,9 +97,9 @@ pub fn open<S: Start>(
     ensures cause { IfErr result (FailsToOpenFile (image_at S.Start)) }
 {
     match connect(rt, path, start) {
-        Ok(conn) => match take_up(rt.alloc(), conn) {
+        Ok(conn) => match inspect(rt.alloc(), conn) {
             Ok(opened) => Ok(opened),
-            Err(untold) => Err(Unopened::Untold(untold)),
+            Err(untold) => Err(Unopened::Unreadable(untold)),
         },
         Err((error, left)) => Err(Unopened::Refused {
             failure: opening_failure(error),

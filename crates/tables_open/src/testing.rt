@@ -5,7 +5,7 @@ ghost use Rattle.std.specs.List.{AllByRecursion};
 ghost use Rattle.sqlite.specs.Effect.{IsDatabase};
 ghost use Rattle.sqlite.specs.State.{HasCleanDisk, Survives, IsUnchanged};
 ghost use Rattle.sqlite.specs.Held.{state};
-ghost use Rattle.tables_schema.specs.Standing.{Stands};
+ghost use Rattle.tables_schema.specs.Intact.{IsIntact};
 ghost use Rattle.tables_schema.specs.OurTables.{form};
 ghost use Rattle.tables_sql.specs.Calls.{KeepsShown};
 ghost use Rattle.tables_sql.specs.Failures.{FailsToTest};
@@ -22,7 +22,7 @@ use tables_sql::failure::Failure;
 fn one<S: Alter>(alloc: Global, conn: &mut Connection<S>, table: OurTable) -> Result<bool, Failure>
     requires alone { conn.old.in_transaction ≡ false }
     requires settled { HasCleanDisk (state S.Store conn.old) → IsTrue (state S.Store conn.old).is_open → (state S.Store conn.old).now ≡ (state S.Store conn.old).committed }
-    requires stands { HasCleanDisk (state S.Store conn.old) → IsTrue (state S.Store conn.old).is_open → Stands (state S.Store conn.old).now.schema (form table) }
+    requires stands { HasCleanDisk (state S.Store conn.old) → IsTrue (state S.Store conn.old).is_open → IsIntact (state S.Store conn.old).now.schema (form table) }
     requires sound { HasCleanDisk (state S.Store conn.old) → IsTrue (state S.Store conn.old).is_open → IsDatabase (state S.Store conn.old).now }
     ensures alone { conn.new.in_transaction ≡ false }
     ensures told { HasCleanDisk (state S.Store conn.new) → IfOk result (λ all. IsUnchanged (state S.Store conn.old) (state S.Store conn.new)
@@ -45,7 +45,7 @@ pub(crate) fn all<S: Alter>(
     requires some { 0 < length tables.now }
     requires alone { conn.old.in_transaction ≡ false }
     requires settled { HasCleanDisk (state S.Store conn.old) → IsTrue (state S.Store conn.old).is_open → (state S.Store conn.old).now ≡ (state S.Store conn.old).committed }
-    requires stand { HasCleanDisk (state S.Store conn.old) → IsTrue (state S.Store conn.old).is_open → AllByRecursion (λ t. Stands (state S.Store conn.old).now.schema (form t)) tables.now }
+    requires stand { HasCleanDisk (state S.Store conn.old) → IsTrue (state S.Store conn.old).is_open → AllByRecursion (λ t. IsIntact (state S.Store conn.old).now.schema (form t)) tables.now }
     requires sound { HasCleanDisk (state S.Store conn.old) → IsTrue (state S.Store conn.old).is_open → IsDatabase (state S.Store conn.old).now }
     ensures alone { conn.new.in_transaction ≡ false }
     ensures told { HasCleanDisk (state S.Store conn.new) → IfOk result (λ all. IsUnchanged (state S.Store conn.old) (state S.Store conn.new)

@@ -5,7 +5,7 @@ use Rattle.std.specs.Map.{lookup, set_value}
 use Rattle.std.specs.FinMap as finite
 use Rattle.model.specs.World.{Path, Pair, pair_cmp}
 use Rattle.tables_outline.specs.Maps.{seen_map, pair_bytes}
-use Rattle.tables_outline.specs.Index.{profile_view}
+use Rattle.tables_outline.specs.View.{profile_view}
 use Rattle.tables_outline.specs.Filling.{with_number, with_found, with_generation}
 use Rattle.tables_outline.specs.declared.profiles.Profile.{Profile}
 use Rattle.tables_outline.proofs.Orders.{pair_total, pair_antisymmetric}

@@ -11,11 +11,11 @@ use Rattle.std.specs.FinMap as finite
 use Rattle.std.proofs.lemmas.Bool.{false≢true}
 use Rattle.std.proofs.lemmas.List.{map-id}
 use Rattle.model.specs.World.{Path, Pair, Profile, pair_cmp}
-use Rattle.model.specs.Profiles.{highest, is_path, is_highest, number_for, set_to, switched, new_profile, profile_or_new, previous, put_at}
+use Rattle.model.specs.Profiles.{has_generation, highest, is_path, is_highest, number_for, set_to, switched, new_profile, profile_or_new, previous, put_at}
 use Rattle.model.proofs.Empty.{no_entries}
 use Rattle.tables_outline.specs.declared.profiles.Profile.{Profile as InMemory}
 use Rattle.tables_outline.specs.Maps.{seen_map, pair_bytes}
-use Rattle.tables_outline.specs.Index.{profile_view}
+use Rattle.tables_outline.specs.View.{profile_view}
 use Rattle.tables_outline.proofs.Orders.{bytes_antisymmetric, nat_antisymmetric, pair_total, pair_antisymmetric}
 use Rattle.tables_outline.proofs.Puts.{tied_is}
 use Rattle.tables_outline.proofs.Trees.{get_seen, keys_seen}
@@ -42,7 +42,7 @@ numbers_seen es h = keys_seen nat_cmp (λ n. n) (λ (t : Path). t) nat_cmp_total
 pub generation_at : (es : List (ℕ × Path)) (n : ℕ) → finite.get (seen_map nat_cmp (λ n. n) (λ t. t) es) n ≡ option_map (λ t. t) (lookup (λ k. eq_by_cmp nat_cmp n k) es)
 generation_at es n = get_seen nat_cmp (λ n. n) (λ (t : Path). t) nat_cmp_total nat_antisymmetric es n
 
--- ---- the profiles of an index
+-- ---- the profiles of an outline
 
 abbrev Kept : Type 0
 Kept = List ((String Global × String Global) × InMemory)
@@ -62,6 +62,12 @@ profile_is es q p found = sym (ap profile_or_new (profile_found es q p found))
 pub profile_missing : (es : Kept) (q : Pair) → None ≡ find_profile es q → is_some (finite.get (profiles_seen es) q) ≡ true → ⊥
 profile_missing es q none there =
     false≢true (ap (λ o. is_some (option_map profile_view o)) none ∙ sym (ap is_some (get_seen pair_cmp pair_bytes profile_view pair_total pair_antisymmetric es q)) ∙ there)
+
+-- and it has no generation
+pub generation_missing : (es : Kept) (q : Pair) (n : ℕ) → None ≡ find_profile es q → has_generation (profile_or_new (finite.get (profiles_seen es) q)) n ≡ true → ⊥
+generation_missing es q n none there =
+    false≢true (sym (ap is_some (finite.get-empty nat_cmp n)) ∙ ap (λ o. has_generation (profile_or_new (option_map profile_view o)) n) none
+    ∙ sym (ap (λ o. has_generation (profile_or_new o) n) (get_seen pair_cmp pair_bytes profile_view pair_total pair_antisymmetric es q)) ∙ there)
 
 -- a profile is written at a key that is there
 pub profile_written : (es new : Kept) (q : Pair) (p x : InMemory) (v : Profile) → Some p ≡ find_profile es q → new ≡ set_value (λ k. eq_by_cmp pair_cmp q (pair_bytes k)) es x → profile_view x ≡ v

@@ -14,7 +14,7 @@ use Rattle.std.proofs.lemmas.List.Kept.{IsStrictlySortedBy-filter}
 use Rattle.paths.specs.Root.{bytes_cmp, Set}
 use Rattle.model.specs.World.{Temporary, temporary_cmp}
 use Rattle.tables_outline.specs.Maps.{seen_set, temporary_bytes}
-use Rattle.tables_outline.specs.Sessions.{unkept}
+use Rattle.tables_outline.specs.Temporary.{unkept}
 use Rattle.tables_outline.proofs.Orders.{temporary_total, temporary_antisymmetric}
 use Rattle.tables_outline.proofs.Ordered.{mapped_length}
 use Rattle.tables_outline.proofs.Puts.{tied_is, get-kept, unput_put}

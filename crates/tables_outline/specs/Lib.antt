@@ -1,6 +1,6 @@
 pub mod Filling
-pub mod Index
+pub mod View
 pub mod Maps
 pub mod Outline
-pub mod Sessions
+pub mod Temporary
 pub mod Summary

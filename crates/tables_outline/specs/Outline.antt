@@ -28,7 +28,7 @@ outlined o = record { size = length o.nar; hash = sha256 o.nar; references = o.r
 abbrev pub with_archive : List ℕ → Outlined → Object
 with_archive nar o = record { nar = nar; references = o.references; deriver = o.deriver; ca = o.ca; outputs = o.outputs }
 
-pub record Outline : Type 0 where
+pub record OutlineValue : Type 0 where
   pub objects : finite.FinMap bytes_cmp Outlined
   pub permanent : finite.FinMap bytes_cmp Path
   pub user_roots : finite.FinMap pair_cmp Path
@@ -36,7 +36,7 @@ pub record Outline : Type 0 where
   pub runtime : Set pair_cmp
   pub temporary : Set temporary_cmp
 
-abbrev pub outline_of : World → Outline
+abbrev pub outline_of : World → OutlineValue
 outline_of w = record {
   objects = finite.from_entries (map (λ e. (e.0, outlined e.1)) (finite.entries w.objects));
   permanent = w.permanent;
@@ -49,18 +49,18 @@ outline_of w = record {
 -- ---- profiles
 
 -- the profile of an owner and a name, or one without generations
-abbrev pub profile_of : Outline → Pair → Profile
+abbrev pub profile_of : OutlineValue → Pair → Profile
 profile_of o owned = profile_or_new (finite.get o.profiles owned)
 
-abbrev pub with_profile : Outline → Pair → Profile → Outline
+abbrev pub with_profile : OutlineValue → Pair → Profile → OutlineValue
 with_profile o owned p = record o { profiles = finite.insert o.profiles owned p }
 
 -- the number of the current generation, if there is such a profile
-abbrev pub current_of : Outline → Pair → Option ℕ
+abbrev pub current_of : OutlineValue → Pair → Option ℕ
 current_of o owned = option_map (λ p. p.current) (finite.get o.profiles owned)
 
 -- the profiles without one generation of one of them, in which the number that was current is so again; or without all of it
-abbrev pub without_added : Outline → Pair → ℕ → Option ℕ → finite.FinMap pair_cmp Profile
+abbrev pub without_added : OutlineValue → Pair → ℕ → Option ℕ → finite.FinMap pair_cmp Profile
 without_added o owned n None = finite.remove o.profiles owned
 without_added o owned n (Some current) = finite.insert o.profiles owned (switched (without_generation (profile_of o owned) n) current)
 
@@ -86,7 +86,7 @@ profile_code = code_by (finite.FinMap nat_cmp Path × ℕ) (coded× (finite.code
 abbrev pub temporary_code : Coded Temporary
 temporary_code = code_by (List ℕ × (ℕ × Path)) (coded× bytes_code (coded× coded_ℕ bytes_code)) (λ t. (t.owner, (t.session, t.path))) (λ p. record { owner = p.0; session = p.1.0; path = p.1.1 }) (λ _. refl)
 
-abbrev pub outline_code : Coded Outline
+abbrev pub outline_code : Coded OutlineValue
 outline_code =
     code_by (finite.FinMap bytes_cmp Outlined × (finite.FinMap bytes_cmp Path × (finite.FinMap pair_cmp Path × (finite.FinMap pair_cmp Profile × (Set pair_cmp × Set temporary_cmp)))))
     (coded× (finite.code bytes_code outlined_code) (coded× (finite.code bytes_code bytes_code) (coded× (finite.code pair_code bytes_code) (coded× (finite.code pair_code profile_code) (coded× (finite.code pair_code coded_unit) (finite.code temporary_code coded_unit))))))

@@ -4,10 +4,10 @@ ghost use Rattle.std.specs.Prelude.{◌≡◌, IsTrue, IfOk, OnOk, map, string_b
 ghost use Rattle.std.specs.List.{list_all};
 ghost use Rattle.std.specs.FinMap as finite;
 ghost use Rattle.tables_outline.specs.Maps.{pair_bytes};
-ghost use Rattle.tables_outline.specs.Index.{profile_view};
+ghost use Rattle.tables_outline.specs.View.{profile_view};
 ghost use Rattle.tables_outline.specs.Filling.{has_currents, with_number, with_generation};
 
-use crate::outline::Index;
+use crate::outline::Outline;
 use crate::profiles::Profile;
 use paths::StorePath;
 use std::alloc::{AllocError, Global};
@@ -34,7 +34,7 @@ fn all_current(profiles: &BTreeMap<(String, String), Profile>) -> bool
     profiles.values().all(|profile| is_current(profile))
 }
 
-impl Index {
+impl Outline {
     /// Adds a runtime root.
     pub fn add_runtime(&mut self, label: String, target: StorePath) -> Result<(), AllocError>
         ensures { OnOk result (self.new ≡ record self.old { runtime = finite.insert self.old.runtime (string_bytes label, target) tt }) }

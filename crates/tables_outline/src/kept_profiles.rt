@@ -1,19 +1,19 @@
-//! Profiles in an index. One that isn't there has no generations.
+//! Profiles in an outline. One that isn't there has no generations.
 
 ghost use Rattle.std.specs.Prelude.{◌≡◌, nat_le, is_some, map, option_map, IfOk, IfSome, IsFalse, IsTrue, OnErr, OnOk};
 ghost use Rattle.std.specs.FinMap as finite;
 ghost use Rattle.model.specs.Profiles.{has_generation, last_number, number_for, previous, put_at, switched, without_generation};
 ghost use Rattle.tables_outline.specs.Maps.{pair_bytes};
-ghost use Rattle.tables_outline.specs.Index.{profile_view};
+ghost use Rattle.tables_outline.specs.View.{profile_view};
 ghost use Rattle.tables_outline.specs.Outline.{with_profile, profile_of, current_of, without_added};
 
-use crate::outline::Index;
+use crate::outline::Outline;
 use crate::profiles::Profile;
 use paths::StorePath;
 use std::alloc::{AllocError, Global};
 use std::collections::BTreeMap;
 
-impl Index {
+impl Outline {
     /// The profile of an owner and a name, if there is one.
     pub fn profile(&self, owned: &(String, String)) -> Option<&Profile>
         ensures { option_map (λ p. profile_view p.now) result ≡ finite.get self.now.profiles (pair_bytes owned.now) }
@@ -22,6 +22,11 @@ impl Index {
     }
 
     /// All profiles, lent, in the order of their owners and names.
+    ///
+    /// ```rust
+    /// tables.put_profile("ann", "default", Some((1, path)), 1)?;
+    /// assert_eq!(rt; tables.outline().profiles().len(), 1);
+    /// ```
     pub fn profiles(&self) -> &BTreeMap<(String, String), Profile>
         ensures { map (λ e. (pair_bytes e.0, profile_view e.1)) result.now.entries ≡ finite.entries self.now.profiles }
     {
@@ -157,6 +162,18 @@ impl Index {
                 let _put = self.profiles.remove(owned);
             }
         }
+    }
+
+    /// Puts a path at a number of a profile that has one, which becomes current. It takes no memory.
+    pub fn replace_generation(&mut self, owned: &(String, String), number: u32, target: StorePath)
+        requires { IsTrue (has_generation (profile_of self.old (pair_bytes owned.now)) number) }
+        ensures { self.new ≡ with_profile self.old (pair_bytes owned.now)
+            (put_at (profile_of self.old (pair_bytes owned.now)) number target) }
+    {
+        let Some(profile) = self.profiles.get_mut(owned) else {
+            return;
+        };
+        profile.replace(number, target);
     }
 
     /// Makes a generation of a profile current. It takes no memory.

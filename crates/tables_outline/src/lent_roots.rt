@@ -1,15 +1,20 @@
-//! All roots of an index, lent.
+//! All roots of an outline, lent.
 
 ghost use Rattle.std.specs.Prelude.{◌≡◌, map, string_bytes};
 ghost use Rattle.std.specs.FinMap as finite;
 ghost use Rattle.tables_outline.specs.Maps.{labelled_bytes, pair_bytes, temporary_bytes};
 
-use crate::outline::Index;
+use crate::outline::Outline;
 use paths::StorePath;
 use std::collections::{BTreeMap, BTreeSet};
 
-impl Index {
+impl Outline {
     /// All permanent roots, lent, in the order of their names.
+    ///
+    /// ```rust
+    /// tables.put_permanent("system", path)?;
+    /// assert_eq!(rt; tables.outline().permanent_roots().get("system"), Some(path));
+    /// ```
     pub fn permanent_roots(&self) -> &BTreeMap<String, StorePath>
         ensures { map (λ e. (string_bytes e.0, e.1)) result.now.entries ≡ finite.entries self.now.permanent }
     {
@@ -19,6 +24,11 @@ impl Index {
     }
 
     /// All user roots, lent, in the order of their owners and names.
+    ///
+    /// ```rust
+    /// tables.put_user_root("ann", "editor", path)?;
+    /// assert_eq!(rt; tables.outline().user_roots().len(), 1);
+    /// ```
     pub fn user_roots(&self) -> &BTreeMap<(String, String), StorePath>
         ensures { map (λ e. (pair_bytes e.0, e.1)) result.now.entries ≡ finite.entries self.now.user_roots }
     {
@@ -28,6 +38,10 @@ impl Index {
     }
 
     /// All runtime roots, lent, in the order of their labels and targets.
+    ///
+    /// ```rust
+    /// assert!(rt; tables.outline().runtime_roots().is_empty());
+    /// ```
     pub fn runtime_roots(&self) -> &BTreeSet<(String, StorePath)>
         ensures { map labelled_bytes result.now.keys ≡ finite.keys self.now.runtime }
     {
@@ -37,6 +51,11 @@ impl Index {
     }
 
     /// All temporary roots, lent, in the order of their owners, sessions and paths.
+    ///
+    /// ```rust
+    /// tables.add_temp("ann", 7, path)?;
+    /// assert_eq!(rt; tables.outline().temporary_roots().len(), 1);
+    /// ```
     pub fn temporary_roots(&self) -> &BTreeSet<(String, u32, StorePath)>
         ensures { map temporary_bytes result.now.keys ≡ finite.keys self.now.temporary }
     {

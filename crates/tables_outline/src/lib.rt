@@ -8,9 +8,9 @@ mod objects;
 mod outline;
 mod profiles;
 mod roots;
-mod sessions;
 mod summary;
+mod temporary;
 
-pub use outline::Index;
+pub use outline::Outline;
 pub use profiles::Profile;
 pub use summary::Summary;

@@ -1,16 +1,20 @@
-//! Objects in an index.
+//! Objects in an outline.
 
 ghost use Rattle.std.specs.Prelude.{◌≡◌, OnOk, OnErr, option_map};
 ghost use Rattle.std.specs.FinMap as finite;
 
-use crate::outline::Index;
+use crate::outline::Outline;
 use crate::summary::Summary;
 use paths::StorePath;
 use std::alloc::AllocError;
 use std::collections::BTreeMap;
 
-impl Index {
+impl Outline {
     /// Whether this path is an object's.
+    ///
+    /// ```rust
+    /// assert!(rt; tables.outline().has(path));
+    /// ```
     pub fn has(&self, path: &StorePath) -> bool
         ensures { result ≡ finite.contains_key self.now.objects path.now }
     {
@@ -18,6 +22,10 @@ impl Index {
     }
 
     /// The object of this path, if there is one.
+    ///
+    /// ```rust
+    /// assert_eq!(rt; tables.outline().object(path).map(|object| object.size()), Some(128));
+    /// ```
     pub fn object(&self, path: &StorePath) -> Option<&Summary>
         ensures { option_map (λ o. o.now) result ≡ finite.get self.now.objects path.now }
     {
@@ -25,6 +33,13 @@ impl Index {
     }
 
     /// All objects, lent, in the order of their paths.
+    ///
+    /// ```rust
+    /// for (path, object) in tables.outline().objects() {
+    ///     assert_eq!(rt; path.name(), "myfile");
+    ///     assert_eq!(rt; object.size(), 128);
+    /// }
+    /// ```
     pub fn objects(&self) -> &BTreeMap<StorePath, Summary>
         ensures { result.now.entries ≡ finite.entries self.now.objects }
     {

@@ -1,4 +1,4 @@
-//! The index: the outline of a world, in memory.
+//! The outline: the outline of a world, in memory.
 
 ghost use Rattle.std.specs.Prelude.{◌≡◌};
 ghost use Rattle.model.specs.World.{no_world};
@@ -13,7 +13,7 @@ use std::marker::Model;
 
 /// All that the tables hold of a world but the bytes of archives.
 #[derive(Drop)]
-pub struct Index {
+pub struct Outline {
     pub(crate) objects: BTreeMap<StorePath, Summary>,
     pub(crate) permanent: BTreeMap<String, StorePath>,
     pub(crate) user_roots: BTreeMap<(String, String), StorePath>,
@@ -22,21 +22,21 @@ pub struct Index {
     pub(crate) temporary: BTreeSet<(String, u32, StorePath)>,
 }
 
-impl Model for Index {
-    ghost use Rattle.tables_outline.specs.Outline.{Outline, outline_code};
+impl Model for Outline {
+    ghost use Rattle.tables_outline.specs.Outline.{OutlineValue, outline_code};
 
-    ghost Value = { Outline };
+    ghost Value = { OutlineValue };
 
     ghost coded = { outline_code };
 
-    ghost use Rattle.tables_outline.specs.Index.{index_view};
+    ghost use Rattle.tables_outline.specs.View.{outline_view};
 
-    ghost view = { index_view };
+    ghost view = { outline_view };
 }
 
-impl Index {
+impl Outline {
     /// The outline of a world without anything.
-    pub fn new(alloc: Global) -> Index
+    pub fn new(alloc: Global) -> Outline
         ensures { result ≡ outline_of no_world }
     {
         let objects = BTreeMap::new(alloc);
@@ -45,7 +45,7 @@ impl Index {
         let profiles = BTreeMap::new(alloc);
         let runtime = BTreeSet::new(alloc);
         let temporary = BTreeSet::new(alloc);
-        Index {
+        Outline {
             objects,
             permanent,
             user_roots,

@@ -1,9 +1,9 @@
 //! Profiles.
 
-ghost use Rattle.std.specs.Prelude.{◌≡◌, nat_le, is_some, IfSome, OnOk, OnErr};
+ghost use Rattle.std.specs.Prelude.{◌≡◌, nat_le, is_some, IfSome, IsTrue, OnOk, OnErr};
 ghost use Rattle.std.specs.FinMap as finite;
 ghost use Rattle.model.specs.Profiles.{has_generation, highest, is_highest, last_number, number_for, previous, put_at, switched, without_generation};
-ghost use Rattle.tables_outline.specs.Index.{profile_view};
+ghost use Rattle.tables_outline.specs.View.{profile_view};
 
 use paths::StorePath;
 use std::alloc::AllocError;
@@ -21,6 +21,12 @@ pub struct Profile {
 
 impl Profile {
     /// Whether there is a generation of a number.
+    ///
+    /// ```rust
+    /// tables.put_profile("ann", "default", Some((1, path)), 1)?;
+    /// let profile = tables.profile("ann", "default")?;
+    /// assert!(rt; profile.is_some_and(|profile| profile.has_generation(1) && !profile.has_generation(2)));
+    /// ```
     pub fn has_generation(&self, number: u32) -> bool
         ensures { result ≡ has_generation (profile_view self.now) number }
     {
@@ -43,6 +49,12 @@ impl Profile {
     }
 
     /// The number that a path gets, if one is left: that of the highest generation if it is the path's, else the next.
+    ///
+    /// ```rust
+    /// tables.put_profile("ann", "default", Some((9999, path)), 9999)?;
+    /// let number = tables.profile("ann", "default")?.and_then(|profile| profile.number_left(path));
+    /// assert_eq!(rt; number, Some(9999));
+    /// ```
     pub fn number_left(&self, target: &StorePath) -> Option<u32>
         ensures fits { is_some result ≡ nat_le (number_for (profile_view self.now) target.now) last_number }
         ensures number { IfSome result (λ n. n ≡ number_for (profile_view self.now) target.now) }
@@ -63,6 +75,13 @@ impl Profile {
     }
 
     /// The greatest number below the current one.
+    ///
+    /// ```rust
+    /// tables.put_profile("ann", "default", Some((1, path)), 1)?;
+    /// tables.put_profile("ann", "default", Some((2, path)), 2)?;
+    /// let number = tables.profile("ann", "default")?.and_then(|profile| profile.previous());
+    /// assert_eq!(rt; number, Some(1));
+    /// ```
     pub fn previous(&self) -> Option<u32>
         ensures { result ≡ previous (profile_view self.now) }
     {
@@ -82,6 +101,18 @@ impl Profile {
         self.generations.insert(number, target)?;
         self.current = number;
         Ok(())
+    }
+
+    /// Puts a path at a number that has one, which becomes current. It takes no memory.
+    pub(crate) fn replace(&mut self, number: u32, target: StorePath)
+        requires { IsTrue (has_generation (profile_view self.old) number) }
+        ensures { profile_view self.new ≡ put_at (profile_view self.old) number target }
+    {
+        let Some(there) = self.generations.get_mut(&number) else {
+            return;
+        };
+        *there = target;
+        self.current = number;
     }
 
     /// Drops a generation, if it is there. It takes no memory.

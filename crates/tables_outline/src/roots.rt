@@ -1,16 +1,16 @@
-//! Roots in an index.
+//! Roots in an outline.
 
 ghost use Rattle.std.specs.Prelude.{◌≡◌, OnOk, OnErr, IfOk, IsTrue, option_map, string_bytes};
 ghost use Rattle.std.specs.FinMap as finite;
 ghost use Rattle.model.specs.World.{pair_cmp};
 ghost use Rattle.tables_outline.specs.Maps.{pair_bytes, labelled_bytes, seen_set, unput};
 
-use crate::outline::Index;
+use crate::outline::Outline;
 use paths::StorePath;
 use std::alloc::AllocError;
 use std::collections::BTreeSet;
 
-impl Index {
+impl Outline {
     /// Whether there is a permanent root of this name.
     pub fn has_permanent(&self, name: &str) -> bool
         ensures { result ≡ finite.contains_key self.now.permanent name.now }
@@ -43,9 +43,7 @@ impl Index {
                     *place = target;
                 }
             }
-            None => {
-                let _put = self.permanent.remove(name);
-            }
+            None => self.drop_permanent(name),
         }
     }
 
@@ -88,9 +86,7 @@ impl Index {
                     *place = target;
                 }
             }
-            None => {
-                let _put = self.user_roots.remove(owned);
-            }
+            None => self.drop_user_root(owned),
         }
     }
 

@@ -39,6 +39,15 @@ impl Model for Summary {
 impl Summary {
     /// The summary of an object: the size in bytes and the SHA-256 of its archive, its references in order, its deriver
     /// and its content address, and its outputs, each name with the path at the same place, in the order of names.
+    ///
+    /// ```rust
+    /// use sha2::{Digest, Sha256};
+    /// use tables::Summary;
+    ///
+    /// let (hash, references) = (Sha256::digest("abc"), Vec::new(alloc));
+    /// let object = Summary::new(3, hash, references, None, None, Vec::new(alloc), Vec::new(alloc));
+    /// assert_eq!(rt; object.hash(), &Sha256::digest("abc"));
+    /// ```
     pub fn new(
         size: usize,
         hash: [u8; 32],
@@ -65,6 +74,10 @@ impl Summary {
     }
 
     /// The size of the archive in bytes.
+    ///
+    /// ```rust
+    /// assert_eq!(rt; tables.outline().object(path).map(|object| object.size()), Some(128));
+    /// ```
     pub fn size(&self) -> usize
         ensures { result ≡ self.now.size }
     {
@@ -72,6 +85,13 @@ impl Summary {
     }
 
     /// The SHA-256 of the archive.
+    ///
+    /// ```rust
+    /// if let Some(object) = tables.outline().object(path) {
+    ///     let digits = paths::base32(alloc, object.hash())?;
+    ///     assert_eq!(rt; digits.as_str(), "1qwy7y49hyqd7kdpkyjfclz5fkfqalqapzc4v18lbibkx1yzdzib");
+    /// }
+    /// ```
     pub fn hash(&self) -> &[u8; 32]
         ensures { result.now ≡ self.now.hash }
     {
@@ -79,6 +99,10 @@ impl Summary {
     }
 
     /// The references, in order.
+    ///
+    /// ```rust
+    /// assert!(rt; tables.outline().object(path).is_some_and(|object| object.references().is_empty()));
+    /// ```
     pub fn references(&self) -> &[StorePath]
         ensures { result.now ≡ finite.keys self.now.references }
     {
@@ -86,6 +110,10 @@ impl Summary {
     }
 
     /// The deriver, if one is recorded.
+    ///
+    /// ```rust
+    /// assert!(rt; tables.outline().object(path).is_some_and(|object| object.deriver().is_none()));
+    /// ```
     pub fn deriver(&self) -> Option<&StorePath>
         ensures { option_map (λ p. p.now) result ≡ self.now.deriver }
     {
@@ -93,6 +121,13 @@ impl Summary {
     }
 
     /// The content address, if one is recorded.
+    ///
+    /// ```rust
+    /// use paths::Method;
+    ///
+    /// let address = tables.outline().object(path).and_then(|object| object.ca());
+    /// assert_eq!(rt; address.map(|address| address.method()), Some(Method::Text));
+    /// ```
     pub fn ca(&self) -> Option<Ca>
         ensures { result ≡ self.now.ca }
     {
@@ -100,6 +135,10 @@ impl Summary {
     }
 
     /// The names of the outputs, in order.
+    ///
+    /// ```rust
+    /// assert!(rt; tables.outline().object(path).is_some_and(|object| object.names().is_empty()));
+    /// ```
     pub fn names(&self) -> &[String]
         ensures { map string_bytes result.now ≡ finite.keys self.now.outputs }
     {
@@ -107,6 +146,10 @@ impl Summary {
     }
 
     /// The paths of the outputs, in the order of their names.
+    ///
+    /// ```rust
+    /// assert!(rt; tables.outline().object(path).is_some_and(|object| object.outputs().is_empty()));
+    /// ```
     pub fn outputs(&self) -> &[StorePath]
         ensures { result.now ≡ finite.values self.now.outputs }
     {

@@ -5,9 +5,9 @@ use Rattle.std.specs.FinMap as finite
 use Rattle.std.proofs.lemmas.Bool.{false≢true}
 use Rattle.tables_sql.specs.declared.failure.Failure.{Failure}
 use Rattle.tables_sql.specs.Contents.{Contents}
-use Rattle.tables_world.specs.Told.{rows_of}
+use Rattle.tables_world.specs.Worlds.{rows_of}
 use Rattle.tables_world.specs.Parts.{AreSoundRoots}
-use Rattle.tables_roots.specs.Taken.{Objects, are_temporary, AreObjects, AreAllSound}
+use Rattle.tables_roots.specs.Loaded.{Objects, are_temporary, AreObjects, AreAllSound}
 use Rattle.tables_roots.proofs.Sessions.{sessions_sound, no_session}
 
 module _ (objects : Objects) (c : Contents) where

@@ -1,4 +1,4 @@
--- Profiles that are put into the index one after another, and then their generations.
+-- Profiles that are put into the outline one after another, and then their generations.
 use Rattle.std.proofs.Common.{◌≡◌, ℕ, ℤ, pos, negsuc, List, [], ◌∷◌, map, Bool, true, false, ◌&&◌, cond, Some, None, Option, option_map, is_some, refl, sym, ap, ap₂, ◌∙◌, IsTrue, string_bytes}
 use Rattle.std.specs.List.{filter, list_all, AllByRecursion}
 use Rattle.std.specs.declared.cmp.Ordering.{Ordering}
@@ -15,31 +15,31 @@ use Rattle.tables_sql.proofs.Orders.{triple_total, triple_antisymmetric}
 use Rattle.paths.specs.Root.{bytes_cmp}
 use Rattle.model.specs.World.{Path, Pair, pair_cmp, Profile}
 use Rattle.tables_world.specs.Rows.{number_in, generations_in, profile_in}
-use Rattle.tables_world.specs.Told.{rows_of, world_in}
+use Rattle.tables_world.specs.Worlds.{rows_of, world_in}
 use Rattle.tables_world.proofs.Columns.{generation_at, profile_at}
 use Rattle.tables_outline.specs.Maps.{put_all}
-use Rattle.tables_outline.specs.Outline.{Outline}
+use Rattle.tables_outline.specs.Outline.{OutlineValue}
 use Rattle.tables_outline.specs.Filling.{with_number, with_found, with_generation}
 use Rattle.tables_outline.proofs.Orders.{nat_antisymmetric, pair_total, pair_antisymmetric}
 use Rattle.tables_outline.proofs.Puts.{tied_is, option_same}
 use Rattle.tables_outline.proofs.Told.{told, told_insert, get-told}
-use Rattle.tables_roots.specs.Taken.{all_pass, all_put, Objects, is_target, is_number, is_profile, is_generation, bare, bare_profiles}
+use Rattle.tables_roots.specs.Loaded.{all_pass, all_put, Objects, is_target, is_number, is_profile, is_generation, bare, bare_profiles}
 use Rattle.tables_roots.proofs.PutAll.{all_put_again}
 use Rattle.tables_roots.proofs.EachEntry.{all_true, each_key}
 use Rattle.tables_roots.proofs.Rows.{pass_each, pass_so}
 
 -- ---- profiles
 
-abbrev pub put_profile : ProfileRow → Outline → Outline
+abbrev pub put_profile : ProfileRow → OutlineValue → OutlineValue
 put_profile r o = record o { profiles = finite.insert o.profiles (string_bytes r.owner, string_bytes r.name) (bare r.current) }
 
 abbrev pub bare_of : Pair × ℤ → Pair × Profile
 bare_of e = (e.0, bare e.1)
 
-pub profile_pass : (xs : List ProfileRow) (o : Outline) → all_pass (λ r (p : Outline). is_profile (current_of r)) put_profile xs o ≡ list_all is_profile (map current_of xs)
+pub profile_pass : (xs : List ProfileRow) (o : OutlineValue) → all_pass (λ r (p : OutlineValue). is_profile (current_of r)) put_profile xs o ≡ list_all is_profile (map current_of xs)
 profile_pass = pass_each current_of (λ (objects : Objects) e. is_profile e) put_profile (λ x o. refl)
 
-pub profile_put : (xs : List ProfileRow) (o : Outline) → all_put put_profile xs o ≡ record o { profiles = put_all (map bare_of (map current_of xs)) o.profiles }
+pub profile_put : (xs : List ProfileRow) (o : OutlineValue) → all_put put_profile xs o ≡ record o { profiles = put_all (map bare_of (map current_of xs)) o.profiles }
 profile_put [] o = refl
 profile_put (x ∷ xs) o = profile_put xs (put_profile x o)
 
@@ -87,19 +87,19 @@ module _ (owned : Pair) (n : ℕ) (t : Path) (m : finite.FinMap pair_cmp Profile
 
 -- ---- all generations
 
-abbrev pub put_generation : Generation → Outline → Outline
+abbrev pub put_generation : Generation → OutlineValue → OutlineValue
 put_generation r o = record o { profiles = with_generation (string_bytes r.owner, string_bytes r.name) (number_in r.number) (string_bytes r.target) o.profiles }
 
 abbrev pub with_all : List (Triple × Path) → finite.FinMap pair_cmp Profile → finite.FinMap pair_cmp Profile
 with_all [] m = m
 with_all (e ∷ es) m = with_all es (with_generation (e.0.0, e.0.1) (number_in e.0.2) e.1 m)
 
-pub generation_put : (xs : List Generation) (o : Outline) → all_put put_generation xs o ≡ record o { profiles = with_all (map generation_in xs) o.profiles }
+pub generation_put : (xs : List Generation) (o : OutlineValue) → all_put put_generation xs o ≡ record o { profiles = with_all (map generation_in xs) o.profiles }
 generation_put [] o = refl
 generation_put (x ∷ xs) o = generation_put xs (put_generation x o)
 
-pub generation_pass : (xs : List Generation) (o : Outline) → all_pass (λ r (p : Outline). is_generation p.objects p.profiles (generation_in r)) put_generation xs o ≡ list_all (is_generation o.objects o.profiles) (map generation_in xs)
-generation_pass = pass_so generation_in (λ (o : Outline) e. is_generation o.objects o.profiles e) put_generation
+pub generation_pass : (xs : List Generation) (o : OutlineValue) → all_pass (λ r (p : OutlineValue). is_generation p.objects p.profiles (generation_in r)) put_generation xs o ≡ list_all (is_generation o.objects o.profiles) (map generation_in xs)
+generation_pass = pass_so generation_in (λ (o : OutlineValue) e. is_generation o.objects o.profiles e) put_generation
     (λ x o e. ap (λ b. is_number e.0.2 && (is_target o.objects e.1 && b)) (has-with (string_bytes x.owner, string_bytes x.name) (number_in x.number) (string_bytes x.target) o.profiles (e.0.0, e.0.1)))
 
 -- whether a generation is of a profile
@@ -239,8 +239,8 @@ beside_bare : (objects : Objects) (m : finite.FinMap pair_cmp ℤ) (es : List (T
 beside_bare objects m [] = refl
 beside_bare objects m (e ∷ es) = ap₂ (λ a b. (is_number e.0.2 && (is_target objects e.1 && a)) && b) (bare_has m (e.0.0, e.0.1)) (beside_bare objects m es)
 
-module _ (xs : List Generation) (o : Outline) (c : Contents) (reads : map generation_in xs ≡ finite.entries c.generations) (profiles : o.profiles ≡ bare_profiles c.profiles) where
-  pub generations_told : all_pass (λ r (p : Outline). is_generation p.objects p.profiles (generation_in r)) put_generation xs o ≡ list_all (is_generation o.objects c.profiles) (finite.entries c.generations)
+module _ (xs : List Generation) (o : OutlineValue) (c : Contents) (reads : map generation_in xs ≡ finite.entries c.generations) (profiles : o.profiles ≡ bare_profiles c.profiles) where
+  pub generations_told : all_pass (λ r (p : OutlineValue). is_generation p.objects p.profiles (generation_in r)) put_generation xs o ≡ list_all (is_generation o.objects c.profiles) (finite.entries c.generations)
   generations_told =
       generation_pass xs o ∙ ap₂ (λ (m : finite.FinMap pair_cmp Profile) es. list_all (is_generation o.objects m) es) profiles reads
       ∙ beside_bare o.objects c.profiles (finite.entries c.generations)

@@ -1,4 +1,4 @@
--- Temporary roots that are put into the index one after another, and what is tested of them.
+-- Temporary roots that are put into the outline one after another, and what is tested of them.
 use Rattle.std.proofs.Common.{◌≡◌, ℤ, pos, negsuc, List, [], ◌∷◌, map, Bool, true, false, cond, Some, None, Option, is_some, refl, sym, ap, ◌∙◌, IsTrue}
 use Rattle.std.specs.Prelude.{◌↔◌, ℕ}
 use Rattle.std.specs.List.{list_all}
@@ -16,28 +16,28 @@ use Rattle.paths.specs.Names.{is_plain_name}
 use Rattle.paths.specs.Root.{Set, set_of}
 use Rattle.model.specs.World.{Temporary, temporary_cmp}
 use Rattle.tables_world.specs.Rows.{temporary_in}
-use Rattle.tables_world.specs.Told.{rows_of, world_in}
+use Rattle.tables_world.specs.Worlds.{rows_of, world_in}
 use Rattle.tables_world.specs.Parts.{IsSoundSession}
 use Rattle.model.proofs.Empty.{no_entries, no_key}
 use Rattle.tables_outline.specs.Maps.{put_all}
-use Rattle.tables_outline.specs.Outline.{Outline}
+use Rattle.tables_outline.specs.Outline.{OutlineValue}
 use Rattle.tables_outline.proofs.Orders.{temporary_total, temporary_antisymmetric}
-use Rattle.tables_roots.specs.Taken.{all_pass, all_put, Objects, is_session_number, is_temporary_root, are_temporary, AreObjects}
+use Rattle.tables_roots.specs.Loaded.{all_pass, all_put, Objects, is_session_number, is_temporary_root, are_temporary, AreObjects}
 use Rattle.tables_roots.proofs.EachEntry.{tested_entries}
 use Rattle.tables_roots.proofs.Rows.{pass_each}
 use Rattle.tables_roots.proofs.SoundRoots.{first_true, second_true, both_true, some_key, from_target, to_target}
 
-abbrev pub put_temporary : TempRoot → Outline → Outline
+abbrev pub put_temporary : TempRoot → OutlineValue → OutlineValue
 put_temporary r o = record o { temporary = finite.insert o.temporary (temporary_in (temp_root_of r).0) tt }
 
-pub temporary_pass : (xs : List TempRoot) (o : Outline) → all_pass (λ r (p : Outline). is_temporary_root p.objects (temp_root_of r)) put_temporary xs o ≡ list_all (is_temporary_root o.objects) (map temp_root_of xs)
+pub temporary_pass : (xs : List TempRoot) (o : OutlineValue) → all_pass (λ r (p : OutlineValue). is_temporary_root p.objects (temp_root_of r)) put_temporary xs o ≡ list_all (is_temporary_root o.objects) (map temp_root_of xs)
 temporary_pass = pass_each temp_root_of is_temporary_root put_temporary (λ x o. refl)
 
 -- what a row makes a member of
 abbrev pub member : Kept × Unit {0} → Temporary × Unit {0}
 member e = (temporary_in e.0, tt)
 
-pub temporary_put : (xs : List TempRoot) (o : Outline) → all_put put_temporary xs o ≡ record o { temporary = put_all (map member (map temp_root_of xs)) o.temporary }
+pub temporary_put : (xs : List TempRoot) (o : OutlineValue) → all_put put_temporary xs o ≡ record o { temporary = put_all (map member (map temp_root_of xs)) o.temporary }
 temporary_put [] o = refl
 temporary_put (x ∷ xs) o = temporary_put xs (put_temporary x o)
 

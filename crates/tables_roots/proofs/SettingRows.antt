@@ -4,7 +4,9 @@ use Rattle.std.specs.Prelude.{MatchOption}
 use Rattle.std.specs.FinMap as finite
 use Rattle.paths.specs.Names.{is_store_dir}
 use Rattle.paths.specs.Root.{bytes_cmp}
-use Rattle.tables_world.specs.Rows.{Schema, schema_text, settings}
+use Rattle.tables_world.specs.Rows.{settings}
+use Rattle.tables_schema.specs.declared.schema.Schema.{Schema}
+use Rattle.tables_schema.specs.Schemas.{schema_text}
 use Rattle.std.specs.FinMap.Entries.{put}
 use Rattle.tables_outline.proofs.Orders.{bytes_total}
 use Rattle.tables_roots.specs.Settings.{two_settings}

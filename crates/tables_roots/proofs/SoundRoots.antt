@@ -12,11 +12,11 @@ use Rattle.paths.specs.Root.{is_runtime_label}
 use Rattle.paths.specs.StorePath.{is_base_name}
 use Rattle.model.specs.World.{Path, Pair, Profile}
 use Rattle.tables_world.specs.Rows.{number_in, generations_in, profile_in}
-use Rattle.tables_world.specs.Told.{rows_of, world_in}
+use Rattle.tables_world.specs.Worlds.{rows_of, world_in}
 use Rattle.tables_world.specs.Parts.{AreSoundRoots, IsSoundGeneration}
 use Rattle.tables_world.proofs.Columns.{generation_at, profile_at}
 use Rattle.tables_outline.proofs.Orders.{bytes_total, bytes_antisymmetric, pair_total, pair_antisymmetric}
-use Rattle.tables_roots.specs.Taken.{Objects, is_target, is_permanent_root, is_user_root, is_runtime_root, is_number, is_profile, is_generation, are_profiles, are_fixed, are_moving, are_roots, AreObjects}
+use Rattle.tables_roots.specs.Loaded.{Objects, is_target, is_permanent_root, is_user_root, is_runtime_root, is_number, is_profile, is_generation, are_profiles, are_fixed, are_moving, are_roots, AreObjects}
 use Rattle.tables_roots.proofs.EachEntry.{tested_entries}
 use Rattle.tables_roots.proofs.Filled.{is_positive, no_negative}
 

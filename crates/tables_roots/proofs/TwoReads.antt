@@ -6,10 +6,10 @@ use Rattle.sqlite.specs.State.{State, IsUnchanged}
 use Rattle.sqlite.proofs.Callers.{unchanged_then}
 use Rattle.tables_sql.specs.declared.failure.Failure.{Failure}
 use Rattle.tables_sql.specs.Contents.{Contents}
-use Rattle.tables_world.specs.Told.{rows_of}
+use Rattle.tables_world.specs.Worlds.{rows_of}
 use Rattle.tables_world.specs.Parts.{AreSoundRoots}
-use Rattle.tables_outline.specs.Outline.{Outline}
-use Rattle.tables_roots.specs.Taken.{Objects, are_fixed, are_moving, AreObjects}
+use Rattle.tables_outline.specs.Outline.{OutlineValue}
+use Rattle.tables_roots.specs.Loaded.{Objects, are_fixed, are_moving, AreObjects}
 use Rattle.tables_roots.proofs.SoundRoots.{roots_sound}
 
 -- the first passed, so the second decides
@@ -17,7 +17,7 @@ pub told_next : (r : Result Bool Failure) (x y z : Bool) → x ≡ true → y �
 told_next (Ok v) x y z first same h = h ∙ same ∙ sym (ap (λ b. b && z) first)
 told_next (Err e) x y z first same h = tt
 
-pub taken_next : (r : Result Bool Failure) (o x y : Outline) → x ≡ y → IfOk r (λ ok. IsTrue ok → o ≡ x) → IfOk r (λ ok. IsTrue ok → o ≡ y)
+pub taken_next : (r : Result Bool Failure) (o x y : OutlineValue) → x ≡ y → IfOk r (λ ok. IsTrue ok → o ≡ x) → IfOk r (λ ok. IsTrue ok → o ≡ y)
 taken_next (Ok v) o x y same h = λ ok. h ok ∙ same
 taken_next (Err e) o x y same h = tt
 

@@ -3,15 +3,15 @@
 
 mod generations;
 mod labels;
+mod loading;
 mod numbers;
 pub mod permanent;
 pub mod profiles;
 mod roots;
 pub mod runtime;
 pub mod settings;
-mod taking;
 mod targets;
 pub mod temporary;
 pub mod user_roots;
 
-pub use roots::take_roots;
+pub use roots::load_roots;

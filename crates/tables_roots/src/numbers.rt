@@ -1,7 +1,7 @@
 //! Numbers of generations and of sessions.
 
 ghost use Rattle.std.specs.Prelude.{◌≡◌, true, false, pos, MatchOption};
-ghost use Rattle.tables_roots.specs.Taken.{is_number, is_session_number};
+ghost use Rattle.tables_roots.specs.Loaded.{is_number, is_session_number};
 
 /// The number of a generation that a row has, if it is one.
 pub(crate) fn number_of(value: i64) -> Option<u32>

@@ -1,4 +1,5 @@
 //! Permanent roots.
+#![tactic(auto, using(tables_sql::proofs::TestFailures::read_passed, tables_sql::proofs::TestFailures::memory_passed))]
 
 ghost use Rattle.std.specs.Prelude.{◌≡◌, IsTrue, IfOk, OnOk};
 ghost use Rattle.std.specs.List.{list_all};
@@ -6,62 +7,63 @@ ghost use Rattle.std.specs.FinMap as finite;
 ghost use Rattle.sqlite.specs.State.{HasCleanDisk, IsUnchanged};
 ghost use Rattle.sqlite.specs.Held.{state};
 ghost use Rattle.tables_sql.specs.Contents.{contents_of};
-ghost use Rattle.tables_roots.specs.Taken.{is_permanent_root};
-ghost use Rattle.tables_rows.specs.Frames.{MayRead, LeftAsItWas};
+ghost use Rattle.tables_roots.specs.Loaded.{is_permanent_root};
+ghost use Rattle.tables_rows.specs.Frames.{MayRead, LeftAsItWas, FailsInReads};
 
-use crate::taking;
-use crate::taking::Taken;
+use crate::loading;
+use crate::loading::Load;
 use crate::targets::target_of;
 use paths::is_plain_name;
 use sqlite::{Alter, Connection};
 use std::alloc::{AllocError, Global};
-use tables_outline::Index;
+use tables_outline::Outline;
 use tables_rows::permanent as stored;
 use tables_rows::permanent::PermanentRoot;
 use tables_sql::failure::Failure;
 
-impl Taken for PermanentRoot {
+impl Load for PermanentRoot {
     ghost use Rattle.std.specs.Prelude.{string_bytes};
     ghost use Rattle.std.specs.FinMap as finite;
     ghost use Rattle.tables_sql.specs.Entries.{permanent_of};
-    ghost use Rattle.tables_roots.specs.Taken.{is_permanent_root};
+    ghost use Rattle.tables_roots.specs.Loaded.{is_permanent_root};
 
     ghost passes = { λ r o. is_permanent_root o.objects (permanent_of r) };
 
     ghost put = { λ r o. record o { permanent = finite.insert o.permanent (string_bytes r.name) (string_bytes r.target) } };
 
-    fn take(self, alloc: Global, index: &mut Index) -> Result<bool, AllocError> {
+    fn take(self, alloc: Global, outline: &mut Outline) -> Result<bool, AllocError> {
         let PermanentRoot { name, target } = self;
         if !is_plain_name(name.as_str()) {
             return Ok(false);
         }
-        let Some(path) = target_of(alloc, index, target.as_str())? else {
+        let Some(path) = target_of(alloc, outline, target.as_str())? else {
             return Ok(false);
         };
-        index.put_permanent(name, path)?;
+        outline.put_permanent(name, path)?;
         Ok(true)
     }
 }
 
-/// Whether the permanent roots of the rows are sound with the objects of the index. If so, they are put into the
-/// index.
+/// Whether the permanent roots of the rows are sound with the objects of the outline. If so, they are put into the
+/// outline.
 pub fn read<S: Alter>(
     alloc: Global,
     conn: &mut Connection<S>,
-    index: &mut Index,
+    outline: &mut Outline,
 ) -> Result<bool, Failure>
     requires frame { MayRead S.Store conn.old }
-    requires empty { HasCleanDisk (state S.Store conn.old) → index.old.permanent ≡ finite.empty }
+    requires empty { HasCleanDisk (state S.Store conn.old) → outline.old.permanent ≡ finite.empty }
     ensures frame { LeftAsItWas S.Store conn.old conn.new }
+    ensures cause { FailsInReads S.Store conn.old conn.new result }
     ensures told { HasCleanDisk (state S.Store conn.new) → IfOk result
         (λ ok. ok
-        ≡ list_all (is_permanent_root index.old.objects) (finite.entries (contents_of (state S.Store conn.old).now).permanent)) }
+        ≡ list_all (is_permanent_root outline.old.objects) (finite.entries (contents_of (state S.Store conn.old).now).permanent)) }
     ensures taken { HasCleanDisk (state S.Store conn.new) → IfOk result
-        (λ ok. IsTrue ok → index.new
-        ≡ record index.old { permanent = (contents_of (state S.Store conn.old).now).permanent }) }
+        (λ ok. IsTrue ok → outline.new
+        ≡ record outline.old { permanent = (contents_of (state S.Store conn.old).now).permanent }) }
     ensures unchanged { HasCleanDisk (state S.Store conn.new) → OnOk result
         (IsUnchanged (state S.Store conn.old) (state S.Store conn.new)) }
 {
     let roots = stored::all(alloc, conn)?;
-    Ok(taking::take_all(alloc, index, roots)?)
+    Ok(loading::load_all(alloc, outline, roots)?)
 }

@@ -1,4 +1,5 @@
 //! The settings.
+#![tactic(auto, using(tables_sql::proofs::TestFailures::read_passed, tables_sql::proofs::TestFailures::memory_passed))]
 
 ghost use Rattle.std.specs.Prelude.{◌≡◌, List, ℕ, IsTrue, IfOk, OnOk, MatchOption, map};
 ghost use Rattle.sqlite.specs.State.{HasCleanDisk, IsUnchanged};
@@ -7,17 +8,16 @@ ghost use Rattle.tables_sql.specs.Contents.{contents_of};
 ghost use Rattle.tables_sql.specs.Entries.{setting_of};
 ghost use Rattle.paths.specs.Names.{is_store_dir};
 ghost use Rattle.tables_world.specs.Rows.{settings};
-ghost use Rattle.tables_world.specs.View.{schema_view};
 ghost use Rattle.tables_roots.specs.Settings.{two_settings};
-ghost use Rattle.tables_rows.specs.Frames.{MayRead, LeftAsItWas};
+ghost use Rattle.tables_rows.specs.Frames.{MayRead, LeftAsItWas, FailsInReads};
 
 use paths::{StoreDir, StoreDirError};
 use sqlite::{Alter, Connection};
 use std::alloc::{AllocError, Global};
 use tables_rows::meta as stored;
 use tables_rows::meta::Setting;
+use tables_schema::Schema;
 use tables_sql::failure::Failure;
-use tables_world::Schema;
 
 /// The store directory of these settings, if they are the two of a database of a schema.
 fn directory_of(
@@ -27,8 +27,8 @@ fn directory_of(
 ) -> Result<Option<StoreDir>, AllocError>
     ensures { IfOk result
         (λ o. MatchOption o ((dir : List ℕ) → IsTrue (is_store_dir dir) → ¬ (map setting_of all.now
-        ≡ two_settings (schema_view schema) dir))
-        (λ d. IsTrue (is_store_dir d) × (map setting_of all.now ≡ two_settings (schema_view schema) d))) }
+        ≡ two_settings schema dir))
+        (λ d. IsTrue (is_store_dir d) × (map setting_of all.now ≡ two_settings schema d))) }
 {
     let [form, place] = all else {
         return Ok(None);
@@ -54,8 +54,9 @@ pub fn read<S: Alter>(
 ) -> Result<Option<StoreDir>, Failure>
     requires frame { MayRead S.Store conn.old }
     ensures frame { LeftAsItWas S.Store conn.old conn.new }
+    ensures cause { FailsInReads S.Store conn.old conn.new result }
     ensures told { HasCleanDisk (state S.Store conn.new) → IfOk result
-        (λ o. MatchOption o ((dir : List ℕ) → IsTrue (is_store_dir dir) → ¬ ((contents_of (state S.Store conn.old).now).meta ≡ settings (schema_view schema) dir)) (λ d. IsTrue (is_store_dir d) × ((contents_of (state S.Store conn.old).now).meta ≡ settings (schema_view schema) d))) }
+        (λ o. MatchOption o ((dir : List ℕ) → IsTrue (is_store_dir dir) → ¬ ((contents_of (state S.Store conn.old).now).meta ≡ settings schema dir)) (λ d. IsTrue (is_store_dir d) × ((contents_of (state S.Store conn.old).now).meta ≡ settings schema d))) }
     ensures unchanged { HasCleanDisk (state S.Store conn.new) → OnOk result
         (IsUnchanged (state S.Store conn.old) (state S.Store conn.new)) }
 {

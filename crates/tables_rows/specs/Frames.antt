@@ -8,7 +8,7 @@ use Rattle.sqlite.specs.State.{HasCleanDisk, IsUnchanged, KeepsCommit, Survives}
 use Rattle.sqlite.specs.Held.{Held, state}
 use Rattle.tables_sql.specs.Calls.{IsReady, IsUnderWay, KeepsShown, Changes, HasFurther}
 use Rattle.tables_sql.specs.Contents.{Contents, contents_of}
-use Rattle.tables_sql.specs.Failures.{FailsFor, FailsToInsert}
+use Rattle.tables_sql.specs.Failures.{FailsFor, FailsToInsert, FailsToRead}
 use Rattle.tables_sql.specs.declared.failure.Failure.{Failure}
 
 module _ {S : Type 0} (g : Ghosts S) where
@@ -55,6 +55,10 @@ module _ {S : Type 0} (g : Ghosts S) where
   -- an error comes of memory, of a fault of the disk or of a limit on steps
   abbrev pub FailsAlone : {T : Type 0} (old new : Held S) (result : Result T Failure) → Type 0
   FailsAlone old new result = HasCleanDisk (state g new) → IfErr result (FailsFor (state g old) (state g new))
+
+  -- and so does one of several reads, one after another
+  abbrev pub FailsInReads : {T : Type 0} (old new : Held S) (result : Result T Failure) → Type 0
+  FailsInReads old new result = HasCleanDisk (state g new) → IfErr result (FailsToRead (state g old) (state g new))
 
   -- where it succeeds, there was no such entry
   abbrev pub WasFree : {T E X : Type 0} (old new : MutBor (Held S)) (result : Result T E) (find : Contents → Option X) → Type 0

@@ -6,7 +6,7 @@ use Rattle.sqlite_schema.specs.declared.schema.Table.{Table}
 use Rattle.sqlite_schema.specs.Names.{same_name, table_named, index_named, view_named}
 use Rattle.sqlite.specs.Does.{lacks_sequence}
 use Rattle.tables_schema.specs.Forms.{our_tables, further_tables, piece, temp_root}
-use Rattle.tables_schema.specs.Standing.{Stands, HasTables, is_unreferred, is_alone, is_unguarded}
+use Rattle.tables_schema.specs.Intact.{IsIntact, HasTables, is_unreferred, is_alone, is_unguarded}
 
 -- the table has the form, and is found by its tree too, which is below the numbers that a query gives to tables of its own
 pub record HasForm (tables : List Table) (form found : Table) : Type 0 where
@@ -47,7 +47,7 @@ abbrev pub HasFirst : Schema → Type 0
 HasFirst s = HasTables s × IsFree s piece.name × IsFree s temp_root.name × (lacks_sequence s ≡ false)
 
 abbrev pub HasSecond : Schema → Type 0
-HasSecond s = HasTables s × Stands s piece × IsFree s temp_root.name × (lacks_sequence s ≡ false)
+HasSecond s = HasTables s × IsIntact s piece × IsFree s temp_root.name × (lacks_sequence s ≡ false)
 
 abbrev pub HasThird : Schema → Type 0
-HasThird s = HasTables s × Stands s piece × Stands s temp_root
+HasThird s = HasTables s × IsIntact s piece × IsIntact s temp_root

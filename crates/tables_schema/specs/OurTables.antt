@@ -4,19 +4,17 @@ use Rattle.sqlite_schema.specs.declared.schema.Table.{Table}
 use Rattle.tables_schema.specs.Forms.{meta, object, refs, outs, permanent, user_root, profile, generation, runtime, piece, temp_root}
 use Rattle.tables_schema.specs.declared.our_table.OurTable.{OurTable}
 use Rattle.tables_schema.specs.declared.our_table.OurTable.TheVariants.{Meta, Object, Refs, Outs, Permanent, UserRoot, Profile, Generation, Runtime, Piece, TempRoot}
-use Rattle.tables_schema.specs.declared.recognising.Recognised.{Recognised}
-use Rattle.tables_schema.specs.declared.recognising.Recognised.TheVariants.{First, Second, Third, Nothing, Other}
+use Rattle.tables_schema.specs.declared.schema.Schema.{Schema}
+use Rattle.tables_schema.specs.declared.schema.Schema.TheVariants.{V1, V2, V3}
 
 abbrev nine : List OurTable
 nine = Meta ∷ Object ∷ Refs ∷ Outs ∷ Permanent ∷ UserRoot ∷ Profile ∷ Generation ∷ Runtime ∷ []
 
 -- the tables of a schema, in the order in which they are made in a new database
-abbrev pub schema_tables : Recognised → List OurTable
-schema_tables First = nine
-schema_tables Second = nine ++ Piece ∷ []
-schema_tables Third = nine ++ Piece ∷ TempRoot ∷ []
-schema_tables Nothing = []
-schema_tables Other = []
+abbrev pub schema_tables : Schema → List OurTable
+schema_tables V1 = nine
+schema_tables V2 = nine ++ Piece ∷ []
+schema_tables V3 = nine ++ Piece ∷ TempRoot ∷ []
 
 abbrev pub form : OurTable → Table
 form Meta = meta

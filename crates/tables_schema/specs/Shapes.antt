@@ -2,11 +2,11 @@
 use Rattle.std.specs.Prelude.{◌≡◌, false, [], None}
 use Rattle.sqlite_schema.specs.declared.schema.Column.{Column}
 use Rattle.sqlite_schema.specs.declared.schema.Table.{Table}
-use Rattle.tables_schema.specs.declared.form.Wanted.{Wanted}
+use Rattle.tables_schema.specs.declared.form.Expected.{Expected}
 use Rattle.tables_schema.specs.Forms.{col}
 
-abbrev pub wanted_column : Wanted → Column
-wanted_column w = col w.name.now w.kind w.required
+abbrev pub expected_column : Expected → Column
+expected_column w = col w.name.now w.kind w.required
 
 -- a table with no more than columns and keys
 pub record IsPlain (t : Table) : Type 0 where

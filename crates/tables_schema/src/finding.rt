@@ -1,68 +1,42 @@
-//! What a schema has of the store's tables: the nine that each schema has, nothing at all, or anything else.
+//! Whether a schema has the nine tables that each form of the store has, or nothing of the store's.
 
 ghost use Rattle.std.specs.Prelude.{◌≡◌, ◌↔◌, not, IsTrue, codes};
 ghost use Rattle.std.specs.List.{list_all, list_any, AllByRecursion};
 ghost use Rattle.sqlite_schema.specs.Names.{same_name};
 ghost use Rattle.sqlite.specs.Does.{lacks_sequence};
-ghost use Rattle.tables_schema.specs.Standing.{Stands, HasTables};
+ghost use Rattle.tables_schema.specs.Intact.{IsIntact, HasTables};
 ghost use Rattle.tables_schema.specs.Forms.{meta, object, refs, outs, permanent, user_root, profile, generation, runtime, further_tables};
 ghost use Rattle.tables_schema.specs.Finding.{IsFree, HasNone};
-ghost use Rattle.tables_schema.specs.declared.finding.Finding.TheVariants.{Ours, Nothing};
 
 use crate::nine::{
-    generation_stands, meta_stands, object_stands, outs_stands, permanent_stands, profile_stands,
-    refs_stands, runtime_stands, user_root_stands,
+    generation_is_intact, meta_is_intact, object_is_intact, outs_is_intact, permanent_is_intact,
+    profile_is_intact, refs_is_intact, runtime_is_intact, user_root_is_intact,
 };
 use sqlite_schema::names::same_name;
 use sqlite_schema::schema::{Reference, Schema, Table};
 
-/// What a schema has of the store's tables. Tables of other names may be next to them, wherever they are.
-#[derive(Clone, Copy, Debug, PartialEq, Eq)]
-pub enum Finding {
-    /// None of our names is taken, no foreign key refers to one of them, and a table that counts its rowids has its counter.
-    Nothing,
-    /// All nine tables, each exactly of its form, and nothing of other programs acts on them.
-    Ours,
-    /// Anything else.
-    Other,
+fn first_are_intact(schema: &Schema) -> bool
+    ensures { IsTrue result ↔ IsIntact schema.now meta × IsIntact schema.now object × IsIntact schema.now refs }
+{
+    meta_is_intact(schema) && object_is_intact(schema) && refs_is_intact(schema)
 }
 
-/// What the schema has of the store's tables.
-pub fn find(schema: &Schema) -> Finding
-    ensures ours { result ≡ Ours ↔ HasTables schema.now }
-    ensures nothing { result ≡ Nothing ↔ HasNone schema.now }
+fn next_are_intact(schema: &Schema) -> bool
+    ensures { IsTrue result ↔ IsIntact schema.now outs × IsIntact schema.now permanent × IsIntact schema.now user_root }
 {
-    if has_tables(schema) {
-        Finding::Ours
-    } else if has_none(schema) {
-        Finding::Nothing
-    } else {
-        Finding::Other
-    }
+    outs_is_intact(schema) && permanent_is_intact(schema) && user_root_is_intact(schema)
 }
 
-fn first_stand(schema: &Schema) -> bool
-    ensures { IsTrue result ↔ Stands schema.now meta × Stands schema.now object × Stands schema.now refs }
+fn last_are_intact(schema: &Schema) -> bool
+    ensures { IsTrue result ↔ IsIntact schema.now profile × IsIntact schema.now generation × IsIntact schema.now runtime }
 {
-    meta_stands(schema) && object_stands(schema) && refs_stands(schema)
-}
-
-fn next_stand(schema: &Schema) -> bool
-    ensures { IsTrue result ↔ Stands schema.now outs × Stands schema.now permanent × Stands schema.now user_root }
-{
-    outs_stands(schema) && permanent_stands(schema) && user_root_stands(schema)
-}
-
-fn last_stand(schema: &Schema) -> bool
-    ensures { IsTrue result ↔ Stands schema.now profile × Stands schema.now generation × Stands schema.now runtime }
-{
-    profile_stands(schema) && generation_stands(schema) && runtime_stands(schema)
+    profile_is_intact(schema) && generation_is_intact(schema) && runtime_is_intact(schema)
 }
 
 pub(crate) fn has_tables(schema: &Schema) -> bool
     ensures { IsTrue result ↔ HasTables schema.now }
 {
-    first_stand(schema) && next_stand(schema) && last_stand(schema)
+    first_are_intact(schema) && next_are_intact(schema) && last_are_intact(schema)
 }
 
 fn none_awaits(references: &[Reference], name: &[u8]) -> bool
@@ -107,7 +81,7 @@ fn any_counted(tables: &[Table]) -> bool
 }
 
 /// Whether a table counts its rowids and there is no counter, which no honest database shows.
-pub fn lacks_sequence(schema: &Schema) -> bool
+pub(crate) fn lacks_sequence(schema: &Schema) -> bool
     ensures { result ≡ lacks_sequence schema.now }
 {
     any_counted(schema.tables.as_slice())

@@ -3,7 +3,7 @@
 ghost use Rattle.std.specs.Prelude.{◌≡◌, ◌↔◌, [], ◌∷◌, map, IsTrue, bytes_eq};
 ghost use Rattle.sqlite_value.specs.Keys.{plain};
 ghost use Rattle.tables_schema.specs.Forms.{strict};
-ghost use Rattle.tables_schema.specs.Shapes.{wanted_column, IsPlain};
+ghost use Rattle.tables_schema.specs.Shapes.{expected_column, IsPlain};
 
 use sqlite_schema::schema::{Column, Kind, Table};
 use sqlite_value::keys::Collation;
@@ -11,7 +11,7 @@ use sqlite_value::value::Value;
 
 /// A column as the text that makes its table says: its name, its type, and whether it is NOT NULL.
 #[derive(Clone, Copy)]
-pub(crate) struct Wanted<'a> {
+pub(crate) struct Expected<'a> {
     pub name: &'a [u8],
     pub kind: Kind,
     pub required: bool,
@@ -31,8 +31,8 @@ pub(crate) fn same_places(a: &[usize], b: &[usize]) -> bool
     a == b
 }
 
-fn is_column(column: &Column, wanted: &Wanted<'_>) -> bool
-    ensures { IsTrue result ↔ column.now ≡ wanted_column wanted.now }
+fn is_column(column: &Column, wanted: &Expected<'_>) -> bool
+    ensures { IsTrue result ↔ column.now ≡ expected_column wanted.now }
 {
     same_text(column.name.as_slice(), wanted.name)
         && column.kind == wanted.kind
@@ -42,8 +42,8 @@ fn is_column(column: &Column, wanted: &Wanted<'_>) -> bool
         && column.collation == Collation::Binary
 }
 
-fn are_columns(columns: &[Column], wanted: &[Wanted<'_>]) -> bool
-    ensures { IsTrue result ↔ columns.now ≡ map wanted_column wanted.now }
+fn are_columns(columns: &[Column], wanted: &[Expected<'_>]) -> bool
+    ensures { IsTrue result ↔ columns.now ≡ map expected_column wanted.now }
 {
     if columns.len() != wanted.len() {
         return false;
@@ -87,10 +87,10 @@ pub(crate) fn is_table(
     table: &Table,
     name: &[u8],
     tree: u32,
-    columns: &[Wanted<'_>],
+    columns: &[Expected<'_>],
     key: &[usize],
 ) -> bool
-    ensures { IsTrue result ↔ table.now ≡ record (strict name.now (map wanted_column columns.now) key.now) { tree = tree } }
+    ensures { IsTrue result ↔ table.now ≡ record (strict name.now (map expected_column columns.now) key.now) { tree = tree } }
 {
     is_plain(table)
         && same_text(table.name.as_slice(), name)

@@ -1,10 +1,13 @@
 //! The forms of the tables over SQLite.
 #![tactic(auto)]
 
-pub mod finding;
+mod finding;
 mod form;
 mod further;
+mod intact;
 mod nine;
 pub mod our_table;
 pub mod recognising;
-mod standing;
+mod schema;
+
+pub use schema::Schema;

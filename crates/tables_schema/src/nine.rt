@@ -1,220 +1,220 @@
 //! Whether each of the nine tables is in a schema, by its own columns.
 
 ghost use Rattle.std.specs.Prelude.{◌↔◌, IsTrue};
-ghost use Rattle.tables_schema.specs.Standing.{Stands};
+ghost use Rattle.tables_schema.specs.Intact.{IsIntact};
 ghost use Rattle.tables_schema.specs.Forms.{meta, object, refs, outs, permanent, user_root, profile, generation, runtime};
 
-use crate::form::Wanted;
-use crate::standing::stands;
+use crate::form::Expected;
+use crate::intact::stands;
 use sqlite_schema::schema::{Kind, Schema};
 
-const META: [Wanted<'static>; 2] = [
-    Wanted {
+const META: [Expected<'static>; 2] = [
+    Expected {
         name: b"word",
         kind: Kind::Text,
         required: true,
     },
-    Wanted {
+    Expected {
         name: b"val",
         kind: Kind::Text,
         required: true,
     },
 ];
 
-const OBJECT: [Wanted<'static>; 5] = [
-    Wanted {
+const OBJECT: [Expected<'static>; 5] = [
+    Expected {
         name: b"base",
         kind: Kind::Text,
         required: true,
     },
-    Wanted {
+    Expected {
         name: b"nar",
         kind: Kind::Blob,
         required: true,
     },
-    Wanted {
+    Expected {
         name: b"hash",
         kind: Kind::Blob,
         required: true,
     },
-    Wanted {
+    Expected {
         name: b"deriver",
         kind: Kind::Text,
         required: false,
     },
-    Wanted {
+    Expected {
         name: b"ca",
         kind: Kind::Text,
         required: false,
     },
 ];
 
-const REFS: [Wanted<'static>; 2] = [
-    Wanted {
+const REFS: [Expected<'static>; 2] = [
+    Expected {
         name: b"base",
         kind: Kind::Text,
         required: true,
     },
-    Wanted {
+    Expected {
         name: b"target",
         kind: Kind::Text,
         required: true,
     },
 ];
 
-const OUTS: [Wanted<'static>; 3] = [
-    Wanted {
+const OUTS: [Expected<'static>; 3] = [
+    Expected {
         name: b"base",
         kind: Kind::Text,
         required: true,
     },
-    Wanted {
+    Expected {
         name: b"name",
         kind: Kind::Text,
         required: true,
     },
-    Wanted {
+    Expected {
         name: b"target",
         kind: Kind::Text,
         required: true,
     },
 ];
 
-const PERMANENT: [Wanted<'static>; 2] = [
-    Wanted {
+const PERMANENT: [Expected<'static>; 2] = [
+    Expected {
         name: b"name",
         kind: Kind::Text,
         required: true,
     },
-    Wanted {
+    Expected {
         name: b"target",
         kind: Kind::Text,
         required: true,
     },
 ];
 
-const USER_ROOT: [Wanted<'static>; 3] = [
-    Wanted {
+const USER_ROOT: [Expected<'static>; 3] = [
+    Expected {
         name: b"owner",
         kind: Kind::Text,
         required: true,
     },
-    Wanted {
+    Expected {
         name: b"name",
         kind: Kind::Text,
         required: true,
     },
-    Wanted {
+    Expected {
         name: b"target",
         kind: Kind::Text,
         required: true,
     },
 ];
 
-const PROFILE: [Wanted<'static>; 3] = [
-    Wanted {
+const PROFILE: [Expected<'static>; 3] = [
+    Expected {
         name: b"owner",
         kind: Kind::Text,
         required: true,
     },
-    Wanted {
+    Expected {
         name: b"name",
         kind: Kind::Text,
         required: true,
     },
-    Wanted {
+    Expected {
         name: b"cur",
         kind: Kind::Integer,
         required: true,
     },
 ];
 
-const GENERATION: [Wanted<'static>; 4] = [
-    Wanted {
+const GENERATION: [Expected<'static>; 4] = [
+    Expected {
         name: b"owner",
         kind: Kind::Text,
         required: true,
     },
-    Wanted {
+    Expected {
         name: b"name",
         kind: Kind::Text,
         required: true,
     },
-    Wanted {
+    Expected {
         name: b"num",
         kind: Kind::Integer,
         required: true,
     },
-    Wanted {
+    Expected {
         name: b"target",
         kind: Kind::Text,
         required: true,
     },
 ];
 
-const RUNTIME: [Wanted<'static>; 2] = [
-    Wanted {
+const RUNTIME: [Expected<'static>; 2] = [
+    Expected {
         name: b"label",
         kind: Kind::Text,
         required: true,
     },
-    Wanted {
+    Expected {
         name: b"target",
         kind: Kind::Text,
         required: true,
     },
 ];
 
-pub(crate) fn meta_stands(schema: &Schema) -> bool
-    ensures { IsTrue result ↔ Stands schema.now meta }
+pub(crate) fn meta_is_intact(schema: &Schema) -> bool
+    ensures { IsTrue result ↔ IsIntact schema.now meta }
 {
     stands(schema, b"meta", &META, &[1])
 }
 
-pub(crate) fn object_stands(schema: &Schema) -> bool
-    ensures { IsTrue result ↔ Stands schema.now object }
+pub(crate) fn object_is_intact(schema: &Schema) -> bool
+    ensures { IsTrue result ↔ IsIntact schema.now object }
 {
     stands(schema, b"object", &OBJECT, &[1])
 }
 
-pub(crate) fn refs_stands(schema: &Schema) -> bool
-    ensures { IsTrue result ↔ Stands schema.now refs }
+pub(crate) fn refs_is_intact(schema: &Schema) -> bool
+    ensures { IsTrue result ↔ IsIntact schema.now refs }
 {
     stands(schema, b"refs", &REFS, &[1, 2])
 }
 
-pub(crate) fn outs_stands(schema: &Schema) -> bool
-    ensures { IsTrue result ↔ Stands schema.now outs }
+pub(crate) fn outs_is_intact(schema: &Schema) -> bool
+    ensures { IsTrue result ↔ IsIntact schema.now outs }
 {
     stands(schema, b"outs", &OUTS, &[1, 2])
 }
 
-pub(crate) fn permanent_stands(schema: &Schema) -> bool
-    ensures { IsTrue result ↔ Stands schema.now permanent }
+pub(crate) fn permanent_is_intact(schema: &Schema) -> bool
+    ensures { IsTrue result ↔ IsIntact schema.now permanent }
 {
     stands(schema, b"permanent", &PERMANENT, &[1])
 }
 
-pub(crate) fn user_root_stands(schema: &Schema) -> bool
-    ensures { IsTrue result ↔ Stands schema.now user_root }
+pub(crate) fn user_root_is_intact(schema: &Schema) -> bool
+    ensures { IsTrue result ↔ IsIntact schema.now user_root }
 {
     stands(schema, b"user_root", &USER_ROOT, &[1, 2])
 }
 
-pub(crate) fn profile_stands(schema: &Schema) -> bool
-    ensures { IsTrue result ↔ Stands schema.now profile }
+pub(crate) fn profile_is_intact(schema: &Schema) -> bool
+    ensures { IsTrue result ↔ IsIntact schema.now profile }
 {
     stands(schema, b"profile", &PROFILE, &[1, 2])
 }
 
-pub(crate) fn generation_stands(schema: &Schema) -> bool
-    ensures { IsTrue result ↔ Stands schema.now generation }
+pub(crate) fn generation_is_intact(schema: &Schema) -> bool
+    ensures { IsTrue result ↔ IsIntact schema.now generation }
 {
     stands(schema, b"generation", &GENERATION, &[1, 2, 3])
 }
 
-pub(crate) fn runtime_stands(schema: &Schema) -> bool
-    ensures { IsTrue result ↔ Stands schema.now runtime }
+pub(crate) fn runtime_is_intact(schema: &Schema) -> bool
+    ensures { IsTrue result ↔ IsIntact schema.now runtime }
 {
     stands(schema, b"runtime", &RUNTIME, &[1, 2])
 }

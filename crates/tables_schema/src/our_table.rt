@@ -3,7 +3,7 @@
 ghost use Rattle.std.specs.Prelude.{◌≡◌};
 ghost use Rattle.tables_schema.specs.OurTables.{schema_tables};
 
-use crate::recognising::Recognised;
+use crate::schema::Schema;
 
 /// A table of the store, by its name.
 #[derive(Clone, Copy)]
@@ -36,13 +36,12 @@ const ALL: [OurTable; 11] = [
 ];
 
 /// The tables of a schema, in the order in which they are made in a new database.
-pub fn schema_tables(schema: Recognised) -> &'static [OurTable]
+pub fn schema_tables(schema: Schema) -> &'static [OurTable]
     ensures { result.now ≡ schema_tables schema }
 {
     match schema {
-        Recognised::First => &ALL[..9],
-        Recognised::Second => &ALL[..10],
-        Recognised::Third => &ALL,
-        Recognised::Nothing | Recognised::Other => &[],
+        Schema::V1 => &ALL[..9],
+        Schema::V2 => &ALL[..10],
+        Schema::V3 => &ALL,
     }
 }

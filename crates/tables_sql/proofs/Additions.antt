@@ -32,7 +32,7 @@ use Rattle.sqlite.specs.State.{State, ExecutesInside}
 use Rattle.sqlite.proofs.Callers.{one_step}
 use Rattle.tables_sql.specs.declared.failure.Failure.TheVariants.{Disk}
 use Rattle.tables_schema.specs.Forms.{strict}
-use Rattle.tables_schema.specs.Standing.{Stands, tree_named}
+use Rattle.tables_schema.specs.Intact.{IsIntact, tree_named}
 use Rattle.tables_sql.specs.Contents.{rows_named}
 use Rattle.tables_sql.specs.Calls.{IsUnderWay}
 use Rattle.tables_sql.specs.Failures.{failure_of, FailsWith, IsTooLarge, HasNoRowidLeft}
@@ -58,7 +58,7 @@ unfit false h = refl
 abbrev pub IsNewKey : List ℕ → List ℕ → Database → Row → Type 0
 IsNewKey name key db values = (r : Row) → Has (rows_named db name) r → agree plain key r key (Int (next_rowid (rows_named db name)) ∷ values) ≡ true → ⊥
 
-module _ (name : List ℕ) (columns : List Column) (key : List ℕ) (db : Database) (sound : IsDatabase db) (stands : Stands db.schema (strict name columns key)) where
+module _ (name : List ℕ) (columns : List Column) (key : List ℕ) (db : Database) (sound : IsDatabase db) (stands : IsIntact db.schema (strict name columns key)) where
   abbrev tree : ℕ
   tree = tree_named db.schema name
 
@@ -146,7 +146,7 @@ module _ (name : List ℕ) (columns : List Column) (key : List ℕ) (db : Databa
             go (inl (other, h, is)) = stops_at MayEnd stop other is (adds other h)
             go (inr (w, h, ended)) = absurd (concluded db.schema limit own params w (grown w h) stop ended)
 
-module _ (name : List ℕ) (columns : List Column) (key : List ℕ) (old new : State) (under : IsUnderWay old) (standing : IsTrue old.is_open → Stands old.now.schema (strict name columns key)) where
+module _ (name : List ℕ) (columns : List Column) (key : List ℕ) (old new : State) (under : IsUnderWay old) (standing : IsTrue old.is_open → IsIntact old.now.schema (strict name columns key)) where
   abbrev table : Table
   table = strict name columns key
 

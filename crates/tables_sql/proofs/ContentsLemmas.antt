@@ -7,18 +7,18 @@ use Rattle.sqlite_schema.specs.declared.schema.Table.{Table}
 use Rattle.sqlite_schema.specs.Names.{same_name}
 use Rattle.sqlite.specs.State.{State}
 use Rattle.tables_schema.specs.Forms.{meta, object, refs, outs, permanent, user_root, profile, generation, runtime, piece, temp_root}
-use Rattle.tables_schema.specs.Standing.{HasTables, Stands, tree_named}
+use Rattle.tables_schema.specs.Intact.{HasTables, IsIntact, tree_named}
 use Rattle.tables_sql.specs.Contents.{Contents, Bytes, rows_named, rows_if_any, Stored, PairSet, contents_of, map_of, texts_cmp, pair_cmp, triple_cmp, is_pair, pair_of, member_of, is_triple, target_of, is_object, object_of, is_profile, profile_of, is_generation, generation_of, numbered_cmp, is_piece, piece_of, kept_cmp, is_kept, kept_of}
 use Rattle.tables_sql.proofs.Writes.{SetsRows}
 use Rattle.tables_sql.proofs.Places.{own_rows, others_kept, if_any_kept}
 
 -- ---- each of the nine has the rows that it had, but the one that was written
 
-module _ (old new : State) (has : HasTables old.now.schema) (rows : List Row) (a : Table) (stands : Stands old.now.schema a) (sets : SetsRows old new (tree_named old.now.schema a.name) rows) where
+module _ (old new : State) (has : HasTables old.now.schema) (rows : List Row) (a : Table) (stands : IsIntact old.now.schema a) (sets : SetsRows old new (tree_named old.now.schema a.name) rows) where
   abbrev after : Table → List Row
   after t = if bytes_eq t.name a.name then rows else rows_named old.now t.name
 
-  has_after : (t : Table) → Stands old.now.schema t → rows_named new.now t.name ≡ after t
+  has_after : (t : Table) → IsIntact old.now.schema t → rows_named new.now t.name ≡ after t
   has_after t there = go (bytes_eq t.name a.name) refl
     where
       go : (b : Bool) → bytes_eq t.name a.name ≡ b → rows_named new.now t.name ≡ (if b then rows else rows_named old.now t.name)

@@ -28,11 +28,11 @@ use Rattle.sqlite.specs.declared.error.Error.{Error}
 use Rattle.sqlite.specs.Effect.{Database, value_rows}
 use Rattle.sqlite.specs.State.{State, ExecutesInside, FailsToQuery, IsUnchanged}
 use Rattle.tables_schema.specs.Forms.{strict, is_our_name}
-use Rattle.tables_schema.specs.Standing.{IsKnown, IsNamed, Stands, HasTables, tree_named}
+use Rattle.tables_schema.specs.Intact.{IsKnown, IsNamed, IsIntact, HasTables, tree_named}
 use Rattle.tables_sql.specs.Contents.{Contents, contents_of, map_of, rows_named}
 use Rattle.tables_sql.specs.Texts.{IsReadable, AreReadableRows}
 use Rattle.tables_sql.specs.declared.failure.Failure.{Failure}
-use Rattle.tables_sql.specs.Calls.{IsKeyed, IsOurs, IsReady, IsUnderWay, Changes}
+use Rattle.tables_sql.specs.Calls.{IsKeyed, IsStoreDatabase, IsReady, IsUnderWay, Changes}
 use Rattle.tables_sql.specs.Queries.{IsSelect, HasBegunWith}
 use Rattle.tables_sql.specs.Reading.{IsAmiss}
 use Rattle.tables_sql.specs.Failures.{failure_of, FailsWith, IsTooLarge, HasNoRowidLeft}
@@ -68,19 +68,19 @@ pub record Description (K X : Type 0) : Type 1 where
   -- which schemas have it, and what has to be known of a database beside that it is ours
   pub IsIn : Schema → Type 0
   pub IsOwn : Database → Type 0
-  pub within : (db : Database) → IsOurs db → IsOwn db → IsIn db.schema
+  pub within : (db : Database) → IsStoreDatabase db → IsOwn db → IsIn db.schema
   -- which of the maps it is
   pub of : Contents → finite.FinMap order X
   pub put : Contents → finite.FinMap order X → Contents
   pub held : (db : Database) → IsIn db.schema → of (contents_of db) ≡ map_of order kind entry (rows_named db name)
   -- it is one of ours
   pub named : is_our_name name ≡ true
-  pub stands : (s : Schema) → IsIn s → Stands s (strict name columns key)
-  pub keyed : (db : Database) → IsOurs db → IsOwn db → IsKeyed (rows_named db name)
-  pub kept : (db : Database) → IsOurs db → IsOwn db → AreKept kind (λ r. (entry r).0) (length columns) (rows_named db name)
+  pub stands : (s : Schema) → IsIn s → IsIntact s (strict name columns key)
+  pub keyed : (db : Database) → IsStoreDatabase db → IsOwn db → IsKeyed (rows_named db name)
+  pub kept : (db : Database) → IsStoreDatabase db → IsOwn db → AreKept kind (λ r. (entry r).0) (length columns) (rows_named db name)
   -- what our tables hold after a write to it, and that it is still there
   pub written : (old new : State) (rows : List Row) → HasTables old.now.schema → IsIn old.now.schema → SetsRows old new (tree_named old.now.schema name) rows → (m : finite.FinMap order X) → map_of order kind entry rows ≡ m → contents_of new.now ≡ put (contents_of old.now) m
-  pub still : (old new : State) (rows : List Row) → Stands old.now.schema (strict name columns key) → SetsRows old new (tree_named old.now.schema name) rows → (IsKeyed (rows_named old.now name) → IsKeyed rows)
+  pub still : (old new : State) (rows : List Row) → IsIntact old.now.schema (strict name columns key) → SetsRows old new (tree_named old.now.schema name) rows → (IsKeyed (rows_named old.now name) → IsKeyed rows)
       → (AreReadableRows (strict name columns key) (rows_named old.now name) → AreReadableRows (strict name columns key) rows) → IsOwn old.now → IsOwn new.now
 
 abbrev pub form : {K X : Type 0} → Description K X → Table
@@ -110,7 +110,7 @@ pub record Addition {K X : Type 0} (d : Description K X) (text : List ℕ) (para
   pub present : (id : ℤ) → are_present None 0 d.columns (Int id ∷ values) ≡ true
   pub kind : (id : ℤ) → d.kind (Int id ∷ values) ≡ true
   pub entry : (id : ℤ) → d.entry (Int id ∷ values) ≡ (k, x)
-  pub fresh : (db : Database) → IsOurs db → d.IsOwn db → finite.get (d.of (contents_of db)) k ≡ None → IsNewKey d.name d.key db values
+  pub fresh : (db : Database) → IsStoreDatabase db → d.IsOwn db → finite.get (d.of (contents_of db)) k ≡ None → IsNewKey d.name d.key db values
 
 module _ {K X : Type 0} (d : Description K X) (old new : State) (under : IsUnderWay old) (own : IsTrue old.is_open → d.IsOwn old.now) where
   abbrev in_schema : IsTrue old.is_open → d.IsIn old.now.schema
@@ -151,7 +151,7 @@ module _ {K X : Type 0} (d : Description K X) (old new : State) (under : IsUnder
       let e = a.entry (next_rowid rows) in
       let keyed : IsKeyed rows → IsKeyed (put_row row rows) = keyed_put row rows it.0 refl in
       let readable = put_readable (form d) row rows (tt, texts) in
-      let after : IsOurs new.now = ours_kept (form d) old new (put_row row rows) stands it.1 ours keyed readable in
+      let after : IsStoreDatabase new.now = ours_kept (form d) old new (put_row row rows) stands it.1 ours keyed readable in
       let once : HasOneRowEach d.total d.same d.kind d.entry (put_row row rows) = subst (HasOneRowEach d.total d.same d.kind d.entry) (own_rows (form d) old new (put_row row rows) stands it.1) (d.kept new.now after (d.still old new (put_row row rows) stands it.1 keyed readable mine)).once in
       let lacks : finite.get (map_of d.order d.kind d.entry rows) (d.entry row).0 ≡ None = was_none d.total d.same d.kind d.entry row rows it.0 (a.kind _) once in
       let more : map_of d.order d.kind d.entry (put_row row rows) ≡ finite.insert (map_of d.order d.kind d.entry rows) k x =
@@ -168,7 +168,7 @@ module _ {K X : Type 0} (d : Description K X) (old new : State) (under : IsUnder
       insert_fails d.name d.columns d.key old new under (λ up. d.stands old.now.schema (in_schema d old new under own up)) text (length params) params (terms_of d) (length (terms_of d)) values refl (λ s at tree known. a.is s at tree known.named) a.accepts a.made a.typed a.present
       (IsSome (finite.get (d.of (contents_of old.now)) k)) (λ up. free (under.ours up) (own up) (finite.get (d.of (contents_of old.now)) k) refl) e h
     where
-      free : IsOurs old.now → d.IsOwn old.now → (o : Option X) → finite.get (d.of (contents_of old.now)) k ≡ o → IsNewKey d.name d.key old.now values ⊎ IsSome (finite.get (d.of (contents_of old.now)) k)
+      free : IsStoreDatabase old.now → d.IsOwn old.now → (o : Option X) → finite.get (d.of (contents_of old.now)) k ≡ o → IsNewKey d.name d.key old.now values ⊎ IsSome (finite.get (d.of (contents_of old.now)) k)
       free ours mine None none = inl (a.fresh old.now ours mine none)
       free ours mine (Some v) there = inr (subst IsSome (sym there) refl)
 
@@ -200,7 +200,7 @@ module _ {K X : Type 0} (d : Description K X) (old new : State) (under : IsUnder
 pub record Part {K X : Type 0} (d : Description K X) (Y : Type 0) : Type 0 where
   pub of : X → Y
   pub has : Row → Bool
-  pub alike : (db : Database) → IsOurs db → d.IsOwn db → (r : Row) → Has (rows_named db d.name) r → has r ≡ d.kind r
+  pub alike : (db : Database) → IsStoreDatabase db → d.IsOwn db → (r : Row) → Has (rows_named db d.name) r → has r ≡ d.kind r
 
 -- all of it
 abbrev pub entire : {K X : Type 0} → (d : Description K X) → Part d X

@@ -26,10 +26,14 @@ high db sound tree above =
       all_from (λ (i : Index). i.tree ≢ tree) db.schema.indexes (λ i h. let r = zipped_left (IsIndexRow db.schema.tables) _ db.schema.indexes i listed.indexes h in λ e. absurd (omega (arith, r.2.described.low, above, e))),
     )
 
--- a write that keeps all that the schema doesn't show keeps what is frozen
+-- a write that keeps all that the schema doesn't show keeps the list of objects
+pub listed_of : (old : Database) (trees : Trees) → IsDatabase old → KeepsUnshown old trees → trees catalog_tree ≡ old.trees catalog_tree
+listed_of old trees sound keeps = keeps catalog_tree (high old sound catalog_tree (omega arith))
+
+-- and what is frozen
 pub frozen_of : (old : Database) (trees : Trees) → IsDatabase old → KeepsUnshown old trees → KeepsFrozen old trees
 frozen_of old trees sound keeps =
-    let list : trees catalog_tree ≡ old.trees catalog_tree = keeps catalog_tree (high old sound catalog_tree (omega arith)) in
+    let list = listed_of old trees sound keeps in
     record {
       rows = λ tree is. keeps tree is.unshown;
       texts = λ row there foreign. subst (λ rows. Has rows row) (sym list) there;

@@ -4,11 +4,11 @@ use Rattle.sqlite.specs.Effect.{Database}
 use Rattle.tables_schema.specs.Forms.{meta, object, refs, outs, permanent, user_root, profile, generation, runtime}
 use Rattle.tables_sql.specs.Contents.{is_pair, pair_of, is_triple, is_profile, is_generation, generation_of, is_object, rows_named}
 use Rattle.tables_sql.specs.Texts.{HasReadableRows}
-use Rattle.tables_sql.specs.Calls.{IsOurs}
+use Rattle.tables_sql.specs.Calls.{IsStoreDatabase}
 use Rattle.tables_sql.proofs.ReadableMaps as maps
 use Rattle.tables_sql.proofs.Rising.{AreKept}
 
-module _ (db : Database) (ours : IsOurs db) where
+module _ (db : Database) (ours : IsStoreDatabase db) where
   pub meta_kept : AreKept is_pair (λ r. bytes (column r 1)) 2 (rows_named db meta.name)
   unfolding HasReadableRows
   meta_kept = record { typed = maps.meta_typed db ours.sound ours.has ours.keyed; once = maps.meta_once db ours.sound ours.has ours.keyed; apart = ours.keyed.0.apart; readable = ours.readable.0 }

@@ -23,7 +23,7 @@ use Rattle.sqlite_rules.proofs.RuleLemmas.{keeps_at, keeps_from, refers_at, refe
 use Rattle.sqlite_catalog.proofs.SoundLemmas.{lowered}
 use Rattle.sqlite_catalog.proofs.StepLemmas.{named_once}
 use Rattle.sqlite.specs.Effect.{Database, IsDatabase}
-use Rattle.tables_schema.specs.Standing.{IsNamed, Stands, points_at, is_unreferred, tree_named}
+use Rattle.tables_schema.specs.Intact.{IsNamed, IsIntact, points_at, is_unreferred, tree_named}
 use Rattle.tables_sql.proofs.Finds.{found_by_place}
 
 -- ---- the tables, with the rows of one changed
@@ -93,7 +93,7 @@ none_to_fit s own at named unreferred = test_from _ s.tables (λ t listed. test_
 
 -- ---- a table of ours is found by its tree
 
-pub only_ours : (db : Database) (table : Table) → IsDatabase db → (stands : Stands db.schema table) → (t : Table) → Has db.schema.tables t → t.tree ≡ tree_named db.schema table.name → t ≡ record table { tree = tree_named db.schema table.name }
+pub only_ours : (db : Database) (table : Table) → IsDatabase db → (stands : IsIntact db.schema table) → (t : Table) → Has db.schema.tables t → t.tree ≡ tree_named db.schema table.name → t ≡ record table { tree = tree_named db.schema table.name }
 only_ours db table sound stands t listed same =
     let own : Table = record table { tree = tree_named db.schema table.name } in
     let named : bytes_eq t.name table.name ≡ true = rw (eq-eqb _ _ same) at (test_has _ db.schema.tables t stands.alone listed) in

@@ -21,7 +21,7 @@ use Rattle.sqlite_rules.specs.Lists.{Has}
 use Rattle.sqlite_rules.proofs.ListLemmas.{test_has, test_from, some_has, some_from}
 use Rattle.sqlite_rules.proofs.KeyLemmas.{agree_back}
 use Rattle.sqlite_rules.proofs.RuleLemmas.{keeps_at, keeps_from}
-use Rattle.tables_schema.specs.Standing.{is_unguarded}
+use Rattle.tables_schema.specs.Intact.{is_unguarded}
 use Rattle.tables_sql.proofs.Truths.{told}
 use Rattle.sqlite_rules.proofs.TableLemmas.{put_has as from_put}
 use Rattle.tables_sql.proofs.KeptRules.{set_here, set_other}

@@ -9,9 +9,9 @@ use Rattle.sqlite_schema.specs.declared.schema.Table.{Table}
 use Rattle.sqlite.specs.Effect.{Database}
 use Rattle.sqlite.specs.State.{State}
 use Rattle.tables_schema.specs.Forms.{strict, is_our_name}
-use Rattle.tables_schema.specs.Standing.{Stands, HasTables, tree_named}
+use Rattle.tables_schema.specs.Intact.{IsIntact, HasTables, tree_named}
 use Rattle.tables_sql.specs.Contents.{Contents, contents_of, map_of, rows_named}
-use Rattle.tables_sql.specs.Calls.{IsKeyed, IsOurs}
+use Rattle.tables_sql.specs.Calls.{IsKeyed, IsStoreDatabase}
 use Rattle.tables_sql.proofs.Rising.{AreKept}
 use Rattle.tables_sql.proofs.Writes.{SetsRows}
 use Rattle.tables_sql.proofs.Description.{Description}
@@ -21,9 +21,9 @@ abbrev pub one_of_nine : {K X : Type 0} (t : Table) {order : K → K → Orderin
     → (of : Contents → finite.FinMap order X) (put : Contents → finite.FinMap order X → Contents)
     → is_our_name t.name ≡ true
     → ((db : Database) → HasTables db.schema → of (contents_of db) ≡ map_of order kind entry (rows_named db t.name))
-    → ((s : Schema) → HasTables s → Stands s (strict t.name t.columns t.primary))
-    → ((db : Database) → IsOurs db → IsKeyed (rows_named db t.name))
-    → ((db : Database) → IsOurs db → AreKept kind (λ r. (entry r).0) (length t.columns) (rows_named db t.name))
+    → ((s : Schema) → HasTables s → IsIntact s (strict t.name t.columns t.primary))
+    → ((db : Database) → IsStoreDatabase db → IsKeyed (rows_named db t.name))
+    → ((db : Database) → IsStoreDatabase db → AreKept kind (λ r. (entry r).0) (length t.columns) (rows_named db t.name))
     → ((old new : State) → HasTables old.now.schema → (rows : List Row) → SetsRows old new (tree_named old.now.schema t.name) rows → (m : finite.FinMap order X) → map_of order kind entry rows ≡ m → contents_of new.now ≡ put (contents_of old.now) m)
     → Description K X
 one_of_nine t {order} total same kind entry of put named held stands keyed kept written = record {

@@ -36,7 +36,7 @@ use Rattle.sqlite_resolve.specs.Program.{program, sources, query_to}
 use Rattle.sqlite_resolve.specs.Scope.{Name, Context, column_at, find as found_in, in_level, only, hit, column_in, is_among}
 use Rattle.sqlite_resolve.specs.Select.{constant_or, paging, outermost}
 use Rattle.tables_schema.specs.Forms.{strict}
-use Rattle.tables_schema.specs.Standing.{IsKnown}
+use Rattle.tables_schema.specs.Intact.{IsKnown}
 use Rattle.tables_sql.specs.Queries.{IsSelect}
 use Rattle.tables_sql.proofs.Means.{IsBare, matching_is, scan_means, sort_is, lower_column, plain_state, shown_column}
 use Rattle.tables_sql.proofs.Scans.{IsScan}

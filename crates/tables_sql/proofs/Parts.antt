@@ -43,7 +43,7 @@ use Rattle.sqlite_rules.specs.declared.error.Rowids.TheVariants.{Chosen}
 use Rattle.sqlite.specs.Rows.{stamped}
 use Rattle.sqlite.specs.Effect.{value_rows}
 use Rattle.tables_schema.specs.Forms.{strict}
-use Rattle.tables_schema.specs.Standing.{IsKnown}
+use Rattle.tables_schema.specs.Intact.{IsKnown}
 use Rattle.tables_sql.specs.Contents.{texts_cmp, rows_named}
 use Rattle.tables_sql.specs.Queries.{IsSelect, parsed}
 use Rattle.tables_sql.proofs.Means.{delete_means, plain_state}

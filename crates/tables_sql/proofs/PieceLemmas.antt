@@ -8,7 +8,7 @@ use Rattle.sqlite_trees.specs.View.{is_int}
 use Rattle.sqlite_rules.specs.Edit.{id_in}
 use Rattle.sqlite_tied.specs.Compute.{everything}
 use Rattle.tables_schema.specs.Forms.{piece}
-use Rattle.tables_schema.specs.Standing.{Stands}
+use Rattle.tables_schema.specs.Intact.{IsIntact}
 use Rattle.tables_sql.specs.Contents.{Bytes, Numbered, texts_cmp, numbered_cmp, is_text, is_blob, is_piece, piece_of}
 use Rattle.tables_sql.specs.Calls.{HasFurther}
 use Rattle.tables_sql.specs.Queries.{IsSelect}
@@ -37,7 +37,7 @@ table = record {
   same = numbered_antisymmetric;
   kind = is_piece;
   entry = piece_of;
-  IsIn = λ s. Stands s piece;
+  IsIn = λ s. IsIntact s piece;
   IsOwn = λ db. HasFurther db piece;
   within = λ db ours mine. mine.stands;
   of = λ c. c.pieces;

@@ -13,10 +13,10 @@ use Rattle.sqlite_schema.specs.Names.{same_name, table_named}
 use Rattle.sqlite_rules.specs.Lists.{Has}
 use Rattle.sqlite.specs.State.{State}
 use Rattle.tables_schema.specs.Forms.{our_tables, piece, temp_root, is_our_name}
-use Rattle.tables_schema.specs.Standing.{Stands, HasTables, tree_named}
+use Rattle.tables_schema.specs.Intact.{IsIntact, HasTables, tree_named}
 use Rattle.tables_sql.specs.Contents.{Contents, contents_of, rows_named, rows_if_any}
 use Rattle.tables_sql.specs.Texts.{IsReadable, AreReadableRows, HasReadableRows}
-use Rattle.tables_sql.specs.Calls.{IsKeyed, IsOurs, HasFurther, KeepsFurther, KeepsTheirs, Changes}
+use Rattle.tables_sql.specs.Calls.{IsKeyed, IsStoreDatabase, HasFurther, KeepsFurther, KeepsTheirs, Changes}
 use Rattle.tables_sql.proofs.Writes.{SetsRows}
 use Rattle.tables_sql.proofs.Truths.{and_so}
 
@@ -36,20 +36,20 @@ abbrev columns_named : Schema → List ℕ → List Column
 columns_named s name = unwrap_or (option_map (λ (t : Table). t.columns) (option_and_then (slice_get s.tables) (table_named s name))) []
 
 -- two tables that stand under one name have the same columns
-own_columns : (s : Schema) (t : Table) → Stands s t → columns_named s t.name ≡ t.columns
+own_columns : (s : Schema) (t : Table) → IsIntact s t → columns_named s t.name ≡ t.columns
 own_columns s t stands =
     ap (λ o. unwrap_or (option_map (λ (x : Table). x.columns) (option_and_then (slice_get s.tables) o)) []) stands.known.named.0
     ∙ ap (λ o. unwrap_or (option_map (λ (x : Table). x.columns) o) []) stands.known.named.1
 
-one_form : (s : Schema) (t a : Table) → Stands s t → Stands s a → t.name ≡ a.name → t.columns ≡ a.columns
+one_form : (s : Schema) (t a : Table) → IsIntact s t → IsIntact s a → t.name ≡ a.name → t.columns ≡ a.columns
 one_form s t a this that is = sym (own_columns s t this) ∙ ap (columns_named s) is ∙ own_columns s a that
 
-module _ (s : Schema) (a : Table) (stands : Stands s a) where
+module _ (s : Schema) (a : Table) (stands : IsIntact s a) where
   abbrev tree : ℕ
   tree = tree_named s a.name
 
   -- two of our tables have two trees
-  pub apart : (b : Table) → Stands s b → bytes_eq b.name a.name ≡ false → tree_named s b.name ≢ tree
+  pub apart : (b : Table) → IsIntact s b → bytes_eq b.name a.name ≡ false → tree_named s b.name ≢ tree
   apart b other names e =
       let alone = list_all_at _ s.tables other.at _ other.known.named.1 stands.alone in
       absurd (let f = rw (eq-eqb _ _ e, names) at alone in cc)
@@ -64,16 +64,16 @@ module _ (s : Schema) (a : Table) (stands : Stands s a) where
           let is : t.name ≡ a.name = bytes_same _ _ named in
           absurd (let f = sym ours ∙ ap is_our_name (sym is) ∙ other in cc)
 
-  at_tree : (p : ℕ → Type 0) (b : Table) → Stands s b → AllByRecursion (λ (t : Table). t.tree ≢ tree → p t.tree) s.tables → tree_named s b.name ≢ tree → p (tree_named s b.name)
+  at_tree : (p : ℕ → Type 0) (b : Table) → IsIntact s b → AllByRecursion (λ (t : Table). t.tree ≢ tree → p t.tree) s.tables → tree_named s b.name ≢ tree → p (tree_named s b.name)
   at_tree p b other h = all-slice_get (λ (t : Table). t.tree ≢ tree → p t.tree) s.tables other.at _ other.known.named.1 h
 
 -- after a write to the rows of one of our tables
-module _ (a : Table) (old new : State) (rows : List Row) (stands : Stands old.now.schema a) (sets : SetsRows old new (tree_named old.now.schema a.name) rows) where
+module _ (a : Table) (old new : State) (rows : List Row) (stands : IsIntact old.now.schema a) (sets : SetsRows old new (tree_named old.now.schema a.name) rows) where
   pub own_rows : rows_named new.now a.name ≡ rows
   own_rows = ap (λ s. new.now.trees (tree_named s a.name)) sets.schema ∙ sets.rows_are
 
   -- each other table of ours has the rows that it had
-  pub others_kept : (b : Table) → Stands old.now.schema b → bytes_eq b.name a.name ≡ false → rows_named new.now b.name ≡ rows_named old.now b.name
+  pub others_kept : (b : Table) → IsIntact old.now.schema b → bytes_eq b.name a.name ≡ false → rows_named new.now b.name ≡ rows_named old.now b.name
   others_kept b other names =
       ap (λ s. new.now.trees (tree_named s b.name)) sets.schema
       ∙ at_tree old.now.schema a stands (λ tree. new.now.trees tree ≡ old.now.trees tree) b other sets.others (apart old.now.schema a stands b other names)
@@ -106,7 +106,7 @@ module _ (a : Table) (old new : State) (rows : List Row) (stands : Stands old.no
   theirs_kept = kept old.now.schema a stands (λ t. new.now.trees t.tree ≡ old.now.trees t.tree) old.now.schema.tables stands.alone sets.others
 
   -- what holds of the columns and the rows of each table of ours holds after the write, where the write keeps it of its own
-  after : (P : List Column → List Row → Type 0) → (P a.columns (rows_named old.now a.name) → P a.columns rows) → (ts : List Table) → AllByRecursion (Stands old.now.schema) ts → AllByRecursion (λ t. P t.columns (rows_named old.now t.name)) ts → AllByRecursion (λ t. P t.columns (rows_named new.now t.name)) ts
+  after : (P : List Column → List Row → Type 0) → (P a.columns (rows_named old.now a.name) → P a.columns rows) → (ts : List Table) → AllByRecursion (IsIntact old.now.schema) ts → AllByRecursion (λ t. P t.columns (rows_named old.now t.name)) ts → AllByRecursion (λ t. P t.columns (rows_named new.now t.name)) ts
   after P keeps [] has held = tt
   after P keeps (t ∷ ts) has held = (go (bytes_eq t.name a.name) refl, after P keeps ts has.1 held.1)
     where
@@ -117,7 +117,7 @@ module _ (a : Table) (old new : State) (rows : List Row) (stands : Stands old.no
           subst₂ P (sym same) (sym (ap (rows_named new.now) is ∙ own_rows)) (keeps (subst₂ P same (ap (rows_named old.now) is) held.0))
       go false e = subst (P t.columns) (sym (others_kept t has.0 e)) held.0
 
-  pub ours_kept : IsOurs old.now → (IsKeyed (rows_named old.now a.name) → IsKeyed rows) → (AreReadableRows a (rows_named old.now a.name) → AreReadableRows a rows) → IsOurs new.now
+  pub ours_kept : IsStoreDatabase old.now → (IsKeyed (rows_named old.now a.name) → IsKeyed rows) → (AreReadableRows a (rows_named old.now a.name) → AreReadableRows a rows) → IsStoreDatabase new.now
   unfolding HasReadableRows
   ours_kept ours keyed readable = record {
     sound = sets.sound;
@@ -129,13 +129,13 @@ module _ (a : Table) (old new : State) (rows : List Row) (stands : Stands old.no
   -- a further table that stood stands still
   pub further_kept : (IsKeyed (rows_named old.now a.name) → IsKeyed rows) → (AreReadableRows a (rows_named old.now a.name) → AreReadableRows a rows) → (t : Table) → HasFurther old.now t → HasFurther new.now t
   further_kept keyed readable t there = record {
-    stands = subst (λ (s : Schema). Stands s t) (sym sets.schema) there.stands;
+    stands = subst (λ (s : Schema). IsIntact s t) (sym sets.schema) there.stands;
     keyed = (after (λ columns rs. IsKeyed rs) keyed (t ∷ []) (there.stands, tt) (there.keyed, tt)).0;
     readable = (after (λ columns rs. (row : Row) (at : ℕ) → Has rs row → at < length columns → IsReadable (column row (at + 1))) readable (t ∷ []) (there.stands, tt) (there.readable, tt)).0;
   }
 
   -- what the write makes of what our tables hold
-  pub changed : (change : Contents → Contents) → IsOurs old.now → (IsKeyed (rows_named old.now a.name) → IsKeyed rows) → (AreReadableRows a (rows_named old.now a.name) → AreReadableRows a rows) → is_our_name a.name ≡ true → contents_of new.now ≡ change (contents_of old.now) → Changes old new change
+  pub changed : (change : Contents → Contents) → IsStoreDatabase old.now → (IsKeyed (rows_named old.now a.name) → IsKeyed rows) → (AreReadableRows a (rows_named old.now a.name) → AreReadableRows a rows) → is_our_name a.name ≡ true → contents_of new.now ≡ change (contents_of old.now) → Changes old new change
   unfolding KeepsFurther
   changed change ours keyed readable named contents = record {
     was_open = sets.was_open;

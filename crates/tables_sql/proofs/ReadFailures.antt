@@ -29,7 +29,7 @@ use Rattle.sqlite.specs.Effect.{RefusesQuery, RefusesToRead}
 use Rattle.sqlite.specs.Listing.{understood, reads_listing, listing_schema, is_select, if_select, IsSourceOf}
 use Rattle.sqlite.specs.State.{State, Fails, IsUnchanged, IsStatement, IsNoStatement, IsNotRun, FailsToQuery, FailsToShow, IsTooLate}
 use Rattle.tables_schema.specs.Forms.{strict}
-use Rattle.tables_schema.specs.Standing.{IsKnown, Stands, tree_named}
+use Rattle.tables_schema.specs.Intact.{IsKnown, IsIntact, tree_named}
 use Rattle.tables_sql.specs.Queries.{parsed, IsSelect}
 use Rattle.tables_sql.specs.Failures.{failure_of, FailsWith}
 use Rattle.tables_sql.proofs.Means.{IsMeant}
@@ -132,7 +132,7 @@ sums_nothing q tree scan params db (inl h) = subst (λ g. Overflows g (matches d
 sums_nothing q tree scan params db (inr h) = (subst (λ j. FoldOverflows db j (params ∷ [])) scan.from h).4
 
 -- an error of a query over one table, if it stands in an open connection
-pub standing_read_fails : (name : List ℕ) (columns : List Column) (key : List ℕ) (old new : State) → (IsTrue old.is_open → Stands old.now.schema (strict name columns key)) → (text : List ℕ) (params : Row) (names : List (List ℕ)) (query : ℕ → Query) → ((tree : ℕ) → IsScan (query tree) tree)
+pub standing_read_fails : (name : List ℕ) (columns : List Column) (key : List ℕ) (old new : State) → (IsTrue old.is_open → IsIntact old.now.schema (strict name columns key)) → (text : List ℕ) (params : Row) (names : List (List ℕ)) (query : ℕ → Query) → ((tree : ℕ) → IsScan (query tree) tree)
     → Compiles name columns key text (length params) (λ at tree. Select (record { lets = []; body = query tree }) names) → IsSelect text
     → ((s : Schema) (at tree : ℕ) → IsKnown s name at (record (strict name columns key) { tree = tree }) → accepts_program s [] (query tree) params ≡ true)
     → (e : Error) → FailsToQuery text params old new e → FailsWith old new ⊥ (IsSome old.step_limit) (failure_of e)
@@ -142,5 +142,5 @@ standing_read_fails name columns key old new at text params names query scan is 
     tree : ℕ
     tree = tree_named old.now.schema name
 
-    stands : IsUnchanged old new → Stands old.now.schema (strict name columns key)
+    stands : IsUnchanged old new → IsIntact old.now.schema (strict name columns key)
     stands same = at same.0.was_open

@@ -7,7 +7,7 @@ use Rattle.sqlite_trees.specs.View.{is_int}
 use Rattle.sqlite_rules.specs.Lists.{Has}
 use Rattle.sqlite.specs.Effect.{Database, IsDatabase}
 use Rattle.tables_schema.specs.Forms.{piece, temp_root}
-use Rattle.tables_schema.specs.Standing.{Stands}
+use Rattle.tables_schema.specs.Intact.{IsIntact}
 use Rattle.tables_schema.specs.Finding.{IsFree}
 use Rattle.tables_sql.specs.Contents.{Bytes, contents_of, numbered_cmp, kept_cmp, is_text, is_piece, piece_of, is_kept, kept_of, map_of, rows_named}
 use Rattle.tables_sql.specs.Texts.{IsReadable, AreReadable, AreReadableRows}
@@ -55,10 +55,10 @@ module _ (rows : List Row) (typed : (row : Row) → Has rows row → is_kept row
 
 module _ (db : Database) (sound : IsDatabase db) where
   -- where they stand
-  pub pieces_by_maps : Stands db.schema piece → IsKeyed (rows_named db piece.name) → AreReadableRows piece (rows_named db piece.name) ↔ OfPieces (contents_of db).pieces
+  pub pieces_by_maps : IsIntact db.schema piece → IsKeyed (rows_named db piece.name) → AreReadableRows piece (rows_named db piece.name) ↔ OfPieces (contents_of db).pieces
   pieces_by_maps stands keyed = subst (λ (m : finite.FinMap numbered_cmp Bytes). AreReadableRows piece (rows_named db piece.name) ↔ OfPieces m) (sym (pieces_held db stands)) (pieces_readable (rows_named db piece.name) (pieces_typed db sound stands) (pieces_once db sound stands keyed))
 
-  pub temp_roots_by_maps : Stands db.schema temp_root → IsKeyed (rows_named db temp_root.name) → AreReadableRows temp_root (rows_named db temp_root.name) ↔ OfTempRoots (contents_of db).temp_roots
+  pub temp_roots_by_maps : IsIntact db.schema temp_root → IsKeyed (rows_named db temp_root.name) → AreReadableRows temp_root (rows_named db temp_root.name) ↔ OfTempRoots (contents_of db).temp_roots
   temp_roots_by_maps stands keyed =
       subst (λ (m : finite.FinMap kept_cmp (Unit {0})). AreReadableRows temp_root (rows_named db temp_root.name) ↔ OfTempRoots m) (sym (temp_roots_held db stands)) (temp_roots_readable (rows_named db temp_root.name) (temp_roots_typed db sound stands) (temp_roots_once db sound stands keyed))
 

@@ -10,7 +10,7 @@ use Rattle.sqlite_value.specs.Keys.{plain}
 use Rattle.sqlite_schema.specs.Rules.{agree}
 use Rattle.sqlite.specs.Effect.{Database, IsDatabase}
 use Rattle.tables_schema.specs.Forms.{meta, object, refs, outs, permanent, user_root, profile, generation, runtime, our_tables}
-use Rattle.tables_schema.specs.Standing.{HasTables}
+use Rattle.tables_schema.specs.Intact.{HasTables}
 use Rattle.tables_sql.specs.Contents.{Bytes, Stored, contents_of, texts_cmp, pair_cmp, triple_cmp, numbered_cmp, kept_cmp, is_text, text_if_any, is_pair, pair_of, member_of, is_triple, target_of, is_profile, profile_of, is_generation, generation_of, is_object, object_of, map_of, rows_named}
 use Rattle.tables_sql.specs.Texts.{IsReadable, AreReadable, HasReadableRows}
 use Rattle.tables_sql.specs.Calls.{IsKeyed}

@@ -30,7 +30,7 @@ use Rattle.sqlite.specs.Rows.{Edited, Deletes, Written, Task}
 use Rattle.sqlite.specs.State.{State, ExecutesInside}
 use Rattle.sqlite.proofs.Callers.{one_step}
 use Rattle.tables_schema.specs.Forms.{strict}
-use Rattle.tables_schema.specs.Standing.{IsNamed, IsKnown, Stands, is_unreferred, tree_named}
+use Rattle.tables_schema.specs.Intact.{IsNamed, IsKnown, IsIntact, is_unreferred, tree_named}
 use Rattle.tables_sql.specs.Calls.{IsUnderWay}
 use Rattle.tables_sql.specs.Failures.{failure_of, FailsWith}
 use Rattle.tables_sql.proofs.Writes.{rowids_where, works_unreferred, went, same_value, at_place}
@@ -105,7 +105,7 @@ module _ (name : List ℕ) (columns : List Column) (key : List ℕ) (tree at : �
           go (inl (other, h, is)) = stops_at (MayStop ⊥ (IsSome limit)) stop other is (removes other h)
           go (inr (w, h, ended)) = absurd (concluded db.schema limit own params w (left w h) stop ended)
 
-module _ (name : List ℕ) (columns : List Column) (key : List ℕ) (old new : State) (under : IsUnderWay old) (standing : IsTrue old.is_open → Stands old.now.schema (strict name columns key)) where
+module _ (name : List ℕ) (columns : List Column) (key : List ℕ) (old new : State) (under : IsUnderWay old) (standing : IsTrue old.is_open → IsIntact old.now.schema (strict name columns key)) where
   -- a DELETE fails for the store or the limit on steps, and a size is no cause of it
   pub delete_fails : (text : List ℕ) (count : ℕ) (params : Row) (filter : List Term) → length params ≡ count
       → Compiles name columns key text count (λ at tree. Delete at (record { lets = []; body = rowids_where tree filter }))

@@ -27,11 +27,11 @@ use Rattle.sqlite.specs.State.{State, FailsToQuery}
 use Rattle.tables_sql.specs.declared.failure.Failure.{Failure}
 use Rattle.tables_sql.specs.declared.failure.Failure.TheVariants.{Memory, Disk}
 use Rattle.tables_schema.specs.Forms.{strict}
-use Rattle.tables_schema.specs.Standing.{Stands, HasTables, tree_named}
+use Rattle.tables_schema.specs.Intact.{IsIntact, HasTables, tree_named}
 use Rattle.tables_sql.specs.Contents.{rows_named}
 use Rattle.tables_sql.specs.Texts.{IsReadable}
 use Rattle.tables_sql.specs.Queries.{HasBegunWith}
-use Rattle.tables_sql.specs.Calls.{IsOurs, IsReady}
+use Rattle.tables_sql.specs.Calls.{IsStoreDatabase, IsReady}
 use Rattle.tables_sql.specs.Failures.{failure_of, IsQueryFailure, FailsWith, FailsFor}
 use Rattle.tables_sql.specs.Reading.{IsAmiss}
 use Rattle.tables_sql.proofs.Apart.{tie, AreApart}
@@ -186,7 +186,7 @@ module _ (q : Query) (tree : ℕ) (scan : IsScan q tree) (db : Trees) (params : 
 -- ---- what a text shows of a table of ours
 
 module _ (name : List ℕ) (columns : List Column) (primary : List ℕ) {K : Type 0} {R : K → K → Ordering} (same : finite.IsAntisymmetric R) (kind : Row → Bool) (key : Row → K) (width : ℕ) (old new : State) (ready : IsTrue old.is_open → IsReady old)
-    (at : HasTables old.now.schema → Stands old.now.schema (strict name columns primary)) (own : IsOurs old.now → AreKept kind key width (rows_named old.now name)) (text : List ℕ) (params : Row) (names : List (List ℕ)) (query : ℕ → Query)
+    (at : HasTables old.now.schema → IsIntact old.now.schema (strict name columns primary)) (own : IsStoreDatabase old.now → AreKept kind key width (rows_named old.now name)) (text : List ℕ) (params : Row) (names : List (List ℕ)) (query : ℕ → Query)
     (scan : (tree : ℕ) → IsScan (query tree) tree) {count : ℕ} (is : Compiles name columns primary text count (λ at tree. Select (record { lets = []; body = query tree }) names))
     (orders : (tree : ℕ) (a b : Row) → kind a ≡ true → kind b ≡ true → output_cmp (query tree) (output (query tree) (params ∷ a ∷ [])) (output (query tree) (params ∷ b ∷ [])) ≡ R (key a) (key b)) where
   pub shown_well : {T : Type 0} (ShowsItem : Row → T → Type 0) (item : T → K) → ((tree : ℕ) (r : Row) (t : T) → ShowsItem (shows (query tree) params r) t → key r ≡ item t)

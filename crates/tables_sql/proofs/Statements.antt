@@ -20,7 +20,7 @@ use Rattle.sqlite.specs.State.{State, Shown, ExecutesInside, IsUnchanged}
 use Rattle.sqlite.proofs.Callers.{reads_as}
 use Rattle.tables_sql.specs.declared.failure.Failure.{Failure}
 use Rattle.tables_schema.specs.Forms.{strict}
-use Rattle.tables_schema.specs.Standing.{IsKnown, Stands, HasTables, tree_named}
+use Rattle.tables_schema.specs.Intact.{IsKnown, IsIntact, HasTables, tree_named}
 use Rattle.tables_sql.specs.Contents.{map_of, rows_named}
 use Rattle.tables_sql.specs.Texts.{AreReadableRows}
 use Rattle.tables_sql.specs.Queries.{IsAnswered}
@@ -39,7 +39,7 @@ Compiles name columns key text count command = (s : Schema) (at tree : ℕ) → 
 
 -- what a query of the table answers, where the table stands
 pub answer_of : (name : List ℕ) (columns : List Column) (key : List ℕ) (old new : State) (text : List ℕ) (params : Row) {names : List (List ℕ)} (query : ℕ → Query)
-    → {count : ℕ} → Compiles name columns key text count (λ at tree. Select (record { lets = []; body = query tree }) names) → Stands old.now.schema (strict name columns key) → (rows : List Row) → Shown text params old new rows → IsAnswer (query (tree_named old.now.schema name)) (overlay old.now.trees []) params rows
+    → {count : ℕ} → Compiles name columns key text count (λ at tree. Select (record { lets = []; body = query tree }) names) → IsIntact old.now.schema (strict name columns key) → (rows : List Row) → Shown text params old new rows → IsAnswer (query (tree_named old.now.schema name)) (overlay old.now.trees []) params rows
 answer_of name columns key old new text params query is stands rows shown =
     let m = means_command old.now.schema text _ (is old.now.schema stands.at (tree_named old.now.schema name) stands.known) in
     (reads_as text params old new old.now.schema refl _ m.0 m.1 m.2 rows shown).answer Null
@@ -49,7 +49,7 @@ abbrev pub Selects : {T : Type 0} → (Row → T → Type 0) → State → State
 Selects ShowsItem old new text params r = IfOk r (λ all. (rows : List Row) × IsAnswered text params old new rows × AllZip ShowsItem rows all.items)
 
 module _ (name : List ℕ) (columns : List Column) (key : List ℕ) {K X : Type 0} {R : K → K → Ordering} (o : IsTotalOrder R) (same : finite.IsAntisymmetric R) (kind : Row → Bool) (entry : Row → K × X) (old new : State)
-    (at : HasTables old.now.schema → Stands old.now.schema (strict name columns key)) where
+    (at : HasTables old.now.schema → IsIntact old.now.schema (strict name columns key)) where
   abbrev rows_are : finite.FinMap R X
   rows_are = map_of R kind entry (rows_named old.now name)
 

@@ -2,6 +2,7 @@
 use Rattle.std.proofs.Common.{◌≡◌, false, refl, sym, ap, subst, ◌∙◌, arith, IsTrue}
 use Rattle.std.specs.List.{AllByRecursion}
 use Rattle.sqlite_trees.specs.Tree.{Trees}
+use Rattle.sqlite_trees.specs.Objects.{catalog_tree}
 use Rattle.sqlite_trees.proofs.ListLemmas.{all_of, all_both}
 use Rattle.sqlite_schema.specs.declared.schema.Schema.{Schema}
 use Rattle.sqlite_schema.specs.declared.schema.Table.{Table}
@@ -10,9 +11,9 @@ use Rattle.sqlite.specs.State.{State, HasCleanDisk, KeepsCommit, Survives}
 use Rattle.sqlite.proofs.StateLemmas.{survives_then, survives_weaker}
 use Rattle.tables_schema.specs.Forms.{is_our_name}
 use Rattle.tables_sql.specs.Contents.{Contents, contents_of}
-use Rattle.tables_sql.specs.Frozen.{IsUnshown, KeepsUnshown}
-use Rattle.tables_sql.specs.Calls.{IsOurs, IsReady, IsUnderWay, IsCommitted, KeepsTheirs, Leaves, Changes, KeepsShown, KeepsFurther}
-use Rattle.tables_sql.proofs.Frozen.{frozen_next, frozen_of}
+use Rattle.tables_sql.specs.Frozen.{IsUnshown}
+use Rattle.tables_sql.specs.Calls.{IsStoreDatabase, IsReady, IsUnderWay, KeepsTheirs, Leaves, LeavesRows, Changes, KeepsShown, KeepsFurther}
+use Rattle.tables_sql.proofs.Frozen.{frozen_next, frozen_of, listed_of}
 
 pub theirs_then : (a b c : Database) → b.schema ≡ a.schema → KeepsTheirs a b → KeepsTheirs b c → KeepsTheirs a c
 theirs_then a b c is h k =
@@ -84,7 +85,7 @@ keeps_after a b c f h k = record { was_open = λ _. h.was_open; committed = λ i
 pub ready_after : (a b : State) → (IsTrue a.is_open → IsReady a) → KeepsShown a b → IsTrue b.is_open → IsReady b
 ready_after a b ready h is_open =
     let was = ready (h.was_open is_open) in
-    record { ours = subst IsOurs (sym (h.now is_open)) was.ours; settled = h.now is_open ∙ was.settled ∙ sym (h.committed is_open) }
+    record { ours = subst IsStoreDatabase (sym (h.now is_open)) was.ours; settled = h.now is_open ∙ was.settled ∙ sym (h.committed is_open) }
 
 -- two reads in a row
 pub shown_then : (a b c : State) → KeepsShown a b → KeepsShown b c → KeepsShown a c
@@ -116,23 +117,13 @@ leaves_from a b f db sound h l = record {
 pub clean_before : (a b : State) (P : Trees → Type 0) → Survives a b P → HasCleanDisk b → HasCleanDisk a
 clean_before a b P h clean = omega (arith, h.clean, clean)
 
+-- what a crash leaves of a commit of the change
+rows_left : (a b : State) (f : Contents → Contents) (db : Trees) → IsDatabase a.now → Changes a b f → db ≡ b.now.trees → LeavesRows a.now db (f (contents_of a.now))
+rows_left a b f db sound h is = record { rows = leaves_from a b f db sound h (leaves_now b.now db is); listed = ap (λ (trees : Trees). trees catalog_tree) is ∙ listed_of a.now b.now.trees sound h.unshown }
+
 -- a crash leaves what it could leave before the transaction, or all that it changed, which only an open connection commits
-pub survives_whole : (a b c : State) (f : Contents → Contents) → (HasCleanDisk a → IsUnderWay a) → (HasCleanDisk b → Changes a b f) → Survives a b (λ _. ⊥) → Survives b c (λ db. Leaves b.now db (contents_of b.now)) → Survives a c (λ db. IsTrue a.is_open × Leaves a.now db (f (contents_of a.now)))
-survives_whole a b c f under h before after = survives_then a b c (λ _. ⊥) _ (λ db. IsTrue a.is_open × Leaves a.now db (f (contents_of a.now))) (λ clean db none. absurd none) (λ clean db l.
+pub survives_whole : (a b c : State) (f : Contents → Contents) → (HasCleanDisk a → IsUnderWay a) → (HasCleanDisk b → Changes a b f) → Survives a b (λ _. ⊥) → Survives b c (λ db. db ≡ b.now.trees) → Survives a c (λ db. IsTrue a.is_open × LeavesRows a.now db (f (contents_of a.now)))
+survives_whole a b c f under h before after = survives_then a b c (λ _. ⊥) _ (λ db. IsTrue a.is_open × LeavesRows a.now db (f (contents_of a.now))) (λ clean db none. absurd none) (λ clean db is.
     let clean_b = clean_before b c _ after clean in
     let changes = h clean_b in
-    (changes.was_open, leaves_from a b f db ((under (clean_before a b _ before clean_b)).ours changes.was_open).sound changes l)) before after
-
--- the maps are those that the change makes, the rest is as it was, and the connection is ready
-pub commits_change : (a b c : State) (f : Contents → Contents) → Changes a b f → IsCommitted b c → (contents_of c.now ≡ f (contents_of a.now)) × KeepsTheirs a.now c.now × KeepsUnshown a.now c.now.trees × IsReady c
-commits_change a b c f h k = (
-  ap contents_of k.now ∙ h.contents,
-  subst (λ (d : Database). KeepsTheirs a.now d) (sym k.now) h.theirs,
-  subst (λ (d : Database). KeepsUnshown a.now d.trees) (sym k.now) h.unshown,
-  k.ready,
-)
-
--- a change and its commit are one: done, and all at once or not at all after a crash
-pub transaction_is : (a b c : State) (f : Contents → Contents) → (HasCleanDisk a → IsUnderWay a) → (HasCleanDisk b → Changes a b f) → Survives a b (λ _. ⊥) → (HasCleanDisk c → IsCommitted b c) → Survives b c (λ db. Leaves b.now db (contents_of b.now))
-    → (HasCleanDisk c → (contents_of c.now ≡ f (contents_of a.now)) × KeepsTheirs a.now c.now × KeepsUnshown a.now c.now.trees × IsReady c) × Survives a c (λ db. IsTrue a.is_open × Leaves a.now db (f (contents_of a.now)))
-transaction_is a b c f under h before done after = (λ clean. commits_change a b c f (h (clean_before b c _ after clean)) (done clean), survives_whole a b c f under h before after)
+    (changes.was_open, rows_left a b f db ((under (clean_before a b _ before clean_b)).ours changes.was_open).sound changes is)) before after

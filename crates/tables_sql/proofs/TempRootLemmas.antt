@@ -9,7 +9,7 @@ use Rattle.sqlite_trees.specs.View.{is_int}
 use Rattle.sqlite_rules.specs.Edit.{id_in}
 use Rattle.sqlite_tied.specs.Compute.{everything}
 use Rattle.tables_schema.specs.Forms.{temp_root}
-use Rattle.tables_schema.specs.Standing.{Stands}
+use Rattle.tables_schema.specs.Intact.{IsIntact}
 use Rattle.tables_sql.specs.Contents.{Kept, texts_cmp, kept_cmp, is_text, is_kept, kept_of}
 use Rattle.tables_sql.specs.Calls.{HasFurther}
 use Rattle.tables_sql.specs.Queries.{IsSelect}
@@ -38,7 +38,7 @@ table = record {
   same = kept_antisymmetric;
   kind = is_kept;
   entry = kept_of;
-  IsIn = λ s. Stands s temp_root;
+  IsIn = λ s. IsIntact s temp_root;
   IsOwn = λ db. HasFurther db temp_root;
   within = λ db ours mine. mine.stands;
   of = λ c. c.temp_roots;

@@ -8,7 +8,7 @@ use Rattle.tables_sql.proofs.Steps.{shown_then}
 use Rattle.tables_sql.specs.declared.failure.Failure.{Failure}
 use Rattle.tables_sql.specs.declared.failure.Failure.TheVariants.{Memory, Size, Disk}
 use Rattle.tables_sql.specs.Calls.{KeepsShown}
-use Rattle.tables_sql.specs.Failures.{failure_of, FailsWith, IsQueryFailure, FailsToTest}
+use Rattle.tables_sql.specs.Failures.{failure_of, FailsWith, FailsFor, IsQueryFailure, FailsToTest, FailsToRead}
 
 -- an error that is passed on
 pub passed_on : {T : Type 0} (r : Result T Failure) (e : Failure) (P : Failure → Type 0) → IsErrAnd r (λ f. f ≡ e) → P e → IfErr r P
@@ -58,3 +58,25 @@ after a b c P Q same before so Disk (inr (inr h)) = inr (inr (so h))
 -- a failure after a test that was passed is one of both
 pub fails_after : (a b c : State) (P Q : Type 0) → Passes a b → Survives b c (λ _. ⊥) → HasCleanDisk c → (IsUnchanged a b → P → Q) → (f : Failure) → FailsToTest b c P f → FailsToTest a c Q f
 fails_after a b c P Q passes later clean so = let same = passes.0 (omega (arith, later.clean, clean)) in after a b c P Q same passes.1 (so same)
+
+-- ---- one read after another
+
+-- one alone
+pub read_fails : {T : Type 0} (old new : State) (r : Result T Failure) → IfErr r (FailsFor old new) → IfErr r (FailsToRead old new)
+read_fails old new (Ok x) h = tt
+read_fails old new (Err f) h = by_query old new ⊥ f h
+
+pub read_passed : {T : Type 0} (old new : State) (r : Result T Failure) (e : Failure) → IsErrAnd r (λ f. f ≡ e) → FailsFor old new e → IfErr r (FailsToRead old new)
+read_passed old new r e is h = passed_on r e (FailsToRead old new) is (by_query old new ⊥ e h)
+
+-- no memory was left for what was read
+pub memory_passed : {T : Type 0} (old new : State) (r : Result T Failure) → IsErrAnd r (λ f. f ≡ Memory) → IfErr r (FailsToRead old new)
+memory_passed old new r is = passed_on r Memory (FailsToRead old new) is tt
+
+-- after others that were done
+pub read_then : {T : Type 0} (a b c : State) (r : Result T Failure) → (HasCleanDisk b → IsUnchanged a b) → Survives a b (λ _. ⊥) → Survives b c (λ _. ⊥) → HasCleanDisk c → IfErr r (FailsToRead b c) → IfErr r (FailsToRead a c)
+read_then a b c (Ok x) same first later clean h = tt
+read_then a b c (Err f) same first later clean h = fails_after a b c ⊥ ⊥ (same, first) later clean (λ _ no. no) f h
+
+pub read_then_passed : {T : Type 0} (a b c : State) (r : Result T Failure) (e : Failure) → IsErrAnd r (λ f. f ≡ e) → (HasCleanDisk b → IsUnchanged a b) → Survives a b (λ _. ⊥) → Survives b c (λ _. ⊥) → HasCleanDisk c → FailsToRead b c e → IfErr r (FailsToRead a c)
+read_then_passed a b c r e is same first later clean h = passed_on r e (FailsToRead a c) is (fails_after a b c ⊥ ⊥ (same, first) later clean (λ _ no. no) e h)

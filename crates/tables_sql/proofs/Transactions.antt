@@ -6,7 +6,7 @@ use Rattle.sqlite_trees.specs.Tree.{Trees}
 use Rattle.sqlite.specs.State.{State, HasCleanDisk, KeepsCommit, Survives}
 use Rattle.sqlite.specs.Held.{Held, state}
 use Rattle.tables_sql.specs.Contents.{Contents, contents_of}
-use Rattle.tables_sql.specs.Calls.{Changes, IsUnderWay, Leaves}
+use Rattle.tables_sql.specs.Calls.{Changes, IsUnderWay, LeavesRows}
 use Rattle.tables_sql.proofs.Steps.{clean_before, changes_then, changes_by, keeps_after, survives_whole}
 
 -- what a crash leaves is told from before it was begun
@@ -15,10 +15,10 @@ survives_begun g conn c P h = record { clean = h.clean; shield = h.shield; count
 
 -- the whole transaction, from before it was begun: a crash leaves what it could leave before, or all that it changed
 pub survives_all : {S : Type 0} (g : Ghosts S) (conn start : Held S) (b c : State) (f : Contents → Contents) → start ≡ record conn { in_transaction = true } → (HasCleanDisk (state g start) → IsUnderWay (state g start))
-    → (HasCleanDisk b → Changes (state g start) b f) → Survives (state g start) b (λ _. ⊥) → Survives b c (λ db. Leaves b.now db (contents_of b.now))
-    → Survives (state g conn) c (λ db. IsTrue (state g conn).is_open × Leaves (state g conn).now db (f (contents_of (state g conn).now)))
+    → (HasCleanDisk b → Changes (state g start) b f) → Survives (state g start) b (λ _. ⊥) → Survives b c (λ db. db ≡ b.now.trees)
+    → Survives (state g conn) c (λ db. IsTrue (state g conn).is_open × LeavesRows (state g conn).now db (f (contents_of (state g conn).now)))
 survives_all {S} g conn start b c f is under h before after =
-    survives_begun g conn c _ (subst (λ (x : Held S). Survives (state g x) c (λ db. IsTrue (state g x).is_open × Leaves (state g x).now db (f (contents_of (state g x).now)))) is (survives_whole (state g start) b c f under h before after))
+    survives_begun g conn c _ (subst (λ (x : Held S). Survives (state g x) c (λ db. IsTrue (state g x).is_open × LeavesRows (state g x).now db (f (contents_of (state g x).now)))) is (survives_whole (state g start) b c f under h before after))
 
 -- nothing was done
 pub survives_none : (s : State) → Survives s s (λ _. ⊥)

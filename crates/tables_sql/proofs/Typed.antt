@@ -18,7 +18,7 @@ use Rattle.sqlite_schema.specs.declared.schema.Constraint.TheVariants.{Datatype,
 use Rattle.sqlite_schema.specs.Rules.{is_of, has_affinity, are_typed, are_present, passes}
 use Rattle.sqlite.specs.Effect.{Database, IsDatabase}
 use Rattle.tables_schema.specs.Forms.{object, piece, temp_root, strict, col}
-use Rattle.tables_schema.specs.Standing.{Stands, tree_named}
+use Rattle.tables_schema.specs.Intact.{IsIntact, tree_named}
 use Rattle.tables_sql.specs.Contents.{is_text, is_blob, is_text_or_null, is_object, is_pair, is_triple, is_profile, is_generation, is_piece, is_kept, rows_named}
 use Rattle.tables_sql.proofs.Truths.{and_so}
 
@@ -99,7 +99,7 @@ are_of (c ∷ cs) at row (v ∷ vs) same strict h there =
     (value c at row (v ∷ vs) same (suited c.is_strict (is_of c.kind v) (has_affinity c.kind v) (and_so _ _ strict).0 (and_so _ _ h).0) (and_so _ _ there).0, are_of cs (at + 1) row vs (λ i. next at row (v ∷ vs) same i) (and_so _ _ strict).1 (and_so _ _ h).1 (and_so _ _ there).1)
 
 -- what each row of a table of ours passes
-module _ (db : Database) (sound : IsDatabase db) (table : Table) (stands : Stands db.schema table) (row : Row) (there : Has (rows_named db table.name) row) where
+module _ (db : Database) (sound : IsDatabase db) (table : Table) (stands : IsIntact db.schema table) (row : Row) (there : Has (rows_named db table.name) row) where
   abbrev own : Table
   own = record table { tree = tree_named db.schema table.name }
 
@@ -110,7 +110,7 @@ module _ (db : Database) (sound : IsDatabase db) (table : Table) (stands : Stand
   has_values = all_has (λ r. passes NotNull db.schema db.trees own r ≡ true) (db.trees own.tree) row (all-slice_get (λ t. AllByRecursion (λ r. passes NotNull db.schema db.trees t r ≡ true) (db.trees t.tree)) db.schema.tables stands.at own stands.known.named.1 (sound.obeys.rules NotNull)) there
 
 -- each row of a table of ours is as its columns ask
-typed : (db : Database) → IsDatabase db → (name : List ℕ) (columns : List Column) (key : List ℕ) → list_all (λ c. c.is_strict) columns ≡ true → Stands db.schema (strict name columns key) → (row : Row) → Has (rows_named db name) row → AreOf 1 columns row
+typed : (db : Database) → IsDatabase db → (name : List ℕ) (columns : List Column) (key : List ℕ) → list_all (λ c. c.is_strict) columns ≡ true → IsIntact db.schema (strict name columns key) → (row : Row) → Has (rows_named db name) row → AreOf 1 columns row
 typed db sound name columns key all stands row there =
     let table = strict name columns key in
     are_of columns 0 row (drop 1 row) (λ i. let at : suc i ≡ 0 + 1 + i = omega arith in later row i ∙ ap (column row) at) all (has_types db sound table stands row there) (has_values db sound table stands row there)
@@ -120,26 +120,26 @@ pub base_is : (r : Row) → is_object r ≡ true → is_text (column r 1) ≡ tr
 base_is r h = (and_so _ _ (and_so _ _ (and_so _ _ (and_so _ _ h).0).0).0).0
 
 module _ (db : Database) (sound : IsDatabase db) where
-  pub objects_typed : Stands db.schema object → (row : Row) → Has (rows_named db object.name) row → is_object row ≡ true
+  pub objects_typed : IsIntact db.schema object → (row : Row) → Has (rows_named db object.name) row → is_object row ≡ true
   objects_typed stands row there = let k = typed db sound object.name object.columns object.primary refl stands row there in rw (k.0, k.1.0, k.1.1.0, k.1.1.1.0, k.1.1.1.1.0) refl
 
-  pub pieces_typed : Stands db.schema piece → (row : Row) → Has (rows_named db piece.name) row → is_piece row ≡ true
+  pub pieces_typed : IsIntact db.schema piece → (row : Row) → Has (rows_named db piece.name) row → is_piece row ≡ true
   pieces_typed stands row there = let k = typed db sound piece.name piece.columns piece.primary refl stands row there in rw (k.0, k.1.0, k.1.1.0) refl
 
-  pub temp_roots_typed : Stands db.schema temp_root → (row : Row) → Has (rows_named db temp_root.name) row → is_kept row ≡ true
+  pub temp_roots_typed : IsIntact db.schema temp_root → (row : Row) → Has (rows_named db temp_root.name) row → is_kept row ≡ true
   temp_roots_typed stands row there = let k = typed db sound temp_root.name temp_root.columns temp_root.primary refl stands row there in rw (k.0, k.1.0, k.1.1.0) refl
 
 module _ (db : Database) (sound : IsDatabase db) (name a b : List ℕ) where
-  pub pairs_typed : (key : List ℕ) → Stands db.schema (strict name (col a kind.Text true ∷ col b kind.Text true ∷ []) key) → (row : Row) → Has (rows_named db name) row → is_pair row ≡ true
+  pub pairs_typed : (key : List ℕ) → IsIntact db.schema (strict name (col a kind.Text true ∷ col b kind.Text true ∷ []) key) → (row : Row) → Has (rows_named db name) row → is_pair row ≡ true
   pairs_typed key stands row there = let k = typed db sound name (col a kind.Text true ∷ col b kind.Text true ∷ []) key refl stands row there in rw (k.0, k.1.0) refl
 
-  pub triples_typed : (c key : List ℕ) → Stands db.schema (strict name (col a kind.Text true ∷ col b kind.Text true ∷ col c kind.Text true ∷ []) key) → (row : Row) → Has (rows_named db name) row → is_triple row ≡ true
+  pub triples_typed : (c key : List ℕ) → IsIntact db.schema (strict name (col a kind.Text true ∷ col b kind.Text true ∷ col c kind.Text true ∷ []) key) → (row : Row) → Has (rows_named db name) row → is_triple row ≡ true
   triples_typed c key stands row there = let k = typed db sound name (col a kind.Text true ∷ col b kind.Text true ∷ col c kind.Text true ∷ []) key refl stands row there in rw (k.0, k.1.0, k.1.1.0) refl
 
-  pub profiles_typed : (c key : List ℕ) → Stands db.schema (strict name (col a kind.Text true ∷ col b kind.Text true ∷ col c kind.Integer true ∷ []) key) → (row : Row) → Has (rows_named db name) row → is_profile row ≡ true
+  pub profiles_typed : (c key : List ℕ) → IsIntact db.schema (strict name (col a kind.Text true ∷ col b kind.Text true ∷ col c kind.Integer true ∷ []) key) → (row : Row) → Has (rows_named db name) row → is_profile row ≡ true
   profiles_typed c key stands row there = let k = typed db sound name (col a kind.Text true ∷ col b kind.Text true ∷ col c kind.Integer true ∷ []) key refl stands row there in rw (k.0, k.1.0, k.1.1.0) refl
 
-  pub generations_typed : (c d key : List ℕ) → Stands db.schema (strict name (col a kind.Text true ∷ col b kind.Text true ∷ col c kind.Integer true ∷ col d kind.Text true ∷ []) key) → (row : Row) → Has (rows_named db name) row → is_generation row ≡ true
+  pub generations_typed : (c d key : List ℕ) → IsIntact db.schema (strict name (col a kind.Text true ∷ col b kind.Text true ∷ col c kind.Integer true ∷ col d kind.Text true ∷ []) key) → (row : Row) → Has (rows_named db name) row → is_generation row ≡ true
   generations_typed c d key stands row there =
       let k = typed db sound name (col a kind.Text true ∷ col b kind.Text true ∷ col c kind.Integer true ∷ col d kind.Text true ∷ []) key refl stands row there in
       rw (k.0, k.1.0, k.1.1.0, k.1.1.1.0) refl

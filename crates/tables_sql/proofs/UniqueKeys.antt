@@ -26,7 +26,7 @@ use Rattle.sqlite_schema.specs.Rules.{passes, agree, clashes, differ, equal, gua
 use Rattle.sqlite_catalog.specs.Listing.{automatic, IsGuarded}
 use Rattle.sqlite.specs.Effect.{Database, IsDatabase}
 use Rattle.tables_schema.specs.Forms.{strict}
-use Rattle.tables_schema.specs.Standing.{Stands, tree_named}
+use Rattle.tables_schema.specs.Intact.{IsIntact, tree_named}
 use Rattle.tables_sql.specs.Contents.{texts_cmp, is_text, rows_named}
 use Rattle.tables_sql.specs.Calls.{IsKeyed}
 use Rattle.tables_sql.proofs.Orders.{texts_total}
@@ -83,7 +83,7 @@ agree_three a b p q r h k l = rw (binary_first, h, k, l) refl
 
 -- ---- two rows of one key are one
 
-module _ (db : Database) (sound : IsDatabase db) (name : List ℕ) (columns : List Column) (key : List ℕ) (stands : Stands db.schema (strict name columns key)) (keyed : IsKeyed (rows_named db name)) where
+module _ (db : Database) (sound : IsDatabase db) (name : List ℕ) (columns : List Column) (key : List ℕ) (stands : IsIntact db.schema (strict name columns key)) (keyed : IsKeyed (rows_named db name)) where
   own : Table
   own = record (strict name columns key) { tree = tree_named db.schema name }
 

@@ -18,7 +18,7 @@ use Rattle.sqlite.specs.State.{State, IsUnchanged, IsNotRun, IsNoStatement, IsMi
 use Rattle.tables_sql.specs.declared.failure.Failure.{Failure}
 use Rattle.tables_sql.specs.declared.failure.Failure.TheVariants.{Memory, Size, Disk}
 use Rattle.tables_schema.specs.Forms.{strict}
-use Rattle.tables_schema.specs.Standing.{Stands, tree_named}
+use Rattle.tables_schema.specs.Intact.{IsIntact, tree_named}
 use Rattle.tables_sql.specs.Failures.{failure_of, FailsWith, IsWriteFailure, without_size}
 use Rattle.tables_sql.proofs.Means.{IsMeant}
 use Rattle.tables_sql.proofs.ReadFailures.{store_failed}
@@ -135,10 +135,10 @@ module _ (old new : State) (text : List ℕ) (params : Row) (command : Command) 
       absurd (stays_inside old command writes (subst (Escapes 0 old) (subst (λ (k : Compiled). k.command ≡ command) (same_compiled live it.0 it.1.is) (known live).command_is) it.2))
 
 -- a write to a table of ours, wherever it stands
-pub our_write_fails : (name : List ℕ) (columns : List Column) (key : List ℕ) (old new : State) → (IsTrue old.is_open → Stands old.now.schema (strict name columns key))
+pub our_write_fails : (name : List ℕ) (columns : List Column) (key : List ℕ) (old new : State) → (IsTrue old.is_open → IsIntact old.now.schema (strict name columns key))
     → (text : List ℕ) (count : ℕ) (params : Row) (command : ℕ → ℕ → Command) → ((at tree : ℕ) → changes (command at tree) ≡ true) → length params ≡ count → Compiles name columns key text count command
     → (large refused : Type 0)
-    → (IsTrue old.is_open → (stands : Stands old.now.schema (strict name columns key)) (st : List ℕ) (stop : Option Error) → Does old.step_limit (mode_of old) params old.now st None (command stands.at (tree_named old.now.schema name)) (Err stop) → MayStop large refused stop)
+    → (IsTrue old.is_open → (stands : IsIntact old.now.schema (strict name columns key)) (st : List ℕ) (stop : Option Error) → Does old.step_limit (mode_of old) params old.now st None (command stands.at (tree_named old.now.schema name)) (Err stop) → MayStop large refused stop)
     → (e : Error) → ExecutesInside 0 text params old new (Err e) → FailsWith old new (OrShut old large) refused (failure_of e)
 our_write_fails name columns key old new standing text count params command writes given is large refused stops e h = go old.is_open refl
   where

@@ -32,7 +32,7 @@ use Rattle.sqlite_schema.specs.declared.schema.Reference.{Reference}
 use Rattle.sqlite_schema.specs.Rules.{ParentKey, parent_key}
 use Rattle.sqlite_rules.specs.declared.action.Deed.{Deed}
 use Rattle.sqlite_rules.specs.Action.{work_by, work_for, works, deed_for, pairs}
-use Rattle.tables_schema.specs.Standing.{points_at, is_unreferred}
+use Rattle.tables_schema.specs.Intact.{points_at, is_unreferred}
 use Rattle.tables_sql.specs.Frozen.{KeepsUnshown}
 use Rattle.tables_sql.proofs.Truths.{and_so}
 use Rattle.std.proofs.lemmas.Bool.{ne_eqb}

@@ -6,11 +6,12 @@ use Rattle.sqlite_value.specs.Order.{Row, value_cmp}
 use Rattle.sqlite_rules.specs.Lists.{Has}
 use Rattle.sqlite_trees.specs.View.{is_int}
 use Rattle.sqlite_trees.specs.Tree.{Trees, rowid}
+use Rattle.sqlite_trees.specs.Objects.{catalog_tree}
 use Rattle.sqlite.specs.Effect.{Database, IsDatabase}
 use Rattle.sqlite.specs.State.{State}
 use Rattle.sqlite_schema.specs.declared.schema.Table.{Table}
 use Rattle.tables_schema.specs.Forms.{piece, temp_root, our_tables, further_tables, is_our_name}
-use Rattle.tables_schema.specs.Standing.{HasTables, Stands}
+use Rattle.tables_schema.specs.Intact.{HasTables, IsIntact}
 use Rattle.tables_sql.specs.Contents.{Contents, contents_of, rows_named}
 use Rattle.tables_sql.specs.Frozen.{SparesUnshown, SparesFrozen}
 use Rattle.tables_sql.specs.Texts.{AreReadableRows, HasReadableRows}
@@ -29,7 +30,7 @@ pub record IsKeyed (rows : List Row) : Type 0 where
   pub apart : IsDistinct (eq_by_cmp value_cmp) (map rowid rows)
 
 -- all nine tables are in the schema, each row obeys it, rowids are apart, and each text is UTF-8
-pub record IsOurs (db : Database) : Type 0 where
+pub record IsStoreDatabase (db : Database) : Type 0 where
   pub sound : IsDatabase db
   pub has : HasTables db.schema
   pub keyed : AllByRecursion (λ t. IsKeyed (rows_named db t.name)) our_tables
@@ -37,13 +38,13 @@ pub record IsOurs (db : Database) : Type 0 where
 
 -- a further table is there too, with the same of its rows
 pub record HasFurther (db : Database) (t : Table) : Type 0 where
-  pub stands : Stands db.schema t
+  pub stands : IsIntact db.schema t
   pub keyed : IsKeyed (rows_named db t.name)
   pub readable : AreReadableRows t (rows_named db t.name)
 
 -- all eleven tables are there, with the same of the rows of each
 pub record IsWhole (db : Database) : Type 0 where
-  pub ours : IsOurs db
+  pub ours : IsStoreDatabase db
   pub pieces : HasFurther db piece
   pub temp_roots : HasFurther db temp_root
 
@@ -53,12 +54,12 @@ KeepsFurther old new = AllByRecursion (λ t. HasFurther old t → HasFurther new
 
 -- what the connection shows is ours, and so did the last commit leave it
 pub record IsReady (s : State) : Type 0 where
-  pub ours : IsOurs s.now
+  pub ours : IsStoreDatabase s.now
   pub settled : s.now ≡ s.committed
 
 -- A transaction is under way over our tables, unless a fault has shut the connection.
 pub record IsUnderWay (s : State) : Type 0 where
-  pub ours : IsTrue s.is_open → IsOurs s.now
+  pub ours : IsTrue s.is_open → IsStoreDatabase s.now
   pub mode : s.in_transaction ≡ true
 
 -- each table with a name that is none of the store's has the rows that it had
@@ -71,6 +72,11 @@ pub record Leaves (old : Database) (left : Remains) (contents : Contents) : Type
   pub theirs : KeepsTheirs old (after_crash old left)
   pub frozen : SparesFrozen old (after_crash old left)
 
+-- what a crash may leave of a write of rows: the same, and the list of objects is as it was, so that no table, index, view or trigger was made or dropped
+pub record LeavesRows (old : Database) (left : Remains) (contents : Contents) : Type 0 where
+  pub rows : Leaves old left contents
+  pub listed : left catalog_tree ≡ old.trees catalog_tree
+
 -- Inside a transaction, which goes on: our tables hold what the change makes of what they held, each other table has the rows that it had, what the schema doesn't show is as it was, and so are the savepoints.
 pub record Changes (old new : State) (change : Contents → Contents) : Type 0 where
   pub was_open : IsTrue old.is_open
@@ -79,7 +85,7 @@ pub record Changes (old new : State) (change : Contents → Contents) : Type 0 w
   pub contents : contents_of new.now ≡ change (contents_of old.now)
   pub theirs : KeepsTheirs old.now new.now
   pub unshown : SparesUnshown old.now new.now
-  pub ours : IsOurs new.now
+  pub ours : IsStoreDatabase new.now
   pub further : KeepsFurther old.now new.now
   pub committed : new.committed ≡ old.committed
   pub mode : new.in_transaction ≡ true

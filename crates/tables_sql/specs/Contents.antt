@@ -11,7 +11,7 @@ use Rattle.sqlite_value.specs.declared.value.Value.TheVariants.{Null, Text, Blob
 use Rattle.sqlite_trees.specs.View.{is_int}
 use Rattle.sqlite_rules.specs.Edit.{id_in}
 use Rattle.sqlite.specs.Effect.{Database}
-use Rattle.tables_schema.specs.Standing.{tree_named}
+use Rattle.tables_schema.specs.Intact.{tree_named}
 
 -- ---- keys and their order
 

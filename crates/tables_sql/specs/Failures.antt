@@ -13,7 +13,7 @@ use Rattle.sqlite.specs.State.{State, IsUnchanged, IsRolledBack, FailsToQuery, E
 use Rattle.sqlite.specs.declared.error.ErrorCode.TheVariants.{OutOfMemory, TooBig, SystemIoFailure, DiskFull, Closed}
 use Rattle.sqlite.specs.declared.error.Error.{Error}
 use Rattle.sqlite.specs.declared.error.Error.TheVariants.{SqliteFailure}
-use Rattle.tables_schema.specs.Standing.{tree_named}
+use Rattle.tables_schema.specs.Intact.{tree_named}
 use Rattle.tables_sql.specs.Contents.{rows_named}
 use Rattle.tables_sql.specs.declared.failure.Failure.{Failure}
 use Rattle.tables_sql.specs.declared.failure.Failure.TheVariants.{Memory, Size, Disk}
@@ -89,3 +89,7 @@ abbrev pub FailsToTest : State → State → (found : Type 0) → Failure → Ty
 FailsToTest old new found Memory = ⊤
 FailsToTest old new found Size = ⊥
 FailsToTest old new found Disk = HasDiskCause old new ⊎ (IsSome old.step_limit ⊎ found)
+
+-- Why reads of the store's tables failed, one after another: as a test that finds nothing.
+abbrev pub FailsToRead : State → State → Failure → Type 0
+FailsToRead old new = FailsToTest old new ⊥

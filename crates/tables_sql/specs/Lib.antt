@@ -1,5 +1,5 @@
 pub use Rattle.tables_schema.specs.Forms
-pub use Rattle.tables_schema.specs.Standing
+pub use Rattle.tables_schema.specs.Intact
 pub mod Calls
 pub mod Contents
 pub mod Entries

@@ -16,8 +16,9 @@ use Rattle.paths.specs.ContentAddress.{ContentAddress, IsAddressText}
 use Rattle.paths.proofs.Addresses.{address-is, address-back}
 use Rattle.tables_sql.specs.Contents.{triple_cmp}
 use Rattle.model.specs.World.{Path, Pair, pair_cmp, Profile, Temporary, temporary_cmp}
-use Rattle.tables_world.specs.Rows.{Schema, piece_cmp, Kept, kept_cmp, Rows, references_in, outputs_in, pieces_in, address_in, object_in, number_in, generations_in, profile_in, temporary_in, world_of, IsSoundRows}
-use Rattle.tables_world.specs.Laws.{TellsProfile, TellsWorld}
+use Rattle.tables_world.specs.Rows.{piece_cmp, Kept, kept_cmp, Rows, references_in, outputs_in, pieces_in, address_in, object_in, number_in, generations_in, profile_in, temporary_in, world_of, IsSoundRows}
+use Rattle.tables_schema.specs.declared.schema.Schema.{Schema}
+use Rattle.tables_world.specs.Laws.{DescribesProfile, DescribesWorld}
 
 -- ---- members
 
@@ -204,7 +205,7 @@ addressed (Some text) ca = (
 )
 
 module _ (schema : Schema) (dir : List ℕ) (c : Rows) (sound : IsSoundRows schema dir c) where
-  told_profile : (owner name : List ℕ) (o : Option ℤ) → finite.get c.profiles (owner, name) ≡ o → is_some o ≡ true → (x : Profile) × (finite.get (world_of c).profiles (owner, name) ≡ Some x) × TellsProfile c owner name x
+  told_profile : (owner name : List ℕ) (o : Option ℤ) → finite.get c.profiles (owner, name) ≡ o → is_some o ≡ true → (x : Profile) × (finite.get (world_of c).profiles (owner, name) ≡ Some x) × DescribesProfile c owner name x
   told_profile owner name None e h = absurd (false≢true h)
   told_profile owner name (Some n) e h =
       let m = sound.current (owner, name) n e in (
@@ -213,7 +214,7 @@ module _ (schema : Schema) (dir : List ℕ) (c : Rows) (sound : IsSoundRows sche
         record { generation = generation_at c sound.numbers owner name; current = e ∙ ap Some (m.1 ∙ ap (λ (z : ℤ). pos (number_in z)) (sym m.1)) },
       )
 
-  pub tells_world : TellsWorld c (world_of c)
+  pub tells_world : DescribesWorld c (world_of c)
   tells_world = record {
     no_object = λ p e. object_at c p ∙ ap (option_map (object_in c p)) e;
     object = λ p o e. (

@@ -19,7 +19,8 @@ use Rattle.tables_sql.specs.Contents.{Stored}
 use Rattle.model.specs.World.{Path}
 use Rattle.model.specs.Sound.{IsSound}
 use Rattle.tables_world.specs.Pieces.{piece_size, joined, IsCut, row_part, pieces_by, further_pieces}
-use Rattle.tables_world.specs.Rows.{one, two, three, Piece, piece_cmp, Rows, pieces_in, archive_in, object_in, world_of, IsSoundRows, cut_row, cut_pieces, migrated}
+use Rattle.tables_world.specs.Rows.{Piece, piece_cmp, Rows, pieces_in, archive_in, object_in, world_of, IsSoundRows, cut_row, cut_pieces, migrated}
+use Rattle.tables_schema.specs.declared.schema.Schema.TheVariants.{V1, V2, V3}
 use Rattle.tables_world.specs.Laws.{MigratesSoundly}
 use Rattle.tables_world.proofs.Cuts.{cut_right, cut_whole}
 use Rattle.tables_world.proofs.Columns.{bytes_antisymmetric, get_changed, piece_at}
@@ -122,7 +123,7 @@ module _ (c : Rows) where
 
 module _ (dir : List ℕ) (c : Rows) where
   new : Rows
-  new = migrated one dir c
+  new = migrated V1 dir c
 
   get_piece : (p : Path) (n : ℤ) → finite.get new.pieces (p, n) ≡ piece_of c p n (finite.get c.objects p)
   unfolding new
@@ -182,7 +183,7 @@ module _ (dir : List ℕ) (c : Rows) where
       let objects = finite.same_map nat_list_cmp_total bytes_antisymmetric (world_of new).objects (world_of c).objects same_object in
       λ i. record (world_of c) { objects = objects i }
 
-  cut_sound : IsSoundRows one dir c → IsSoundRows three dir new
+  cut_sound : IsSoundRows V1 dir c → IsSoundRows V3 dir new
   unfolding new
   cut_sound sound = record {
     directory = sound.directory;
@@ -210,18 +211,18 @@ module _ (dir : List ℕ) (c : Rows) where
 
 -- ---- what a migration makes of each entry
 
-pub get-migrated_piece : (dir : List ℕ) (c : Rows) (p : Path) (n : ℤ) → finite.get (migrated one dir c).pieces (p, n) ≡ piece_of c p n (finite.get c.objects p)
+pub get-migrated_piece : (dir : List ℕ) (c : Rows) (p : Path) (n : ℤ) → finite.get (migrated V1 dir c).pieces (p, n) ≡ piece_of c p n (finite.get c.objects p)
 unfolding new
 get-migrated_piece dir c p n = get_piece dir c p n
 
-pub get-migrated_row : (dir : List ℕ) (c : Rows) (p : Path) → finite.get (migrated one dir c).objects p ≡ option_map (cut_row c p) (finite.get c.objects p)
+pub get-migrated_row : (dir : List ℕ) (c : Rows) (p : Path) → finite.get (migrated V1 dir c).objects p ≡ option_map (cut_row c p) (finite.get c.objects p)
 unfolding new
 get-migrated_row dir c p = get_row dir c p
 
 pub migrates_soundly : MigratesSoundly
 unfolding new
-migrates_soundly one dir c sound = (cut_sound dir c sound, same_world dir c)
-migrates_soundly two dir c sound = (
+migrates_soundly V1 dir c sound = (cut_sound dir c sound, same_world dir c)
+migrates_soundly V2 dir c sound = (
   record {
     directory = sound.directory;
     settings_are = refl;
@@ -241,4 +242,4 @@ migrates_soundly two dir c sound = (
   },
   refl,
 )
-migrates_soundly three dir c sound = (sound, refl)
+migrates_soundly V3 dir c sound = (sound, refl)

@@ -8,7 +8,8 @@ use Rattle.paths.specs.Root.{bytes_cmp}
 use Rattle.tables_sql.specs.Contents.{triple_cmp}
 use Rattle.model.specs.World.{Path, pair_cmp, temporary_cmp, Temporary, no_world}
 use Rattle.model.specs.Sound.{IsSound}
-use Rattle.tables_world.specs.Rows.{Schema, piece_cmp, Kept, kept_cmp, new_rows, object_in, profile_in, temporary_in, world_of, IsSoundRows}
+use Rattle.tables_world.specs.Rows.{piece_cmp, Kept, kept_cmp, new_rows, object_in, profile_in, temporary_in, world_of, IsSoundRows}
+use Rattle.tables_schema.specs.declared.schema.Schema.{Schema}
 use Rattle.model.proofs.Empty.{no_entry, no_key, no_entries}
 use Rattle.tables_world.proofs.NewWorld.{new_world_sound}
 

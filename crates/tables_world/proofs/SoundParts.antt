@@ -8,7 +8,8 @@ use Rattle.paths.specs.Root.{is_session}
 use Rattle.tables_sql.specs.Contents.{Stored}
 use Rattle.model.specs.World.{Path, Pair, Object, Profile, Temporary, has}
 use Rattle.model.specs.Sound.{IsSoundObject, IsSoundProfile}
-use Rattle.tables_world.specs.Rows.{Schema, Rows, Kept, object_in, profile_in, generations_in, number_in, world_of, IsSoundRows}
+use Rattle.tables_world.specs.Rows.{Rows, Kept, object_in, profile_in, generations_in, number_in, world_of, IsSoundRows}
+use Rattle.tables_schema.specs.declared.schema.Schema.{Schema}
 use Rattle.tables_world.specs.Parts.{IsSoundGeneration, IsSoundSession, AreSoundParts, AreSoundByParts}
 use Rattle.tables_world.proofs.Columns.{reference_at, generation_at, temporary_at, object_at, profile_at}
 

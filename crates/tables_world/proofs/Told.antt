@@ -13,7 +13,7 @@ use Rattle.tables_sql.specs.Contents.{Contents, Stored, pair_cmp}
 use Rattle.model.specs.World.{Path}
 use Rattle.tables_world.specs.Pieces.{joined}
 use Rattle.tables_world.specs.Rows.{Piece, piece_cmp, references_in, outputs_in, pieces_in, archive_in}
-use Rattle.tables_world.specs.Told.{rows_of}
+use Rattle.tables_world.specs.Worlds.{rows_of}
 use Rattle.tables_world.specs.Laws.{TablesAreRows}
 use Rattle.tables_world.proofs.Columns.{get_part, piece_at}
 use Rattle.model.proofs.Empty.{no_entries}

@@ -10,8 +10,10 @@ use Rattle.tables_sql.specs.Contents.{Contents, Stored}
 use Rattle.model.specs.World.{Path, Pair, Object, Profile, Temporary, World}
 use Rattle.model.specs.Objects.{outputs_at}
 use Rattle.tables_world.specs.Pieces.{piece_size, joined, IsCut, row_part, further_pieces}
-use Rattle.tables_world.specs.Rows.{Schema, three, Rows, pieces_in, world_of, IsSoundRows, migrated}
-use Rattle.tables_world.specs.Told.{rows_of, world_in}
+use Rattle.tables_world.specs.Rows.{Rows, pieces_in, world_of, IsSoundRows, migrated}
+use Rattle.tables_schema.specs.declared.schema.Schema.{Schema}
+use Rattle.tables_schema.specs.declared.schema.Schema.TheVariants.{V3}
+use Rattle.tables_world.specs.Worlds.{rows_of, world_in}
 
 -- Each archive can be cut the right way, and in one way alone: a row and pieces that are cut right are those of the archive that
 -- they have.
@@ -24,7 +26,7 @@ pub record CutsOneWay (nar : List ℕ) : Type 0 where
 
 -- What an object is, by the rows that have its path: a reference for each row of `refs`, an output for each of `outs`, and the
 -- address of which its row has the text.
-pub record TellsObject (c : Rows) (p : Path) (o : Stored) (x : Object) : Type 0 where
+pub record DescribesObject (c : Rows) (p : Path) (o : Stored) (x : Object) : Type 0 where
   pub archive : x.nar ≡ o.nar ++ joined (finite.entries (pieces_in c p))
   pub piece : (n : ℤ) → finite.get (pieces_in c p) n ≡ finite.get c.pieces (p, n)
   pub reference : (r : Path) → finite.contains_key x.references r ≡ finite.contains_key c.refs (p, r)
@@ -33,24 +35,24 @@ pub record TellsObject (c : Rows) (p : Path) (o : Stored) (x : Object) : Type 0 
   pub address : (ca : ContentAddress) → (x.ca ≡ Some ca) ↔ ((text : List ℕ) × (o.ca ≡ Some text) × IsAddressText ca text)
 
 -- what a profile is: a generation for each row of `generation` that has its owner and its name
-pub record TellsProfile (c : Rows) (owner name : List ℕ) (x : Profile) : Type 0 where
+pub record DescribesProfile (c : Rows) (owner name : List ℕ) (x : Profile) : Type 0 where
   pub generation : (n : ℕ) → finite.get x.generations n ≡ finite.get c.generations (owner, name, pos n)
   pub current : finite.get c.profiles (owner, name) ≡ Some (pos x.current)
 
 -- the world of sound rows, entry by entry
-pub record TellsWorld (c : Rows) (w : World) : Type 0 where
+pub record DescribesWorld (c : Rows) (w : World) : Type 0 where
   pub no_object : (p : Path) → finite.get c.objects p ≡ None → finite.get w.objects p ≡ None
-  pub object : (p : Path) (o : Stored) → finite.get c.objects p ≡ Some o → (x : Object) × (finite.get w.objects p ≡ Some x) × TellsObject c p o x
+  pub object : (p : Path) (o : Stored) → finite.get c.objects p ≡ Some o → (x : Object) × (finite.get w.objects p ≡ Some x) × DescribesObject c p o x
   pub no_profile : (owned : Pair) → finite.get c.profiles owned ≡ None → finite.get w.profiles owned ≡ None
   pub profile : (owner name : List ℕ) → IsTrue (finite.contains_key c.profiles (owner, name))
-      → (x : Profile) × (finite.get w.profiles (owner, name) ≡ Some x) × TellsProfile c owner name x
+      → (x : Profile) × (finite.get w.profiles (owner, name) ≡ Some x) × DescribesProfile c owner name x
   pub permanent : (name : List ℕ) → finite.get w.permanent name ≡ finite.get c.permanent name
   pub user_root : (owned : Pair) → finite.get w.user_roots owned ≡ finite.get c.user_roots owned
   pub runtime : (pair : Pair) → finite.contains_key w.runtime pair ≡ finite.contains_key c.runtime pair
   pub temporary : (t : Temporary) → finite.contains_key w.temporary t ≡ finite.contains_key c.temp_roots (t.owner, pos t.session, t.path)
 
-abbrev pub RowsTellTheWorld : Type 0
-RowsTellTheWorld = (schema : Schema) (dir : List ℕ) (c : Rows) → IsSoundRows schema dir c → TellsWorld c (world_of c)
+abbrev pub RowsDescribeTheWorld : Type 0
+RowsDescribeTheWorld = (schema : Schema) (dir : List ℕ) (c : Rows) → IsSoundRows schema dir c → DescribesWorld c (world_of c)
 
 -- What the store's tables hold is the rows, each table its own, and they have the world of these.
 pub record AreRowsOf (c : Contents) (r : Rows) : Type 0 where
@@ -73,7 +75,7 @@ TablesAreRows = (c : Contents) → AreRowsOf c (rows_of c)
 -- rows that are sound by a schema are sound by the third once they are migrated, and have the same world
 abbrev pub MigratesSoundly : Type 0
 MigratesSoundly = (schema : Schema) (dir : List ℕ) (c : Rows) → IsSoundRows schema dir c
-    → IsSoundRows three dir (migrated schema dir c) × (world_of (migrated schema dir c) ≡ world_of c)
+    → IsSoundRows V3 dir (migrated schema dir c) × (world_of (migrated schema dir c) ≡ world_of c)
 
 -- What an object records: nothing where its name doesn't end in `.drv`; else, of its derivation text, each output that has a path, with
 -- that path by its name, and no other.

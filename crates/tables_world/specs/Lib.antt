@@ -2,5 +2,4 @@ pub mod Laws
 pub mod Parts
 pub mod Pieces
 pub mod Rows
-pub mod Told
-pub mod View
+pub mod Worlds

@@ -13,7 +13,9 @@ use Rattle.model.specs.World.{Path, Pair}
 use Rattle.model.specs.Objects.{most_references, outputs_at}
 use Rattle.model.specs.Sound.{IsDerivation}
 use Rattle.tables_world.specs.Pieces.{IsCut}
-use Rattle.tables_world.specs.Rows.{Schema, Rows, Kept, settings, has_pieces, has_temporary, pieces_in, archive_in, references_in, outputs_in, address_in, IsSoundRows}
+use Rattle.tables_world.specs.Rows.{Rows, Kept, settings, pieces_in, archive_in, references_in, outputs_in, address_in, IsSoundRows}
+use Rattle.tables_schema.specs.declared.schema.Schema.{Schema}
+use Rattle.tables_schema.specs.Schemas.{has_pieces, has_temporary}
 
 -- One object with its archive, its references and its outputs. That each reference is an object is asked of all rows of references.
 pub record IsSoundRow (dir : List ℕ) (p : Path) (o : Stored) (nar : List ℕ) (references : Set bytes_cmp) (outputs : finite.FinMap bytes_cmp Path) : Type 0 where

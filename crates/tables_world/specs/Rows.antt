@@ -8,34 +8,15 @@ use Rattle.sha2.specs.Sha256.{sha256}
 use Rattle.paths.specs.Names.{is_store_dir}
 use Rattle.paths.specs.Root.{bytes_cmp, Set, set_of}
 use Rattle.paths.specs.ContentAddress.{ContentAddress, address_of}
+use Rattle.tables_schema.specs.declared.schema.Schema.{Schema}
+use Rattle.tables_schema.specs.declared.schema.Schema.TheVariants.{V1, V2, V3}
+use Rattle.tables_schema.specs.Schemas.{schema_text, has_pieces, has_temporary}
 use Rattle.tables_sql.specs.Contents.{Stored, triple_cmp}
 use Rattle.model.specs.World.{Path, Pair, pair_cmp, Object, Profile, Temporary, temporary_cmp, World}
 use Rattle.model.specs.Sound.{IsSound}
 use Rattle.tables_world.specs.Pieces.{joined, IsCut, row_part, further_pieces}
 
--- ---- the schemas, and the tables
-
--- The form of the tables: the second has the table of pieces more, and the third that of temporary roots too.
-pub data Schema : Type 0 where
-  one : Schema
-  two : Schema
-  three : Schema
-
--- what the setting of the schema says
-abbrev pub schema_text : Schema → List ℕ
-schema_text one = codes "1"
-schema_text two = codes "2"
-schema_text three = codes "3"
-
-abbrev pub has_pieces : Schema → Bool
-has_pieces one = false
-has_pieces two = true
-has_pieces three = true
-
-abbrev pub has_temporary : Schema → Bool
-has_temporary one = false
-has_temporary two = false
-has_temporary three = true
+-- ---- the tables
 
 -- a path and the number of a piece, by path and then by number
 abbrev pub Piece : Type 0
@@ -181,10 +162,10 @@ cut_pieces c p o = map (λ e. ((p, e.0), e.1)) (further_pieces (archive_in c p o
 -- What a migration to the third schema makes of the rows of a store directory: from the first, each archive is cut; from the
 -- second, all stay but the settings. There are no temporary roots.
 abbrev pub migrated : Schema → List ℕ → Rows → Rows
-migrated one dir c = record c {
-  meta = settings three dir;
+migrated V1 dir c = record c {
+  meta = settings V3 dir;
   objects = finite.from_entries (map (λ e. (e.0, cut_row c e.0 e.1)) (finite.entries c.objects));
   pieces = finite.from_entries (flat_map (λ e. cut_pieces c e.0 e.1) (finite.entries c.objects));
 }
-migrated two dir c = record c { meta = settings three dir }
-migrated three dir c = c
+migrated V2 dir c = record c { meta = settings V3 dir }
+migrated V3 dir c = c

@@ -1,6 +1,2 @@
 //! The world that the rows describe, and when rows are sound.
 #![tactic(auto)]
-
-mod schema;
-
-pub use schema::Schema;

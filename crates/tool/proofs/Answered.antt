@@ -1,5 +1,5 @@
 -- The answer of a command line whose configuration or words are refused, or for which memory ran out.
-use Rattle.std.proofs.Common.{◌≡◌, ◌≢◌, ◌⊎◌, ◌↔◌, ℕ, Bool, true, false, List, [], Option, Some, None, Result, Ok, Err, String, Global, inl, inr, ap, subst, refl, sym, take, ◌∙◌}
+use Rattle.std.proofs.Common.{◌≡◌, ◌≢◌, ◌⊎◌, ◌↔◌, ◌<◌, ℕ, length, Bool, true, false, List, [], Option, Some, None, Result, Ok, Err, String, Global, inl, inr, ap, subst, refl, sym, take, ◌∙◌}
 use Rattle.std.specs.Prelude.{IfErr, IfOk, IfSome, IsTrue, OnErr, is_some, string_bytes}
 use Rattle.std.specs.Io.KnownBytes.{Keeps}
 use Rattle.std.specs.declared.alloc.AllocError.{AllocError}
@@ -29,30 +29,42 @@ use Rattle.tool_words.specs.declared.line.Unrooted.{Unrooted}
 use Rattle.tool_words.specs.declared.line.Unrooted.TheVariants as unrooted
 use Rattle.tool_words.specs.Asked.{asked_view, optional_text, unroot_view}
 use Rattle.tool_words.specs.Line.{Line, IsLine, IsUsageFault}
-use Rattle.report.specs.Outputs.{Prints}
+use Rattle.report.specs.Outputs.{Console, Printed, Prints, Stream, Written, on_errors}
 use Rattle.tool_pure.specs.Configuration.{IsConfig, opened_by}
-use Rattle.tool_pure.specs.Stop.{StopsBy}
 use Rattle.tool_pure.specs.Stream.{Answers, Says}
 use Rattle.tool_pure.specs.Who.{StopsFor}
-use Rattle.tool.specs.Serving.{OfFile}
-use Rattle.tool.specs.Answer.{AnswersTextPath, AnswersSourcePath, AnswersUnder, Explains, ExplainsUsage, RunsLine, Stops}
+use Rattle.tool.specs.Works.{Doing}
+use Rattle.tool.specs.Answer.{AnswersLs, AnswersTextPath, AnswersSourcePath, AnswersUnder, Explains, ExplainsUsage, RunsLine, Stops}
+
+-- standard error was given something, and standard output nothing
+abbrev pub errors_alone : Option (List ℕ) → Printed → Written
+errors_alone out p = record { output = record { old = out; new = out }; errors = p.writer; status = p.status }
+
+-- why there is no answer was said on standard error
+pub said_alone : (stop : Stop) (out : Option (List ℕ)) (p : Printed) → Says stop p → Answers (Err stop) (errors_alone out p)
+said_alone stop out p said = (Keeps-refl out, said)
+
+said_as : (stop found : Stop) (out : Option (List ℕ)) (p : Printed) → stop ≡ found → Says stop p → Answers (Err found) (errors_alone out p)
+said_as stop found out p is said = (Keeps-refl out, subst (λ x. Says x p) is said)
 
 -- the stop of a configuration was said: the first writer got nothing
-pub stopped_under : (outcome : Result Settings KeyWord) (answered : Settings → Type 0) (stop : Stop) (out err err' : Option (List ℕ)) (status : ℕ)
-    → StopsFor outcome stop → Says stop err err' status → ((s : Settings) → Answers (Err (Failed NoMemory)) out out err err' status → answered s)
-    → AnswersUnder outcome answered out out err err' status
-stopped_under (Ok s) answered stop out err err' status (inl memory) said end = end s (Keeps-refl out, subst (λ x. Says x err err' status) memory said)
-stopped_under (Err word) answered stop out err err' status (inl memory) said end = inr (Keeps-refl out, subst (λ x. Says x err err' status) memory said)
-stopped_under outcome answered stop out err err' status (inr why) said end =
-    rw why.1 (inl (Keeps-refl out, subst (λ x. Says x err err' status) why.2 said))
+pub stopped_under : (outcome : Result Settings KeyWord) (answered : Settings → Type 0) (stop : Stop) (out : Option (List ℕ)) (p : Printed)
+    → StopsFor outcome stop → Says stop p → ((s : Settings) → Answers (Err (Failed NoMemory)) (errors_alone out p) → answered s)
+    → AnswersUnder outcome answered (errors_alone out p)
+stopped_under (Ok s) answered stop out p (inl memory) said end = end s (said_as stop (Failed NoMemory) out p memory said)
+stopped_under (Err word) answered stop out p (inl memory) said end = inr (said_as stop (Failed NoMemory) out p memory said)
+stopped_under outcome answered stop out p (inr why) said end = rw why.1 (inl (Keeps-refl out, subst (λ x. Says x p) why.2 said))
 
-module _ (config : List ℕ) (o : Text × List Text) (known out err err' : Option (List ℕ)) (status : ℕ) (stop : Stop) where
-  -- so `text-path` and `source-path` answer a refused configuration
-  pub text_stopped : StopsFor (config_of config) stop → Says stop err err' status → AnswersTextPath config o known out out err err' status
-  text_stopped why said = stopped_under (config_of config) _ stop out err err' status why said (λ s memory. inl (inl memory))
+-- so what reads the input answers a refused configuration
+module _ (config : List ℕ) (input : Stream) (out : Option (List ℕ)) (p : Printed) (stop : Stop) (why : StopsFor (config_of config) stop) (said : Says stop p) where
+  pub ls_stopped : AnswersLs config (record { input = input; written = errors_alone out p })
+  ls_stopped = stopped_under (config_of config) _ stop out p why said (λ s memory. inl (inl memory))
 
-  pub source_stopped : StopsFor (config_of config) stop → Says stop err err' status → AnswersSourcePath config o known out out err err' status
-  source_stopped why said = stopped_under (config_of config) _ stop out err err' status why said (λ s memory. inl (inl memory))
+  pub text_stopped : (o : Text × List Text) → AnswersTextPath config o (record { input = input; written = errors_alone out p })
+  text_stopped o = stopped_under (config_of config) _ stop out p why said (λ s memory. inl (inl memory))
+
+  pub source_stopped : (o : Text × List Text) → AnswersSourcePath config o (record { input = input; written = errors_alone out p })
+  source_stopped o = stopped_under (config_of config) _ stop out p why said (λ s memory. inl (inl memory))
 
 -- ---- words
 
@@ -62,37 +74,36 @@ refused_line words line (Usage fault) is among = absurd (subst (IsAmong (kind_of
 refused_line words line (Misuse fault) is found = let both : Ok line ≡ Err fault = sym is.stands ∙ found.1 in cc
 refused_line words line Memory is found = refl
 
-pub line_refused : (of_file : OfFile) (words : List (List ℕ)) (e : CommandError) (known out out' err err' : Option (List ℕ)) (status : ℕ) → IsUsageFault words e
-    → Explains e out out' err err' status → (line : Line) → IsLine words line → RunsLine of_file line known out out' err err' status
-line_refused of_file words e known out out' err err' status fault explained line is =
-    inl (subst (λ x. Explains x out out' err err' status) (refused_line words line e is fault) explained)
+pub line_refused : (of_file : Doing) (words : List (List ℕ)) (e : CommandError) (console : Console) → IsUsageFault words e
+    → Explains e console.written → (line : Line) → IsLine words line → RunsLine of_file line console
+line_refused of_file words e console fault explained line is =
+    inl (subst (λ x. Explains x console.written) (refused_line words line e is fault) explained)
 
 -- words stand for one command line
-pub line_run : (of_file : OfFile) (words : List (List ℕ)) (a b : Line) (known out out' err err' : Option (List ℕ)) (status : ℕ) → IsLine words a → IsLine words b
-    → RunsLine of_file a known out out' err err' status → RunsLine of_file b known out out' err err' status
-line_run of_file words a b known out out' err err' status first second ran =
+pub line_run : (of_file : Doing) (words : List (List ℕ)) (a b : Line) (console : Console) → IsLine words a → IsLine words b
+    → RunsLine of_file a console → RunsLine of_file b console
+line_run of_file words a b console first second ran =
     let both : ◌≡◌ {A = Result Line UsageFault} (Ok a) (Ok b) = sym first.stands ∙ second.stands in
     let same : a ≡ b = cc in
-    subst (λ l. RunsLine of_file l known out out' err err' status) same ran
+    subst (λ l. RunsLine of_file l console) same ran
 
 -- ---- a configuration that can't be had
 
-stops_unroot : (root : Unrooted) (name : Text) (stop : Stop) (out out' err err' : Option (List ℕ)) (status : ℕ) → Answers (Err stop) out out' err err' status
-    → Stops (unroot_view root name) stop out out' err err' status
-stops_unroot unrooted.Permanent name stop out out' err err' status said = said
-stops_unroot (unrooted.User owner) name stop out out' err err' status said = said
+stops_unroot : (root : Unrooted) (name : Text) (stop : Stop) (w : Written) → Answers (Err stop) w → Stops (unroot_view root name) stop w
+stops_unroot unrooted.Permanent name stop w said = said
+stops_unroot (unrooted.User owner) name stop w said = said
 
 -- any subcommand but `who` says it as an answer
-pub stops_else : (t : Task) (stop : Stop) (out out' err err' : Option (List ℕ)) (status : ℕ) → t ≢ task.Who → Answers (Err stop) out out' err err' status
-    → Stops (asked_view t) stop out out' err err' status
-stops_else task.Who stop out out' err err' status not said = absurd (not refl)
-stops_else (task.Unroot r) stop out out' err err' status not said = stops_unroot r.root r.name.now stop out out' err err' status said
-stops_else t stop out out' err err' status not said = said
+pub stops_else : (t : Task) (stop : Stop) (w : Written) → t ≢ task.Who → Answers (Err stop) w → Stops (asked_view t) stop w
+stops_else task.Who stop w not said = absurd (not refl)
+stops_else (task.Unroot r) stop w not said = stops_unroot r.root r.name.now stop w said
+stops_else t stop w not said = said
 
--- and `who` on the first writer
-pub stops_who : (t : Task) (stop : Stop) (out out' err : Option (List ℕ)) (status : ℕ) → t ≡ task.Who → Says stop out out' status
-    → Stops (asked_view t) stop out out' err err status
-stops_who t stop out out' err status is said = subst (λ u. Stops (asked_view u) stop out out' err err status) (sym is) (said, Keeps-refl err)
+-- and `who` on standard output
+pub stops_who : (t : Task) (stop : Stop) (err : Option (List ℕ)) (p : Printed) → t ≡ task.Who → Says stop p
+    → Stops (asked_view t) stop (record { output = p.writer; errors = record { old = err; new = err }; status = p.status })
+stops_who t stop err p is said =
+    subst (λ u. Stops (asked_view u) stop (record { output = p.writer; errors = record { old = err; new = err }; status = p.status })) (sym is) (said, Keeps-refl err)
 
 -- ---- a configuration by what came of its file
 
@@ -107,18 +118,29 @@ module _ {C : Type 0} (remaining : C → Option (List ℕ)) where
   opened_some (Some (Err fault)) = refl
 
   -- a text was read
-  pub text_read : (file : Option (Result C Error)) (text : List ℕ) → (file ≡ None → text ≡ []) → IfSome file (λ o. IfErr o (λ fault. ⊥))
+  pub text_read : (file : Option (Result C Error)) (text : List ℕ) (Unread : Type 0) → (Unread → ⊥) → (file ≡ None → text ≡ [])
+      → IfSome file (λ o. IfErr o (λ fault. Unread))
       → IfSome file (λ o. IfOk o (λ input. IfSome (remaining input) (λ all. text ≡ take 1048577 all))) → IsConfig (opened_by remaining file) (Ok text)
-  text_read None text none opened same = ap (λ t. Ok t) (none refl)
-  text_read (Some (Ok input)) text none opened same = same
-  text_read (Some (Err fault)) text none opened same = absurd opened
+  text_read None text Unread never none opened same = ap (λ t. Ok t) (none refl)
+  text_read (Some (Ok input)) text Unread never none opened same = same
+  text_read (Some (Err fault)) text Unread never none opened same = absurd (never opened)
 
   -- none was
-  pub none_read : (file : Option (Result C Error)) (stop : Stop) → (file ≡ None → ⊥) → IfSome file (λ o. IfErr o (λ fault. StopsBy fault File stop))
+  pub none_read : (file : Option (Result C Error)) (stop : Stop) (Unread : Type 0) → (Unread → stop ≡ Failed File) → (file ≡ None → ⊥)
+      → IfSome file (λ o. IfErr o (λ fault. Unread))
+      → IfSome file (λ o. IfOk o (λ input. stop ≡ Failed NoMemory → IfSome (remaining input) (λ all. 0 < length all)))
       → (stop ≡ Failed NoMemory) ⊎ (stop ≡ Failed File) → IsConfig (opened_by remaining file) (Err stop)
-  none_read None stop none opened why = absurd (none refl)
-  none_read (Some (Ok input)) stop none opened why = why
-  none_read (Some (Err fault)) stop none opened why = opened
+  none_read None stop Unread is none opened some why = absurd (none refl)
+  none_read (Some (Ok input)) stop Unread is none opened some (inl memory) = inl (memory, some memory)
+  none_read (Some (Ok input)) stop Unread is none opened some (inr unread) = inr unread
+  none_read (Some (Err fault)) stop Unread is none opened some why = is opened
+
+-- a result that is no such failure, and one that is just that
+pub no_failure : {A : Type 0} (a : A) (stop : Stop) → ◌≡◌ {A = Result A Stop} (Ok a) (Err stop) → ⊥
+no_failure a stop is = cc
+
+pub that_failure : {A : Type 0} (found stop : Stop) → ◌≡◌ {A = Result A Stop} (Err found) (Err stop) → found ≡ stop
+that_failure found stop is = cc
 
 -- ---- faults of words in the form of `clap`
 
@@ -139,22 +161,21 @@ not_help ConnectionsWithoutPort kind is (inl help) = let no : MissingRequiredArg
 not_help ConnectionsWithoutPort kind is (inr help) = let no : MissingRequiredArgument ≡ DisplayVersion = sym is ∙ help in cc
 
 -- a fault that `clap` didn't find itself asks for no help
-pub misused : (fault : UsageFault) (e : UsageError) (out out' err err' : Option (List ℕ)) (status : ℕ) → kind_of e ≡ usage_kind fault
-    → ExplainsUsage e out out' err err' status → Explains (Misuse fault) out out' err err' status
-misused fault e out out' err err' status is (inl memory) = inr memory
-misused fault e out out' err err' status is (inr told) = inl (told.1 (λ help. not_help fault (kind_of e) is help))
+pub misused : (fault : UsageFault) (e : UsageError) (w : Written) → kind_of e ≡ usage_kind fault → ExplainsUsage e w → Explains (Misuse fault) w
+misused fault e w is (inl memory) = inr memory
+misused fault e w is (inr told) = inl (told.1 (λ help. not_help fault (kind_of e) is help))
 
 -- a text was given as its kind says, or there was no memory for it
-pub explained : (e : UsageError) (is_fault : Bool) (text : Result (String Global) AllocError) (out out' err err' : Option (List ℕ)) (status : ℕ)
+pub explained : (e : UsageError) (is_fault : Bool) (text : Result (String Global) AllocError) (w : Written)
     → IsTrue is_fault ↔ ((kind_of e ≢ DisplayHelp) × (kind_of e ≢ DisplayVersion))
-    → (is_fault ≡ true → IfOk text (λ t. Keeps out out' × Prints (string_bytes t) 2 err err' status))
-    → (is_fault ≡ false → IfOk text (λ t. Answers (Ok (string_bytes t)) out out' err err' status))
-    → OnErr text (Answers (Err (Failed NoMemory)) out out' err err' status) → ExplainsUsage e out out' err err' status
-explained e is_fault (Err lack) out out' err err' status decided fault help memory = inl memory
-explained e true (Ok text) out out' err err' status decided fault help memory =
+    → (is_fault ≡ true → IfOk text (λ t. Keeps w.output.old w.output.new × Prints (string_bytes t) 2 (on_errors w)))
+    → (is_fault ≡ false → IfOk text (λ t. Answers (Ok (string_bytes t)) w))
+    → OnErr text (Answers (Err (Failed NoMemory)) w) → ExplainsUsage e w
+explained e is_fault (Err lack) w decided fault help memory = inl memory
+explained e true (Ok text) w decided fault help memory =
     let none = decided.0 refl in
     inr ((λ asks. absurd (elim asks [ inl is ↦ none.0 is | inr is ↦ none.1 is ])), λ _. ((fault refl).0, (string_bytes text, (fault refl).1)))
-explained e false (Ok text) out out' err err' status decided fault help memory =
+explained e false (Ok text) w decided fault help memory =
     inr (
       (λ _. (string_bytes text, help refl)),
       λ none.

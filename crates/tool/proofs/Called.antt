@@ -1,13 +1,15 @@
 -- The answer of a command line that asks something of a store.
-use Rattle.std.proofs.Common.{◌≡◌, ◌⊎◌, ℕ, true, false, List, Option, Some, None, Result, Ok, Err, inl, inr, subst, refl, sym}
+use Rattle.std.proofs.Common.{◌≡◌, ◌⊎◌, ℕ, true, false, List, map, Option, Some, None, Result, Ok, Err, inl, inr, subst, refl, sym}
 use Rattle.std.specs.Prelude.{MatchOption, is_some}
-use Rattle.std.proofs.KnownBytes.{Keeps-refl}
 use Rattle.sqlite_trees.specs.declared.store.Store.{Ghosts}
 use Rattle.sqlite.specs.State.{HasCleanDisk}
 use Rattle.sqlite.specs.Held.{Held, state}
 use Rattle.model.specs.World.{World}
-use Rattle.tables.specs.Kept.{Kept, Tells}
+use Rattle.tables.specs.Kept.{Kept, HasWorld}
+use Rattle.clap.specs.Walk.{Text}
+use Rattle.paths.specs.StorePath.{base_of}
 use Rattle.policy.specs.Settings.{Settings}
+use Rattle.policy.specs.Toml.{config_of}
 use Rattle.policy.specs.Caller.{Caller}
 use Rattle.policy.specs.declared.error.KeyWord.{KeyWord}
 use Rattle.model.specs.declared.refusal.Refusal.{Refusal}
@@ -15,108 +17,141 @@ use Rattle.model.specs.declared.refusal.Refusal.TheVariants.{BadCaller}
 use Rattle.model.specs.Request.{Request}
 use Rattle.model.specs.Reply.{Reply}
 use Rattle.store_types.specs.declared.requests.Request.{Request as Made}
-use Rattle.store.specs.Standing.{Standing}
+use Rattle.store.specs.View.{StoreView}
 use Rattle.store_types.specs.View.{request_view}
 use Rattle.store.proofs.Clean.{step_clean}
 use Rattle.store.specs.Calls.{Calls}
-use Rattle.tool_pure.specs.Telling.{IsTold}
+use Rattle.tool_pure.specs.Printing.{IsPrinted}
+use Rattle.report.specs.Outputs.{Console, Printed, Stream, Written}
+use Rattle.tool_words.specs.Line.{Line}
 use Rattle.report.specs.declared.failures.Failure.{Failure}
 use Rattle.report.specs.declared.failures.Failure.TheVariants.{Memory, Size, Disk, File, Input, Output}
 use Rattle.tool_pure.specs.declared.stops.Stop.{Stop}
 use Rattle.tool_pure.specs.declared.stops.Stop.TheVariants.{Refused, Failed}
 use Rattle.tool.specs.Answer.{AnswersUnder}
-use Rattle.tool.specs.Callers.{Answering, AnswersCalled, AnswersNamed}
-use Rattle.tool.specs.Calls.{AnswersStep, AnswersRequest, AnswersWanted, AnswersIn, Serves}
-use Rattle.tool.specs.Requests.{Ask, IsAsked, IsAskedBy, StepsAs, Wants, reads_input}
+use Rattle.tool.specs.Callers.{AnswersCalled, AnswersNamed}
+use Rattle.tool.specs.Calls.{AnswersStep, AnswersRequest, AnswersRequested, AnswersOver, AnswersIn, Serves}
+use Rattle.tool.specs.Requests.{Ask, IsAsked, IsAskedBy, IsAskedOver, LosesInput, StepsAs, Demands}
 use Rattle.tool_pure.specs.Who.{caller_by}
-use Rattle.tool_pure.specs.Stream.{Says}
+use Rattle.tool_pure.specs.Stream.{AnswersTo, GivesUp, Says}
+use Rattle.tool_pure.specs.Object.{object_fault}
+use Rattle.tool.proofs.Answered.{errors_alone, said_alone}
 
-module _ {S : Type 0} (g : Ghosts S) (c : Caller) (out out' err err' : Option (List ℕ)) (status : ℕ) where
+module _ {S : Type 0} (g : Ghosts S) (c : Caller) (w : Written) where
   -- what was served over a store that was made of the tables
-  pub served : (s : Settings) (t : Kept S) (made q : Request) (old new : Standing S) → old ≡ record { tables = t; settings = s } → StepsAs made q
-      → (reply : Reply) × Calls g c made reply old new × IsTold old.settings.store_dir reply out out' err err' status
-      → Serves g s t c out out' err err' status q
+  pub served : (s : Settings) (t : Kept S) (made q : Request) (old new : StoreView S) → old ≡ record { tables = t; settings = s } → StepsAs made q
+      → (reply : Reply) × Calls g c made reply old new × IsPrinted old.settings.store_dir reply w → Serves g s t c w q
   served s t made q old new is same calls =
-      let over : Serves g old.settings old.tables c out out' err err' status q = record { made = made; same = same; reply = calls.0; new = new; calls = calls.1; told = calls.2 } in
-      subst (λ (st : Standing S). Serves g st.settings st.tables c out out' err err' status q) is over
+      let over : Serves g old.settings old.tables c w q = record { made = made; same = same; reply = calls.0; new = new; calls = calls.1; told = calls.2 } in
+      subst (λ (st : StoreView S). Serves g st.settings st.tables c w q) is over
 
   -- it is a step of each world that they told, where the disk is clean
-  pub stepped : ((h : Held S) → HasCleanDisk (state g h)) → (s : Settings) (t : Kept S) (w : World) → Tells g t w → (q : Request) → Serves g s t c out out' err err' status q
-      → AnswersStep s w c out out' err err' status q
-  stepped clean s t w told q x =
-      let step = x.calls.step w told in
-      let is = step_clean (HasCleanDisk (state g x.new.tables.connection)) s w c x.made x.reply step.0 (λ _. clean x.new.tables.connection) step.1 in
-      (x.reply, step.0, x.same s w c x.reply step.0 is, x.told)
+  stepped : ((h : Held S) → HasCleanDisk (state g h)) → (s : Settings) (t : Kept S) (world : World) → HasWorld g t world → (q : Request) → Serves g s t c w q
+      → AnswersStep s world c w q
+  stepped clean s t world told q x =
+      let step = x.calls.step world told in
+      let is = step_clean (HasCleanDisk (state g x.new.tables.connection)) s world c x.made x.reply step.0 (λ _. clean x.new.tables.connection) step.1 in
+      (x.reply, step.0, x.same s world c x.reply step.0 is, x.told)
 
-module _ (answered : Request → Type 0) (ask : Ask) (dir : List ℕ) (c : Caller) where
+module _ (answered : Request → Type 0) (asks : Result Request Refusal → Type 0) (fails : Type 0) (w : Written) where
   -- the request that was made does what is asked
-  made_as : (q : Made) (out out' err err' : Option (List ℕ)) (status : ℕ) (asks : Result Request Refusal → Type 0) → IsAsked (reads_input ask dir c) asks (Ok q)
-      → ((r : Request) → StepsAs (request_view q) r → answered r) → AnswersWanted answered asks out out' err err' status
-  made_as q out out' err err' status asks is each = (Ok is.0, is.1, each is.0 is.2)
+  made_as : (q : Made) → IsAsked fails asks (Ok q) → ((r : Request) → StepsAs (request_view q) r → answered r) → AnswersRequested answered asks w
+  made_as q is each = (Ok is.0, is.1, each is.0 is.2)
 
-  pub asked : (known : Option (List ℕ)) (q : Made) (out out' err err' : Option (List ℕ)) (status : ℕ) → IsAskedBy ask dir c known (Ok q)
-      → ((r : Request) → StepsAs (request_view q) r → answered r) → AnswersIn answered ask dir c known out out' err err' status
-  asked None q out out' err err' status is each = inr (is.0, made_as q out out' err err' status (Wants ask dir c is.0) is.1 each)
-  asked (Some bytes) q out out' err err' status is each = inr (made_as q out out' err err' status (Wants ask dir c bytes) is each)
+module _ (answered : Request → Type 0) (fails : Type 0) (ask : List ℕ → Result Request Refusal → Type 0) where
+  asked_over : (known : Option (List ℕ)) (q : Made) (w : Written) → IsAskedOver fails ask known (Ok q)
+      → ((r : Request) → StepsAs (request_view q) r → answered r) → AnswersOver answered ask known w
+  asked_over None q w is each = (is.0, made_as answered (ask is.0) fails w q is.1 each)
+  asked_over (Some bytes) q w is each = made_as answered (ask bytes) fails w q is each
 
   -- a refusal of the arguments was said
-  refused_over : (known : Option (List ℕ)) (refusal : Refusal) (out err err' : Option (List ℕ)) (status : ℕ) → IsAskedBy ask dir c known (Err (Refused refusal))
-      → Says (Refused refusal) err err' status → AnswersIn answered ask dir c known out out err err' status
-  refused_over None refusal out err err' status is said = inr (is.0, (Err refusal, is.1, (Keeps-refl out, said)))
-  refused_over (Some bytes) refusal out err err' status is said = inr (Err refusal, is, (Keeps-refl out, said))
+  refused_over : (known : Option (List ℕ)) (refusal : Refusal) (out : Option (List ℕ)) (p : Printed) → IsAskedOver fails ask known (Err (Refused refusal))
+      → Says (Refused refusal) p → AnswersOver answered ask known (errors_alone out p)
+  refused_over None refusal out p is said = (is.0, (Err refusal, is.1, said_alone (Refused refusal) out p said))
+  refused_over (Some bytes) refusal out p is said = (Err refusal, is, said_alone (Refused refusal) out p said)
 
-  was_read : (known : Option (List ℕ)) → IsAskedBy ask dir c known (Err (Failed Input)) → reads_input ask dir c ≡ true
-  was_read None is = is.1
-  was_read (Some bytes) is = is
+  was_lost : (known : Option (List ℕ)) → IsAskedOver fails ask known (Err (Failed Input)) → fails
+  was_lost None is = is.1
+  was_lost (Some bytes) is = is
 
   -- neither memory nor the input gave out
-  no_other : (failure : Failure) (known : Option (List ℕ)) → ((bytes : List ℕ) → IsAsked (reads_input ask dir c) (Wants ask dir c bytes) (Err (Failed failure)) → ⊥)
-      → IsAskedBy ask dir c known (Err (Failed failure)) → ⊥
+  no_other : (failure : Failure) (known : Option (List ℕ)) → ((bytes : List ℕ) → IsAsked fails (ask bytes) (Err (Failed failure)) → ⊥)
+      → IsAskedOver fails ask known (Err (Failed failure)) → ⊥
   no_other failure None never is = never is.0 is.1
   no_other failure (Some bytes) never is = never bytes is
 
   -- why there is no request was said
-  pub stopped_over : (known : Option (List ℕ)) (stop : Stop) (out err err' : Option (List ℕ)) (status : ℕ) → IsAskedBy ask dir c known (Err stop)
-      → Says stop err err' status → AnswersIn answered ask dir c known out out err err' status
-  stopped_over known (Refused refusal) out err err' status is said = refused_over known refusal out err err' status is said
-  stopped_over known (Failed Memory) out err err' status is said = inl (inl (Keeps-refl out, said))
-  stopped_over known (Failed Input) out err err' status is said = inl (inr (was_read known is, (Keeps-refl out, said)))
-  stopped_over known (Failed File) out err err' status is said = absurd (no_other File known (λ bytes h. h) is)
-  stopped_over known (Failed Output) out err err' status is said = absurd (no_other Output known (λ bytes h. h) is)
-  stopped_over known (Failed Size) out err err' status is said = absurd (no_other Size known (λ bytes h. h) is)
-  stopped_over known (Failed Disk) out err err' status is said = absurd (no_other Disk known (λ bytes h. h) is)
+  stopped : (known : Option (List ℕ)) (stop : Stop) (out : Option (List ℕ)) (p : Printed) → IsAskedOver fails ask known (Err stop) → Says stop p
+      → GivesUp fails (errors_alone out p) ⊎ AnswersOver answered ask known (errors_alone out p)
+  stopped known (Refused refusal) out p is said = inr (refused_over known refusal out p is said)
+  stopped known (Failed Memory) out p is said = inl (inl (said_alone (Failed Memory) out p said))
+  stopped known (Failed Input) out p is said = inl (inr (was_lost known is, said_alone (Failed Input) out p said))
+  stopped known (Failed File) out p is said = absurd (no_other File known (λ bytes h. h) is)
+  stopped known (Failed Output) out p is said = absurd (no_other Output known (λ bytes h. h) is)
+  stopped known (Failed Size) out p is said = absurd (no_other Size known (λ bytes h. h) is)
+  stopped known (Failed Disk) out p is said = absurd (no_other Disk known (λ bytes h. h) is)
+
+module _ (answered : Request → Type 0) (ask : Ask) (dir : List ℕ) (c : Caller) (input : Stream) where
+  -- the request that was made was answered
+  pub asked : (q : Made) (w : Written) → IsAskedBy ask dir c input (Ok q) → ((r : Request) → StepsAs (request_view q) r → answered r)
+      → AnswersIn answered ask dir c input w
+  asked q w is each = inr (asked_over answered (LosesInput ask dir c input) (Demands ask dir c) input.old q w is each)
+
+  -- why there is none was said
+  pub stopped_over : (stop : Stop) (out : Option (List ℕ)) (p : Printed) → IsAskedBy ask dir c input (Err stop) → Says stop p
+      → AnswersIn answered ask dir c input (errors_alone out p)
+  stopped_over stop out p is said = stopped answered (LosesInput ask dir c input) (Demands ask dir c) input.old stop out p is said
 
 -- each request that is answered so, is answered so too
-module _ (answered also : Request → Type 0) (each : (q : Request) → answered q → also q) (out out' err err' : Option (List ℕ)) (status : ℕ) where
-  of_request : (wanted : Result Request Refusal) → AnswersRequest answered wanted out out' err err' status → AnswersRequest also wanted out out' err err' status
+module _ (answered also : Request → Type 0) (each : (q : Request) → answered q → also q) (w : Written) where
+  of_request : (wanted : Result Request Refusal) → AnswersRequest answered wanted w → AnswersRequest also wanted w
   of_request (Ok q) told = each q told
   of_request (Err refusal) told = told
 
-  pub of_each : (ask : Ask) (dir : List ℕ) (c : Caller) (known : Option (List ℕ)) → AnswersIn answered ask dir c known out out' err err' status
-      → AnswersIn also ask dir c known out out' err err' status
-  of_each ask dir c known (inl gone) = inl gone
-  of_each ask dir c None (inr told) = inr (told.0, (told.1.0, told.1.1, of_request told.1.0 told.1.2))
-  of_each ask dir c (Some bytes) (inr told) = inr (told.0, told.1, of_request told.0 told.2)
+  of_over : (ask : List ℕ → Result Request Refusal → Type 0) (known : Option (List ℕ)) → AnswersOver answered ask known w → AnswersOver also ask known w
+  of_over ask None told = (told.0, (told.1.0, told.1.1, of_request told.1.0 told.1.2))
+  of_over ask (Some bytes) told = (told.0, told.1, of_request told.0 told.2)
 
-module _ (answered : Answering) (s : Settings) (user group : Option (List ℕ)) (ask : Ask) (known : Option (List ℕ)) where
+  of_each : (ask : Ask) (dir : List ℕ) (c : Caller) (input : Stream) → AnswersIn answered ask dir c input w → AnswersIn also ask dir c input w
+  of_each ask dir c input (inl gone) = inl gone
+  of_each ask dir c input (inr told) = inr (of_over (Demands ask dir c) input.old told)
+
+-- what is asked over the tables of a clean disk is asked in each of their worlds
+pub asked_in : {S : Type 0} (g : Ghosts S) → ((h : Held S) → HasCleanDisk (state g h)) → (s : Settings) (t : Kept S) (world : World) → HasWorld g t world
+    → (ask : Ask) (c : Caller) (input : Stream) (w : Written) → AnswersIn (Serves g s t c w) ask s.store_dir c input w
+    → AnswersIn (AnswersStep s world c w) ask s.store_dir c input w
+asked_in g clean s t world told ask c input w =
+    of_each (Serves g s t c w) (AnswersStep s world c w) (λ q x. stepped g c w clean s t world told q x) w ask s.store_dir c input
+
+module _ (answered : Caller → Type 0) (line : Line) where
   -- the caller of the names was answered
-  pub named : (c : Caller) (out out' err err' : Option (List ℕ)) (status : ℕ) → caller_by user group ≡ Some c
-      → answered s c ask known out out' err err' status → AnswersNamed answered s user group ask known out out' err err' status
-  named c out out' err err' status is given = inr (subst (λ o. AnswersCalled answered s o ask known out out' err err' status) (sym is) given)
+  pub named : (c : Caller) (w : Written) → caller_by line.user line.group ≡ Some c → answered c → AnswersNamed answered line w
+  named c w is given = inr (subst (λ o. AnswersCalled answered o w) (sym is) given)
 
   -- why there is no caller was said
-  pub unnamed : (stop : Stop) (out err err' : Option (List ℕ)) (status : ℕ)
-      → (stop ≡ Failed Memory) ⊎ ((stop ≡ Refused BadCaller) × (caller_by user group ≡ None)) → Says stop err err' status
-      → AnswersNamed answered s user group ask known out out err err' status
-  unnamed stop out err err' status (inl memory) said = inl (Keeps-refl out, subst (λ x. Says x err err' status) memory said)
-  unnamed stop out err err' status (inr why) said =
-      inr (subst (λ o. AnswersCalled answered s o ask known out out err err' status) (sym why.1)
-      (Keeps-refl out, subst (λ x. Says x err err' status) why.0 said))
+  pub unnamed : (stop : Stop) (out : Option (List ℕ)) (p : Printed)
+      → (stop ≡ Failed Memory) ⊎ ((stop ≡ Refused BadCaller) × (caller_by line.user line.group ≡ None)) → Says stop p
+      → AnswersNamed answered line (errors_alone out p)
+  unnamed stop out p (inl memory) said = inl (said_alone (Failed Memory) out p (subst (λ x. Says x p) memory said))
+  unnamed stop out p (inr why) said =
+      inr (subst (λ o. AnswersCalled answered o (errors_alone out p)) (sym why.1) (said_alone (Refused BadCaller) out p (subst (λ x. Says x p) why.0 said)))
 
 -- the settings of the configuration are these
-pub under : (outcome : Result Settings KeyWord) (s : Settings) (answered : Settings → Type 0) (out out' err err' : Option (List ℕ)) (status : ℕ)
-    → outcome ≡ Ok s → answered s → AnswersUnder outcome answered out out' err err' status
-under outcome s answered out out' err err' status is h = subst (λ r. AnswersUnder r answered out out' err err' status) (sym is) h
+pub under : (outcome : Result Settings KeyWord) (s : Settings) (answered : Settings → Type 0) (w : Written)
+    → outcome ≡ Ok s → answered s → AnswersUnder outcome answered w
+under outcome s answered w is h = subst (λ r. AnswersUnder r answered w) (sym is) h
+
+-- an answer to a name and references in a directory is one under the settings of the configuration that names it
+pub found_under : (most : ℕ) (answer : List ℕ → List ℕ → List (List ℕ) → List ℕ → Result (List ℕ) Stop) (config : List ℕ) (console : Console)
+    → (s : Settings) (o : Text × List Text) (dir : List ℕ) (refs : List (List ℕ)) → config_of config ≡ Ok s → dir ≡ s.store_dir → refs ≡ o.1
+    → AnswersTo (object_fault dir o.0 refs) most (answer dir o.0 (map (base_of dir) refs)) console
+    → AnswersUnder (config_of config)
+    (λ t. AnswersTo (object_fault t.store_dir o.0 o.1) most (answer t.store_dir o.0 (map (base_of t.store_dir) o.1)) console) console.written
+found_under most answer config console s o dir refs found same lent given =
+    under (config_of config) s (λ t. AnswersTo (object_fault t.store_dir o.0 o.1) most (answer t.store_dir o.0 (map (base_of t.store_dir) o.1)) console)
+    console.written found
+    (subst (λ (rs : List (List ℕ)). AnswersTo (object_fault s.store_dir o.0 rs) most (answer s.store_dir o.0 (map (base_of s.store_dir) rs)) console) lent
+    (subst (λ (d : List ℕ). AnswersTo (object_fault d o.0 refs) most (answer d o.0 (map (base_of d) refs)) console) same given))
 
 -- ---- whether something is asked
 

@@ -12,84 +12,90 @@ use Rattle.policy.specs.declared.error.KeyWord.{KeyWord}
 use Rattle.model.specs.declared.refusal.Refusal.TheVariants.{BadConfig}
 use Rattle.tool_words.specs.declared.error.CommandError.{CommandError}
 use Rattle.tool_words.specs.declared.error.CommandError.TheVariants.{Usage, Misuse, Memory}
+use Rattle.tool_words.specs.declared.line.ServeArguments.{ServeArguments}
 use Rattle.tool_words.specs.Asked.{Asked, who, ls, text_path, source_path, serve}
 use Rattle.tool_words.specs.Line.{Line}
 use Rattle.report.specs.declared.failures.Failure.TheVariants.{Memory as NoMemory}
 use Rattle.tool_pure.specs.declared.stops.Stop.{Stop}
 use Rattle.tool_pure.specs.declared.stops.Stop.TheVariants.{Refused, Failed}
-use Rattle.tool_pure.specs.Archive.{ls_answer}
+use Rattle.tool_pure.specs.Archive.{ls_answer, max_prefix}
 use Rattle.tool_pure.specs.Configuration.{Opened, IsConfig}
-use Rattle.tool.specs.Callers.{AnswersCaller, AnswersNamed}
-use Rattle.tool_pure.specs.Object.{object_fault, text_path_answer, source_path_answer}
-use Rattle.report.specs.Outputs.{Prints}
-use Rattle.tool.specs.Requests.{asks}
-use Rattle.tool.specs.Serving.{OfFile, Serving, ServesIn}
+use Rattle.tool.specs.Callers.{AnswersNamed}
+use Rattle.tool_pure.specs.Object.{most_of_contents, object_fault, text_path_answer, source_path_answer}
+use Rattle.report.specs.Outputs.{Console, Prints, Written, on_errors, on_output}
+use Rattle.tool.specs.Requests.{Ask, asks}
+use Rattle.tool.specs.Works.{DoesWith, Doing, calls, serves}
 use Rattle.tool_pure.specs.Stream.{Answers, AnswersTo, Says}
 use Rattle.tool_pure.specs.Who.{AnswersWho, verdict_of}
 
 -- an answer under the settings of a configuration, or the line of its first key word; or memory gave out
-abbrev pub AnswersUnder : Result Settings KeyWord → (Settings → Type 0) → Option (List ℕ) → Option (List ℕ) → Option (List ℕ) → Option (List ℕ) → ℕ → Type 0
-AnswersUnder (Ok s) answered out out' err err' status = answered s
-AnswersUnder (Err word) answered out out' err err' status =
-    Answers (Err (Refused (BadConfig word))) out out' err err' status ⊎ Answers (Err (Failed NoMemory)) out out' err err' status
+abbrev pub AnswersUnder : Result Settings KeyWord → (Settings → Type 0) → Written → Type 0
+AnswersUnder (Ok s) answered w = answered s
+AnswersUnder (Err word) answered w = Answers (Err (Refused (BadConfig word))) w ⊎ Answers (Err (Failed NoMemory)) w
 
--- a text went to the second writer, with the status of a usage fault
-abbrev pub RefusesWords : Option (List ℕ) → Option (List ℕ) → Option (List ℕ) → Option (List ℕ) → ℕ → Type 0
-RefusesWords out out' err err' status = Keeps out out' × ((text : List ℕ) × Prints text 2 err err' status)
+-- a text went to standard error, with the status of a usage fault
+abbrev pub RefusesWords : Written → Type 0
+RefusesWords w = Keeps w.output.old w.output.new × ((text : List ℕ) × Prints text 2 (on_errors w))
 
--- `text-path` and `source-path`, by the text of the configuration
-abbrev pub AnswersTextPath : List ℕ → Text × List Text → Option (List ℕ) → Option (List ℕ) → Option (List ℕ) → Option (List ℕ) → Option (List ℕ) → ℕ → Type 0
-AnswersTextPath config o known out out' err err' status =
-    AnswersUnder (config_of config) (λ s. AnswersTo (object_fault s.store_dir o.0 o.1) (text_path_answer s.store_dir o.0 (map (base_of s.store_dir) o.1)) known out out' err err' status)
-    out out' err err' status
+-- `ls`, `text-path` and `source-path`, by the text of the configuration
+abbrev pub AnswersLs : List ℕ → Console → Type 0
+AnswersLs config console = AnswersUnder (config_of config) (λ s. AnswersTo None max_prefix ls_answer console) console.written
 
-abbrev pub AnswersSourcePath : List ℕ → Text × List Text → Option (List ℕ) → Option (List ℕ) → Option (List ℕ) → Option (List ℕ) → Option (List ℕ) → ℕ → Type 0
-AnswersSourcePath config o known out out' err err' status =
-    AnswersUnder (config_of config) (λ s. AnswersTo (object_fault s.store_dir o.0 o.1) (source_path_answer s.store_dir o.0 (map (base_of s.store_dir) o.1)) known out out' err err' status)
-    out out' err err' status
+abbrev pub AnswersTextPath : List ℕ → Text × List Text → Console → Type 0
+AnswersTextPath config o console = AnswersUnder (config_of config)
+    (λ s. AnswersTo (object_fault s.store_dir o.0 o.1) most_of_contents (text_path_answer s.store_dir o.0 (map (base_of s.store_dir) o.1)) console) console.written
 
--- What a subcommand that makes no request of its own answers by the text of the configuration: `who`, all on the first writer, `ls`, the two
--- paths, and `serve`. All others make one, and aren't answered so. The first argument says how the store of a file is served.
-abbrev pub AnswersAlone : Serving → List ℕ → Option Text → Option (List ℕ) → Option (List ℕ) → Asked → Option (List ℕ) → Option (List ℕ) → Option (List ℕ) → Option (List ℕ) → Option (List ℕ) → ℕ → Type 0
-AnswersAlone of_file config db user group who known out out' err err' status = AnswersWho (verdict_of config user group) out out' status × Keeps err err'
-AnswersAlone of_file config db user group ls known out out' err err' status =
-    AnswersUnder (config_of config) (λ s. AnswersTo None ls_answer known out out' err err' status) out out' err err' status
-AnswersAlone of_file config db user group (text_path o) known out out' err err' status = AnswersTextPath config o known out out' err err' status
-AnswersAlone of_file config db user group (source_path o) known out out' err err' status = AnswersSourcePath config o known out out' err err' status
-AnswersAlone of_file config db user group (serve a) known out out' err err' status =
-    AnswersUnder (config_of config) (λ s. ServesIn of_file db s a known out out' err err' status) out out' err err' status
-AnswersAlone of_file config db user group _ known out out' err err' status = ⊥
+abbrev pub AnswersSourcePath : List ℕ → Text × List Text → Console → Type 0
+AnswersSourcePath config o console = AnswersUnder (config_of config)
+    (λ s. AnswersTo (object_fault s.store_dir o.0 o.1) max_prefix (source_path_answer s.store_dir o.0 (map (base_of s.store_dir) o.1)) console) console.written
 
--- What any subcommand answers: what it asks of a store is answered to its caller, under the settings of the configuration. Here and below
--- the first argument says what is answered by the store of a file, and how it is served.
-abbrev pub AnswersAsked : OfFile → List ℕ → Option Text → Option (List ℕ) → Option (List ℕ) → Asked → Option (List ℕ) → Option (List ℕ) → Option (List ℕ) → Option (List ℕ) → Option (List ℕ) → ℕ → Type 0
-AnswersAsked of_file config db user group asked known out out' err err' status = MatchOption (asks asked) (AnswersAlone of_file.serves config db user group asked known out out' err err' status)
-    (λ ask. AnswersUnder (config_of config) (λ s. AnswersNamed (AnswersCaller of_file.answers db) s user group ask known out out' err err' status) out out' err err' status)
+-- Here and below the first argument says what is done with the store of a file.
 
--- what a command line answers by the text of its configuration
-abbrev pub AnswersLine : OfFile → List ℕ → Line → Option (List ℕ) → Option (List ℕ) → Option (List ℕ) → Option (List ℕ) → Option (List ℕ) → ℕ → Type 0
-AnswersLine of_file config line known out out' err err' status = AnswersAsked of_file config line.db line.user line.group line.asked known out out' err err' status
+-- what is asked of a store is answered to the caller whom the line names, under the settings of the configuration
+abbrev pub AnswersAsking : Doing → List ℕ → Line → Ask → Console → Type 0
+AnswersAsking of_file config line ask console = AnswersUnder (config_of config)
+    (λ s. AnswersNamed (λ c. DoesWith of_file line.db s (calls c ask) console) line console.written) console.written
 
--- a stop before there is anything to answer by is said by `who` on the first writer, and else on the second
-abbrev pub Stops : Asked → Stop → Option (List ℕ) → Option (List ℕ) → Option (List ℕ) → Option (List ℕ) → ℕ → Type 0
-Stops who stop out out' err err' status = Says stop out out' status × Keeps err err'
-Stops _ stop out out' err err' status = Answers (Err stop) out out' err err' status
+-- the store of a file, or one in memory where none is named, is served under the settings of the configuration; or memory gave out before
+abbrev pub AnswersServing : Doing → List ℕ → Option Text → ServeArguments → Console → Type 0
+AnswersServing of_file config db a console = AnswersUnder (config_of config)
+    (λ s. Answers (Err (Failed NoMemory)) console.written ⊎ DoesWith of_file db s (serves a) console) console.written
+
+-- What a subcommand that makes no request of its own answers by the text of the configuration: `who`, all on standard output, `ls`, the two
+-- paths, and `serve`. All others make one, and aren't answered so.
+abbrev pub AnswersAlone : Doing → List ℕ → Line → Asked → Console → Type 0
+AnswersAlone of_file config line who console =
+    AnswersWho (verdict_of config line.user line.group) (on_output console.written) × Keeps console.written.errors.old console.written.errors.new
+AnswersAlone of_file config line ls console = AnswersLs config console
+AnswersAlone of_file config line (text_path o) console = AnswersTextPath config o console
+AnswersAlone of_file config line (source_path o) console = AnswersSourcePath config o console
+AnswersAlone of_file config line (serve a) console = AnswersServing of_file config line.db a console
+AnswersAlone of_file config line _ console = ⊥
+
+-- what a command line answers by the text of its configuration: what its subcommand asks of a store, or its own answer
+abbrev pub AnswersLine : Doing → List ℕ → Line → Console → Type 0
+AnswersLine of_file config line console =
+    MatchOption (asks line.asked) (AnswersAlone of_file config line line.asked console) (λ ask. AnswersAsking of_file config line ask console)
+
+-- a stop before there is anything to answer by is said by `who` on standard output, and else on standard error
+abbrev pub Stops : Asked → Stop → Written → Type 0
+Stops who stop w = Says stop (on_output w) × Keeps w.errors.old w.errors.new
+Stops _ stop w = Answers (Err stop) w
 
 -- the answer by the text of the configuration, or by why there is none
-abbrev pub AnswersRead : OfFile → Line → Result (List ℕ) Stop → Option (List ℕ) → Option (List ℕ) → Option (List ℕ) → Option (List ℕ) → Option (List ℕ) → ℕ → Type 0
-AnswersRead of_file line (Ok config) known out out' err err' status = AnswersLine of_file config line known out out' err err' status
-AnswersRead of_file line (Err stop) known out out' err err' status = Stops line.asked stop out out' err err' status
+abbrev pub AnswersRead : Doing → Line → Result (List ℕ) Stop → Console → Type 0
+AnswersRead of_file line (Ok config) console = AnswersLine of_file config line console
+AnswersRead of_file line (Err stop) console = Stops line.asked stop console.written
 
 -- the answer by what came of the configuration file
-abbrev pub AnswersOpened : OfFile → Line → Opened → Option (List ℕ) → Option (List ℕ) → Option (List ℕ) → Option (List ℕ) → Option (List ℕ) → ℕ → Type 0
-AnswersOpened of_file line opened known out out' err err' status =
-    (read : Result (List ℕ) Stop) × IsConfig opened read × AnswersRead of_file line read known out out' err err' status
+abbrev pub AnswersOpened : Doing → Line → Opened → Console → Type 0
+AnswersOpened of_file line opened console = (read : Result (List ℕ) Stop) × IsConfig opened read × AnswersRead of_file line read console
 
 -- what running a command line does: it answers by what came of the file that it names, if it names one; or memory gave out while the words were
 -- read. No contract says what a file holds, or why it can't be opened.
-abbrev pub RunsLine : OfFile → Line → Option (List ℕ) → Option (List ℕ) → Option (List ℕ) → Option (List ℕ) → Option (List ℕ) → ℕ → Type 0
-RunsLine of_file line known out out' err err' status = Answers (Err (Failed NoMemory)) out out' err err' status
-    ⊎ ((opened : Opened) × (is_some opened ≡ is_some line.config) × AnswersOpened of_file line opened known out out' err err' status)
+abbrev pub RunsLine : Doing → Line → Console → Type 0
+RunsLine of_file line console = Answers (Err (Failed NoMemory)) console.written
+    ⊎ ((opened : Opened) × (is_some opened ≡ is_some line.config) × AnswersOpened of_file line opened console)
 
 -- the fault of the words is that they ask for help or for the version
 abbrev pub AsksHelp : CommandError → Type 0
@@ -97,17 +103,17 @@ AsksHelp (Usage fault) = (kind_of fault ≡ DisplayHelp) ⊎ (kind_of fault ≡ 
 AsksHelp (Misuse fault) = ⊥
 AsksHelp Memory = ⊥
 
--- a text went to the first writer, as an answer does
-abbrev pub Helps : Option (List ℕ) → Option (List ℕ) → Option (List ℕ) → Option (List ℕ) → ℕ → Type 0
-Helps out out' err err' status = (text : List ℕ) × Answers (Ok text) out out' err err' status
+-- a text went to standard output, as an answer does
+abbrev pub Helps : Written → Type 0
+Helps w = (text : List ℕ) × Answers (Ok text) w
 
 -- what is said of a fault that `clap` words: help, a usage fault, or out of memory
-abbrev pub ExplainsUsage : Error → Option (List ℕ) → Option (List ℕ) → Option (List ℕ) → Option (List ℕ) → ℕ → Type 0
-ExplainsUsage fault out out' err err' status = Answers (Err (Failed NoMemory)) out out' err err' status
-    ⊎ ((AsksHelp (Usage fault) → Helps out out' err err' status) × (¬ AsksHelp (Usage fault) → RefusesWords out out' err err' status))
+abbrev pub ExplainsUsage : Error → Written → Type 0
+ExplainsUsage fault w =
+    Answers (Err (Failed NoMemory)) w ⊎ ((AsksHelp (Usage fault) → Helps w) × (¬ AsksHelp (Usage fault) → RefusesWords w))
 
 -- what is said of words that are no command line, by their fault
-abbrev pub Explains : CommandError → Option (List ℕ) → Option (List ℕ) → Option (List ℕ) → Option (List ℕ) → ℕ → Type 0
-Explains (Usage fault) out out' err err' status = ExplainsUsage fault out out' err err' status
-Explains (Misuse fault) out out' err err' status = RefusesWords out out' err err' status ⊎ Answers (Err (Failed NoMemory)) out out' err err' status
-Explains Memory out out' err err' status = Answers (Err (Failed NoMemory)) out out' err err' status
+abbrev pub Explains : CommandError → Written → Type 0
+Explains (Usage fault) w = ExplainsUsage fault w
+Explains (Misuse fault) w = RefusesWords w ⊎ Answers (Err (Failed NoMemory)) w
+Explains Memory w = Answers (Err (Failed NoMemory)) w

@@ -23,15 +23,15 @@ abbrev pub IsReplaced : List ℕ → List ℕ → Request → Type 0
 IsReplaced dir body q = (named : List Pair) × Says (IsRuntime dir) body named × (q ≡ request.replace_runtime named)
 
 -- a request that a body says; or it says none, and is refused
-abbrev pub Said : (Request → Type 0) → Result Request Refusal → Type 0
-Said says (Ok q) = says q
-Said says (Err refusal) = (refusal ≡ BadBodyHead) × ((q : Request) → says q → ⊥)
+abbrev pub ReadAs : (Request → Type 0) → Result Request Refusal → Type 0
+ReadAs says (Ok q) = says q
+ReadAs says (Err refusal) = (refusal ≡ BadBodyHead) × ((q : Request) → says q → ⊥)
 
 abbrev pub Imports : List ℕ → List ℕ → Result Request Refusal → Type 0
-Imports dir body wanted = Said (IsImported dir body) wanted
+Imports dir body wanted = ReadAs (IsImported dir body) wanted
 
 abbrev pub Replaces : List ℕ → List ℕ → Result Request Refusal → Type 0
-Replaces dir body wanted = Said (IsReplaced dir body) wanted
+Replaces dir body wanted = ReadAs (IsReplaced dir body) wanted
 
 -- why a body asks nothing
 abbrev pub body_stop : BodyError → Stop

@@ -8,49 +8,47 @@ use Rattle.policy.specs.Caller.{Caller}
 use Rattle.model.specs.Request.{Request}
 use Rattle.model.specs.Reply.{Reply}
 use Rattle.model.specs.Step.{Step}
-use Rattle.store.specs.Standing.{Standing}
+use Rattle.store.specs.View.{StoreView}
 use Rattle.model.specs.declared.refusal.Refusal.{Refusal}
 use Rattle.store.specs.Calls.{Calls}
-use Rattle.tool_pure.specs.Telling.{IsTold}
+use Rattle.report.specs.Outputs.{Stream, Written}
+use Rattle.tool_pure.specs.Printing.{IsPrinted}
 use Rattle.tool_pure.specs.declared.stops.Stop.TheVariants.{Refused}
-use Rattle.tool.specs.Requests.{Ask, StepsAs, Wants, reads_input}
+use Rattle.tool.specs.Requests.{Ask, StepsAs, Demands, LosesInput}
 use Rattle.tool_pure.specs.Stream.{Answers, GivesUp}
 
 -- ---- by what is asked for the bytes of the input, where each request is answered so
 
 -- a request is answered, or its refusal is reported
-abbrev pub AnswersRequest : (Request → Type 0) → Result Request Refusal → Option (List ℕ) → Option (List ℕ) → Option (List ℕ) → Option (List ℕ) → ℕ → Type 0
-AnswersRequest answered (Ok q) out out' err err' status = answered q
-AnswersRequest answered (Err refusal) out out' err err' status = Answers (Err (Refused refusal)) out out' err err' status
+abbrev pub AnswersRequest : (Request → Type 0) → Result Request Refusal → Written → Type 0
+AnswersRequest answered (Ok q) w = answered q
+AnswersRequest answered (Err refusal) w = Answers (Err (Refused refusal)) w
 
--- the same of something that is asked
-abbrev pub AnswersWanted : (Request → Type 0) → (Result Request Refusal → Type 0) → Option (List ℕ) → Option (List ℕ) → Option (List ℕ) → Option (List ℕ) → ℕ → Type 0
-AnswersWanted answered asks out out' err err' status = (wanted : Result Request Refusal) × asks wanted × AnswersRequest answered wanted out out' err err' status
+-- something that is asked is answered
+abbrev pub AnswersRequested : (Request → Type 0) → (Result Request Refusal → Type 0) → Written → Type 0
+AnswersRequested answered asks w = (wanted : Result Request Refusal) × asks wanted × AnswersRequest answered wanted w
 
--- the same by the input, whose bytes are some, where it doesn't say them
-abbrev pub AnswersOver : (Request → Type 0) → (List ℕ → Result Request Refusal → Type 0) → Option (List ℕ)
-    → Option (List ℕ) → Option (List ℕ) → Option (List ℕ) → Option (List ℕ) → ℕ → Type 0
-AnswersOver answered ask None out out' err err' status = (bytes : List ℕ) × AnswersWanted answered (ask bytes) out out' err err' status
-AnswersOver answered ask (Some bytes) out out' err err' status = AnswersWanted answered (ask bytes) out out' err err' status
+-- what is asked by the input is answered, whose bytes are some, where it doesn't say them
+abbrev pub AnswersOver : (Request → Type 0) → (List ℕ → Result Request Refusal → Type 0) → Option (List ℕ) → Written → Type 0
+AnswersOver answered ask None w = (bytes : List ℕ) × AnswersRequested answered (ask bytes) w
+AnswersOver answered ask (Some bytes) w = AnswersRequested answered (ask bytes) w
 
--- the same; or memory gave out before there was a request, or the input where it is read
-abbrev pub AnswersIn : (Request → Type 0) → Ask → List ℕ → Caller → Option (List ℕ)
-    → Option (List ℕ) → Option (List ℕ) → Option (List ℕ) → Option (List ℕ) → ℕ → Type 0
-AnswersIn answered ask dir c known out out' err err' status =
-    GivesUp (reads_input ask dir c) out out' err err' status ⊎ AnswersOver answered (Wants ask dir c) known out out' err err' status
+-- what is asked of a store is answered; or memory gave out before there was a request, or the input where it is read
+abbrev pub AnswersIn : (Request → Type 0) → Ask → List ℕ → Caller → Stream → Written → Type 0
+AnswersIn answered ask dir c input w = GivesUp (LosesInput ask dir c input) w ⊎ AnswersOver answered (Demands ask dir c) input.old w
 
 -- ---- how a request is answered
 
 -- it may have a reply in this world, and that reply is written
-abbrev pub AnswersStep : Settings → World → Caller → Option (List ℕ) → Option (List ℕ) → Option (List ℕ) → Option (List ℕ) → ℕ → Request → Type 0
-AnswersStep s w c out out' err err' status q = (reply : Reply) × (next : World) × Step s w c q reply next × IsTold s.store_dir reply out out' err err' status
+abbrev pub AnswersStep : Settings → World → Caller → Written → Request → Type 0
+AnswersStep s world c w q = (reply : Reply) × (next : World) × Step s world c q reply next × IsPrinted s.store_dir reply w
 
 -- It is served over tables, and the reply is written: of each world of the tables before, a step to one of the tables then. What is
 -- served may be another request whose every step is one of this request.
-pub record Serves {S : Type 0} (g : Ghosts S) (s : Settings) (t : Kept S) (c : Caller) (out out' err err' : Option (List ℕ)) (status : ℕ) (q : Request) : Type 0 where
+pub record Serves {S : Type 0} (g : Ghosts S) (s : Settings) (t : Kept S) (c : Caller) (w : Written) (q : Request) : Type 0 where
   pub made : Request
   pub same : StepsAs made q
   pub reply : Reply
-  pub new : Standing S
+  pub new : StoreView S
   pub calls : Calls g c made reply (record { tables = t; settings = s }) new
-  pub told : IsTold s.store_dir reply out out' err err' status
+  pub told : IsPrinted s.store_dir reply w

@@ -5,3 +5,4 @@ pub mod Calls
 pub mod Files
 pub mod Requests
 pub mod Serving
+pub mod Works

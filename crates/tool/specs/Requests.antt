@@ -25,7 +25,10 @@ use Rattle.report.specs.declared.failures.Failure.TheVariants.{Memory, Input}
 use Rattle.tool_pure.specs.declared.stops.Stop.{Stop}
 use Rattle.tool_pure.specs.declared.stops.Stop.TheVariants.{Refused, Failed}
 use Rattle.tool.specs.Bodies.{Imports, Replaces}
-use Rattle.tool_pure.specs.Object.{is_path_text, named_fault}
+use Rattle.report.specs.Outputs.{Stream}
+use Rattle.tool_pure.specs.Archive.{max_prefix}
+use Rattle.tool_pure.specs.Object.{is_path_text, most_of_contents, named_fault}
+use Rattle.tool_pure.specs.Stream.{InputFails}
 
 -- a request on a path, where the text is one
 abbrev pub on_path : List ℕ → Text → (Path → Request) → Result Request Refusal
@@ -71,8 +74,8 @@ change_session dir owner n asked.end_session = Ok (request.end_session owner n)
 pub data Ask : Type 0 where
   -- a request, or why the arguments are refused
   at_once : (List ℕ → Caller → Result Request Refusal) → Ask
-  -- the same with the bytes of the input
-  with_input : (List ℕ → Caller → Result (List ℕ → Request) Refusal) → Ask
+  -- a request with the bytes of the input, of which no more than this number are read, or why the arguments are refused
+  with_input : ℕ → (List ℕ → Caller → Result (List ℕ → Request) Refusal) → Ask
   -- what the body says that the input is
   import_body : Ask
   runtime_body : Ask
@@ -83,18 +86,19 @@ with_bytes bytes (Ok ask) = Ok (ask bytes)
 with_bytes bytes (Err refusal) = Err refusal
 
 -- so the bytes of the input are asked, or refused
-abbrev pub Wants : Ask → List ℕ → Caller → List ℕ → Result Request Refusal → Type 0
-Wants (at_once ask) dir c bytes wanted = ask dir c ≡ wanted
-Wants (with_input ask) dir c bytes wanted = with_bytes bytes (ask dir c) ≡ wanted
-Wants import_body dir c bytes wanted = Imports dir bytes wanted
-Wants runtime_body dir c bytes wanted = Replaces dir bytes wanted
+abbrev pub Demands : Ask → List ℕ → Caller → List ℕ → Result Request Refusal → Type 0
+Demands (at_once ask) dir c bytes wanted = ask dir c ≡ wanted
+Demands (with_input most ask) dir c bytes wanted = with_bytes bytes (ask dir c) ≡ wanted
+Demands import_body dir c bytes wanted = Imports dir bytes wanted
+Demands runtime_body dir c bytes wanted = Replaces dir bytes wanted
 
--- whether the input is read for that: not where nothing of it is asked, and not where the arguments are refused
-abbrev pub reads_input : Ask → List ℕ → Caller → Bool
-reads_input (at_once ask) dir c = false
-reads_input (with_input ask) dir c = is_ok (ask dir c)
-reads_input import_body dir c = true
-reads_input runtime_body dir c = true
+-- The input may have failed for that. It isn't read where nothing of it is asked, or where the arguments are refused; and where it is read to
+-- a bound, fewer bytes came.
+abbrev pub LosesInput : Ask → List ℕ → Caller → Stream → Type 0
+LosesInput (at_once ask) dir c input = ⊥
+LosesInput (with_input most ask) dir c input = InputFails (is_ok (ask dir c)) most input
+LosesInput import_body dir c input = ⊤
+LosesInput runtime_body dir c input = ⊤
 
 -- what a subcommand asks of a store; the others ask nothing
 abbrev pub asks : Asked → Option Ask
@@ -108,8 +112,8 @@ asks (delete ignores texts) = Some (at_once (λ dir c. on_paths dir texts (λ na
 asks (info text) = Some (at_once (λ dir c. on_path dir text request.info))
 asks (why text) = Some (at_once (λ dir c. on_path dir text request.list_roots_of))
 asks (cat_nar text) = Some (at_once (λ dir c. on_path dir text request.nar))
-asks (add_source o) = Some (with_input (λ dir c. on_object dir o (λ name refs bytes. request.add_source name refs bytes)))
-asks (add_text o) = Some (with_input (λ dir c. on_object dir o (λ name refs bytes. request.add_text name refs bytes)))
+asks (add_source o) = Some (with_input max_prefix (λ dir c. on_object dir o (λ name refs bytes. request.add_source name refs bytes)))
+asks (add_text o) = Some (with_input most_of_contents (λ dir c. on_object dir o (λ name refs bytes. request.add_text name refs bytes)))
 asks (root kind name text) = Some (at_once (λ dir c. on_path dir text (set_root kind c name)))
 asks (unroot_permanent name) = Some (at_once (λ dir c. Ok (request.drop_permanent name)))
 asks (unroot_user owner name) = Some (at_once (λ dir c. Ok (request.drop_user_root (owner_of c owner) name)))
@@ -136,20 +140,20 @@ StepsAs made wanted = (s : Settings) (w : World) (c : Caller) (reply : Reply) (n
 abbrev pub Gives : Result Request Refusal → Result Request Refusal → Type 0
 Gives said wanted = said ≡ wanted
 
--- A request was made of what is asked, or its refusal is reported; memory may have run out, and the input where it is read. Of contents that
--- are too long a prefix is enough, for which they are refused.
-abbrev pub IsAsked : Bool → (Result Request Refusal → Type 0) → Result Made Stop → Type 0
-IsAsked reads asks (Ok q) = (r : Request) × asks (Ok r) × StepsAs (request_view q) r
-IsAsked reads asks (Err (Refused r)) = asks (Err r)
-IsAsked reads asks (Err (Failed Memory)) = ⊤
-IsAsked reads asks (Err (Failed Input)) = reads ≡ true
-IsAsked reads asks (Err (Failed _)) = ⊥
+-- A request was made of what is asked, or its refusal is reported; memory may have run out, or the input have failed where that may be. Of
+-- contents that are too long a prefix is enough, for which they are refused.
+abbrev pub IsAsked : Type 0 → (Result Request Refusal → Type 0) → Result Made Stop → Type 0
+IsAsked fails asks (Ok q) = (r : Request) × asks (Ok r) × StepsAs (request_view q) r
+IsAsked fails asks (Err (Refused r)) = asks (Err r)
+IsAsked fails asks (Err (Failed Memory)) = ⊤
+IsAsked fails asks (Err (Failed Input)) = fails
+IsAsked fails asks (Err (Failed _)) = ⊥
 
 -- the same by the bytes of the input: some bytes, where it doesn't say them
-abbrev pub IsAskedOver : Bool → (List ℕ → Result Request Refusal → Type 0) → Option (List ℕ) → Result Made Stop → Type 0
-IsAskedOver reads ask None made = (bytes : List ℕ) × IsAsked reads (ask bytes) made
-IsAskedOver reads ask (Some bytes) made = IsAsked reads (ask bytes) made
+abbrev pub IsAskedOver : Type 0 → (List ℕ → Result Request Refusal → Type 0) → Option (List ℕ) → Result Made Stop → Type 0
+IsAskedOver fails ask None made = (bytes : List ℕ) × IsAsked fails (ask bytes) made
+IsAskedOver fails ask (Some bytes) made = IsAsked fails (ask bytes) made
 
 -- the same of all that is asked of a store
-abbrev pub IsAskedBy : Ask → List ℕ → Caller → Option (List ℕ) → Result Made Stop → Type 0
-IsAskedBy ask dir c known made = IsAskedOver (reads_input ask dir c) (Wants ask dir c) known made
+abbrev pub IsAskedBy : Ask → List ℕ → Caller → Stream → Result Made Stop → Type 0
+IsAskedBy ask dir c input made = IsAskedOver (LosesInput ask dir c input) (Demands ask dir c) input.old made

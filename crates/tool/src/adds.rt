@@ -1,11 +1,14 @@
 //! What is asked of a store to which an object is added.
-ghost use Rattle.std.specs.Prelude.{◌≡◌, IfOk, IfErr, IsOkAnd, Ok, Err, List, ℕ, false, is_ok};
+ghost use Rattle.std.specs.Prelude.{◌≡◌, IfOk, IfErr, IsOkAnd, Ok, Err, List, ℕ, is_ok};
 ghost use Rattle.intake.specs.Arriving.{bytes_in};
 ghost use Rattle.tool_words.specs.Asked.{object_view};
 ghost use Rattle.model.specs.Request as asked;
 ghost use Rattle.store_types.specs.View.{request_view};
-ghost use Rattle.streams.specs.Reads.{TakesAtMost};
-ghost use Rattle.tool_pure.specs.Archive.{max_front};
+ghost use Rattle.streams.specs.Reads.{ConsumesAtMost};
+ghost use Rattle.report.specs.Outputs.{change_of};
+ghost use Rattle.tool_pure.specs.Archive.{max_prefix};
+ghost use Rattle.tool_pure.specs.Object.{most_of_contents};
+ghost use Rattle.tool_pure.specs.Stream.{InputFails};
 ghost use Rattle.tool.specs.Requests.{Gives, IsAsked, IsAskedOver, on_object, with_bytes};
 
 use intake::Intake;
@@ -25,7 +28,7 @@ fn parse_arguments(
     ensures ok { IfOk result (λ o. (ask : List ℕ → List (List ℕ) → List ℕ → asked.Request)
         → on_object dir.now (object_view object.now) ask ≡ Ok (ask o.name o.references.items)) }
     ensures err { IfErr result (λ e. (ask : List ℕ → List (List ℕ) → List ℕ → asked.Request) (bytes : List ℕ)
-        → IsAsked false (Gives (with_bytes bytes (on_object dir.now (object_view object.now) ask))) (Err e)) }
+        → IsAsked ⊥ (Gives (with_bytes bytes (on_object dir.now (object_view object.now) ask))) (Err e)) }
 {
     parse_object(alloc, dir, object.name, object.references.as_slice())
 }
@@ -51,8 +54,11 @@ pub(crate) fn add_text<R: Read>(
     object: &ObjectArguments<'_>,
     input: &mut R,
 ) -> Result<Request, Stop>
-    ensures asked { IsAskedOver (is_ok (on_object dir.now (object_view object.now) (λ name refs bytes. asked.add_text name refs bytes))) (λ bytes. Gives (with_bytes bytes (on_object dir.now (object_view object.now) (λ name refs bytes. asked.add_text name refs bytes)))) (R.remaining input.old) result }
-    ensures reads { TakesAtMost max_front (R.remaining input.old) (R.remaining input.new) }
+    ensures asked { IsAskedOver
+        (InputFails (is_ok (on_object dir.now (object_view object.now) (λ name refs bytes. asked.add_text name refs bytes))) most_of_contents (change_of R.remaining input.old input.new))
+        (λ bytes. Gives (with_bytes bytes (on_object dir.now (object_view object.now) (λ name refs bytes. asked.add_text name refs bytes))))
+        (R.remaining input.old) result }
+    ensures reads { ConsumesAtMost max_prefix (R.remaining input.old) (R.remaining input.new) }
 {
     let arguments = parse_arguments(alloc, dir, object)?;
     text_of(arguments, read_input(alloc, input, MOST_OF_CONTENTS))
@@ -79,8 +85,11 @@ pub(crate) fn add_source<R: Read>(
     object: &ObjectArguments<'_>,
     input: &mut R,
 ) -> Result<Request, Stop>
-    ensures asked { IsAskedOver (is_ok (on_object dir.now (object_view object.now) (λ name refs bytes. asked.add_source name refs bytes))) (λ bytes. Gives (with_bytes bytes (on_object dir.now (object_view object.now) (λ name refs bytes. asked.add_source name refs bytes)))) (R.remaining input.old) result }
-    ensures reads { TakesAtMost max_front (R.remaining input.old) (R.remaining input.new) }
+    ensures asked { IsAskedOver
+        (InputFails (is_ok (on_object dir.now (object_view object.now) (λ name refs bytes. asked.add_source name refs bytes))) max_prefix (change_of R.remaining input.old input.new))
+        (λ bytes. Gives (with_bytes bytes (on_object dir.now (object_view object.now) (λ name refs bytes. asked.add_source name refs bytes))))
+        (R.remaining input.old) result }
+    ensures reads { ConsumesAtMost max_prefix (R.remaining input.old) (R.remaining input.new) }
 {
     let arguments = parse_arguments(alloc, dir, object)?;
     source_of(arguments, receive_archive(alloc, input))

@@ -1,16 +1,13 @@
 //! What a command line answers, by the text of its configuration.
 ghost use Rattle.std.specs.Prelude.{◌≡◌, None, false};
-ghost use Rattle.policy.specs.Toml.{config_of};
-ghost use Rattle.tool_pure.specs.Archive.{ls_answer};
-ghost use Rattle.tool_pure.specs.Stream.{AnswersTo};
-ghost use Rattle.tool.specs.Answer.{AnswersAlone, AnswersLine, AnswersSourcePath, AnswersTextPath, AnswersUnder};
-ghost use Rattle.tool.specs.Files.{ServesFile, by_file};
-ghost use Rattle.tool_pure.specs.Archive.{max_front};
+ghost use Rattle.report.specs.Outputs.{change_of};
+ghost use Rattle.tool.specs.Answer.{AnswersAlone, AnswersLine, AnswersLs, AnswersSourcePath, AnswersTextPath};
+ghost use Rattle.tool.specs.Files.{DoesFile};
+ghost use Rattle.tool_pure.specs.Archive.{max_prefix};
 ghost use Rattle.tool_words.specs.Asked as asked;
-ghost use Rattle.tool_words.specs.Asked.{optional_text};
 ghost use Rattle.tool_words.specs.Line.{line_view};
 ghost use Rattle.tool.specs.Requests.{asks, reads_all};
-ghost use Rattle.streams.specs.Reads.{TakesAtMost};
+ghost use Rattle.streams.specs.Reads.{ConsumesAtMost};
 
 use crate::calls::call;
 use crate::requests::is_asked;
@@ -32,9 +29,16 @@ fn ls_under<R: Read, W: Write, E: Write>(
     output: &mut W,
     errors: &mut E,
 ) -> u8
-    ensures answer { AnswersUnder (config_of config.now) (λ s. AnswersTo None ls_answer (R.remaining input.old) (W.contents output.old) (W.contents output.new) (E.contents errors.old) (E.contents errors.new) result)
-        (W.contents output.old) (W.contents output.new) (E.contents errors.old) (E.contents errors.new) result }
-    ensures reads { TakesAtMost max_front (R.remaining input.old) (R.remaining input.new) }
+    ensures answer { AnswersLs config.now
+        (record {
+          input = change_of R.remaining input.old input.new;
+          written = record {
+            output = change_of W.contents output.old output.new;
+            errors = change_of E.contents errors.old errors.new;
+            status = result;
+          };
+        }) }
+    ensures reads { ConsumesAtMost max_prefix (R.remaining input.old) (R.remaining input.new) }
 {
     if let Err(stop) = settings(alloc, config) {
         return say(stop, errors);
@@ -51,8 +55,16 @@ fn text_path_under<R: Read, W: Write, E: Write>(
     output: &mut W,
     errors: &mut E,
 ) -> u8
-    ensures answer { AnswersTextPath config.now (asked.object_view object.now) (R.remaining input.old) (W.contents output.old) (W.contents output.new) (E.contents errors.old) (E.contents errors.new) result }
-    ensures reads { TakesAtMost max_front (R.remaining input.old) (R.remaining input.new) }
+    ensures answer { AnswersTextPath config.now (asked.object_view object.now)
+        (record {
+          input = change_of R.remaining input.old input.new;
+          written = record {
+            output = change_of W.contents output.old output.new;
+            errors = change_of E.contents errors.old errors.new;
+            status = result;
+          };
+        }) }
+    ensures reads { ConsumesAtMost max_prefix (R.remaining input.old) (R.remaining input.new) }
 {
     match settings(alloc, config) {
         Ok(config) => {
@@ -72,8 +84,16 @@ fn source_path_under<R: Read, W: Write, E: Write>(
     output: &mut W,
     errors: &mut E,
 ) -> u8
-    ensures answer { AnswersSourcePath config.now (asked.object_view object.now) (R.remaining input.old) (W.contents output.old) (W.contents output.new) (E.contents errors.old) (E.contents errors.new) result }
-    ensures reads { TakesAtMost max_front (R.remaining input.old) (R.remaining input.new) }
+    ensures answer { AnswersSourcePath config.now (asked.object_view object.now)
+        (record {
+          input = change_of R.remaining input.old input.new;
+          written = record {
+            output = change_of W.contents output.old output.new;
+            errors = change_of E.contents errors.old errors.new;
+            status = result;
+          };
+        }) }
+    ensures reads { ConsumesAtMost max_prefix (R.remaining input.old) (R.remaining input.new) }
 {
     match settings(alloc, config) {
         Ok(config) => {
@@ -95,8 +115,16 @@ fn answer_alone<F: Start, R: Read, W: Write, E: Write>(
     errors: &mut E,
 ) -> u8
     requires { asks (asked.asked_view line.now.task) ≡ None }
-    ensures answer { AnswersAlone (ServesFile F.Start ⟦<FileFrom<F> as Disk>⟧) config.now (optional_text line.now.db) (optional_text line.now.user) (optional_text line.now.group) (asked.asked_view line.now.task) (R.remaining input.old) (W.contents output.old) (W.contents output.new) (E.contents errors.old) (E.contents errors.new) result }
-    ensures reads { reads_all (asked.asked_view line.now.task) ≡ false → TakesAtMost max_front (R.remaining input.old) (R.remaining input.new) }
+    ensures answer { AnswersAlone (DoesFile F.Start ⟦<FileFrom<F> as Disk>⟧) config.now (line_view line.now) (asked.asked_view line.now.task)
+        (record {
+          input = change_of R.remaining input.old input.new;
+          written = record {
+            output = change_of W.contents output.old output.new;
+            errors = change_of E.contents errors.old errors.new;
+            status = result;
+          };
+        }) }
+    ensures reads { reads_all (asked.asked_view line.now.task) ≡ false → ConsumesAtMost max_prefix (R.remaining input.old) (R.remaining input.new) }
 {
     let alloc = rt.alloc();
     match &line.task {
@@ -118,6 +146,17 @@ fn answer_alone<F: Start, R: Read, W: Write, E: Write>(
 /// on `output`. The configuration file that the command line names isn't read. No more than 16,777,224 bytes of the input
 /// are, but for `import` and `runtime`, which read all of it, and `serve`, which reads what its connection sends.
 /// `start` stands for what a database file held, as for `run`.
+///
+/// ```rust
+/// use tool::Unknown;
+///
+/// let words = ["nixkeep", "--user", "ann", "report"];
+/// let line = tool::command(alloc, &words)?;
+/// let mut input = b"".as_slice();
+/// let (mut output, mut errors) = (Vec::new(alloc), Vec::new(alloc));
+/// let status = tool::answer(&rt, Unknown, b"", &line, &mut input, &mut output, &mut errors);
+/// assert!(rt; status == 0 && output.starts_with(b"class       paths            bytes\n"));
+/// ```
 pub fn answer<F: Start, R: Read, W: Write, E: Write>(
     rt: &HostRuntime,
     start: F,
@@ -127,8 +166,16 @@ pub fn answer<F: Start, R: Read, W: Write, E: Write>(
     output: &mut W,
     errors: &mut E,
 ) -> u8
-    ensures answer { AnswersLine (by_file F.Start ⟦<FileFrom<F> as Disk>⟧) config.now (line_view line.now) (R.remaining input.old) (W.contents output.old) (W.contents output.new) (E.contents errors.old) (E.contents errors.new) result }
-    ensures reads { reads_all (asked.asked_view line.now.task) ≡ false → TakesAtMost max_front (R.remaining input.old) (R.remaining input.new) }
+    ensures answer { AnswersLine (DoesFile F.Start ⟦<FileFrom<F> as Disk>⟧) config.now (line_view line.now)
+        (record {
+          input = change_of R.remaining input.old input.new;
+          written = record {
+            output = change_of W.contents output.old output.new;
+            errors = change_of E.contents errors.old errors.new;
+            status = result;
+          };
+        }) }
+    ensures reads { reads_all (asked.asked_view line.now.task) ≡ false → ConsumesAtMost max_prefix (R.remaining input.old) (R.remaining input.new) }
 {
     if is_asked(&line.task) {
         return call(rt, start, config, line, input, output, errors);

@@ -1,5 +1,4 @@
 //! What is asked of a store from which objects go.
-ghost use Rattle.std.specs.Prelude.{false};
 ghost use Rattle.clap.specs.Walk.{texts};
 ghost use Rattle.model.specs.Request as asked;
 ghost use Rattle.tool.specs.Requests.{Gives, IsAsked, on_paths};
@@ -16,7 +15,7 @@ pub(crate) fn delete_paths(
     dir: &StoreDir,
     deletion: &DeleteArguments<'_>,
 ) -> Result<Request, Stop>
-    ensures { IsAsked false (Gives (on_paths dir.now (texts deletion.now.paths.items) (λ named. asked.delete named deletion.now.ignore_liveness))) result }
+    ensures { IsAsked ⊥ (Gives (on_paths dir.now (texts deletion.now.paths.items) (λ named. asked.delete named deletion.now.ignore_liveness))) result }
 {
     let named = parse_references(alloc, dir, deletion.paths.as_slice())?;
     Ok(Request::Delete {

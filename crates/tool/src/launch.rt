@@ -3,11 +3,11 @@ ghost use Rattle.std.specs.Io.KnownBytes.{Keeps};
 ghost use Rattle.std.specs.Prelude.{◌≡◌, ◌≢◌, ℕ, IfOk, List, OnErr, Ok, Err, map, string_bytes, true, false};
 ghost use Rattle.std.specs.IoError.{error_kind};
 ghost use Rattle.tool.specs.Answer.{AnswersOpened, Explains, ExplainsUsage, RunsLine};
-ghost use Rattle.tool.specs.Files.{by_file};
-ghost use Rattle.tool_pure.specs.Archive.{max_front};
+ghost use Rattle.tool.specs.Files.{DoesFile};
+ghost use Rattle.tool_pure.specs.Archive.{max_prefix};
 ghost use Rattle.tool_words.specs.Line.{IsLine, IsUsageFault, Line, line_view};
-ghost use Rattle.streams.specs.Reads.{TakesAtMost};
-ghost use Rattle.report.specs.Outputs.{Prints};
+ghost use Rattle.streams.specs.Reads.{ConsumesAtMost};
+ghost use Rattle.report.specs.Outputs.{Prints, change_of};
 ghost use Rattle.tool.specs.Requests.{reads_all};
 ghost use Rattle.tool_pure.specs.Configuration.{opened_by};
 ghost use Rattle.tool_pure.specs.Stream.{Answers, Says};
@@ -40,6 +40,17 @@ const NOT_UTF8: &str = "error: a word of the command line isn't UTF-8\n";
 /// on `output` once its words are read. No more than 16,777,224 bytes of the input are read, but by `import`,
 /// `runtime` and `serve`. `start` stands for what a database file held, which no code reads: what is said here holds over any,
 /// and a program passes `Unknown`.
+///
+/// ```rust
+/// use tool::Unknown;
+///
+/// let words = ["nixkeep", "--user", "root", "who"];
+/// let mut input = b"".as_slice();
+/// let (mut output, mut errors) = (Vec::new(alloc), Vec::new(alloc));
+/// let status = tool::run(&rt, Unknown, &words, &mut input, &mut output, &mut errors);
+/// assert_eq!(rt; status, 0);
+/// assert_eq!(rt; output.as_slice(), b"class: trusted\nconnect: yes\n".as_slice());
+/// ```
 pub fn run<F: Start, S: AsStr, R: Read, W: Write, E: Write>(
     rt: &HostRuntime,
     start: F,
@@ -49,10 +60,22 @@ pub fn run<F: Start, S: AsStr, R: Read, W: Write, E: Write>(
     errors: &mut E,
 ) -> u8
     ensures line { (line : Line) → IsLine (map S.text words.now) line
-        → RunsLine (by_file F.Start ⟦<FileFrom<F> as Disk>⟧) line (R.remaining input.old) (W.contents output.old) (W.contents output.new) (E.contents errors.old) (E.contents errors.new) result }
+        → RunsLine (DoesFile F.Start ⟦<FileFrom<F> as Disk>⟧) line
+        (record {
+          input = change_of R.remaining input.old input.new;
+          written = record {
+            output = change_of W.contents output.old output.new;
+            errors = change_of E.contents errors.old errors.new;
+            status = result;
+          };
+        }) }
     ensures words { ¬ ((line : Line) × IsLine (map S.text words.now) line)
-        → (fault : CommandError) × IsUsageFault (map S.text words.now) fault × Explains fault (W.contents output.old) (W.contents output.new) (E.contents errors.old) (E.contents errors.new) result }
-    ensures reads { ((line : Line) → IsLine (map S.text words.now) line → reads_all line.asked ≡ false) → TakesAtMost max_front (R.remaining input.old) (R.remaining input.new) }
+        → (fault : CommandError) × IsUsageFault (map S.text words.now) fault × Explains fault (record {
+          output = change_of W.contents output.old output.new;
+          errors = change_of E.contents errors.old errors.new;
+          status = result;
+        }) }
+    ensures reads { ((line : Line) → IsLine (map S.text words.now) line → reads_all line.asked ≡ false) → ConsumesAtMost max_prefix (R.remaining input.old) (R.remaining input.new) }
 {
     match command(rt.alloc(), words) {
         Ok(line) => execute(rt, start, &line, input, output, errors),
@@ -68,8 +91,16 @@ fn execute<F: Start, R: Read, W: Write, E: Write>(
     output: &mut W,
     errors: &mut E,
 ) -> u8
-    ensures answer { RunsLine (by_file F.Start ⟦<FileFrom<F> as Disk>⟧) (line_view line.now) (R.remaining input.old) (W.contents output.old) (W.contents output.new) (E.contents errors.old) (E.contents errors.new) result }
-    ensures reads { reads_all (line_view line.now).asked ≡ false → TakesAtMost max_front (R.remaining input.old)
+    ensures answer { RunsLine (DoesFile F.Start ⟦<FileFrom<F> as Disk>⟧) (line_view line.now)
+        (record {
+          input = change_of R.remaining input.old input.new;
+          written = record {
+            output = change_of W.contents output.old output.new;
+            errors = change_of E.contents errors.old errors.new;
+            status = result;
+          };
+        }) }
+    ensures reads { reads_all (line_view line.now).asked ≡ false → ConsumesAtMost max_prefix (R.remaining input.old)
         (R.remaining input.new) }
 {
     let file = open_config(rt, line.config);
@@ -86,10 +117,17 @@ fn answer_by<F: Start, C: Read + Drop, R: Read, W: Write, E: Write>(
     output: &mut W,
     errors: &mut E,
 ) -> u8
-    ensures answer { AnswersOpened (by_file F.Start ⟦<FileFrom<F> as Disk>⟧) (line_view line.now)
-        (opened_by C.remaining file) (R.remaining input.old) (W.contents output.old) (W.contents output.new)
-        (E.contents errors.old) (E.contents errors.new) result }
-    ensures reads { reads_all (line_view line.now).asked ≡ false → TakesAtMost max_front (R.remaining input.old)
+    ensures answer { AnswersOpened (DoesFile F.Start ⟦<FileFrom<F> as Disk>⟧) (line_view line.now)
+        (opened_by C.remaining file)
+        (record {
+          input = change_of R.remaining input.old input.new;
+          written = record {
+            output = change_of W.contents output.old output.new;
+            errors = change_of E.contents errors.old errors.new;
+            status = result;
+          };
+        }) }
+    ensures reads { reads_all (line_view line.now).asked ≡ false → ConsumesAtMost max_prefix (R.remaining input.old)
         (R.remaining input.new) }
 {
     match config_text(rt.alloc(), file) {
@@ -108,7 +146,11 @@ fn explain<W: Write, E: Write>(
     output: &mut W,
     errors: &mut E,
 ) -> u8
-    ensures { Explains fault.now (W.contents output.old) (W.contents output.new) (E.contents errors.old) (E.contents errors.new) result }
+    ensures { Explains fault.now (record {
+      output = change_of W.contents output.old output.new;
+      errors = change_of E.contents errors.old errors.new;
+      status = result;
+    }) }
 {
     match fault {
         CommandError::Usage(fault) => explain_usage(alloc, fault, output, errors),
@@ -124,8 +166,11 @@ fn explain_misuse<W: Write, E: Write>(
     output: &mut W,
     errors: &mut E,
 ) -> u8
-    ensures { Explains (Misuse fault) (W.contents output.old) (W.contents output.new) (E.contents errors.old)
-        (E.contents errors.new) result }
+    ensures { Explains (Misuse fault) (record {
+      output = change_of W.contents output.old output.new;
+      errors = change_of E.contents errors.old errors.new;
+      status = result;
+    }) }
 {
     match fault.error(alloc) {
         Ok(error) => explain_usage(alloc, &error, output, errors),
@@ -140,8 +185,11 @@ fn explain_usage<W: Write, E: Write>(
     output: &mut W,
     errors: &mut E,
 ) -> u8
-    ensures { ExplainsUsage fault.now (W.contents output.old) (W.contents output.new) (E.contents errors.old)
-        (E.contents errors.new) result }
+    ensures { ExplainsUsage fault.now (record {
+      output = change_of W.contents output.old output.new;
+      errors = change_of E.contents errors.old errors.new;
+      status = result;
+    }) }
 {
     let text = format!(in alloc; "{fault}");
     explain_by(fault.use_stderr(), text, output, errors)
@@ -155,11 +203,19 @@ fn explain_by<W: Write, E: Write>(
     errors: &mut E,
 ) -> u8
     ensures fault { is_fault ≡ true → IfOk text (λ t. Keeps (W.contents output.old) (W.contents output.new)
-        × Prints (string_bytes t) 2 (E.contents errors.old) (E.contents errors.new) result) }
+        × Prints (string_bytes t) 2 (record { writer = change_of E.contents errors.old errors.new; status = result })) }
     ensures help { is_fault ≡ false → IfOk text
-        (λ t. Answers (Ok (string_bytes t)) (W.contents output.old) (W.contents output.new) (E.contents errors.old) (E.contents errors.new) result) }
+        (λ t. Answers (Ok (string_bytes t)) (record {
+          output = change_of W.contents output.old output.new;
+          errors = change_of E.contents errors.old errors.new;
+          status = result;
+        })) }
     ensures memory { OnErr text
-        (Answers (Err (Stop.Failed Failure.Memory)) (W.contents output.old) (W.contents output.new) (E.contents errors.old) (E.contents errors.new) result) }
+        (Answers (Err (Stop.Failed Failure.Memory)) (record {
+          output = change_of W.contents output.old output.new;
+          errors = change_of E.contents errors.old errors.new;
+          status = result;
+        })) }
 {
     let Ok(text) = text else {
         return say(Stop::Failed(Failure::Memory), errors);
@@ -172,9 +228,18 @@ fn explain_by<W: Write, E: Write>(
 
 /// Says that the words of the program could not be had, and gives the exit status: 1 where memory
 /// was refused, else 2, since a word isn't UTF-8.
+///
+/// ```rust
+/// use std::io::{Error, ErrorKind};
+///
+/// let mut errors = Vec::new(alloc);
+/// let fault = Error::from(ErrorKind::OutOfMemory);
+/// assert_eq!(rt; tool::refuse_words(&fault, &mut errors), 1);
+/// assert_eq!(rt; errors.as_slice(), b"failed: memory\n".as_slice());
+/// ```
 pub fn refuse_words<E: Write>(fault: &io::Error, errors: &mut E) -> u8
-    ensures memory { error_kind fault.now ≡ ErrorKind.OutOfMemory → Says (Stop.Failed Failure.Memory) (E.contents errors.old) (E.contents errors.new) result }
-    ensures other { error_kind fault.now ≢ ErrorKind.OutOfMemory → (text : List ℕ) × Prints text 2 (E.contents errors.old) (E.contents errors.new) result }
+    ensures memory { error_kind fault.now ≡ ErrorKind.OutOfMemory → Says (Stop.Failed Failure.Memory) (record { writer = change_of E.contents errors.old errors.new; status = result }) }
+    ensures other { error_kind fault.now ≢ ErrorKind.OutOfMemory → (text : List ℕ) × Prints text 2 (record { writer = change_of E.contents errors.old errors.new; status = result }) }
 {
     if fault.kind() == ErrorKind::OutOfMemory {
         return say(Stop::Failed(Failure::Memory), errors);

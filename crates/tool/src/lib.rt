@@ -6,14 +6,15 @@ mod answers;
 mod calls;
 mod deletions;
 mod files;
-mod handed;
+mod input_bodies;
 mod launch;
 mod named;
 mod profiles;
 mod requests;
 mod serve;
-mod sessions;
 mod stores;
+mod temporary;
+mod work;
 
 pub use answers::answer;
 pub use launch::{refuse_words, run};

@@ -1,5 +1,5 @@
 //! What is asked of roots that have names.
-ghost use Rattle.std.specs.Prelude.{◌≡◌, IfOk, Ok, false, string_bytes};
+ghost use Rattle.std.specs.Prelude.{◌≡◌, IfOk, Ok, string_bytes};
 ghost use Rattle.tool_words.specs.Asked.{optional_text};
 ghost use Rattle.store_types.specs.View.{request_view};
 ghost use Rattle.tool.specs.Requests as spec;
@@ -56,7 +56,7 @@ pub(crate) fn set_root(
     caller: &Caller,
     root: &RootArguments<'_>,
 ) -> Result<Request, Stop>
-    ensures { IsAsked false (Gives (on_path dir.now root.now.path.now (spec.set_root root.now.kind caller.now root.now.name.now))) result }
+    ensures { IsAsked ⊥ (Gives (on_path dir.now root.now.path.now (spec.set_root root.now.kind caller.now root.now.name.now))) result }
 {
     let path = parse_reference(alloc, dir, root.path)?;
     Ok(root_at(alloc, caller, root, path)?)
@@ -86,7 +86,7 @@ pub(crate) fn drop_root(
     caller: &Caller,
     root: &UnrootArguments<'_>,
 ) -> Result<Request, Stop>
-    ensures { IsAsked false (Gives (Ok (spec.drop_root root.now.root caller.now root.now.name.now))) result }
+    ensures { IsAsked ⊥ (Gives (Ok (spec.drop_root root.now.root caller.now root.now.name.now))) result }
 {
     Ok(dropped(alloc, caller, root)?)
 }

@@ -1,5 +1,5 @@
 //! What is asked of profiles.
-ghost use Rattle.std.specs.Prelude.{◌≡◌, IfOk, false, string_bytes};
+ghost use Rattle.std.specs.Prelude.{◌≡◌, IfOk, string_bytes};
 ghost use Rattle.tool_words.specs.Asked.{on_profile_view, optional_text};
 ghost use Rattle.model.specs.Request as asked;
 ghost use Rattle.store_types.specs.View.{request_view};
@@ -101,7 +101,7 @@ pub(crate) fn change_profile(
     caller: &Caller,
     profile: &ProfileArguments<'_>,
 ) -> Result<Request, Stop>
-    ensures { IsAsked false (Gives (spec.change_profile dir.now (owner_of caller.now (optional_text profile.now.owner)) profile.now.name.now (on_profile_view profile.now.action))) result }
+    ensures { IsAsked ⊥ (Gives (spec.change_profile dir.now (owner_of caller.now (optional_text profile.now.owner)) profile.now.name.now (on_profile_view profile.now.action))) result }
 {
     match profile.action {
         ProfileAction::Set(text) => {

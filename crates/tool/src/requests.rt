@@ -2,16 +2,17 @@
 ghost use Rattle.std.specs.Prelude.{◌≡◌, IsSome, Some, is_some, false};
 ghost use Rattle.tool_words.specs.Asked.{asked_view};
 ghost use Rattle.model.specs.Request as asked;
-ghost use Rattle.streams.specs.Reads.{TakesAtMost};
-ghost use Rattle.tool_pure.specs.Archive.{max_front};
+ghost use Rattle.streams.specs.Reads.{ConsumesAtMost};
+ghost use Rattle.report.specs.Outputs.{change_of};
+ghost use Rattle.tool_pure.specs.Archive.{max_prefix};
 ghost use Rattle.tool.specs.Requests.{Ask, Gives, IsAsked, IsAskedBy, asks, on_path, reads_all};
 
 use crate::adds::{add_source, add_text};
 use crate::deletions::delete_paths;
-use crate::handed::{import, replace_runtime};
+use crate::input_bodies::{import, replace_runtime};
 use crate::named::{drop_root, set_root};
 use crate::profiles::change_profile;
-use crate::sessions::change_session;
+use crate::temporary::change_session;
 use paths::StoreDir;
 use policy::Caller;
 use std::alloc::Global;
@@ -35,7 +36,7 @@ pub(crate) fn is_asked(task: &Task<'_>) -> bool
 
 /// The roots that reach a path are asked for.
 fn why(alloc: Global, dir: &StoreDir, text: &str) -> Result<Request, Stop>
-    ensures { IsAsked false (Gives (on_path dir.now text.now asked.list_roots_of)) result }
+    ensures { IsAsked ⊥ (Gives (on_path dir.now text.now asked.list_roots_of)) result }
 {
     let path = parse_reference(alloc, dir, text)?;
     Ok(Request::RootsOf(path))
@@ -43,7 +44,7 @@ fn why(alloc: Global, dir: &StoreDir, text: &str) -> Result<Request, Stop>
 
 /// The record of an object is asked for.
 fn info(alloc: Global, dir: &StoreDir, text: &str) -> Result<Request, Stop>
-    ensures { IsAsked false (Gives (on_path dir.now text.now asked.info)) result }
+    ensures { IsAsked ⊥ (Gives (on_path dir.now text.now asked.info)) result }
 {
     let path = parse_reference(alloc, dir, text)?;
     Ok(Request::Info(path))
@@ -51,7 +52,7 @@ fn info(alloc: Global, dir: &StoreDir, text: &str) -> Result<Request, Stop>
 
 /// The archive of an object is asked for.
 fn cat_nar(alloc: Global, dir: &StoreDir, text: &str) -> Result<Request, Stop>
-    ensures { IsAsked false (Gives (on_path dir.now text.now asked.nar)) result }
+    ensures { IsAsked ⊥ (Gives (on_path dir.now text.now asked.nar)) result }
 {
     let path = parse_reference(alloc, dir, text)?;
     Ok(Request::Nar(path))
@@ -66,8 +67,8 @@ pub(crate) fn request<R: Read>(
     input: &mut R,
 ) -> Result<Request, Stop>
     requires { IsSome (asks (asked_view task.now)) }
-    ensures asked { (ask : Ask) → asks (asked_view task.now) ≡ Some ask → IsAskedBy ask dir.now caller.now (R.remaining input.old) result }
-    ensures reads { reads_all (asked_view task.now) ≡ false → TakesAtMost max_front (R.remaining input.old) (R.remaining input.new) }
+    ensures asked { (ask : Ask) → asks (asked_view task.now) ≡ Some ask → IsAskedBy ask dir.now caller.now (change_of R.remaining input.old input.new) result }
+    ensures reads { reads_all (asked_view task.now) ≡ false → ConsumesAtMost max_prefix (R.remaining input.old) (R.remaining input.new) }
 {
     match task {
         Task::List => Ok(Request::List),

@@ -1,77 +1,119 @@
-//! A request over the tables of a store, and over a store that is in memory for one run.
+//! The store that a command line works with: that of a file, or one in memory.
 ghost use Rattle.std.specs.Prelude.{◌≡◌, IsSome, Some, false};
-ghost use Rattle.tool_words.specs.Asked.{asked_view};
-ghost use Rattle.streams.specs.Reads.{TakesAtMost};
-ghost use Rattle.tool_pure.specs.Archive.{max_front};
-ghost use Rattle.tool.specs.Callers.{AnswersNew};
-ghost use Rattle.tool.specs.Calls.{AnswersIn, Serves};
-ghost use Rattle.tool.specs.Requests.{Ask, asks, reads_all};
+ghost use Rattle.streams.specs.Reads.{ConsumesAtMost};
+ghost use Rattle.report.specs.Outputs.{change_of};
+ghost use Rattle.tool_words.specs.Asked.{optional_text};
+ghost use Rattle.tool_pure.specs.Archive.{max_prefix};
+ghost use Rattle.tool.specs.Files.{DoesFile};
+ghost use Rattle.tool.specs.Works.{DoesNew, DoesWith, OnStore, reads_whole, work_view};
 
-use crate::requests::request;
-use policy::{Caller, Config, store_dir};
-use sqlite::Alter;
-use std::alloc::Global;
+use crate::files::{cause_of, refuse_file};
+use crate::work::{Work, work_over};
+use policy::{Config, store_dir};
+use sqlite::{FileFrom, Start};
+use sqlite_disk::Disk;
 use std::io::{Read, Write};
-use store::Store;
+use std::rt::HostRuntime;
 use store_types::Reply;
 use tables::Tables;
-use tool_pure::{say, serve, tell};
-use tool_words::Task;
+use tool_pure::print_reply;
 
-/// Asks a store over these tables.
-pub(crate) fn call_over<S: Alter + Drop, R: Read, W: Write, E: Write>(
-    alloc: Global,
+/// Does some work with a store that is in memory, for this run.
+fn in_memory<R: Read, W: Write, E: Write>(
+    rt: &HostRuntime,
     config: Config,
-    tables: Tables<S>,
-    caller: &Caller,
-    task: &Task<'_>,
+    work: &Work<'_>,
     input: &mut R,
     output: &mut W,
     errors: &mut E,
 ) -> u8
-    requires asked { IsSome (asks (asked_view task.now)) }
-    requires dir { tables.dir ≡ config.store_dir }
-    ensures answer { (ask : Ask) → asks (asked_view task.now) ≡ Some ask
-        → AnswersIn (Serves S.Store config tables caller.now (W.contents output.old) (W.contents output.new) (E.contents errors.old) (E.contents errors.new) result) ask config.store_dir caller.now (R.remaining input.old) (W.contents output.old) (W.contents output.new) (E.contents errors.old) (E.contents errors.new) result }
-    ensures reads { reads_all (asked_view task.now) ≡ false → TakesAtMost max_front (R.remaining input.old) (R.remaining input.new) }
+    requires { IsSome (work_view work.now) }
+    ensures does { (d : OnStore) → work_view work.now ≡ Some d → DoesNew config d
+        (record {
+          input = change_of R.remaining input.old input.new;
+          written = record {
+            output = change_of W.contents output.old output.new;
+            errors = change_of E.contents errors.old errors.new;
+            status = result;
+          };
+        }) }
+    ensures reads { reads_whole work.now ≡ false → ConsumesAtMost max_prefix (R.remaining input.old) (R.remaining input.new) }
 {
-    match request(alloc, store_dir(&config), caller, task, input) {
-        Ok(request) => {
-            let mut store = Store::new(alloc, config, tables);
-            let status = serve(alloc, &mut store, caller, request, output, errors);
-            drop(store.release().release());
-            status
-        }
-        Err(stop) => {
-            drop(tables.release());
-            say(stop, errors)
-        }
-    }
-}
-
-/// Asks a store that is in memory, for this run.
-pub(crate) fn call_in_memory<R: Read, W: Write, E: Write>(
-    alloc: Global,
-    config: Config,
-    caller: &Caller,
-    task: &Task<'_>,
-    input: &mut R,
-    output: &mut W,
-    errors: &mut E,
-) -> u8
-    requires { IsSome (asks (asked_view task.now)) }
-    ensures answer { (ask : Ask) → asks (asked_view task.now) ≡ Some ask
-        → AnswersNew config caller.now ask (R.remaining input.old) (W.contents output.old) (W.contents output.new) (E.contents errors.old) (E.contents errors.new) result }
-    ensures reads { reads_all (asked_view task.now) ≡ false → TakesAtMost max_front (R.remaining input.old) (R.remaining input.new) }
-{
-    match Tables::open_in_memory(alloc, store_dir(&config)) {
-        Ok(tables) => call_over(alloc, config, tables, caller, task, input, output, errors),
-        Err(failure) => tell(
-            alloc,
+    match Tables::open_in_memory(rt.alloc(), store_dir(&config)) {
+        Ok(tables) => work_over(rt, config, tables, work, input, output, errors),
+        Err(failure) => print_reply(
+            rt.alloc(),
             store_dir(&config),
             Reply::Failed(failure),
             output,
             errors,
         ),
+    }
+}
+
+/// Does some work with the store of the database file at a path, which is made where it isn't there. `start` stands for what the
+/// file held.
+fn in_file<F: Start, R: Read, W: Write, E: Write>(
+    rt: &HostRuntime,
+    start: F,
+    path: &str,
+    config: Config,
+    work: &Work<'_>,
+    input: &mut R,
+    output: &mut W,
+    errors: &mut E,
+) -> u8
+    requires { IsSome (work_view work.now) }
+    ensures does { (d : OnStore) → work_view work.now ≡ Some d → DoesFile F.Start ⟦<FileFrom<F> as Disk>⟧ config d
+        (record {
+          input = change_of R.remaining input.old input.new;
+          written = record {
+            output = change_of W.contents output.old output.new;
+            errors = change_of E.contents errors.old errors.new;
+            status = result;
+          };
+        }) }
+    ensures reads { reads_whole work.now ≡ false → ConsumesAtMost max_prefix (R.remaining input.old) (R.remaining input.new) }
+{
+    match tables::open(rt, path, store_dir(&config), start) {
+        Ok(tables) => work_over(rt, config, tables, work, input, output, errors),
+        Err(unopened) => refuse_file(
+            rt.alloc(),
+            store_dir(&config),
+            cause_of(unopened),
+            output,
+            errors,
+        ),
+    }
+}
+
+/// Does some work with the store of a database file, or with one in memory where none is named.
+#[tactic(auto, unfolding(crate::specs::Works::DoesWith))]
+pub(crate) fn with_tables<F: Start, R: Read, W: Write, E: Write>(
+    rt: &HostRuntime,
+    start: F,
+    db: Option<&str>,
+    config: Config,
+    work: &Work<'_>,
+    input: &mut R,
+    output: &mut W,
+    errors: &mut E,
+) -> u8
+    requires { IsSome (work_view work.now) }
+    ensures does { (d : OnStore) → work_view work.now ≡ Some d
+        → DoesWith (DoesFile F.Start ⟦<FileFrom<F> as Disk>⟧) (optional_text db.entry) config d
+        (record {
+          input = change_of R.remaining input.old input.new;
+          written = record {
+            output = change_of W.contents output.old output.new;
+            errors = change_of E.contents errors.old errors.new;
+            status = result;
+          };
+        }) }
+    ensures reads { reads_whole work.now ≡ false → ConsumesAtMost max_prefix (R.remaining input.old) (R.remaining input.new) }
+{
+    match db {
+        Some(path) => in_file(rt, start, path, config, work, input, output, errors),
+        None => in_memory(rt, config, work, input, output, errors),
     }
 }

@@ -11,8 +11,8 @@ use Rattle.tool_pure.specs.declared.stops.Stop.{Stop}
 use Rattle.tool_pure.specs.declared.stops.Stop.TheVariants.{Refused, Failed}
 
 -- how many bytes of an input decide whether it is an archive: 8 more than an archive has at most
-abbrev pub max_front : ℕ
-max_front = 16777224
+abbrev pub max_prefix : ℕ
+max_prefix = 16777224
 
 -- what a fault of an archive ends a command with: its refusal; out of memory, which is no fault of one, as a failure
 abbrev pub archive_stop : NarError → Stop

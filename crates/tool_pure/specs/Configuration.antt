@@ -1,10 +1,9 @@
 -- The text of the configuration, by its file.
-use Rattle.std.specs.Prelude.{◌≡◌, ◌⊎◌, ℕ, List, [], Option, Some, None, IfSome, Result, Ok, Err, take}
+use Rattle.std.specs.Prelude.{◌≡◌, ◌⊎◌, ◌<◌, ℕ, length, List, [], Option, Some, None, IfSome, Result, Ok, Err, take}
 use Rattle.std.specs.declared.io.Error.{Error}
 use Rattle.report.specs.declared.failures.Failure.TheVariants.{Memory, File}
 use Rattle.tool_pure.specs.declared.stops.Stop.{Stop}
 use Rattle.tool_pure.specs.declared.stops.Stop.TheVariants.{Failed}
-use Rattle.tool_pure.specs.Stop.{StopsBy}
 
 -- what came of the configuration file: none is named; it wasn't opened; or it was, and has these bytes, where it says them
 abbrev pub Opened : Type 0
@@ -21,10 +20,10 @@ abbrev pub most_of_config : ℕ
 most_of_config = 1048577
 
 -- The text by that: the empty one where no file is named, and else the bytes of the file, no more of them than decide that they are too many; or
--- why there is none.
+-- why there is none: the file wasn't opened or can't be read, or memory was refused for bytes that it has.
 abbrev pub IsConfig : Opened → Result (List ℕ) Stop → Type 0
 IsConfig None read = read ≡ Ok []
 IsConfig (Some (Err fault)) (Ok text) = ⊥
-IsConfig (Some (Err fault)) (Err stop) = StopsBy fault File stop
+IsConfig (Some (Err fault)) (Err stop) = stop ≡ Failed File
 IsConfig (Some (Ok known)) (Ok text) = IfSome known (λ all. text ≡ take most_of_config all)
-IsConfig (Some (Ok known)) (Err stop) = (stop ≡ Failed Memory) ⊎ (stop ≡ Failed File)
+IsConfig (Some (Ok known)) (Err stop) = ((stop ≡ Failed Memory) × IfSome known (λ all. 0 < length all)) ⊎ (stop ≡ Failed File)

@@ -4,5 +4,5 @@ pub mod Faults
 pub mod Object
 pub mod Stop
 pub mod Stream
-pub mod Telling
+pub mod Printing
 pub mod Who

@@ -24,6 +24,10 @@ max_references = 4096
 abbrev pub max_contents : ℕ
 max_contents = 16777104
 
+-- how many bytes of contents decide whether they are too long
+abbrev pub most_of_contents : ℕ
+most_of_contents = 16777105
+
 -- what is wrong with the name of an object, or with its references
 abbrev pub named_fault : List ℕ → List ℕ → List (List ℕ) → Option Refusal
 named_fault dir name refs =

@@ -1,12 +1,10 @@
 -- Why a command ends without its result: the line that says so, and the exit status.
-use Rattle.std.specs.Prelude.{◌≡◌, ◌≢◌, ◌⊎◌, ℕ, List}
-use Rattle.std.specs.IoError.{error_kind}
-use Rattle.std.specs.declared.io.Error.{Error}
-use Rattle.std.specs.declared.io.ErrorKind.TheVariants.{OutOfMemory}
+use Rattle.std.specs.Prelude.{ℕ, List}
+use Rattle.streams.specs.declared.error.ReadError.{ReadError}
+use Rattle.streams.specs.declared.error.ReadError.TheVariants as read
 use Rattle.report.specs.Failures.{failure_line}
 use Rattle.report.specs.Refusals.{refusal_line}
-use Rattle.report.specs.declared.failures.Failure.{Failure}
-use Rattle.report.specs.declared.failures.Failure.TheVariants.{Memory}
+use Rattle.report.specs.declared.failures.Failure.TheVariants.{Input, Memory}
 use Rattle.tool_pure.specs.declared.stops.Stop.{Stop}
 use Rattle.tool_pure.specs.declared.stops.Stop.TheVariants.{Refused, Failed}
 
@@ -20,7 +18,7 @@ abbrev pub stop_status : Stop → ℕ
 stop_status (Refused refusal) = 3
 stop_status (Failed failure) = 1
 
--- what the fault of a stream or of a file ends a command with: out of memory where it says so, else that failure
-abbrev pub StopsBy : Error → Failure → Stop → Type 0
-StopsBy fault failure stop =
-    ((error_kind fault ≡ OutOfMemory) × (stop ≡ Failed Memory)) ⊎ ((error_kind fault ≢ OutOfMemory) × (stop ≡ Failed failure))
+-- what standard input that wasn't read ends a command with
+abbrev pub stop_by : ReadError → Stop
+stop_by read.Input = Failed Input
+stop_by read.Memory = Failed Memory

@@ -16,7 +16,7 @@ use Rattle.tool_pure.specs.declared.stops.Stop.{Stop}
 use Rattle.tool_pure.specs.declared.stops.Stop.TheVariants.{Refused, Failed}
 use Rattle.tool_pure.specs.declared.verdicts.Verdict.{Verdict}
 use Rattle.tool_pure.specs.Stop.{stop_text, stop_status}
-use Rattle.report.specs.Outputs.{Prints}
+use Rattle.report.specs.Outputs.{Printed, Prints}
 use Rattle.tool_pure.specs.Stream.{Says}
 
 -- the class of a caller, with the first rule that a plain request of theirs breaks
@@ -62,8 +62,8 @@ who_status (Ok verdict) = denial_status verdict.denial
 who_status (Err stop) = stop_status stop
 
 -- the answer went to the writer and gave its status, or the writer failed; or memory gave out before there was an answer
-abbrev pub AnswersWho : Result Verdict Stop → Option (List ℕ) → Option (List ℕ) → ℕ → Type 0
-AnswersWho answer old new status = Prints (who_text answer) (who_status answer) old new status ⊎ Says (Failed Memory) old new status
+abbrev pub AnswersWho : Result Verdict Stop → Printed → Type 0
+AnswersWho answer p = Prints (who_text answer) (who_status answer) p ⊎ Says (Failed Memory) p
 
 -- why no verdict was found: out of memory, or what the definition says
 abbrev pub StopsWho : Result Verdict Stop → Stop → Type 0

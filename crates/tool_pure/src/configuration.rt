@@ -1,11 +1,9 @@
 //! The configuration: its file, and its settings.
-ghost use Rattle.std.specs.Prelude.{◌≡◌, ◌⊎◌, IfOk, IfErr, IfSome, IsErrAnd, IsOkAnd, Ok, None, [], is_some, take};
+ghost use Rattle.std.specs.Prelude.{◌≡◌, ◌⊎◌, IfOk, IfErr, IfSome, IsErrOf, IsOkAnd, Ok, None, [], ◌<◌, is_some, length, take};
 ghost use Rattle.policy.specs.Toml.{config_of};
-ghost use Rattle.tool_pure.specs.Stop.{StopsBy};
 ghost use Rattle.tool_pure.specs.Who.{StopsFor};
 
 use crate::stops::Stop;
-use crate::stream::stop_for;
 use policy::{Config, MAX_CONFIG_BYTES};
 use report::Failure;
 use std::alloc::Global;
@@ -13,7 +11,7 @@ use std::fs::File;
 use std::io;
 use std::io::Read;
 use std::rt::Files;
-use streams::read_at_most;
+use streams::{ReadError, read_at_most};
 
 /// One byte more than a configuration has at most.
 const MOST_READ: usize = MAX_CONFIG_BYTES + 1;
@@ -30,18 +28,21 @@ pub fn open_config<Rt: Files>(rt: &Rt, path: Option<&str>) -> Option<io::Result<
 
 /// The text of a configuration file, of which no more than one byte above the limit is read.
 fn file_text<R: Read + Drop>(alloc: Global, file: io::Result<R>) -> Result<Vec<u8>, Stop>
-    ensures unopened { IfErr file (λ fault. IsErrAnd result (StopsBy fault Failure.File)) }
+    ensures unopened { IfErr file (λ fault. IsErrOf result (Stop.Failed Failure.File)) }
     ensures text { IfOk file
         (λ input. IfOk result (λ text. IfSome (R.remaining input) (λ all. text.items ≡ take 1048577 all))) }
+    ensures memory { IfOk file
+        (λ input. IfErr result (λ e. e ≡ Stop.Failed Failure.Memory → IfSome (R.remaining input) (λ all. 0 < length all))) }
     ensures err { IfErr result (λ e. (e ≡ Stop.Failed Failure.Memory) ⊎ (e ≡ Stop.Failed Failure.File)) }
 {
     let mut input = match file {
         Ok(input) => input,
-        Err(fault) => return Err(stop_for(&fault, Failure::File)),
+        Err(_) => return Err(Stop::Failed(Failure::File)),
     };
     match read_at_most(alloc, &mut input, MOST_READ) {
         Ok(text) => Ok(text),
-        Err(fault) => Err(stop_for(&fault, Failure::File)),
+        Err(ReadError::Input) => Err(Stop::Failed(Failure::File)),
+        Err(ReadError::Memory) => Err(Stop::Failed(Failure::Memory)),
     }
 }
 
@@ -50,15 +51,18 @@ fn file_text<R: Read + Drop>(alloc: Global, file: io::Result<R>) -> Result<Vec<u
 ///
 /// # Errors
 ///
-/// `File` where the file wasn't opened or can't be read; `Memory` where memory was refused.
+/// `File` where the file wasn't opened or can't be read, whatever the kind of the fault; `Memory` where memory was refused for
+/// bytes that the file has.
 pub fn config_text<R: Read + Drop>(
     alloc: Global,
     file: Option<io::Result<R>>,
 ) -> Result<Vec<u8>, Stop>
     ensures none { file ≡ None → IsOkAnd result (λ text. text.items ≡ []) }
-    ensures unopened { IfSome file (λ opened. IfErr opened (λ fault. IsErrAnd result (StopsBy fault Failure.File))) }
+    ensures unopened { IfSome file (λ opened. IfErr opened (λ fault. IsErrOf result (Stop.Failed Failure.File))) }
     ensures text { IfSome file
         (λ opened. IfOk opened (λ input. IfOk result (λ text. IfSome (R.remaining input) (λ all. text.items ≡ take 1048577 all)))) }
+    ensures memory { IfSome file
+        (λ opened. IfOk opened (λ input. IfErr result (λ e. e ≡ Stop.Failed Failure.Memory → IfSome (R.remaining input) (λ all. 0 < length all)))) }
     ensures err { IfErr result (λ e. (e ≡ Stop.Failed Failure.Memory) ⊎ (e ≡ Stop.Failed Failure.File)) }
 {
     match file {

@@ -1,13 +1,12 @@
 //! An input, to a bound or all of it.
-ghost use Rattle.std.specs.Prelude.{◌≡◌, ◌⊎◌, ◌++◌, IfOk, IfErr, IfSome, OnOk, take};
+ghost use Rattle.std.specs.Prelude.{◌≡◌, ◌⊎◌, ◌++◌, IfOk, IfErr, IfSome, IsErrOf, OnOk, take};
 ghost use Rattle.nar.specs.Tree.{IsBytes};
 ghost use Rattle.intake.specs.Arriving.{bytes_in};
-ghost use Rattle.tool_pure.specs.Archive.{max_front};
-ghost use Rattle.streams.specs.Reads.{TakesAtMost};
+ghost use Rattle.tool_pure.specs.Archive.{max_prefix};
+ghost use Rattle.streams.specs.Reads.{ConsumesAtMost, TakesFewer, TakesSome};
 
 use crate::archive::MOST_OF_ARCHIVE;
 use crate::stops::Stop;
-use crate::stream::stop_for;
 use intake::Intake;
 use report::Failure;
 use std::alloc::Global;
@@ -15,23 +14,36 @@ use std::io::Read;
 use streams::{Sink, read_at_most, receive_at_most};
 
 /// The bytes of standard input, of which no more than `most` are read.
+///
+/// # Errors
+///
+/// `Input` where the reader failed before these were read, whatever the kind of its fault; `Memory` where memory was refused for
+/// bytes that were read.
 pub fn read_input<R: Read>(alloc: Global, input: &mut R, most: usize) -> Result<Vec<u8>, Stop>
     ensures ok { IfOk result (λ bytes. IfSome (R.remaining input.old) (λ all. bytes.items ≡ take most all)) }
     ensures err { IfErr result (λ e. (e ≡ Stop.Failed Failure.Memory) ⊎ (e ≡ Stop.Failed Failure.Input)) }
-    ensures reads { TakesAtMost most (R.remaining input.old) (R.remaining input.new) }
+    ensures reads { ConsumesAtMost most (R.remaining input.old) (R.remaining input.new) }
+    ensures input { IsErrOf result (Stop.Failed Failure.Input) → TakesFewer most (R.remaining input.old) (R.remaining input.new) }
+    ensures memory { IsErrOf result (Stop.Failed Failure.Memory) → TakesSome most (R.remaining input.old) (R.remaining input.new) }
 {
     match read_at_most(alloc, input, most) {
         Ok(bytes) => Ok(bytes),
-        Err(fault) => Err(stop_for(&fault, Failure::Input)),
+        Err(fault) => Err(Stop::from(fault)),
     }
 }
 
 /// The archive on standard input, checked and hashed as it comes. No more bytes are read than decide what it is.
+///
+/// # Errors
+///
+/// As `read_input`.
 pub fn receive_archive<R: Read>(alloc: Global, input: &mut R) -> Result<Intake, Stop>
-    ensures ok { IfOk result (λ nar. IfSome (R.remaining input.old) (λ all. bytes_in nar ≡ take max_front all)) }
+    ensures ok { IfOk result (λ nar. IfSome (R.remaining input.old) (λ all. bytes_in nar ≡ take max_prefix all)) }
     ensures bytes { IfOk result (λ nar. IsBytes (bytes_in nar)) }
     ensures err { IfErr result (λ e. (e ≡ Stop.Failed Failure.Memory) ⊎ (e ≡ Stop.Failed Failure.Input)) }
-    ensures reads { TakesAtMost max_front (R.remaining input.old) (R.remaining input.new) }
+    ensures reads { ConsumesAtMost max_prefix (R.remaining input.old) (R.remaining input.new) }
+    ensures input { IsErrOf result (Stop.Failed Failure.Input) → TakesFewer max_prefix (R.remaining input.old) (R.remaining input.new) }
+    ensures memory { IsErrOf result (Stop.Failed Failure.Memory) → TakesSome max_prefix (R.remaining input.old) (R.remaining input.new) }
 {
     let mut nar = Intake::new(alloc);
     match receive_at_most(input, MOST_OF_ARCHIVE, &mut nar) {
@@ -39,7 +51,7 @@ pub fn receive_archive<R: Read>(alloc: Global, input: &mut R) -> Result<Intake, 
             nar.are_bytes();
             Ok(nar)
         }
-        Err(fault) => Err(stop_for(&fault, Failure::Input)),
+        Err(fault) => Err(Stop::from(fault)),
     }
 }
 
@@ -50,10 +62,13 @@ const UNBOUNDED: usize = usize::MAX;
 ///
 /// # Errors
 ///
-/// Memory was refused, or the input could not be read.
+/// `Input` where the reader failed, whatever the kind of its fault; `Memory` where the sink was refused memory, or the input has more
+/// bytes than memory.
 pub fn receive_input<R: Read, S: Sink>(input: &mut R, sink: &mut S) -> Result<(), Stop>
     ensures ok { OnOk result (IfSome (R.remaining input.old) (λ all. S.taken sink.new ≡ S.taken sink.old ++ all)) }
     ensures err { IfErr result (λ e. (e ≡ Stop.Failed Failure.Memory) ⊎ (e ≡ Stop.Failed Failure.Input)) }
+    ensures input { IsErrOf result (Stop.Failed Failure.Input) → TakesFewer UNBOUNDED (R.remaining input.old) (R.remaining input.new) }
+    ensures memory { IsErrOf result (Stop.Failed Failure.Memory) → TakesSome UNBOUNDED (R.remaining input.old) (R.remaining input.new) }
 {
     match receive_at_most(input, UNBOUNDED, sink) {
         Ok(count) => {
@@ -63,6 +78,6 @@ pub fn receive_input<R: Read, S: Sink>(input: &mut R, sink: &mut S) -> Result<()
                 Err(Stop::Failed(Failure::Memory))
             }
         }
-        Err(fault) => Err(stop_for(&fault, Failure::Input)),
+        Err(fault) => Err(Stop::from(fault)),
     }
 }

@@ -1,8 +1,9 @@
 //! `ls`: the listing of an archive.
 ghost use Rattle.std.specs.Prelude.{◌≡◌, ◌⊎◌, true, IfOk, IfErr, Ok, Err, None, string_bytes};
-ghost use Rattle.tool_pure.specs.Archive.{max_front, ls_answer};
-ghost use Rattle.streams.specs.Reads.{TakesAtMost};
-ghost use Rattle.tool_pure.specs.Stream.{AnswersTo, IsFailure, IsResultOf, result_text};
+ghost use Rattle.report.specs.Outputs.{change_of};
+ghost use Rattle.tool_pure.specs.Archive.{max_prefix, ls_answer};
+ghost use Rattle.streams.specs.Reads.{ConsumesAtMost};
+ghost use Rattle.tool_pure.specs.Stream.{AnswersTo, InputFails, IsFailure, IsResultOf, result_text};
 
 use crate::archive::{MOST_OF_ARCHIVE, read_archive};
 use crate::input::read_input;
@@ -23,8 +24,9 @@ fn listing(alloc: Global, nar: &[u8]) -> Result<String, Stop>
 }
 
 fn ls_result<R: Read>(alloc: Global, input: &mut R) -> Result<String, Stop>
-    ensures answer { IsFailure true (result_text result) ⊎ IsResultOf None ls_answer (R.remaining input.old) (result_text result) }
-    ensures reads { TakesAtMost max_front (R.remaining input.old) (R.remaining input.new) }
+    ensures answer { IsFailure (InputFails true max_prefix (change_of R.remaining input.old input.new)) (result_text result)
+        ⊎ IsResultOf None ls_answer (R.remaining input.old) (result_text result) }
+    ensures reads { ConsumesAtMost max_prefix (R.remaining input.old) (R.remaining input.new) }
 {
     let nar = read_input(alloc, input, MOST_OF_ARCHIVE)?;
     listing(alloc, nar.as_slice())
@@ -37,14 +39,29 @@ fn ls_result<R: Read>(alloc: Global, input: &mut R) -> Result<String, Stop>
 /// `refused: 8 too-large`, with status 3; `failed: memory`, `failed: input` or, where `output` fails,
 /// `failed: output`, with status 1. No more than 16,777,224 bytes are read, which decide what the
 /// input is.
+///
+/// ```rust
+/// let mut input = b"".as_slice();
+/// let (mut output, mut errors) = (Vec::new(alloc), Vec::new(alloc));
+/// assert_eq!(rt; tool::ls(alloc, &mut input, &mut output, &mut errors), 3);
+/// assert_eq!(rt; errors.as_slice(), b"refused: 1 truncated\n".as_slice());
+/// ```
 pub fn ls<R: Read, W: Write, E: Write>(
     alloc: Global,
     input: &mut R,
     output: &mut W,
     errors: &mut E,
 ) -> u8
-    ensures answer { AnswersTo None ls_answer (R.remaining input.old) (W.contents output.old) (W.contents output.new) (E.contents errors.old) (E.contents errors.new) result }
-    ensures reads { TakesAtMost max_front (R.remaining input.old) (R.remaining input.new) }
+    ensures answer { AnswersTo None max_prefix ls_answer
+        (record {
+          input = change_of R.remaining input.old input.new;
+          written = record {
+            output = change_of W.contents output.old output.new;
+            errors = change_of E.contents errors.old errors.new;
+            status = result;
+          };
+        }) }
+    ensures reads { ConsumesAtMost max_prefix (R.remaining input.old) (R.remaining input.new) }
 {
     give(ls_result(alloc, input), output, errors)
 }

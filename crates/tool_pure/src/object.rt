@@ -3,6 +3,7 @@ ghost use Rattle.std.specs.Prelude.{◌≡◌, ◌⊎◌, IfOk, IfErr, IfSome, N
 ghost use Rattle.std.specs.List.{list_all};
 ghost use Rattle.paths.specs.Names.{is_store_name};
 ghost use Rattle.paths.specs.StorePath.{base_of};
+ghost use Rattle.report.specs.Outputs.{change_of};
 ghost use Rattle.tool_pure.specs.Object.{is_path_text, named_fault, object_fault};
 ghost use Rattle.tool_pure.specs.Object as spec;
 ghost use Rattle.tool_pure.specs.Stream.{IsStopAt, IsStopBy, ReadsFor};
@@ -113,7 +114,7 @@ pub(crate) fn read_object<S: AsStr, R: Read>(
     ensures object { IfOk result (λ x. (object_fault dir.now name.now (map S.text references.now) ≡ None) × (x.0.name ≡ name.now)
         × (x.0.references.items ≡ map (base_of dir.now) (map S.text references.now))) }
     ensures bytes { IfOk result (λ x. IfSome (R.remaining input.old) (λ all. x.1.items ≡ take most all)) }
-    ensures err { IfErr result (IsStopAt (object_fault dir.now name.now (map S.text references.now))) }
+    ensures err { IfErr result (IsStopAt (object_fault dir.now name.now (map S.text references.now)) most (change_of R.remaining input.old input.new)) }
     ensures reads { ReadsFor (object_fault dir.now name.now (map S.text references.now)) most (R.remaining input.old) (R.remaining input.new) }
 {
     let object = parse_small(alloc, dir, name, references)?;

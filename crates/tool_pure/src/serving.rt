@@ -2,9 +2,10 @@
 ghost use Rattle.model.specs.Reply as replied;
 ghost use Rattle.store_types.specs.View.{request_view};
 ghost use Rattle.store.specs.Calls.{Calls};
-ghost use Rattle.tool_pure.specs.Telling.{IsTold};
+ghost use Rattle.report.specs.Outputs.{change_of};
+ghost use Rattle.tool_pure.specs.Printing.{IsPrinted};
 
-use crate::telling::tell;
+use crate::printing::print_reply;
 use policy::{Caller, store_dir};
 use sqlite::Alter;
 use std::alloc::Global;
@@ -26,8 +27,12 @@ pub fn serve<S: Alter, W: Write, E: Write>(
 ) -> u8
     // The store takes one step, and the reply of that step is what is told.
     ensures { (reply : replied.Reply) × Calls S.Store caller.now (request_view request) reply store.old store.new
-        × IsTold store.old.settings.store_dir reply (W.contents output.old) (W.contents output.new) (E.contents errors.old) (E.contents errors.new) result }
+        × IsPrinted store.old.settings.store_dir reply (record {
+          output = change_of W.contents output.old output.new;
+          errors = change_of E.contents errors.old errors.new;
+          status = result;
+        }) }
 {
     let reply = store.call(caller, request);
-    tell(alloc, store_dir(store.config()), reply, output, errors)
+    print_reply(alloc, store_dir(store.config()), reply, output, errors)
 }

@@ -1,9 +1,10 @@
 //! `source-path`: from an archive and references to a store path.
 ghost use Rattle.std.specs.Prelude.{◌≡◌, ◌≤◌, ◌⊎◌, length, IfOk, IfErr, Ok, Err, is_none, map, string_bytes};
 ghost use Rattle.paths.specs.StorePath.{base_of};
-ghost use Rattle.tool_pure.specs.Archive.{max_front};
+ghost use Rattle.report.specs.Outputs.{change_of};
+ghost use Rattle.tool_pure.specs.Archive.{max_prefix};
 ghost use Rattle.tool_pure.specs.Object.{object_fault, source_path_answer};
-ghost use Rattle.tool_pure.specs.Stream.{AnswersTo, ReadsFor, IsFailure, IsResultOf, result_text};
+ghost use Rattle.tool_pure.specs.Stream.{AnswersTo, InputFails, ReadsFor, IsFailure, IsResultOf, result_text};
 
 use crate::archive::{MOST_OF_ARCHIVE, read_archive};
 use crate::object::{Object, path_line, read_object};
@@ -33,9 +34,10 @@ fn source_path_result<S: AsStr, R: Read>(
     references: &[S],
     input: &mut R,
 ) -> Result<String, Stop>
-    ensures answer { IsFailure (is_none (object_fault dir.now name.now (map S.text references.now))) (result_text result) ⊎ IsResultOf (object_fault dir.now name.now (map S.text references.now))
+    ensures answer { IsFailure (InputFails (is_none (object_fault dir.now name.now (map S.text references.now))) max_prefix (change_of R.remaining input.old input.new))
+        (result_text result) ⊎ IsResultOf (object_fault dir.now name.now (map S.text references.now))
         (source_path_answer dir.now name.now (map (base_of dir.now) (map S.text references.now))) (R.remaining input.old) (result_text result) }
-    ensures reads { ReadsFor (object_fault dir.now name.now (map S.text references.now)) max_front (R.remaining input.old) (R.remaining input.new) }
+    ensures reads { ReadsFor (object_fault dir.now name.now (map S.text references.now)) max_prefix (R.remaining input.old) (R.remaining input.new) }
 {
     let (object, nar) = read_object(alloc, dir, name, references, input, MOST_OF_ARCHIVE)?;
     source_line(alloc, dir, &object, nar.as_slice())
@@ -50,6 +52,17 @@ fn source_path_result<S: AsStr, R: Read>(
 /// `refused: 8 too-large`, all with status 3; `failed: memory`, `failed: input` or, where `output`
 /// fails, `failed: output`, all with status 1. No more than 16,777,224 bytes are read, which decide
 /// what the input is, and nothing where the name or the references are refused.
+///
+/// ```rust
+/// use paths::StoreDir;
+///
+/// let dir = StoreDir::parse(alloc, "/nix/store")?;
+/// let (mut input, references) = (b"".as_slice(), [""; 0]);
+/// let (mut output, mut errors) = (Vec::new(alloc), Vec::new(alloc));
+/// let status = tool::source_path(alloc, &dir, "..-x", &references, &mut input, &mut output, &mut errors);
+/// assert_eq!(rt; status, 3);
+/// assert_eq!(rt; errors.as_slice(), b"refused: 12 bad-store-name\n".as_slice());
+/// ```
 pub fn source_path<S: AsStr, R: Read, W: Write, E: Write>(
     alloc: Global,
     dir: &StoreDir,
@@ -59,10 +72,17 @@ pub fn source_path<S: AsStr, R: Read, W: Write, E: Write>(
     output: &mut W,
     errors: &mut E,
 ) -> u8
-    ensures answer { AnswersTo (object_fault dir.now name.now (map S.text references.now))
+    ensures answer { AnswersTo (object_fault dir.now name.now (map S.text references.now)) max_prefix
         (source_path_answer dir.now name.now (map (base_of dir.now) (map S.text references.now)))
-        (R.remaining input.old) (W.contents output.old) (W.contents output.new) (E.contents errors.old) (E.contents errors.new) result }
-    ensures reads { ReadsFor (object_fault dir.now name.now (map S.text references.now)) max_front (R.remaining input.old) (R.remaining input.new) }
+        (record {
+          input = change_of R.remaining input.old input.new;
+          written = record {
+            output = change_of W.contents output.old output.new;
+            errors = change_of E.contents errors.old errors.new;
+            status = result;
+          };
+        }) }
+    ensures reads { ReadsFor (object_fault dir.now name.now (map S.text references.now)) max_prefix (R.remaining input.old) (R.remaining input.new) }
 {
     give(
         source_path_result(alloc, dir, name, references, input),

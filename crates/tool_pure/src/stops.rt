@@ -1,8 +1,9 @@
 //! Why a command ends without its result: the line that says so, and the exit status.
 ghost use Rattle.std.specs.Prelude.{◌≡◌};
-ghost use Rattle.tool_pure.specs.Stop.{stop_text, stop_status};
+ghost use Rattle.tool_pure.specs.Stop.{stop_by, stop_text, stop_status};
 
 use report::{Failure, Refusal, refusal_line};
+use streams::ReadError;
 
 /// Why a command ends without its result.
 #[derive(Clone, Copy, PartialEq, Eq, Debug)]
@@ -15,6 +16,12 @@ pub enum Stop {
 
 impl Stop {
     /// The line that says why, with its line feed.
+    ///
+    /// ```rust
+    /// use tool::{Refusal, Stop};
+    ///
+    /// assert_eq!(rt; Stop::Refused(Refusal::BadCaller).text(), "refused: 20 bad-caller\n");
+    /// ```
     pub fn text(self) -> &'static str
         ensures { result.now ≡ stop_text self }
     {
@@ -25,12 +32,31 @@ impl Stop {
     }
 
     /// The exit status.
+    ///
+    /// ```rust
+    /// use tool::{Failure, Refusal, Stop};
+    ///
+    /// assert_eq!(rt; Stop::Refused(Refusal::BadCaller).status(), 3);
+    /// assert_eq!(rt; Stop::Failed(Failure::Input).status(), 1);
+    /// ```
     pub fn status(self) -> u8
         ensures { result ≡ stop_status self }
     {
         match self {
             Stop::Refused(_) => 3,
             Stop::Failed(_) => 1,
+        }
+    }
+}
+
+/// Standard input that wasn't read.
+impl From<ReadError> for Stop {
+    ghost from_gives = { λ fault stop. stop ≡ stop_by fault };
+
+    fn from(fault: ReadError) -> Stop {
+        match fault {
+            ReadError::Input => Stop::Failed(Failure::Input),
+            ReadError::Memory => Stop::Failed(Failure::Memory),
         }
     }
 }

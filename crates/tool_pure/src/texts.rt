@@ -1,8 +1,9 @@
 //! `text-path`: from contents and references to a store path.
-ghost use Rattle.std.specs.Prelude.{◌≡◌, ◌+◌, ◌⊎◌, IfOk, IfErr, Ok, Err, is_none, map, string_bytes};
+ghost use Rattle.std.specs.Prelude.{◌≡◌, ◌⊎◌, IfOk, IfErr, Ok, Err, is_none, map, string_bytes};
 ghost use Rattle.paths.specs.StorePath.{base_of};
-ghost use Rattle.tool_pure.specs.Object.{max_contents, object_fault, text_path_answer};
-ghost use Rattle.tool_pure.specs.Stream.{AnswersTo, ReadsFor, IsFailure, IsResultOf, result_text};
+ghost use Rattle.report.specs.Outputs.{change_of};
+ghost use Rattle.tool_pure.specs.Object.{most_of_contents, object_fault, text_path_answer};
+ghost use Rattle.tool_pure.specs.Stream.{AnswersTo, InputFails, ReadsFor, IsFailure, IsResultOf, result_text};
 
 use crate::object::{Object, path_line, read_object};
 use crate::stops::Stop;
@@ -43,9 +44,10 @@ fn text_path_result<S: AsStr, R: Read>(
     references: &[S],
     input: &mut R,
 ) -> Result<String, Stop>
-    ensures answer { IsFailure (is_none (object_fault dir.now name.now (map S.text references.now))) (result_text result) ⊎ IsResultOf (object_fault dir.now name.now (map S.text references.now))
+    ensures answer { IsFailure (InputFails (is_none (object_fault dir.now name.now (map S.text references.now))) most_of_contents (change_of R.remaining input.old input.new))
+        (result_text result) ⊎ IsResultOf (object_fault dir.now name.now (map S.text references.now))
         (text_path_answer dir.now name.now (map (base_of dir.now) (map S.text references.now))) (R.remaining input.old) (result_text result) }
-    ensures reads { ReadsFor (object_fault dir.now name.now (map S.text references.now)) (max_contents + 1) (R.remaining input.old) (R.remaining input.new) }
+    ensures reads { ReadsFor (object_fault dir.now name.now (map S.text references.now)) most_of_contents (R.remaining input.old) (R.remaining input.new) }
 {
     let (object, contents) = read_object(alloc, dir, name, references, input, MOST_OF_CONTENTS)?;
     text_line(alloc, dir, &object, contents.as_slice())
@@ -60,6 +62,17 @@ fn text_path_result<S: AsStr, R: Read>(
 /// of contents, all with status 3; `failed: memory`, `failed: input` or, where `output` fails,
 /// `failed: output`, all with status 1. No more than one byte above the limit of contents is read, and
 /// nothing where the name or the references are refused.
+///
+/// ```rust
+/// use paths::StoreDir;
+///
+/// let dir = StoreDir::parse(alloc, "/nix/store")?;
+/// let (mut input, references) = (b"mycontent\n".as_slice(), [""; 0]);
+/// let (mut output, mut errors) = (Vec::new(alloc), Vec::new(alloc));
+/// let status = tool::text_path(alloc, &dir, "myfile", &references, &mut input, &mut output, &mut errors);
+/// assert!(rt; status == 0 && errors.is_empty());
+/// assert_eq!(rt; output.as_slice(), b"/nix/store/a0d1zlpv81nsfbam8ay3i7snrc0sgsvr-myfile\n".as_slice());
+/// ```
 pub fn text_path<S: AsStr, R: Read, W: Write, E: Write>(
     alloc: Global,
     dir: &StoreDir,
@@ -69,10 +82,17 @@ pub fn text_path<S: AsStr, R: Read, W: Write, E: Write>(
     output: &mut W,
     errors: &mut E,
 ) -> u8
-    ensures answer { AnswersTo (object_fault dir.now name.now (map S.text references.now))
+    ensures answer { AnswersTo (object_fault dir.now name.now (map S.text references.now)) most_of_contents
         (text_path_answer dir.now name.now (map (base_of dir.now) (map S.text references.now)))
-        (R.remaining input.old) (W.contents output.old) (W.contents output.new) (E.contents errors.old) (E.contents errors.new) result }
-    ensures reads { ReadsFor (object_fault dir.now name.now (map S.text references.now)) (max_contents + 1) (R.remaining input.old) (R.remaining input.new) }
+        (record {
+          input = change_of R.remaining input.old input.new;
+          written = record {
+            output = change_of W.contents output.old output.new;
+            errors = change_of E.contents errors.old errors.new;
+            status = result;
+          };
+        }) }
+    ensures reads { ReadsFor (object_fault dir.now name.now (map S.text references.now)) most_of_contents (R.remaining input.old) (R.remaining input.new) }
 {
     give(
         text_path_result(alloc, dir, name, references, input),

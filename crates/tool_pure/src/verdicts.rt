@@ -1,5 +1,6 @@
 //! `who`: from a configuration and a caller to a verdict.
 ghost use Rattle.std.specs.Prelude.{◌≡◌, ◌++◌, OnOk, IfOk, IfErr, Ok, option_map, string_bytes};
+ghost use Rattle.report.specs.Outputs.{change_of};
 ghost use Rattle.tool_pure.specs.Who.{AnswersWho, StopsWho, verdict_of, verdict_text, denial_text, denial_status};
 
 use crate::callers::parse_caller;
@@ -59,6 +60,14 @@ fn push_denial(denial: Option<Rule>, text: &mut String) -> Result<(), AllocError
 
 /// The class of a caller, and the first rule that forbids them a plain request.
 ///
+/// ```rust
+/// use policy::{Class, Rule};
+///
+/// let verdict = tool::judge(alloc, b"allowed-users = []\n", Some("bob"), Some("users"))?;
+/// assert_eq!(rt; verdict.class, Class::Stranger);
+/// assert_eq!(rt; verdict.denial, Some(Rule::Connect));
+/// ```
+///
 /// # Errors
 ///
 /// `BadConfig` with the first key word that applies, else `BadCaller` where no user is named or a
@@ -84,6 +93,12 @@ pub fn judge(
 /// Everything goes to the one writer: the two lines with status 0 or 4, or the one line of a bad
 /// configuration or caller with status 3, or of refused memory with status 1. Where the writer
 /// fails, the status is 1 and nothing more is written: it holds a prefix of these lines.
+///
+/// ```rust
+/// let mut output = Vec::new(alloc);
+/// assert_eq!(rt; tool::who(alloc, b"", Some("root"), None, &mut output), 0);
+/// assert_eq!(rt; output.as_slice(), b"class: trusted\nconnect: yes\n".as_slice());
+/// ```
 pub fn who<W: Write>(
     alloc: Global,
     config: &[u8],
@@ -91,7 +106,7 @@ pub fn who<W: Write>(
     group: Option<&str>,
     out: &mut W,
 ) -> u8
-    ensures { AnswersWho (verdict_of config.now (option_map (λ s. s.now) user.entry) (option_map (λ s. s.now) group.entry)) (W.contents out.old) (W.contents out.new) result }
+    ensures { AnswersWho (verdict_of config.now (option_map (λ s. s.now) user.entry) (option_map (λ s. s.now) group.entry)) (record { writer = change_of W.contents out.old out.new; status = result }) }
 {
     match judge(alloc, config, user, group) {
         Ok(verdict) => match verdict.text(alloc) {

@@ -14,9 +14,9 @@ use Rattle.tool_words.specs.Asked.{Asked, OnProfile, OnSession, set, rollback, s
 use Rattle.tool_words.specs.Values.{is_given}
 
 -- an action that wants a value
-abbrev pub wanting : {A : Type 0} → (Text → A) → Option Text → Result A UsageFault
-wanting act (Some text) = Ok (act text)
-wanting act None = Err MissingValue
+abbrev pub requiring : {A : Type 0} → (Text → A) → Option Text → Result A UsageFault
+requiring act (Some text) = Ok (act text)
+requiring act None = Err MissingValue
 
 -- an action that takes none
 abbrev pub without : {A : Type 0} → A → Option Text → Result A UsageFault
@@ -34,16 +34,16 @@ session text = number_up_to 4194304 text
 -- an ACTION of `profile` with its VALUE
 abbrev pub on_profile : Text → Option Text → Result OnProfile UsageFault
 on_profile action value =
-    if bytes_eq action (codes "set") then wanting set value
+    if bytes_eq action (codes "set") then requiring set value
     else if bytes_eq action (codes "rollback") then without rollback value
-    else if bytes_eq action (codes "switch") then wanting (λ n. switch (generation n)) value
-    else if bytes_eq action (codes "delete") then wanting (λ n. delete_generation (generation n)) value
+    else if bytes_eq action (codes "switch") then requiring (λ n. switch (generation n)) value
+    else if bytes_eq action (codes "delete") then requiring (λ n. delete_generation (generation n)) value
     else Err UnknownAction
 
 -- an ACTION of `temp` with its PATH
 abbrev pub on_session : Text → Option Text → Result OnSession UsageFault
 on_session action path =
-    if bytes_eq action (codes "add") then wanting add_temp path
+    if bytes_eq action (codes "add") then requiring add_temp path
     else if bytes_eq action (codes "end") then without end_session path
     else Err UnknownAction
 

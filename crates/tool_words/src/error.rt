@@ -30,6 +30,13 @@ pub enum UsageFault {
 impl UsageFault {
     /// The fault as `clap` reports one that it finds itself: what is wrong, and how the command is used.
     ///
+    /// ```rust
+    /// use tool::UsageFault;
+    ///
+    /// let fault = UsageFault::NoSubcommand.error(alloc)?;
+    /// assert!(rt; fault.use_stderr());
+    /// ```
+    ///
     /// # Errors
     ///
     /// Memory was refused.

@@ -67,6 +67,15 @@ fn refusal(fault: clap::Error) -> CommandError
 
 /// Reads the words of a command line, of which the first is the program's name.
 ///
+/// ```rust
+/// use tool::Task;
+///
+/// let words = ["nixkeep", "--user", "root", "who"];
+/// let line = tool::command(alloc, &words)?;
+/// assert!(rt; matches!(line.task, Task::Who));
+/// assert_eq!(rt; line.user, Some("root"));
+/// ```
+///
 /// # Errors
 ///
 /// `Usage` where `clap` refuses the words or they ask for help, `Misuse` where it doesn't but the words

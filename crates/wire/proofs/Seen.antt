@@ -7,11 +7,11 @@ use Rattle.sqlite.specs.State.{HasCleanDisk}
 use Rattle.sqlite.specs.Held.{Held, state}
 use Rattle.policy.specs.Settings.{Settings}
 use Rattle.model.specs.World.{World}
-use Rattle.tables.specs.Kept.{Tells}
-use Rattle.store.specs.Standing.{Standing}
+use Rattle.tables.specs.Kept.{HasWorld}
+use Rattle.store.specs.View.{StoreView}
 use Rattle.store.proofs.Clean.{step_clean}
 use Rattle.wire_server.specs.Responses.{Replied}
-use Rattle.wire.specs.Courses.{Course, replies, calls, Takes}
+use Rattle.wire.specs.Courses.{Course, replies, calls, HasCourse}
 use Rattle.wire.specs.Answers.{Answers, Ends}
 use Rattle.wire_server.specs.declared.error.WireError.{WireError}
 use Rattle.wire_server.specs.Serves.{Served}
@@ -22,39 +22,39 @@ use Rattle.wire.specs.Ends.{ServesStreams, ServesPort, ServesOver}
 
 module _ {S : Type 0} (g : Ghosts S) where
   -- tables that tell a world, under these settings
-  abbrev pub IsAt : Settings → Standing S → World → Type 0
-  IsAt s st w = Tells g st.tables w × (st.settings ≡ s)
+  abbrev pub IsAt : Settings → StoreView S → World → Type 0
+  IsAt s st w = HasWorld g st.tables w × (st.settings ≡ s)
 
-  step_from : ((held : Held S) → HasCleanDisk (state g held)) → (old new : Standing S) (w : World) (h : RequestHead) (body : List ℕ) (r : Replied) (course : Course) → Tells g old.tables w
-      → Takes old.settings h body course → Ends g course old r new → (next : World) × IsAt old.settings new next × AnswersFrom old.settings w h body r next
+  step_from : ((held : Held S) → HasCleanDisk (state g held)) → (old new : StoreView S) (w : World) (h : RequestHead) (body : List ℕ) (r : Replied) (course : Course) → HasWorld g old.tables w
+      → HasCourse old.settings h body course → Ends g course old r new → (next : World) × IsAt old.settings new next × AnswersFrom old.settings w h body r next
   step_from clean old new w h body r (replies it) told takes (is, stays) =
-      (w, (subst (λ st. Tells g st.tables w) (sym stays) told, ap (λ st. st.settings) stays), (replies it, takes, (is, refl)))
+      (w, (subst (λ st. HasWorld g st.tables w) (sym stays) told, ap (λ st. st.settings) stays), (replies it, takes, (is, refl)))
   step_from clean old new w h body r (calls c q) told takes (reply, is, said) =
       let one = is.step w told in
       let step = step_clean (HasCleanDisk (state g new.tables.connection)) old.settings w c q reply one.0 (λ _. clean new.tables.connection) one.1 in
       (one.0, (one.2, is.settings), (calls c q, takes, (reply, step, said)))
 
-  answer_from : ((held : Held S) → HasCleanDisk (state g held)) → (s : Settings) (old : Standing S) (w : World) (h : RequestHead) (body : List ℕ) (r : Replied) (new : Standing S) → IsAt s old w → Answers g old h body r new
+  answer_from : ((held : Held S) → HasCleanDisk (state g held)) → (s : Settings) (old : StoreView S) (w : World) (h : RequestHead) (body : List ℕ) (r : Replied) (new : StoreView S) → IsAt s old w → Answers g old h body r new
       → (next : World) × IsAt s new next × AnswersFrom s w h body r next
   answer_from clean s old w h body r new (told, same) (course, takes, ends) =
       subst (λ t. (next : World) × IsAt t new next × AnswersFrom t w h body r next) same (step_from clean old new w h body r course told takes ends)
 
   -- no more than the settings
-  abbrev pub IsUnder : Settings → Standing S → Unit {0} → Type 0
+  abbrev pub IsUnder : Settings → StoreView S → Unit {0} → Type 0
   IsUnder s st none = st.settings ≡ s
 
-  step_some : (old new : Standing S) (h : RequestHead) (body : List ℕ) (r : Replied) (course : Course)
-      → Takes old.settings h body course → Ends g course old r new → (next : Unit {0}) × IsUnder old.settings new next × AnswersSome old.settings tt h body r next
+  step_some : (old new : StoreView S) (h : RequestHead) (body : List ℕ) (r : Replied) (course : Course)
+      → HasCourse old.settings h body course → Ends g course old r new → (next : Unit {0}) × IsUnder old.settings new next × AnswersSome old.settings tt h body r next
   step_some old new h body r (replies it) takes (is, stays) = (tt, ap (λ st. st.settings) stays, (replies it, takes, is))
   step_some old new h body r (calls c q) takes (reply, is, said) = (tt, is.settings, (calls c q, takes, (reply, said)))
 
-  answer_some : (s : Settings) (old : Standing S) (none : Unit {0}) (h : RequestHead) (body : List ℕ) (r : Replied) (new : Standing S) → IsUnder s old none
+  answer_some : (s : Settings) (old : StoreView S) (none : Unit {0}) (h : RequestHead) (body : List ℕ) (r : Replied) (new : StoreView S) → IsUnder s old none
       → Answers g old h body r new → (next : Unit {0}) × IsUnder s new next × AnswersSome s none h body r next
   answer_some s old none h body r new same (course, takes, ends) =
       subst (λ t. (next : Unit {0}) × IsUnder t new next × AnswersSome t tt h body r next) same (step_some old new h body r course takes ends)
 
-  module _ (old : Standing S) (known out out' err err' : Option (List ℕ)) (status : ℕ) (served : ServesStreams (Answers g) known out out' err err' old status) where
-    pub streams_from : ((held : Held S) → HasCleanDisk (state g held)) → (w : World) → Tells g old.tables w → ServesStreams (AnswersFrom old.settings) known out out' err err' w status
+  module _ (old : StoreView S) (known out out' err err' : Option (List ℕ)) (status : ℕ) (served : ServesStreams (Answers g) known out out' err err' old status) where
+    pub streams_from : ((held : Held S) → HasCleanDisk (state g held)) → (w : World) → HasWorld g old.tables w → ServesStreams (AnswersFrom old.settings) known out out' err err' w status
     streams_from clean w told = elim served [
       | inl lacks ↦ inl lacks
       | inr (end, new, is, says, ends) ↦
@@ -70,9 +70,9 @@ module _ {S : Type 0} (g : Ghosts S) where
           inr (end, more.0, more.2, says, ends)
     ]
 
-  module _ (old new : Standing S) (known out out' : Option (List ℕ)) (result : Result ℕ WireError) (served : Served (Answers g) known out out' old new result) where
-    pub served_from : ((held : Held S) → HasCleanDisk (state g held)) → (w : World) → Tells g old.tables w
-        → (next : World) × Tells g new.tables next × Served (AnswersFrom old.settings) known out out' w next result
+  module _ (old new : StoreView S) (known out out' : Option (List ℕ)) (result : Result ℕ WireError) (served : Served (Answers g) known out out' old new result) where
+    pub served_from : ((held : Held S) → HasCleanDisk (state g held)) → (w : World) → HasWorld g old.tables w
+        → (next : World) × HasWorld g new.tables next × Served (AnswersFrom old.settings) known out out' w next result
     served_from clean w told =
         let more = served_seen (Answers g) (AnswersFrom old.settings) (IsAt old.settings) (answer_from clean old.settings) known out out' old w new result (told, refl) served in
         (more.0, more.1.0, more.2)
@@ -84,13 +84,13 @@ module _ {S : Type 0} (g : Ghosts S) where
     served_settings = (served_seen (Answers g) (AnswersSome old.settings) (IsUnder old.settings) (answer_some old.settings) known out out' old tt new result refl served).1
 
   -- the settings stay over connections that come one after another
-  pub over_settings : (old new : Standing S) (n : ℕ) (err err' : Option (List ℕ)) (result : Result ℕ Error) → ServesOver (Answers g) n err err' old new result → new.settings ≡ old.settings
+  pub over_settings : (old new : StoreView S) (n : ℕ) (err err' : Option (List ℕ)) (result : Result ℕ Error) → ServesOver (Answers g) n err err' old new result → new.settings ≡ old.settings
   over_settings old new n err err' result (inl served) =
       (serves_on_seen (Answers g) (AnswersSome old.settings) (IsUnder old.settings) (answer_some old.settings) None None None None err err' old tt new refl n result served).1
   over_settings old new n err err' result (inr (fault, same, kept)) = ap (λ st. st.settings) same
 
-  module _ (old : Standing S) (n : ℕ) (err err' : Option (List ℕ)) (status : ℕ) (served : ServesPort (Answers g) n err err' old status) where
-    pub port_from : ((held : Held S) → HasCleanDisk (state g held)) → (w : World) → Tells g old.tables w → ServesPort (AnswersFrom old.settings) n err err' w status
+  module _ (old : StoreView S) (n : ℕ) (err err' : Option (List ℕ)) (status : ℕ) (served : ServesPort (Answers g) n err err' old status) where
+    pub port_from : ((held : Held S) → HasCleanDisk (state g held)) → (w : World) → HasWorld g old.tables w → ServesPort (AnswersFrom old.settings) n err err' w status
     port_from clean w told = elim served [
       | inl lacks ↦ inl lacks
       | inr (inl taken) ↦ inr (inl taken)

@@ -1,6 +1,5 @@
 -- What becomes of a message before the store is asked, in the order of the tests.
 use Rattle.std.specs.Prelude.{◌≡◌, ◌⊎◌, ℕ, true, false, List, Option, Some, None}
-use Rattle.std.specs.Option.{option_and_then}
 use Rattle.httparse.specs.Grammar.{RequestHead}
 use Rattle.wire_messages.specs.Fields.{fields_of}
 use Rattle.wire_messages.specs.Callers.{caller_in}
@@ -10,7 +9,7 @@ use Rattle.policy.specs.Class.{class_of}
 use Rattle.policy.specs.Operation.{plain}
 use Rattle.policy.specs.Rules.{first_broken}
 use Rattle.policy.specs.declared.kinds.Rule.{Rule}
-use Rattle.wire_requests.specs.Methods.{method_of, kind_of, allowed}
+use Rattle.wire_requests.specs.Methods.{kind_of, allowed}
 use Rattle.wire_requests.specs.Table.{requests_of}
 use Rattle.wire_requests.specs.declared.kind.Kind.{Kind}
 use Rattle.wire_requests.specs.declared.requests.Requests.{Requests}
@@ -21,17 +20,47 @@ use Rattle.report.specs.Stops.{denial_text}
 use Rattle.model.specs.declared.refusal.Refusal.TheVariants.{BadStorePath, BadCaller, NoRoute, BadMethod, BadBodyHead}
 use Rattle.wire_server.specs.Responses as responses
 use Rattle.wire_server.specs.Responses.{Replied, replied, refused}
-use Rattle.wire.specs.declared.course.Course as code
-use Rattle.wire.specs.declared.course.Course.TheVariants as codes
+use Rattle.wire.specs.declared.admission.Admission as code
+use Rattle.wire.specs.declared.admission.Admission.TheVariants as codes
+
+-- What the head of a message decides: this is replied, whatever the body is; or a caller, who may connect, asks something of a kind.
+pub data Admission : Type 0 where
+  refuses : Replied → Admission
+  admits : Caller → Kind → Admission
 
 -- This is replied, and the store isn't asked; or the store is asked this.
 pub data Course : Type 0 where
   replies : Replied → Course
   calls : Caller → Request → Course
 
+-- ---- by the head
+
 -- the denial of a caller who may not connect
 abbrev pub denied : List ℕ → Rule → Replied
 denied dir rule = responses.plain 403 (denial_text dir rule None)
+
+abbrev pub by_method : Caller → Requests → Option Kind → Admission
+by_method c route None = refuses (refused BadMethod (Some (allowed route)))
+by_method c route (Some kind) = admits c kind
+
+abbrev pub by_route : Caller → List ℕ → Option Requests → Admission
+by_route c method None = refuses (refused NoRoute None)
+by_route c method (Some route) = by_method c route (kind_of route method)
+
+abbrev pub by_rule : List ℕ → Caller → List ℕ → List ℕ → Option Rule → Admission
+by_rule dir c method target (Some rule) = refuses (denied dir rule)
+by_rule dir c method target None = by_route c method (requests_of target)
+
+-- who sends it, and whether they may connect
+abbrev pub by_caller : Settings → List ℕ → List ℕ → Option Caller → Admission
+by_caller s method target None = refuses (refused BadCaller None)
+by_caller s method target (Some c) = by_rule s.store_dir c method target (first_broken (class_of s c) c plain)
+
+-- what a head decides: caller, rule, route and method
+abbrev pub admission_of : Settings → RequestHead → Admission
+admission_of s h = by_caller s h.method h.target (caller_in (fields_of h))
+
+-- ---- by the body
 
 -- something is asked; or the path in the target is bad; or it isn't, and the body says nothing of the kind
 abbrev pub Reads : List ℕ → Caller → Kind → List ℕ → List ℕ → Course → Type 0
@@ -40,28 +69,16 @@ Reads dir c kind target body course =
     ⊎ (((has_bad_path kind target ≡ true) × (course ≡ replies (refused BadStorePath None)))
     ⊎ ((has_bad_path kind target ≡ false) × ((q : Request) → Asks dir kind target body q → ⊥) × (course ≡ replies (refused BadBodyHead None))))
 
-abbrev pub ByMethod : List ℕ → Caller → List ℕ → List ℕ → Requests → Option Kind → Course → Type 0
-ByMethod dir c target body route None course = course ≡ replies (refused BadMethod (Some (allowed route)))
-ByMethod dir c target body route (Some kind) course = Reads dir c kind target body course
+abbrev pub Follows : List ℕ → List ℕ → List ℕ → Admission → Course → Type 0
+Follows dir target body (refuses it) course = course ≡ replies it
+Follows dir target body (admits c kind) course = Reads dir c kind target body course
 
-abbrev pub ByRoute : List ℕ → Caller → List ℕ → List ℕ → List ℕ → Option Requests → Course → Type 0
-ByRoute dir c method target body None course = course ≡ replies (refused NoRoute None)
-ByRoute dir c method target body (Some route) course = ByMethod dir c target body route (option_and_then (kind_of route) (method_of method)) course
+-- the course that a message takes: first what its head decides, then the path in its target and its body
+abbrev pub HasCourse : Settings → RequestHead → List ℕ → Course → Type 0
+HasCourse s h body course = Follows s.store_dir h.target body (admission_of s h) course
 
-abbrev pub ByRule : List ℕ → Caller → List ℕ → List ℕ → List ℕ → Option Rule → Course → Type 0
-ByRule dir c method target body (Some rule) course = course ≡ replies (denied dir rule)
-ByRule dir c method target body None course = ByRoute dir c method target body (requests_of target) course
+-- ---- what the code's values stand for
 
--- who sends it, and whether they may connect
-abbrev pub ByCaller : Settings → List ℕ → List ℕ → List ℕ → Option Caller → Course → Type 0
-ByCaller s method target body None course = course ≡ replies (refused BadCaller None)
-ByCaller s method target body (Some c) course = ByRule s.store_dir c method target body (first_broken (class_of s c) c plain) course
-
--- the course that a message takes: caller, rule, route, method, path and body
-abbrev pub Takes : Settings → RequestHead → List ℕ → Course → Type 0
-Takes s h body course = ByCaller s h.method h.target body (caller_in (fields_of h)) course
-
--- what the code's course stands for
-abbrev pub course_view : code.Course → Course
-course_view (codes.Replies r) = replies (replied r)
-course_view (codes.Calls c q) = calls c (views.request_view q)
+abbrev pub admission_view : code.Admission → Admission
+admission_view (codes.Refused r) = refuses (replied r)
+admission_view (codes.Admitted c kind) = admits c kind

@@ -15,12 +15,12 @@ use Rattle.wire_server.specs.declared.sessions.End.{End}
 -- The status is 1 where a connection failed; and where an accept failed, which is said.
 abbrev pub EndsOn : Result ℕ Error → Option (List ℕ) → Option (List ℕ) → ℕ → Type 0
 EndsOn (Ok failed) err err' status = Keeps err err' × (status ≡ min failed 1)
-EndsOn (Err fault) err err' status = Prints (codes "failed: input\n") 1 err err' status
+EndsOn (Err fault) err err' status = Prints (codes "failed: input\n") 1 (record { writer = record { old = err; new = err' }; status = status })
 
 module _ {S : Type 0} (answers : S → RequestHead → List ℕ → Replied → S → Type 0) where
   -- one connection is served, and the status is 1 where it failed, which is said; or there was no memory to begin with
   abbrev pub ServesStreams : Option (List ℕ) → Option (List ℕ) → Option (List ℕ) → Option (List ℕ) → Option (List ℕ) → S → ℕ → Type 0
-  ServesStreams known out out' err err' old status = LacksMemory out out' err err' status
+  ServesStreams known out out' err err' old status = LacksMemory (record { output = record { old = out; new = out' }; errors = record { old = err; new = err' }; status = status })
       ⊎ ((end : End) × (new : S) × Served answers known out out' old new (result_of end) × Says end err err' × (status ≡ failure end))
 
   -- a number of connections of a listener are served
@@ -35,5 +35,5 @@ module _ {S : Type 0} (answers : S → RequestHead → List ℕ → Replied → 
 
   -- a number of connections of a port, of which nothing is known; or there was no memory to begin with, or the port couldn't be bound
   abbrev pub ServesPort : ℕ → Option (List ℕ) → Option (List ℕ) → S → ℕ → Type 0
-  ServesPort n err err' old status = Prints (codes "failed: memory\n") 1 err err' status
-      ⊎ (Prints (codes "failed: input\n") 1 err err' status ⊎ ((new : S) × ServesListener n None None None None err err' old new status))
+  ServesPort n err err' old status = Prints (codes "failed: memory\n") 1 (record { writer = record { old = err; new = err' }; status = status })
+      ⊎ (Prints (codes "failed: input\n") 1 (record { writer = record { old = err; new = err' }; status = status }) ⊎ ((new : S) × ServesListener n None None None None err err' old new status))

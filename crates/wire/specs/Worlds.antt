@@ -7,7 +7,7 @@ use Rattle.model.specs.Reply.{Reply}
 use Rattle.model.specs.Step.{Step}
 use Rattle.wire_server.specs.Responses.{Replied}
 use Rattle.wire.specs.Replies.{response_to}
-use Rattle.wire.specs.Courses.{Course, replies, calls, Takes}
+use Rattle.wire.specs.Courses.{Course, replies, calls, HasCourse}
 
 -- the reply at once, and the world stays; or a step is taken, and the response is that to its reply
 abbrev pub LeadsTo : Settings → Course → World → Replied → World → Type 0
@@ -15,7 +15,7 @@ LeadsTo s (replies it) w r new = (r ≡ it) × (new ≡ w)
 LeadsTo s (calls c q) w r new = (reply : Reply) × Step s w c q reply new × (r ≡ response_to s.store_dir reply)
 
 abbrev pub AnswersFrom : Settings → World → RequestHead → List ℕ → Replied → World → Type 0
-AnswersFrom s w h body r new = (course : Course) × Takes s h body course × LeadsTo s course w r new
+AnswersFrom s w h body r new = (course : Course) × HasCourse s h body course × LeadsTo s course w r new
 
 -- the same where nothing is known of the world: some reply
 abbrev pub IsSomeReply : Settings → Course → Replied → Type 0
@@ -23,4 +23,4 @@ IsSomeReply s (replies it) r = r ≡ it
 IsSomeReply s (calls c q) r = (reply : Reply) × (r ≡ response_to s.store_dir reply)
 
 abbrev pub AnswersSome : Settings → Unit {0} → RequestHead → List ℕ → Replied → Unit {0} → Type 0
-AnswersSome s old h body r new = (course : Course) × Takes s h body course × IsSomeReply s course r
+AnswersSome s old h body r new = (course : Course) × HasCourse s h body course × IsSomeReply s course r

@@ -1,14 +1,13 @@
 //! A store that is served over HTTP.
 #![tactic(auto)]
 
-mod course;
-mod courses;
-mod kinds;
+mod admission;
+mod admitting;
+mod failures;
 mod listening;
 mod parts;
 mod port;
 mod replies;
-mod said;
 mod server;
 mod serving;
 mod stream;

@@ -17,6 +17,19 @@ use wire_server::Port;
 /// line on `errors` says why: `failed: input`, `failed: output` or `failed: memory`. The clock bounds how long a connection that is
 /// closed waits for its peer.
 ///
+/// ```rust
+/// use std::io::Write;
+/// use std::net::{Shutdown, TcpListener, TcpStream};
+///
+/// let listener = TcpListener::bind(rt, "127.0.0.1:0")?;
+/// let mut peer = TcpStream::connect(rt, listener.local_addr()?)?;
+/// peer.write_all(b"GET /paths HTTP/1.1\r\nstore-user: ann\r\n\r\n")?;
+/// peer.shutdown(Shutdown::Write)?;
+/// let mut errors = Vec::new(alloc);
+/// let failed = wire::serve_on(rt, alloc, &listener, 1, store, &mut errors)?;
+/// assert!(rt; failed == 0 && errors.is_empty());
+/// ```
+///
 /// # Errors
 ///
 /// The fault of an accept, which ends it; and `OutOfMemory` where there was no memory to begin with, and nothing was served.

@@ -3,13 +3,13 @@ ghost use Rattle.std.specs.Prelude.{◌≡◌, ◌⊎◌, None, codes};
 ghost use Rattle.sqlite.specs.State.{HasCleanDisk};
 ghost use Rattle.sqlite.specs.Held.{Held, state};
 ghost use Rattle.model.specs.World.{World};
-ghost use Rattle.tables.specs.Kept.{Tells};
+ghost use Rattle.tables.specs.Kept.{HasWorld};
 ghost use Rattle.wire.specs.Answers.{Answers};
-ghost use Rattle.report.specs.Outputs.{Prints};
+ghost use Rattle.report.specs.Outputs.{Prints, change_of};
 ghost use Rattle.wire.specs.Worlds.{AnswersFrom, AnswersSome};
 ghost use Rattle.wire.specs.Ends.{ServesListener, ServesPort};
 
-use crate::said::{FAILED, NO_INPUT, NO_MEMORY, say};
+use crate::failures::{FAILED, NO_INPUT, NO_MEMORY, say};
 use crate::server::Server;
 use policy::Config;
 use sqlite::Alter;
@@ -49,7 +49,7 @@ fn listen<N: Net<Listener = TcpListener, Stream = TcpStream> + Clock, E: Write, 
     responder: &A,
     state: &mut T,
 ) -> u8
-    ensures { Prints (codes "failed: input\n") 1 (E.contents errors.old) (E.contents errors.new) result
+    ensures { Prints (codes "failed: input\n") 1 (record { writer = change_of E.contents errors.old errors.new; status = result })
         ⊎ ServesListener A.answers connections None None None None (E.contents errors.old) (E.contents errors.new) state.old state.new result }
 {
     match TcpListener::bind(net, (Ipv4Addr::LOCALHOST, port)) {
@@ -93,6 +93,17 @@ fn serve<N: Net<Listener = TcpListener, Stream = TcpStream> + Clock, S: Alter + 
 ///
 /// A line on `errors` says why a connection failed: `failed: input`, `failed: output` or `failed: memory`. Where the port can't be
 /// bound, or an accept fails, `failed: input` is said, and nothing more is served.
+///
+/// ```rust
+/// use policy::{Config, store_dir};
+/// use tables::Tables;
+///
+/// let config = Config::from_toml(alloc, b"")?;
+/// let tables = Tables::open_in_memory(alloc, store_dir(&config))?;
+/// let mut errors = Vec::new(alloc);
+/// let status = wire::serve_port(&rt, alloc, 8080, 0, config, tables, &mut errors);
+/// assert!(rt; status == 0 && errors.is_empty());
+/// ```
 pub fn serve_port<
     N: Net<Listener = TcpListener, Stream = TcpStream> + Clock,
     S: Alter + Drop,
@@ -108,7 +119,7 @@ pub fn serve_port<
 ) -> u8
     requires { tables.dir ≡ config.store_dir }
     ensures served { ServesPort (Answers S.Store) connections (E.contents errors.old) (E.contents errors.new) (record { tables = tables; settings = config }) result }
-    ensures worlds { ((h : Held S) → HasCleanDisk (state S.Store h)) → (w : World) → Tells S.Store tables w → ServesPort (AnswersFrom config) connections (E.contents errors.old) (E.contents errors.new) w result }
+    ensures worlds { ((h : Held S) → HasCleanDisk (state S.Store h)) → (w : World) → HasWorld S.Store tables w → ServesPort (AnswersFrom config) connections (E.contents errors.old) (E.contents errors.new) w result }
     ensures replies { ServesPort (AnswersSome config) connections (E.contents errors.old) (E.contents errors.new) tt result }
 {
     serve(net, alloc, port, connections, config, tables, errors)

@@ -1,18 +1,19 @@
 //! What answers messages from a store.
-ghost use Rattle.wire.specs.Answers.{Answers};
+ghost use Rattle.std.specs.Prelude.{◌≡◌, []};
+ghost use Rattle.wire.specs.Answers.{Answers, Admits};
 
-use crate::course::Course;
-use crate::courses::course_of;
-use crate::kinds::body_for;
-use crate::parts::{method_of, target_of};
+use crate::admission::{Admission, Endpoint};
+use crate::admitting::admit;
+use crate::parts::target_of;
 use crate::replies::respond;
 use policy::store_dir;
+use report::Refusal;
 use sqlite::Alter;
 use std::alloc::{AllocError, Global};
 use store::Store;
 use wire_messages::Head;
-use wire_requests::{Body, Routes};
-use wire_server::{Responder, Response};
+use wire_requests::{AskError, Body, Kind, Routes, is_archive, read_request};
+use wire_server::{Begun, Responder, Response};
 
 /// Answers messages from a store, by the table of routes.
 #[derive(Drop)]
@@ -31,15 +32,40 @@ impl Server {
     }
 }
 
+/// What takes the body of a message of a kind, whose length is given: an archive is checked and hashed as it arrives.
+fn body_for(alloc: Global, kind: Kind, size: usize) -> Body
+    ensures { result ≡ [] }
+{
+    if is_archive(kind) {
+        Body::parted(alloc)
+    } else {
+        Body::held(alloc, size)
+    }
+}
+
 impl<S: Alter> Responder<Store<S>> for Server {
+    type Course = Endpoint;
+
     type Body = Body;
 
     ghost answers = { Answers S.Store };
 
-    fn begin(&self, _store: &Store<S>, held: &[u8], head: &Head, size: usize) -> Body {
-        let method = method_of(held, head);
-        let target = target_of(held, head);
-        body_for(self.alloc, &self.routes, method, target, size)
+    ghost decides = { Admits };
+
+    fn begin(
+        &self,
+        store: &Store<S>,
+        held: &[u8],
+        head: &Head,
+        size: usize,
+    ) -> Result<Begun<Endpoint, Body>, AllocError> {
+        match admit(self.alloc, &self.routes, store.config(), held, head)? {
+            Admission::Admitted(caller, kind) => {
+                let body = body_for(self.alloc, kind, size);
+                Ok(Begun::Accepted(Endpoint { caller, kind }, body))
+            }
+            Admission::Refused(response) => Ok(Begun::Refused(response)),
+        }
     }
 
     fn answer(
@@ -47,15 +73,22 @@ impl<S: Alter> Responder<Store<S>> for Server {
         store: &mut Store<S>,
         held: &[u8],
         head: &Head,
+        endpoint: Endpoint,
         body: Body,
     ) -> Result<Response, AllocError> {
-        let config = store.config();
-        match course_of(self.alloc, &self.routes, config, held, head, body)? {
-            Course::Replies(response) => Ok(response),
-            Course::Calls(caller, request) => {
+        let Endpoint { caller, kind } = endpoint;
+        let target = target_of(held, head);
+        let dir = store_dir(store.config());
+        match read_request(self.alloc, dir, kind, target, body) {
+            Ok(request) => {
                 let reply = store.call(&caller, request);
                 respond(self.alloc, store_dir(store.config()), reply)
             }
+            Err(AskError::BadPath) => { Response::refused(self.alloc, Refusal::BadStorePath, None) }
+            Err(AskError::BadBodyHead) => {
+                Response::refused(self.alloc, Refusal::BadBodyHead, None)
+            }
+            Err(AskError::Memory) => Err(AllocError),
         }
     }
 }

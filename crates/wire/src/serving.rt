@@ -3,7 +3,7 @@ ghost use Rattle.std.specs.Prelude.{◌≡◌};
 ghost use Rattle.sqlite.specs.State.{HasCleanDisk};
 ghost use Rattle.sqlite.specs.Held.{Held, state};
 ghost use Rattle.model.specs.World.{World};
-ghost use Rattle.tables.specs.Kept.{Tells};
+ghost use Rattle.tables.specs.Kept.{HasWorld};
 ghost use Rattle.wire_server.specs.Serves.{Served};
 ghost use Rattle.wire.specs.Answers.{Answers};
 ghost use Rattle.wire.specs.Worlds.{AnswersFrom, AnswersSome};
@@ -21,6 +21,13 @@ pub type Count = u64;
 /// Serves a store on one connection: answers the messages of the input one after another, up to its end, the first that closes the
 /// connection, or an input that begins with no message; and how many were answered.
 ///
+/// ```rust
+/// let mut input = b"GET /paths HTTP/1.1\r\nstore-user: ann\r\n\r\n".as_slice();
+/// let mut output = Vec::new(alloc);
+/// assert_eq!(rt; wire::serve(alloc, store, &mut input, &mut output), Ok(1));
+/// assert!(rt; output.starts_with(b"HTTP/1.1 200 OK\r\n"));
+/// ```
+///
 /// # Errors
 ///
 /// `Read` where the reader failed; `Write` where the writer did, or took no byte; `Memory` where it was refused. The store is the one
@@ -33,8 +40,8 @@ pub fn serve<S: Alter, R: Read, W: Write>(
 ) -> Result<Count, WireError>
     ensures served { Served (Answers S.Store) (R.remaining input.old) (W.contents output.old) (W.contents output.new) store.old store.new result }
     ensures settings { store.new.settings ≡ store.old.settings }
-    ensures worlds { ((h : Held S) → HasCleanDisk (state S.Store h)) → (w : World) → Tells S.Store store.old.tables w
-        → (next : World) × Tells S.Store store.new.tables next
+    ensures worlds { ((h : Held S) → HasCleanDisk (state S.Store h)) → (w : World) → HasWorld S.Store store.old.tables w
+        → (next : World) × HasWorld S.Store store.new.tables next
         × Served (AnswersFrom store.old.settings) (R.remaining input.old) (W.contents output.old) (W.contents output.new) w next result }
     ensures replies { Served (AnswersSome store.old.settings) (R.remaining input.old) (W.contents output.old) (W.contents output.new) tt tt result }
 {

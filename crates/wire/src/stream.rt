@@ -4,13 +4,13 @@ ghost use Rattle.policy.specs.Settings.{Settings};
 ghost use Rattle.sqlite.specs.State.{HasCleanDisk};
 ghost use Rattle.sqlite.specs.Held.{Held, state};
 ghost use Rattle.model.specs.World.{World};
-ghost use Rattle.tables.specs.Kept.{Tells};
+ghost use Rattle.tables.specs.Kept.{HasWorld};
 ghost use Rattle.wire.specs.Answers.{Answers};
 ghost use Rattle.wire_server.specs.Sessions.{failure};
 ghost use Rattle.wire.specs.Worlds.{AnswersFrom, AnswersSome};
 ghost use Rattle.wire.specs.Ends.{ServesStreams};
 
-use crate::said::{FAILED, NO_MEMORY, say};
+use crate::failures::{FAILED, NO_MEMORY, say};
 use crate::server::Server;
 use policy::Config;
 use sqlite::Alter;
@@ -26,7 +26,7 @@ fn status_of(end: End) -> u8
 {
     match end {
         End::Served(_) => 0,
-        End::Told(_) | End::Untold(_) => FAILED,
+        End::Reported(_) | End::Unreported(_) => FAILED,
     }
 }
 
@@ -58,6 +58,19 @@ fn serve<S: Alter + Drop, R: Read, W: Write, E: Write>(
 
 /// Serves the store of these tables on one connection, and gives the exit status: 0 where it was served to its end, else 1, and a
 /// line on `errors` says why: `failed: input`, `failed: output` or `failed: memory`.
+///
+/// ```rust
+/// use policy::{Config, store_dir};
+/// use tables::Tables;
+///
+/// let config = Config::from_toml(alloc, b"")?;
+/// let tables = Tables::open_in_memory(alloc, store_dir(&config))?;
+/// let mut input = b"GET /paths".as_slice();
+/// let (mut output, mut errors) = (Vec::new(alloc), Vec::new(alloc));
+/// let status = wire::serve_streams(alloc, config, tables, &mut input, &mut output, &mut errors);
+/// assert!(rt; status == 0 && errors.is_empty());
+/// assert!(rt; output.ends_with(b"refused: 36 bad-head\n"));
+/// ```
 pub fn serve_streams<S: Alter + Drop, R: Read, W: Write, E: Write>(
     alloc: Global,
     config: Config,
@@ -68,7 +81,7 @@ pub fn serve_streams<S: Alter + Drop, R: Read, W: Write, E: Write>(
 ) -> u8
     requires { tables.dir ≡ config.store_dir }
     ensures served { ServesStreams (Answers S.Store) (R.remaining input.old) (W.contents output.old) (W.contents output.new) (E.contents errors.old) (E.contents errors.new) (record { tables = tables; settings = config }) result }
-    ensures worlds { ((h : Held S) → HasCleanDisk (state S.Store h)) → (w : World) → Tells S.Store tables w
+    ensures worlds { ((h : Held S) → HasCleanDisk (state S.Store h)) → (w : World) → HasWorld S.Store tables w
         → ServesStreams (AnswersFrom config) (R.remaining input.old) (W.contents output.old) (W.contents output.new) (E.contents errors.old) (E.contents errors.new) w result }
     ensures replies { ServesStreams (AnswersSome config) (R.remaining input.old) (W.contents output.old) (W.contents output.new) (E.contents errors.old) (E.contents errors.new) tt result }
 {

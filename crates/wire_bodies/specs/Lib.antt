@@ -1,5 +1,5 @@
 pub mod Bodies
-pub mod Front
+pub mod Prefix
 pub mod Kinds
 pub mod Lines
 pub mod Parts

@@ -1,4 +1,5 @@
 pub mod Beginnings
+pub mod Came
 pub mod Heads
 pub mod Longer
 pub mod Named

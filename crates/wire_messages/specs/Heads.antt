@@ -35,7 +35,7 @@ pub record Holds (buf : List ℕ) (head : Head) (h : RequestHead) : Type 0 where
   pub within : IsRequestWithin buf head.fields head.spans
 
 -- what a look at the bytes so far says, whatever follows them
-abbrev pub Tells : List ℕ → Look → Type 0
-Tells buf (Whole head) = (h : RequestHead) × Holds buf head h
-Tells buf Unfinished = HasNoRequest buf × (length buf < max_head)
-Tells buf Faulty = (more : List ℕ) → HasNoHead (buf ++ more)
+abbrev pub LookFinds : List ℕ → Look → Type 0
+LookFinds buf (Whole head) = (h : RequestHead) × Holds buf head h
+LookFinds buf Unfinished = HasNoRequest buf × (length buf < max_head)
+LookFinds buf Faulty = (more : List ℕ) → HasNoHead (buf ++ more)

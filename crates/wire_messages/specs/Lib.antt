@@ -1,3 +1,4 @@
+pub mod Bodies
 pub mod Callers
 pub mod Division
 pub mod Fields

@@ -71,12 +71,3 @@ abbrev pub Receives : {A : Type 0} → (List ℕ → Option (List ℕ) → A →
 Receives is old new held held' result =
     ((bs : List ℕ) × Consumes old new bs × OnOk result (held' ≡ held ++ bs)) × IfOk result (is held' new)
     × (result ≡ Err Silent → (held ≡ []) × (held' ≡ []))
-
--- A body of this size was passed on that follows a head of `len` bytes: what was held of it, and what was read, which is
--- nothing beyond it; or the input ended inside it.
-pub record HandsOn (old new : Option (List ℕ)) (held : List ℕ) (len size : ℕ) (taken taken' : List ℕ) (result : Result Bool ReceiveError) : Type 0 where
-  pub read : List ℕ
-  pub consumed : Consumes old new read
-  pub whole : result ≡ Ok true → (taken' ≡ taken ++ take size (drop len (held ++ read))) × (len + size ≤ length (held ++ read))
-      × (drop (len + size) (held ++ read) ≡ drop (len + size) held)
-  pub short : result ≡ Ok false → IsAtEnd new × (length (held ++ read) < len + size)

@@ -1,7 +1,7 @@
 //! The head of a message at the beginning of a buffer.
 ghost use Rattle.std.specs.Prelude.{◌≡◌, ◌≤◌, ◌<◌, take, length};
 ghost use Rattle.httparse.specs.Grammar.{HasNoRequest};
-ghost use Rattle.wire_messages.specs.Heads.{Tells, has_begun_in};
+ghost use Rattle.wire_messages.specs.Heads.{LookFinds, has_begun_in};
 
 use httparse::Status;
 use httparse::spans::{EMPTY_HEADER_SPAN, HeaderSpan, RequestSpans, parse_request};
@@ -32,7 +32,7 @@ pub enum Look {
 pub fn look_for_head(buf: &[u8], seen: usize) -> Look
     requires within { seen ≤ length buf.now }
     requires none { HasNoRequest (take seen buf.now) }
-    ensures { Tells buf.now result }
+    ensures { LookFinds buf.now result }
 {
     if !buf[seen..].contains(&b'\n') {
         return without_head(buf);
@@ -73,7 +73,7 @@ pub(crate) fn look_again(buf: &[u8], seen: usize, has_begun: bool) -> Look
     requires within { seen ≤ length buf.now }
     requires none { HasNoRequest (take seen buf.now) }
     requires begun { has_begun ≡ has_begun_in buf.now }
-    ensures { Tells buf.now result }
+    ensures { LookFinds buf.now result }
 {
     if has_begun {
         look_for_head(buf, seen)
@@ -85,7 +85,7 @@ pub(crate) fn look_again(buf: &[u8], seen: usize, has_begun: bool) -> Look
 /// What bytes say that begin with no head: more of them can't where they are too many.
 fn without_head(buf: &[u8]) -> Look
     requires { HasNoRequest buf.now }
-    ensures { Tells buf.now result }
+    ensures { LookFinds buf.now result }
 {
     if buf.len() < MAX_HEAD {
         Look::Unfinished

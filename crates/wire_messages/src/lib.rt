@@ -1,6 +1,7 @@
 //! HTTP messages: heads, bodies and callers.
 #![tactic(auto)]
 
+mod body;
 mod caller;
 mod error;
 mod fields;
@@ -8,8 +9,9 @@ mod head;
 pub mod laws;
 mod receive;
 
+pub use body::{pass_body, receive_body};
 pub use caller::read_caller;
 pub use error::{Fault, ReceiveError};
 pub use fields::{Values, closes, length_of_body, values_of};
 pub use head::{Head, Look, MAX_HEAD, look_for_head};
-pub use receive::{Received, Start, receive_body, receive_head, receive_start};
+pub use receive::{Received, Start, receive_head, receive_start};

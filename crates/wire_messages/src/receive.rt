@@ -1,12 +1,11 @@
 //! Messages, read from a reader in pieces of any size.
-ghost use Rattle.std.specs.Prelude.{◌≡◌, ◌<◌, ◌≤◌, length, vec_len};
-ghost use Rattle.wire_messages.specs.Messages.{ReadsMore, Receives, Starts, Announces, HandsOn};
+ghost use Rattle.std.specs.Prelude.{◌≡◌, ◌<◌, length, vec_len};
+ghost use Rattle.wire_messages.specs.Messages.{ReadsMore, Receives, Starts, Announces};
 
 use crate::error::{Fault, ReceiveError};
 use crate::fields::length_of_body;
 use crate::head::{Head, Look, has_begun, look_again};
 use std::io::{Error, ErrorKind, Read};
-use streams::{Sink, receive_at_most};
 
 /// What the input begins with.
 #[derive(Clone, Copy)]
@@ -138,36 +137,5 @@ pub fn receive_head<R: Read>(
     match length_of_body(buffer, &head) {
         Ok(size) => Ok(Received::Message(head, size)),
         Err(fault) => Ok(Received::Faulty(fault)),
-    }
-}
-
-/// Passes on the body, of a given length, that follows a head: what of it is held, and the rest as it arrives. Whether it came
-/// whole. Nothing is read beyond it.
-///
-/// # Errors
-///
-/// `Read` where the reader failed, and `Memory` where the sink was refused memory.
-pub fn receive_body<R: Read, S: Sink>(
-    input: &mut R,
-    held: &[u8],
-    head: &Head,
-    size: usize,
-    body: &mut S,
-) -> Result<bool, ReceiveError>
-    requires { head.now.spans.len ≤ length held.now }
-    ensures { HandsOn (R.remaining input.old) (R.remaining input.new) held.now head.now.spans.len size (S.taken body.old) (S.taken body.new) result }
-{
-    let behind = &held[head.spans.len..];
-    let (front, _) = behind.split_at(size.min(behind.len()));
-    if body.take(front).is_err() {
-        return Err(ReceiveError::Memory);
-    }
-    let left = size - front.len();
-    match receive_at_most(input, left, body) {
-        Ok(count) => Ok(count == left),
-        Err(fault) => match fault.kind() {
-            ErrorKind::OutOfMemory => Err(ReceiveError::Memory),
-            _ => Err(ReceiveError::Read),
-        },
     }
 }

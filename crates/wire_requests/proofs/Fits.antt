@@ -7,7 +7,7 @@ use Rattle.matchit.specs.Router.{RouteOf}
 use Rattle.matchit.specs.Seek.{first}
 use Rattle.wire_requests.specs.declared.requests.Requests.{Requests}
 use Rattle.wire_requests.specs.Patterns.{fits, behind, is_plain}
-use Rattle.wire_requests.specs.Table.{table, first_fit, requests_of}
+use Rattle.wire_requests.specs.Table.{routes, table, first_fit, requests_of}
 use Rattle.wire_requests.specs.Rows.{Has, AreRows}
 use Rattle.wire_requests.proofs.Texts.{AllBytes, and_first, and_last, not_true}
 use Rattle.wire_requests.proofs.Seeking.{AllPlain, found_fits, missing_fits_none}
@@ -86,11 +86,11 @@ none_first text (row ∷ rows) none = by (fits row.0 text) refl (none_first text
     by false is ih = ih
 
 table_apart : all_apart table ≡ true
-unfolding table
+unfolding routes table
 table_apart = refl
 
 table_plain : list_all (λ row. is_plain row.0) table ≡ true
-unfolding table
+unfolding routes table
 table_plain = refl
 
 module _ (rs : RowsOf (RouteOf Requests)) (rows : AreRows rs table) (text : List ℕ) where

@@ -1,8 +1,11 @@
 pub mod Bare
+pub mod Conflicts
 pub mod Fits
 pub mod Inserted
 pub mod Parting
+pub mod Payloads
 pub mod Seeking
 pub mod Steps
 pub mod Suffixes
 pub mod Texts
+pub mod Words

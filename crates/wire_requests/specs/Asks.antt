@@ -5,7 +5,8 @@ use Rattle.paths.specs.Decimal.{number_up_to}
 use Rattle.paths.specs.StorePath.{is_base_name}
 use Rattle.model.specs.World.{Path, Pair}
 use Rattle.model.specs.Request.{Request, add_text, add_source, import_object, info, nar, ls, list, list_live, list_dead, list_roots, list_roots_of, set_permanent, drop_permanent, set_user_root, drop_user_root, set_profile, rollback, switch, delete_generation, replace_runtime, add_temp, end_session, collect, delete, report}
-use Rattle.wire_requests.specs.Parts.{part}
+use Rattle.wire_requests.specs.Parts.{path, user, name, number, session}
+use Rattle.wire_requests.specs.Table.{at_info, at_nar, at_ls, at_roots_of, at_permanent, at_user_root, at_profile, at_rollback, at_switch, at_generation, at_temp}
 use Rattle.wire_requests.specs.declared.kind.Kind.{Kind}
 use Rattle.wire_requests.specs.declared.kind.Kind.TheVariants as kinds
 use Rattle.wire_bodies.specs.Lines.{spelled}
@@ -29,12 +30,12 @@ session_in text = number_up_to 4194304 text
 
 -- the request that names in a target say whole
 abbrev pub by_names : Kind → List ℕ → Option Request
-by_names kinds.DropPermanent target = Some (drop_permanent (part 3 target))
-by_names kinds.DropUserRoot target = Some (drop_user_root (part 3 target) (part 4 target))
-by_names kinds.Rollback target = Some (rollback (part 2 target) (part 3 target))
-by_names kinds.Switch target = Some (switch (part 2 target) (part 3 target) (generation_in (part 4 target)))
-by_names kinds.DeleteGeneration target = Some (delete_generation (part 2 target) (part 3 target) (generation_in (part 4 target)))
-by_names kinds.EndSession target = Some (end_session (part 2 target) (session_in (part 3 target)))
+by_names kinds.DropPermanent target = Some (drop_permanent (name at_permanent target))
+by_names kinds.DropUserRoot target = Some (drop_user_root (user at_user_root target) (name at_user_root target))
+by_names kinds.Rollback target = Some (rollback (user at_rollback target) (name at_rollback target))
+by_names kinds.Switch target = Some (switch (user at_switch target) (name at_switch target) (generation_in (number at_switch target)))
+by_names kinds.DeleteGeneration target = Some (delete_generation (user at_generation target) (name at_generation target) (generation_in (number at_generation target)))
+by_names kinds.EndSession target = Some (end_session (user at_temp target) (session_in (session at_temp target)))
 by_names _ target = None
 
 -- the request of a kind that wants nothing else
@@ -46,9 +47,9 @@ by_target kinds.Dead target = Some list_dead
 by_target kinds.Report target = Some report
 by_target kind target = by_names kind target
 
--- a base name after the second slash of the target, and nothing in the body
+-- a base name in the target, and nothing in the body
 abbrev pub OnPath : List ℕ → List ℕ → (Path → Request) → Request → Type 0
-OnPath target body on q = (is_base_name (part 2 target) ≡ true) × (is_blank body ≡ true) × (q ≡ on (part 2 target))
+OnPath base body on q = (is_base_name base ≡ true) × (is_blank body ≡ true) × (q ≡ on base)
 
 -- a path in the body
 abbrev pub Naming : List ℕ → List ℕ → (Path → Request) → Request → Type 0
@@ -59,14 +60,14 @@ abbrev pub Asks : List ℕ → Kind → List ℕ → List ℕ → Request → Ty
 Asks dir kinds.AddText target body q = (head : NamedHead) × (contents : List ℕ) × IsNamedBody dir body head contents × (q ≡ add_text head.name head.references.items contents)
 Asks dir kinds.AddSource target body q = (head : NamedHead) × (b : List ℕ) × IsNamedBody dir body head b × (q ≡ add_source head.name head.references.items b)
 Asks dir kinds.Import target body q = (head : ImportHead) × (b : List ℕ) × IsImportBody dir body head b × (q ≡ import_object (imported head b))
-Asks dir kinds.Info target body q = OnPath target body (λ p. info p) q
-Asks dir kinds.Nar target body q = OnPath target body (λ p. nar p) q
-Asks dir kinds.Ls target body q = OnPath target body (λ p. ls p) q
-Asks dir kinds.RootsOf target body q = OnPath target body (λ p. list_roots_of p) q
-Asks dir kinds.SetPermanent target body q = Naming dir body (λ p. set_permanent (part 3 target) p) q
-Asks dir kinds.SetUserRoot target body q = Naming dir body (λ p. set_user_root (part 3 target) (part 4 target) p) q
-Asks dir kinds.SetProfile target body q = Naming dir body (λ p. set_profile (part 2 target) (part 3 target) p) q
-Asks dir kinds.AddTemp target body q = Naming dir body (λ p. add_temp (part 2 target) (session_in (part 3 target)) p) q
+Asks dir kinds.Info target body q = OnPath (path at_info target) body (λ p. info p) q
+Asks dir kinds.Nar target body q = OnPath (path at_nar target) body (λ p. nar p) q
+Asks dir kinds.Ls target body q = OnPath (path at_ls target) body (λ p. ls p) q
+Asks dir kinds.RootsOf target body q = OnPath (path at_roots_of target) body (λ p. list_roots_of p) q
+Asks dir kinds.SetPermanent target body q = Naming dir body (λ p. set_permanent (name at_permanent target) p) q
+Asks dir kinds.SetUserRoot target body q = Naming dir body (λ p. set_user_root (user at_user_root target) (name at_user_root target) p) q
+Asks dir kinds.SetProfile target body q = Naming dir body (λ p. set_profile (user at_profile target) (name at_profile target) p) q
+Asks dir kinds.AddTemp target body q = Naming dir body (λ p. add_temp (user at_temp target) (session_in (session at_temp target)) p) q
 Asks dir kinds.ReplaceRuntime target body q = (named : List Pair) × Says (IsRuntime dir) body named × (q ≡ replace_runtime named)
 Asks dir kinds.Collect target body q = (head : CollectHead) × Says IsCollect body head × (q ≡ collect (flag head.ignore_liveness) head.max_freed)
 Asks dir kinds.Delete target body q = (head : DeleteHead) × Says (IsDelete dir) body head × (q ≡ delete head.paths.items (flag head.ignore_liveness))
@@ -74,10 +75,10 @@ Asks dir kind target body q = (is_blank body ≡ true) × (by_target kind target
 
 -- The target should name a path, and doesn't.
 abbrev pub has_bad_path : Kind → List ℕ → Bool
-has_bad_path kinds.Info target = not (is_base_name (part 2 target))
-has_bad_path kinds.Nar target = not (is_base_name (part 2 target))
-has_bad_path kinds.Ls target = not (is_base_name (part 2 target))
-has_bad_path kinds.RootsOf target = not (is_base_name (part 2 target))
+has_bad_path kinds.Info target = not (is_base_name (path at_info target))
+has_bad_path kinds.Nar target = not (is_base_name (path at_nar target))
+has_bad_path kinds.Ls target = not (is_base_name (path at_ls target))
+has_bad_path kinds.RootsOf target = not (is_base_name (path at_roots_of target))
 has_bad_path _ target = false
 
 -- The payload of such a request is an archive.

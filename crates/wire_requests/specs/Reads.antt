@@ -1,7 +1,6 @@
 -- What is read of a message, or why nothing is.
 use Rattle.std.specs.Prelude.{◌≡◌, ℕ, true, false, List, Some, Result, Ok, Err, ⊤}
 use Rattle.paths.specs.StorePath.{is_base_name}
-use Rattle.wire_requests.specs.Parts.{part}
 use Rattle.wire_requests.specs.declared.kind.Kind.{Kind}
 use Rattle.model.specs.Request as asked
 use Rattle.wire_requests.specs.declared.error.AskError.{AskError}
@@ -30,9 +29,9 @@ ReadsTarget kind target body (Err BadPath) = ⊥
 ReadsTarget kind target body (Err BadBodyHead) = (q : asked.Request) → is_blank body ≡ true → by_target kind target ≡ Some q → ⊥
 ReadsTarget kind target body (Err Memory) = ⊤
 
--- the path of a target, where the body is blank
+-- the path that a base name in the target names, where the body is blank
 abbrev pub ReadsPath : List ℕ → List ℕ → Result (List ℕ) AskError → Type 0
-ReadsPath target body (Ok p) = (is_base_name (part 2 target) ≡ true) × (is_blank body ≡ true) × (p ≡ part 2 target)
-ReadsPath target body (Err BadPath) = is_base_name (part 2 target) ≡ false
-ReadsPath target body (Err BadBodyHead) = (is_base_name (part 2 target) ≡ true) × (is_blank body ≡ false)
-ReadsPath target body (Err Memory) = ⊤
+ReadsPath base body (Ok p) = (is_base_name base ≡ true) × (is_blank body ≡ true) × (p ≡ base)
+ReadsPath base body (Err BadPath) = is_base_name (base) ≡ false
+ReadsPath base body (Err BadBodyHead) = (is_base_name base ≡ true) × (is_blank body ≡ false)
+ReadsPath base body (Err Memory) = ⊤

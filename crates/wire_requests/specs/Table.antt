@@ -1,46 +1,74 @@
 -- The one table of routes.
-use Rattle.std.specs.Prelude.{ℕ, List, [], ◌∷◌, ◌++◌, Option, Some, None, codes, cond}
+use Rattle.std.specs.Prelude.{ℕ, List, [], ◌∷◌, Option, Some, None, codes, cond, map}
 use Rattle.wire_requests.specs.declared.kind.Kind.TheVariants as kinds
 use Rattle.wire_requests.specs.declared.requests.Requests.{Requests}
 use Rattle.wire_requests.specs.declared.requests.Requests.TheVariants.{Get, Post, Delete, PostOrDelete}
-use Rattle.wire_requests.specs.Patterns.{parameter, fits}
+use Rattle.wire_requests.specs.Patterns.{fits, pattern_in}
 
--- a number of parameters, each after a slash
-abbrev pub one : List ℕ
-one = codes "/" ++ parameter ∷ []
+-- the texts of routes with parameters, whose names are in braces
+abbrev pub at_info : List ℕ
+at_info = codes "/info/{path}"
 
-abbrev pub two : List ℕ
-two = one ++ one
+abbrev pub at_nar : List ℕ
+at_nar = codes "/nar/{path}"
 
-abbrev pub three : List ℕ
-three = two ++ one
+abbrev pub at_ls : List ℕ
+at_ls = codes "/ls/{path}"
 
--- each pattern with the requests of its route
-unfoldable pub table : List (List ℕ × Requests)
-table =
+abbrev pub at_roots_of : List ℕ
+at_roots_of = codes "/roots-of/{path}"
+
+abbrev pub at_permanent : List ℕ
+at_permanent = codes "/root/permanent/{name}"
+
+abbrev pub at_user_root : List ℕ
+at_user_root = codes "/root/user/{user}/{name}"
+
+abbrev pub at_profile : List ℕ
+at_profile = codes "/profile/{user}/{name}"
+
+abbrev pub at_rollback : List ℕ
+at_rollback = codes "/rollback/{user}/{name}"
+
+abbrev pub at_switch : List ℕ
+at_switch = codes "/switch/{user}/{name}/{n}"
+
+abbrev pub at_generation : List ℕ
+at_generation = codes "/generation/{user}/{name}/{n}"
+
+abbrev pub at_temp : List ℕ
+at_temp = codes "/temp/{user}/{s}"
+
+-- the text of each route with its requests
+unfoldable pub routes : List (List ℕ × Requests)
+routes =
     (codes "/text", Post kinds.AddText)
     ∷ (codes "/source", Post kinds.AddSource)
     ∷ (codes "/import", Post kinds.Import)
-    ∷ (codes "/info" ++ one, Get kinds.Info)
-    ∷ (codes "/nar" ++ one, Get kinds.Nar)
-    ∷ (codes "/ls" ++ one, Get kinds.Ls)
-    ∷ (codes "/roots-of" ++ one, Get kinds.RootsOf)
+    ∷ (at_info, Get kinds.Info)
+    ∷ (at_nar, Get kinds.Nar)
+    ∷ (at_ls, Get kinds.Ls)
+    ∷ (at_roots_of, Get kinds.RootsOf)
     ∷ (codes "/paths", Get kinds.List)
     ∷ (codes "/roots", Get kinds.ListRoots)
     ∷ (codes "/live", Get kinds.Live)
     ∷ (codes "/dead", Get kinds.Dead)
     ∷ (codes "/report", Get kinds.Report)
-    ∷ (codes "/root/permanent" ++ one, PostOrDelete kinds.SetPermanent kinds.DropPermanent)
-    ∷ (codes "/root/user" ++ two, PostOrDelete kinds.SetUserRoot kinds.DropUserRoot)
-    ∷ (codes "/profile" ++ two, Post kinds.SetProfile)
-    ∷ (codes "/rollback" ++ two, Post kinds.Rollback)
-    ∷ (codes "/switch" ++ three, Post kinds.Switch)
-    ∷ (codes "/generation" ++ three, Delete kinds.DeleteGeneration)
-    ∷ (codes "/temp" ++ two, PostOrDelete kinds.AddTemp kinds.EndSession)
+    ∷ (at_permanent, PostOrDelete kinds.SetPermanent kinds.DropPermanent)
+    ∷ (at_user_root, PostOrDelete kinds.SetUserRoot kinds.DropUserRoot)
+    ∷ (at_profile, Post kinds.SetProfile)
+    ∷ (at_rollback, Post kinds.Rollback)
+    ∷ (at_switch, Post kinds.Switch)
+    ∷ (at_generation, Delete kinds.DeleteGeneration)
+    ∷ (at_temp, PostOrDelete kinds.AddTemp kinds.EndSession)
     ∷ (codes "/runtime", Post kinds.ReplaceRuntime)
     ∷ (codes "/collect", Post kinds.Collect)
     ∷ (codes "/delete", Post kinds.Delete)
     ∷ []
+
+-- the same with the pattern of each text
+unfoldable pub table : List (List ℕ × Requests)
+table = map (λ row. (pattern_in row.0, row.1)) routes
 
 -- the requests of the first of these routes whose pattern fits a target
 abbrev pub first_fit : List ℕ → List (List ℕ × Requests) → Option Requests

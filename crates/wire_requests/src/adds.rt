@@ -1,8 +1,8 @@
 //! Requests that add an object.
-ghost use Rattle.std.specs.Prelude.{◌≡◌, IfOk, Err, List, ℕ};
+ghost use Rattle.std.specs.Prelude.{◌≡◌, ◌≤◌, IfOk, Err, List, ℕ, length, drop};
 ghost use Rattle.wire_requests.specs.declared.kind.Kind.TheVariants as kinds;
 ghost use Rattle.wire_bodies.specs.Bodies.{IsNamedBody, IsImportBody};
-ghost use Rattle.wire_bodies.specs.Front.{rest_of};
+ghost use Rattle.wire_bodies.specs.Prefix.{rest_of};
 ghost use Rattle.wire_bodies.specs.declared.heads.NamedHead.{NamedHead as NamedOf};
 ghost use Rattle.wire_bodies.specs.declared.import.ImportHead.{ImportHead as ImportOf};
 ghost use Rattle.intake.specs.Arriving.{bytes_in};
@@ -16,41 +16,65 @@ use crate::error::AskError;
 use crate::parted::Parted;
 use intake::Intake;
 use paths::StoreDir;
-use std::alloc::{AllocError, Global};
+use std::alloc::Global;
 use store_types::Request;
 use streams::Sink;
 use wire_bodies::{BodyError, ImportHead, NamedHead, named_body};
 
-/// Bytes of their own.
-fn copied(alloc: Global, bytes: &[u8]) -> Result<Vec<u8>, AllocError>
-    ensures { IfOk result (λ copy. copy.items ≡ bytes.now) }
+/// The bytes after the first, of a given number, in the same buffer.
+fn without_prefix(mut bytes: Vec<u8>, n: usize) -> Vec<u8>
+    requires { n ≤ length bytes.items }
+    ensures { result.items ≡ drop n bytes.items }
 {
-    bytes.to_vec(alloc)
+    let rest = bytes.len() - n;
+    bytes.copy_within(n.., 0);
+    bytes.truncate(rest);
+    bytes
 }
 
-/// A text.
-pub(crate) fn add_text(alloc: Global, dir: &StoreDir, body: &[u8]) -> Result<Request, AskError>
-    ensures { (target : List ℕ) → Reads dir.now kinds.AddText target body.now result }
+/// The add that a body is, and where its contents begin.
+fn text_prefix(alloc: Global, dir: &StoreDir, body: &[u8]) -> Result<(NamedHead, usize), BodyError>
+    ensures within { IfOk result (λ add. add.1 ≤ length body.now) }
+    ensures ok { IfOk result (λ add. IsNamedBody dir.now body.now add.0 (drop add.1 body.now)) }
+    ensures bad { result ≡ Err BodyError.BadBodyHead → (head : NamedOf) (contents : List ℕ) → IsNamedBody dir.now body.now head contents → ⊥ }
 {
     match named_body(alloc, dir, body) {
-        Ok((head, contents)) => match copied(alloc, contents) {
-            Ok(contents) => {
-                let NamedHead { name, references } = head;
-                Ok(Request::AddText {
-                    name,
-                    refs: references,
-                    contents,
-                })
-            }
-            Err(_) => Err(AskError::Memory),
-        },
+        Ok((head, contents)) => Ok((head, body.len().saturating_sub(contents.len()))),
+        Err(BodyError::BadBodyHead) => Err(BodyError::BadBodyHead),
+        Err(BodyError::Memory) => Err(BodyError::Memory),
+    }
+}
+
+/// A text, of a body in one buffer.
+fn read_text(alloc: Global, dir: &StoreDir, body: Vec<u8>) -> Result<Request, AskError>
+    ensures { (target : List ℕ) → Reads dir.now kinds.AddText target body.items result }
+{
+    match text_prefix(alloc, dir, &body) {
+        Ok((head, start)) => {
+            let NamedHead { name, references } = head;
+            Ok(Request::AddText {
+                name,
+                refs: references,
+                contents: without_prefix(body, start),
+            })
+        }
         Err(BodyError::BadBodyHead) => Err(AskError::BadBodyHead),
         Err(BodyError::Memory) => Err(AskError::Memory),
     }
 }
 
+/// A text. Its contents stay in the buffer of the body.
+pub(crate) fn add_text(alloc: Global, dir: &StoreDir, body: Body) -> Result<Request, AskError>
+    ensures { (target : List ℕ) → Reads dir.now kinds.AddText target body result }
+{
+    match body.into_bytes(alloc) {
+        Ok(body) => read_text(alloc, dir, body),
+        Err(_) => Err(AskError::Memory),
+    }
+}
+
 /// The add that a body is, read of its lines before the payload.
-fn named_front(alloc: Global, dir: &StoreDir, body: &Parted) -> Result<NamedHead, BodyError>
+fn named_prefix(alloc: Global, dir: &StoreDir, body: &Parted) -> Result<NamedHead, BodyError>
     ensures ok { IfOk result (λ head. IsNamedBody dir.now body.now head (rest_of body.now)) }
     ensures bad { result ≡ Err BodyError.BadBodyHead → (head : NamedOf) (nar : List ℕ) → IsNamedBody dir.now body.now head nar → ⊥ }
 {
@@ -62,7 +86,7 @@ fn named_front(alloc: Global, dir: &StoreDir, body: &Parted) -> Result<NamedHead
 }
 
 /// The import that a body is, read of its lines before the archive.
-fn import_front(alloc: Global, dir: &StoreDir, body: &Parted) -> Result<ImportHead, BodyError>
+fn import_prefix(alloc: Global, dir: &StoreDir, body: &Parted) -> Result<ImportHead, BodyError>
     ensures ok { IfOk result (λ head. IsImportBody dir.now body.now head (rest_of body.now)) }
     ensures bad { result ≡ Err BodyError.BadBodyHead → (head : ImportOf) (nar : List ℕ) → IsImportBody dir.now body.now head nar → ⊥ }
 {
@@ -80,7 +104,7 @@ pub(crate) fn add_source(alloc: Global, dir: &StoreDir, body: Body) -> Result<Re
     let Ok(body) = body.into_parted(alloc) else {
         return Err(AskError::Memory);
     };
-    match named_front(alloc, dir, &body) {
+    match named_prefix(alloc, dir, &body) {
         Ok(head) => {
             let NamedHead { name, references } = head;
             Ok(Request::AddSource {
@@ -127,7 +151,7 @@ pub fn read_import(alloc: Global, dir: &StoreDir, body: Body) -> Result<Request,
     let Ok(body) = body.into_parted(alloc) else {
         return Err(BodyError::Memory);
     };
-    match import_front(alloc, dir, &body) {
+    match import_prefix(alloc, dir, &body) {
         Ok(head) => Ok(imported(head, body.into_archive())),
         Err(BodyError::BadBodyHead) => Err(BodyError::BadBodyHead),
         Err(BodyError::Memory) => Err(BodyError::Memory),
@@ -135,6 +159,17 @@ pub fn read_import(alloc: Global, dir: &StoreDir, body: Body) -> Result<Request,
 }
 
 /// The import that the whole body of `POST /import` asks for: its head, and the archive after its empty line.
+///
+/// ```rust
+/// use paths::StoreDir;
+/// use store::Request;
+///
+/// let dir = StoreDir::parse(alloc, "/nix/store")?;
+/// let body = b"path: 11111111111111111111111111111111-o\n\
+/// nar-hash: sha256:0mdqa9w1p6cmli6976v4wi0sw9r4p5prkj7lzfd1877wk11c9c73\n\n";
+/// assert!(rt; matches!(wire::import_body(alloc, &dir, body)?, Request::Import { ca: None, .. }));
+/// assert!(rt; wire::import_body(alloc, &dir, b"").is_err());
+/// ```
 ///
 /// # Errors
 ///

@@ -2,11 +2,12 @@
 ghost use Rattle.std.specs.Prelude.{◌≡◌, [], IfOk};
 ghost use Rattle.wire_requests.specs.Asks as spec;
 
+use crate::held::Held;
 use crate::kind::Kind;
 use crate::parted::Parted;
 use std::alloc::{AllocError, Global};
 use std::marker::Model;
-use streams::{Held, Sink};
+use streams::Sink;
 
 /// How a body is kept.
 #[derive(Drop)]
@@ -44,12 +45,12 @@ pub fn is_archive(kind: Kind) -> bool
 }
 
 impl Body {
-    /// No bytes yet of a body of at most `most`, which is kept in one buffer. It takes no memory.
-    pub fn held(alloc: Global, most: usize) -> Body
+    /// No bytes yet of a body of this length, which is kept in one buffer. It takes no memory.
+    pub fn held(alloc: Global, size: usize) -> Body
         ensures { result ≡ [] }
     {
         Body {
-            kept: Kept::Whole(Held::new(alloc, most)),
+            kept: Kept::Whole(Held::new(alloc, size)),
         }
     }
 
@@ -92,7 +93,7 @@ impl Sink for Body {
 
     fn take(&mut self, piece: &[u8]) -> Result<(), AllocError> {
         match &mut self.kept {
-            Kept::Whole(held) => held.take(piece),
+            Kept::Whole(held) => held.push(piece),
             Kept::Parted(parted) => parted.push(piece),
         }
     }

@@ -4,8 +4,8 @@
 mod adds;
 mod body;
 mod error;
+mod held;
 mod kind;
-mod method;
 mod named;
 mod parted;
 mod parts;
@@ -20,7 +20,6 @@ pub use adds::{import_body, read_import};
 pub use body::{Body, is_archive};
 pub use error::AskError;
 pub use kind::Kind;
-pub use method::Method;
 pub use parts::part;
 pub use read::read_request;
 pub use requests::Requests;

@@ -1,32 +1,32 @@
 //! A body whose payload is an archive, as it comes.
 ghost use Rattle.std.specs.Prelude.{◌≡◌, ◌++◌, [], IfOk, OnOk};
-ghost use Rattle.wire_bodies.specs.Front.{front_of, rest_of};
+ghost use Rattle.wire_bodies.specs.Prefix.{prefix_of, rest_of};
 ghost use Rattle.intake.specs.Arriving.{bytes_in};
 
 use intake::Intake;
 use std::alloc::{AllocError, Global};
 use std::marker::Model;
 use std::str;
-use wire_bodies::Front;
+use wire_bodies::Prefix;
 
 /// The lines of a body, and the archive after them, which is checked and hashed as it comes. Contracts see all bytes.
 #[derive(Drop)]
 pub(crate) struct Parted {
-    front: Front,
+    front: Prefix,
     archive: Intake,
     has_begun: bool,
 }
 
 impl Model for Parted {
     ghost use Rattle.std.specs.Prelude.{◌≡◌, ◌++◌, List, ℕ};
-    ghost use Rattle.wire_bodies.specs.Front.{front_of};
+    ghost use Rattle.wire_bodies.specs.Prefix.{prefix_of};
     ghost use Rattle.intake.specs.Arriving.{bytes_in};
 
     ghost Value = { List ℕ };
 
     ghost view = { λ parted. parted.front ++ bytes_in parted.archive };
 
-    ghost invariant = { λ parted. front_of (parted.front ++ bytes_in parted.archive) ≡ parted.front };
+    ghost invariant = { λ parted. prefix_of (parted.front ++ bytes_in parted.archive) ≡ parted.front };
 }
 
 /// Whether the lines name the address of a text, which asks for the contents of the archive. No answer hangs on it: where
@@ -58,7 +58,7 @@ impl Parted {
         ensures { result ≡ [] }
     {
         Parted {
-            front: Front::new(alloc),
+            front: Prefix::new(alloc),
             archive: Intake::new(alloc),
             has_begun: false,
         }
@@ -76,7 +76,7 @@ impl Parted {
 
     /// The lines up to and with the first empty one.
     pub(crate) fn front(&self) -> &[u8]
-        ensures { result.now ≡ front_of self.now }
+        ensures { result.now ≡ prefix_of self.now }
     {
         self.front.bytes()
     }

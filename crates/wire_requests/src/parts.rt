@@ -1,7 +1,7 @@
 //! The parts of a target.
 ghost use Rattle.std.specs.Prelude.{◌≡◌};
 ghost use Rattle.std.specs.List.{before_first, after_first};
-ghost use Rattle.wire_requests.specs.Parts.{is_slash, part, behind_slashes};
+ghost use Rattle.wire_requests.specs.Parts.{is_slash, part, after_slashes};
 
 /// What comes before the first slash.
 fn before_slash(text: &str) -> &str

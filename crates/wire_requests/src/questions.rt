@@ -1,6 +1,7 @@
 //! Requests about a path in the target.
 ghost use Rattle.std.specs.Prelude.{List, ℕ};
 ghost use Rattle.wire_requests.specs.declared.kind.Kind.TheVariants as kinds;
+ghost use Rattle.wire_requests.specs.Parts as parts;
 ghost use Rattle.wire_requests.specs.Reads.{Reads, ReadsPath};
 
 use crate::error::AskError;
@@ -12,7 +13,7 @@ use wire_bodies::is_blank;
 
 /// The path that a target names after its second slash, where nothing is wanted of the body.
 fn path_alone(alloc: Global, target: &str, body: &[u8]) -> Result<StorePath, AskError>
-    ensures { ReadsPath target.now body.now result }
+    ensures { ReadsPath (parts.part 2 target.now) body.now result }
 {
     match StorePath::from_base(alloc, part(target, 2)) {
         Ok(path) => {

@@ -15,7 +15,7 @@ use paths::StoreDir;
 use std::alloc::Global;
 use store_types::Request;
 
-/// Reads a request of a kind without an archive, whose body is in one buffer.
+/// Reads a request of a kind without a payload, whose body is in one buffer.
 fn read_whole(
     alloc: Global,
     dir: &StoreDir,
@@ -23,10 +23,9 @@ fn read_whole(
     target: &str,
     body: &[u8],
 ) -> Result<Request, AskError>
-    ensures { (kind ≡ kinds.AddSource → ⊥) → (kind ≡ kinds.Import → ⊥) → Reads dir.now kind target.now body.now result }
+    ensures { (kind ≡ kinds.AddText → ⊥) → (kind ≡ kinds.AddSource → ⊥) → (kind ≡ kinds.Import → ⊥) → Reads dir.now kind target.now body.now result }
 {
     match kind {
-        Kind::AddText => add_text(alloc, dir, body),
         Kind::Info => info(alloc, target, body),
         Kind::Nar => archive(alloc, target, body),
         Kind::Ls => listing(alloc, target, body),
@@ -42,8 +41,8 @@ fn read_whole(
     }
 }
 
-/// What a message asks: by the kind that its route and its method stand for, its whole target and its whole body. An
-/// archive passes from the body into the request without a copy where the body keeps it apart.
+/// What a message asks: by the kind that its route and its method stand for, its whole target and its whole body. A text's contents
+/// stay in the buffer of the body, and an archive passes from the body into the request without a copy where the body keeps it apart.
 ///
 /// # Errors
 ///
@@ -59,6 +58,7 @@ pub fn read_request(
     ensures { Reads dir.now kind target.now body result }
 {
     match kind {
+        Kind::AddText => add_text(alloc, dir, body),
         Kind::AddSource => add_source(alloc, dir, body),
         Kind::Import => import(alloc, dir, body),
         _ => match body.into_bytes(alloc) {

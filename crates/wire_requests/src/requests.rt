@@ -1,9 +1,11 @@
 //! What a route stands for, by method.
 ghost use Rattle.std.specs.Prelude.{◌≡◌};
-ghost use Rattle.wire_requests.specs.Methods.{kind_of, allowed};
+ghost use Rattle.wire_requests.specs.Methods as spec;
+ghost use Rattle.wire_requests.specs.Methods.{allowed};
 
 use crate::kind::Kind;
-use crate::method::Method;
+use http::Method;
+use std::alloc::Global;
 
 /// The requests of a route, by method.
 #[derive(Clone, Copy, Debug, PartialEq, Eq)]
@@ -17,16 +19,31 @@ pub enum Requests {
 
 impl Requests {
     /// The request that a method stands for, if the route has it.
-    pub fn kind(self, method: Method) -> Option<Kind>
-        ensures { result ≡ kind_of self method }
+    fn kind_of(self, method: &Method) -> Option<Kind>
+        ensures { result ≡ spec.kind_of self method.now }
     {
-        match (self, method) {
-            (Requests::Get(kind), Method::Get)
-            | (Requests::Post(kind), Method::Post)
-            | (Requests::Delete(kind), Method::Delete)
-            | (Requests::PostOrDelete(kind, _), Method::Post)
-            | (Requests::PostOrDelete(_, kind), Method::Delete) => Some(kind),
-            _ => None,
+        match self {
+            Requests::Get(kind) => (*method == Method::GET).then_some(kind),
+            Requests::Post(kind) => (*method == Method::POST).then_some(kind),
+            Requests::Delete(kind) => (*method == Method::DELETE).then_some(kind),
+            Requests::PostOrDelete(kind, other) => {
+                if *method == Method::POST {
+                    Some(kind)
+                } else {
+                    (*method == Method::DELETE).then_some(other)
+                }
+            }
+        }
+    }
+
+    /// The request that the method of a head stands for, if the route has it. What isn't a method is none of the route's, and neither is
+    /// one for which memory is refused: those of routes need none.
+    pub fn kind(self, alloc: Global, method: &[u8]) -> Option<Kind>
+        ensures { result ≡ spec.kind_of self method.now }
+    {
+        match Method::from_bytes(alloc, method) {
+            Ok(method) => self.kind_of(&method),
+            Err(_) => None,
         }
     }
 

@@ -1,11 +1,13 @@
 //! The table of routes, and the router that is made of it.
-ghost use Rattle.std.specs.Prelude.{◌≡◌, IfOk, OnOk, map};
-ghost use Rattle.wire_requests.specs.Rows.{AreRows, AddsRow, row_of};
-ghost use Rattle.wire_requests.specs.Table.{table, requests_of};
+ghost use Rattle.std.specs.Prelude.{◌≡◌, ℕ, List, [], true, IfOk, OnOk, map};
+ghost use Rattle.matchit.specs.Route.{parse_route};
+ghost use Rattle.wire_requests.specs.declared.requests.Requests.{Requests as RequestsOf};
+ghost use Rattle.wire_requests.specs.Rows.{AreRows, AddsRow, can_add, can_add_all, row_of, text_of};
+ghost use Rattle.wire_requests.specs.Table.{routes, table, requests_of};
 
 use crate::kind::Kind;
 use crate::requests::Requests;
-use matchit::Router;
+use matchit::{InsertError, Router};
 use std::alloc::{AllocError, Global};
 use std::marker::Model;
 
@@ -47,19 +49,38 @@ const TABLE: [(&str, Requests); 22] = [
     ("/delete", Requests::Post(Kind::Delete)),
 ];
 
-/// Adds a route.
+/// The routes of the table.
+fn rows() -> &'static [(&'static str, Requests)]
+    ensures { map text_of result.now ≡ routes }
+{
+    &TABLE
+}
+
+/// The fault of a route that conflicts with none, and reads well.
+fn no_conflict(fault: InsertError) -> AllocError
+    requires { fault ≡ InsertError.OutOfMemory }
+{
+    match fault {
+        InsertError::OutOfMemory => AllocError,
+        _ => unreachable!(),
+    }
+}
+
+/// Adds a route that reads well and conflicts with none: only memory may be refused.
 fn add(router: &mut Router<Requests>, route: &str, requests: Requests) -> Result<(), AllocError>
+    requires { (rows : List (List ℕ × RequestsOf)) × AreRows router.old rows × (can_add (parse_route route.now) rows ≡ true) }
     ensures { OnOk result (AddsRow route.now requests router.old router.new) }
 {
     match router.insert(route, requests) {
         Ok(()) => Ok(()),
-        Err(_) => Err(AllocError),
+        Err(fault) => Err(no_conflict(fault)),
     }
 }
 
-/// A router with these routes.
+/// A router with these routes, none of which conflicts with another.
 fn router_of(alloc: Global, rows: &[(&str, Requests)]) -> Result<Router<Requests>, AllocError>
-    ensures { IfOk result (λ router. AreRows router (map row_of rows.now)) }
+    requires { can_add_all [] (map text_of rows.now) ≡ true }
+    ensures { IfOk result (λ router. AreRows router (map row_of (map text_of rows.now))) }
 {
     let mut router = Router::new(alloc);
     for row in rows {
@@ -72,7 +93,7 @@ fn router_of(alloc: Global, rows: &[(&str, Requests)]) -> Result<Router<Requests
 fn make_router(alloc: Global) -> Result<Router<Requests>, AllocError>
     ensures { IfOk result (λ router. AreRows router table) }
 {
-    router_of(alloc, &TABLE)
+    router_of(alloc, rows())
 }
 
 /// The requests of the route that a whole target names.

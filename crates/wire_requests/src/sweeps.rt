@@ -15,6 +15,18 @@ use wire_bodies::{BodyError, DeleteHead, collect_body, delete_body};
 
 /// The runtime roots that the whole body of `POST /runtime` asks for, in place of all others.
 ///
+/// ```rust
+/// use paths::StoreDir;
+/// use store::Request;
+///
+/// let dir = StoreDir::parse(alloc, "/nix/store")?;
+/// let body = b"root: /proc/1/exe 22222222222222222222222222222222-y\n\n";
+/// let Request::ReplaceRuntime(pairs) = wire::runtime_body(alloc, &dir, body)? else {
+///     return Err(Fail::new("another request"));
+/// };
+/// assert_eq!(rt; pairs.len(), 1);
+/// ```
+///
 /// # Errors
 ///
 /// `BadBodyHead` exactly where the body isn't such roots, and `Memory`.

@@ -3,7 +3,7 @@ use Rattle.std.proofs.Common.{◌≡◌, ℕ, ◌+◌, ◌<◌, ◌-◌, ◌^◌
 use Rattle.std.specs.Prelude.{IfSome}
 use Rattle.std.specs.Io.KnownBytes.{Consumes, IsAtEnd, Appends, Keeps}
 use Rattle.std.proofs.KnownBytes.{Appends-trans, Appends-nil, Appends-kept}
-use Rattle.streams.specs.Sends.{AppendsFront}
+use Rattle.streams.specs.Sends.{AppendsPrefix}
 use Rattle.httparse.specs.Grammar.{RequestHead}
 use Rattle.wire_messages.specs.declared.head.Head.{Head}
 use Rattle.wire_messages.specs.declared.error.Fault.{Fault}
@@ -14,7 +14,7 @@ use Rattle.wire_server.specs.Answers.{body_in}
 use Rattle.wire_server.specs.Serves.{fault_reply, joined, reported, IsWritten, Serves, Stops, Rests}
 use Rattle.wire_server.specs.declared.error.WireError.{WireError}
 use Rattle.wire_server.specs.declared.error.WireError.TheVariants.{Read, Write, Memory}
-use Rattle.wire_server.proofs.Told.{Told, divides_all, begins_all, follows_start, follows_read, follows_end, follows_any, follows_fault, follows_last, follows_more, follows_item, joined_more, counted_more, replies_item, replies_fault}
+use Rattle.wire_server.proofs.Reported.{Reported, divides_all, begins_all, follows_start, follows_read, follows_end, follows_any, follows_fault, follows_last, follows_more, follows_item, joined_more, counted_more, replies_item, replies_fault}
 
 full : (n k : ℕ) → n ≡ 340282366920938463463374607431768211455 → n ≡ k → k < 2 ^ 128 - 1 → ⊥
 full n k is same small = omega arith
@@ -24,11 +24,11 @@ sent_more : (a b c : Option (List ℕ)) (replies : List (List ℕ)) (last : List
 sent_more a b c replies last first second = subst (Appends a c) (sym (joined_more replies last)) (Appends-trans a b c (joined replies) last first second)
 
 module _ {S : Type 0} (answers : S → RequestHead → List ℕ → Replied → S → Type 0) (input output : Option (List ℕ)) (s : S) where
-  pub told_start : Told answers input input output output [] s s 0
+  pub told_start : Reported answers input input output output [] s s 0
   told_start = record { done = []; replies = []; counted = refl; follows = follows_start input; answered = refl; written = Appends-nil output }
 
-  pub told_read : (mid rest out : Option (List ℕ)) (held held' bs : List ℕ) (t : S) (n : ℕ) → Told answers input mid output out held s t n
-      → Consumes mid rest bs → held' ≡ held ++ bs → Told answers input rest output out held' s t n
+  pub told_read : (mid rest out : Option (List ℕ)) (held held' bs : List ℕ) (t : S) (n : ℕ) → Reported answers input mid output out held s t n
+      → Consumes mid rest bs → held' ≡ held ++ bs → Reported answers input rest output out held' s t n
   told_read mid rest out held held' bs t n told read kept = record {
     done = told.done;
     replies = told.replies;
@@ -39,7 +39,7 @@ module _ {S : Type 0} (answers : S → RequestHead → List ℕ → Replied → 
   }
 
   -- broken off before another reply
-  pub stopped : (rest out : Option (List ℕ)) (held : List ℕ) (t : S) (n : ℕ) → Told answers input rest output out held s t n
+  pub stopped : (rest out : Option (List ℕ)) (held : List ℕ) (t : S) (n : ℕ) → Reported answers input rest output out held s t n
       → (e : WireError) → (e ≡ Write → ⊥) → Stops answers input output out s t e
   stopped rest out held t n told e reading = record {
     items = told.done;
@@ -61,8 +61,8 @@ module _ {S : Type 0} (answers : S → RequestHead → List ℕ → Replied → 
   unserved = stopped input output [] s 0 told_start Memory (λ is. cc)
 
   -- a connection to whose writer nothing was given
-  pub still : (rest out out' : Option (List ℕ)) (held : List ℕ) (t : S) (n : ℕ) → Told answers input rest output out held s t n → Keeps out out'
-      → Told answers input rest output out' held s t n
+  pub still : (rest out out' : Option (List ℕ)) (held : List ℕ) (t : S) (n : ℕ) → Reported answers input rest output out held s t n → Keeps out out'
+      → Reported answers input rest output out' held s t n
   still rest out out' held t n told kept = record {
     done = told.done;
     replies = told.replies;
@@ -73,7 +73,7 @@ module _ {S : Type 0} (answers : S → RequestHead → List ℕ → Replied → 
   }
 
   -- left before another message
-  pub rested : (rest out : Option (List ℕ)) (held : List ℕ) (t : S) (n : ℕ) → Told answers input rest output out held s t n → Rests answers input output out s t (reported n)
+  pub rested : (rest out : Option (List ℕ)) (held : List ℕ) (t : S) (n : ℕ) → Reported answers input rest output out held s t n → Rests answers input output out s t (reported n)
   rested rest out held t n told = record {
     items = told.done;
     replies = told.replies;
@@ -96,7 +96,7 @@ module _ {S : Type 0} (answers : S → RequestHead → List ℕ → Replied → 
   }
 
   -- as many as are counted
-  pub counted_out : (rest out : Option (List ℕ)) (held : List ℕ) (t : S) (n : ℕ) → Told answers input rest output out held s t n
+  pub counted_out : (rest out : Option (List ℕ)) (held : List ℕ) (t : S) (n : ℕ) → Reported answers input rest output out held s t n
       → n ≡ 340282366920938463463374607431768211455 → Serves answers input output out s t 18446744073709551615
   counted_out rest out held t n told is = record {
     items = told.done;
@@ -109,7 +109,7 @@ module _ {S : Type 0} (answers : S → RequestHead → List ℕ → Replied → 
   }
 
   -- nothing is left
-  pub ended : (rest out : Option (List ℕ)) (held : List ℕ) (t : S) (n : ℕ) → Told answers input rest output out held s t n → held ≡ [] → IsAtEnd rest
+  pub ended : (rest out : Option (List ℕ)) (held : List ℕ) (t : S) (n : ℕ) → Reported answers input rest output out held s t n → held ≡ [] → IsAtEnd rest
       → Serves answers input output out s t (reported n)
   ended rest out held t n told none end = record {
     items = told.done;
@@ -123,7 +123,7 @@ module _ {S : Type 0} (answers : S → RequestHead → List ℕ → Replied → 
 
   -- ---- an input that begins with no message
 
-  module _ (rest out out' : Option (List ℕ)) (held : List ℕ) (t : S) (n : ℕ) (fault : Fault) (told : Told answers input rest output out held s t n)
+  module _ (rest out out' : Option (List ℕ)) (held : List ℕ) (t : S) (n : ℕ) (fault : Fault) (told : Reported answers input rest output out held s t n)
       (some : 0 < length held) (is : IfSome rest (λ more. IsFault (held ++ more) fault)) where
     pub refused : Appends out out' (fault_reply fault) → Serves answers input output out' s t (reported (n + 1))
     refused sent = record {
@@ -136,7 +136,7 @@ module _ {S : Type 0} (answers : S → RequestHead → List ℕ → Replied → 
       written = sent_more output out out' told.replies (fault_reply fault) told.written sent;
     }
 
-    pub refused_in_part : AppendsFront out out' (fault_reply fault) → Stops answers input output out' s t Write
+    pub refused_in_part : AppendsPrefix out out' (fault_reply fault) → Stops answers input output out' s t Write
     refused_in_part (k, below, sent) = record {
       items = told.done ++ faulty fault ∷ [];
       replies = told.replies ++ fault_reply fault ∷ [];
@@ -150,7 +150,7 @@ module _ {S : Type 0} (answers : S → RequestHead → List ℕ → Replied → 
   -- ---- a message
 
   module _ (rest out : Option (List ℕ)) (held : List ℕ) (t : S) (n : ℕ) (head : Head) (size : ℕ) (h : RequestHead)
-      (told : Told answers input rest output out held s t n) (is : HoldsMessage held head size h) where
+      (told : Reported answers input rest output out held s t n) (is : HoldsMessage held head size h) where
     answered_broken : (out' : Option (List ℕ)) (new : S) (r : Replied) (e : WireError) (bytes : List ℕ) → answers t h (body_in held head size) r new
         → IsWritten e (told.replies ++ reply_bytes (closes h) r ∷ []) bytes → Appends output out' bytes → Stops answers input output out' s new e
     answered_broken out' new r e bytes answered written appended = record {
@@ -165,7 +165,7 @@ module _ {S : Type 0} (answers : S → RequestHead → List ℕ → Replied → 
 
     -- a prefix of the reply was written
     pub answered_in_part : (out' : Option (List ℕ)) (new : S) (r : Replied) → answers t h (body_in held head size) r new
-        → AppendsFront out out' (reply_bytes (closes h) r) → Stops answers input output out' s new Write
+        → AppendsPrefix out out' (reply_bytes (closes h) r) → Stops answers input output out' s new Write
     answered_in_part out' new r answered (k, below, sent) =
         answered_broken out' new r Write (joined told.replies ++ take k (reply_bytes (closes h) r)) answered (told.replies, reply_bytes (closes h) r, k, refl, below, refl)
         (Appends-trans output out out' (joined told.replies) (take k (reply_bytes (closes h) r)) told.written sent)
@@ -190,7 +190,7 @@ module _ {S : Type 0} (answers : S → RequestHead → List ℕ → Replied → 
     }
 
     pub goes_on : (out' : Option (List ℕ)) (new : S) (r : Replied) → answers t h (body_in held head size) r new → closes h ≡ false
-        → Appends out out' (reply_bytes (closes h) r) → Told answers input rest output out' (drop (head.spans.len + size) held) s new (n + 1)
+        → Appends out out' (reply_bytes (closes h) r) → Reported answers input rest output out' (drop (head.spans.len + size) held) s new (n + 1)
     goes_on out' new r answered on sent = record {
       done = told.done ++ message h (body_in held head size) ∷ [];
       replies = told.replies ++ reply_bytes (closes h) r ∷ [];

@@ -4,5 +4,5 @@ mod Peers
 mod Received
 pub mod Seen
 mod Sofar
-mod Told
+mod Reported
 mod Turns

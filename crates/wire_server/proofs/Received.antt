@@ -15,10 +15,12 @@ use Rattle.wire_messages.specs.Division.{closes}
 use Rattle.wire_messages.proofs.Longer.{holds-append}
 use Rattle.wire_messages.proofs.Reading.{at_end_all, ends_inside}
 use Rattle.wire_server.specs.Responses.{Replied, replied}
+use Rattle.wire_server.specs.declared.begun.Begun.{Begun}
+use Rattle.wire_server.specs.declared.begun.Begun.TheVariants.{Accepted, Refused}
 use Rattle.wire_server.specs.declared.error.WireError.{WireError}
 use Rattle.wire_server.specs.declared.receiving.Halt.TheVariants.{Failed}
 use Rattle.wire_server.specs.declared.exchange.Exchange.{Exchange}
-use Rattle.wire_server.specs.Answers.{body_in, Answered}
+use Rattle.wire_server.specs.Answers.{body_in, Answered, IsReady}
 use Rattle.wire_server.specs.Arrivals.{Whole, Brings, broken_of}
 use Rattle.wire_server.specs.Exchanges.{IsAnswered, IsLost}
 
@@ -39,25 +41,28 @@ module _ (held read : List ℕ) (head : Head) (size : ℕ) (is : HoldsHead held 
       (more, at_end_all (λ t. IsFault t BadLength) all rest fault end)
 
   -- it came whole
-  pub whole_arrives : {B : Type 0} (taken : B → List ℕ) (body : B) → head.spans.len + size ≤ length (held ++ read) → taken body ≡ body_in (held ++ read) head size
-      → drop (head.spans.len + size) (held ++ read) ≡ drop (head.spans.len + size) held → Whole taken (held ++ read) held head size body
-  whole_arrives taken body whole all rest = record {
-    h = is.0;
-    message = record { holds = holds-append held read head is.0 is.1; states = is.2; whole = whole };
-    holds = is.1;
-    all_taken = all;
-    rest = sym rest;
-  }
+  module _ {S C B : Type 0} (answers : S → RequestHead → List ℕ → Replied → S → Type 0) (decides : S → RequestHead → C → Type 0) (taken : B → List ℕ) (s : S) where
+    pub whole_arrives : (begun : Begun C B) → head.spans.len + size ≤ length (held ++ read)
+        → IsReady answers decides taken s is.0 (body_in (held ++ read) head size) begun
+        → drop (head.spans.len + size) (held ++ read) ≡ drop (head.spans.len + size) held → Whole answers decides taken s (held ++ read) held head size begun
+    whole_arrives begun whole ready rest = record {
+      h = is.0;
+      message = record { holds = holds-append held read head is.0 is.1; states = is.2; whole = whole };
+      holds = is.1;
+      ready = ready;
+      rest = sym rest;
+    }
 
--- nothing came
-pub brings_broken : {B : Type 0} (taken : B → List ℕ) (all held : List ℕ) (rest : Option (List ℕ)) (fault : ReceiveError) (e : WireError) → e ≡ broken_of fault
-    → Brings taken all held rest (Err (Failed e))
-brings_broken taken all held rest fault e is = subst (λ v. Brings taken all held rest (Err (Failed v))) (sym is) (by fault)
-  where
-    by : (f : ReceiveError) → Brings taken all held rest (Err (Failed (broken_of f)))
-    by received.Read = tt
-    by received.Silent = tt
-    by received.Memory = tt
+module _ {S C B : Type 0} (answers : S → RequestHead → List ℕ → Replied → S → Type 0) (decides : S → RequestHead → C → Type 0) (taken : B → List ℕ) (s : S) where
+  -- nothing came
+  pub brings_broken : (all held : List ℕ) (rest : Option (List ℕ)) (fault : ReceiveError) (e : WireError) → e ≡ broken_of fault
+      → Brings answers decides taken s all held rest (Err (Failed e))
+  brings_broken all held rest fault e is = subst (λ v. Brings answers decides taken s all held rest (Err (Failed v))) (sym is) (by fault)
+    where
+      by : (f : ReceiveError) → Brings answers decides taken s all held rest (Err (Failed (broken_of f)))
+      by received.Read = tt
+      by received.Silent = tt
+      by received.Memory = tt
 
 -- a number of bytes that stays at the greatest is as good as the number, where there are fewer
 pub drop_saturated : (n m : ℕ) (bytes : List ℕ) → m ≡ min n 18446744073709551615 → length bytes < 18446744073709551616 → drop m bytes ≡ drop n bytes
@@ -69,33 +74,14 @@ drop_saturated n m bytes is fits = by (m == n) refl
 
 -- ---- a message that came whole
 
-module _ {S B : Type 0} (answers : S → RequestHead → List ℕ → Replied → S → Type 0) (taken : B → List ℕ) (all held : List ℕ) (head : Head) (size : ℕ) (body : B)
-    (is : Whole taken all held head size body) (s new : S) where
+module _ {S C B : Type 0} (answers : S → RequestHead → List ℕ → Replied → S → Type 0) (decides : S → RequestHead → C → Type 0) (taken : B → List ℕ)
+    (s : S) (all held : List ℕ) (head : Head) (size : ℕ) (begun : Begun C B) (is : Whole answers decides taken s all held head size begun) (new : S) where
   -- the response that came
-  pub answered_whole : (held' : List ℕ) (x : Exchange) → answers s is.h (taken body) (replied x.response) new → x.close ≡ closes is.h
+  pub answered_whole : (held' : List ℕ) (x : Exchange) → answers s is.h (body_in all head size) (replied x.response) new → x.close ≡ closes is.h
       → held' ≡ drop (head.spans.len + size) held → IsAnswered answers all held' s x new
-  answered_whole held' x a close rest = (
-    record {
-      head = head;
-      size = size;
-      h = is.h;
-      holds = is.message;
-      answered = subst (λ b. answers s is.h b (replied x.response) new) is.all_taken a;
-    },
-    close,
-    rest ∙ is.rest,
-  )
+  answered_whole held' x a close rest = (record { head = head; size = size; h = is.h; holds = is.message; answered = a }, close, rest ∙ is.rest)
 
   -- none, or one that is lost
-  pub lost_whole : (e : AllocError) → Answered answers s is.h (taken body) (Err e) new → IsLost answers all s new
+  pub lost_whole : (e : AllocError) → Answered answers s is.h (body_in all head size) (Err e) new → IsLost answers all s new
   lost_whole e (inl none) = inl none
-  lost_whole e (inr (r, a)) = inr (
-    r,
-    record {
-      head = head;
-      size = size;
-      h = is.h;
-      holds = is.message;
-      answered = subst (λ b. answers s is.h b r new) is.all_taken a;
-    },
-  )
+  lost_whole e (inr (r, a)) = inr (r, record { head = head; size = size; h = is.h; holds = is.message; answered = a })

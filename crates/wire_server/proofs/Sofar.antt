@@ -9,9 +9,9 @@ use Rattle.wire_server.specs.declared.sessions.End.{End}
 use Rattle.wire_server.specs.declared.sessions.End.TheVariants as ends
 use Rattle.wire_server.specs.declared.sessions.Close.{Close}
 use Rattle.wire_server.specs.declared.sessions.Close.TheVariants.{Ended, Idle}
-use Rattle.wire_server.specs.Peers.{IsFresh, Leaves, Takes}
+use Rattle.wire_server.specs.Peers.{IsFresh, ClosesPeers, AcceptsPeers}
 use Rattle.wire_server.specs.Sessions.{Says, failure}
-use Rattle.wire_server.specs.Closes.{Closes, Tells, failed}
+use Rattle.wire_server.specs.Closes.{Closes, Reports, failed}
 use Rattle.wire_server.specs.ServesAll.{Session, Follow, Serves, failures}
 use Rattle.wire_server.proofs.Peers.{takes_none, takes_more, leaves_none, leaves_more}
 
@@ -25,10 +25,10 @@ appends_kept (Some x) (Some y) (Some z) bytes p q = q ∙ ap (λ t. t ++ bytes) 
 
 says_kept : (end : End) (a b c : Option (List ℕ)) → Keeps a b → Says end b c → Says end a c
 says_kept (ends.Served count) a b c p q = Keeps-trans a b c p q
-says_kept (ends.Told fault) a b c p q = appends_kept a b c _ p q
-says_kept (ends.Untold fault) a b c p (n, below, q) = (n, below, appends_kept a b c _ p q)
+says_kept (ends.Reported fault) a b c p q = appends_kept a b c _ p q
+says_kept (ends.Unreported fault) a b c p (n, below, q) = (n, below, appends_kept a b c _ p q)
 
-tells_kept : (close : Close) (a b c : Option (List ℕ)) → Keeps a b → Tells close b c → Tells close a c
+tells_kept : (close : Close) (a b c : Option (List ℕ)) → Keeps a b → Reports close b c → Reports close a c
 tells_kept (Ended end) a b c p q = says_kept end a b c p q
 tells_kept (Idle count) a b c p q = Keeps-trans a b c p q
 
@@ -40,8 +40,8 @@ failures_append (session ∷ sessions) more = let rest = failures_append session
 
 failure_le : (end : End) → failure end ≤ 1
 failure_le (ends.Served count) = omega arith
-failure_le (ends.Told fault) = omega arith
-failure_le (ends.Untold fault) = omega arith
+failure_le (ends.Reported fault) = omega arith
+failure_le (ends.Unreported fault) = omega arith
 
 pub failed_le : (close : Close) → failed close ≤ 1
 failed_le (Ended end) = failure_le end
@@ -83,26 +83,26 @@ module _ {S : Type 0} (answers : S → RequestHead → List ℕ → Replied → 
   module _ (waiting waiting' closed closed' : Option (List (List ℕ))) (err err' : Option (List ℕ)) (old new : S) (n count : ℕ)
       (sofar : Sofar waiting waiting' closed closed' err err' old new n count) where
     -- no more was taken, left or said
-    pub sofar_still : (waiting'' closed'' : Option (List (List ℕ))) → Takes waiting' waiting'' [] → Leaves closed' closed'' []
+    pub sofar_still : (waiting'' closed'' : Option (List (List ℕ))) → AcceptsPeers waiting' waiting'' [] → ClosesPeers closed' closed'' []
         → Serves answers waiting waiting'' closed closed'' err err' old new (sofar.sessions ++ [])
     sofar_still waiting'' closed'' taken left = record {
-      taken = subst (Takes waiting waiting'') (sym (map-append (λ s. s.input) sofar.sessions [])) (takes_more waiting waiting' waiting'' _ [] sofar.serves.taken taken);
-      left = subst (Leaves closed closed'') (sym (map-append (λ s. s.output) sofar.sessions [])) (leaves_more closed closed' closed'' _ [] sofar.serves.left left);
+      taken = subst (AcceptsPeers waiting waiting'') (sym (map-append (λ s. s.input) sofar.sessions [])) (takes_more waiting waiting' waiting'' _ [] sofar.serves.taken taken);
+      left = subst (ClosesPeers closed closed'') (sym (map-append (λ s. s.output) sofar.sessions [])) (leaves_more closed closed' closed'' _ [] sofar.serves.left left);
       followed = follow_more old new new err err' err' sofar.sessions [] sofar.serves.followed (refl, Keeps-refl err');
     }
 
     -- one more connection
     pub sofar_more : (waiting'' closed'' : Option (List (List ℕ))) (err'' input before output : Option (List ℕ)) (new' : S) (close : Close)
-        → Takes waiting' waiting'' (input ∷ []) → Leaves closed' closed'' (output ∷ []) → IsFresh before
-        → Closes answers input before output new new' close → Tells close err' err''
+        → AcceptsPeers waiting' waiting'' (input ∷ []) → ClosesPeers closed' closed'' (output ∷ []) → IsFresh before
+        → Closes answers input before output new new' close → Reports close err' err''
         → Sofar waiting waiting'' closed closed'' err err'' old new' (n + 1) (count + failed close)
     sofar_more waiting'' closed'' err'' input before output new' close taken left fresh served says =
         let session : Session = record { input = input; output = output; close = close } in
         record {
           sessions = sofar.sessions ++ session ∷ [];
           serves = record {
-            taken = subst (Takes waiting waiting'') (sym (map-append (λ s. s.input) sofar.sessions (session ∷ []))) (takes_more waiting waiting' waiting'' _ (input ∷ []) sofar.serves.taken taken);
-            left = subst (Leaves closed closed'') (sym (map-append (λ s. s.output) sofar.sessions (session ∷ []))) (leaves_more closed closed' closed'' _ (output ∷ []) sofar.serves.left left);
+            taken = subst (AcceptsPeers waiting waiting'') (sym (map-append (λ s. s.input) sofar.sessions (session ∷ []))) (takes_more waiting waiting' waiting'' _ (input ∷ []) sofar.serves.taken taken);
+            left = subst (ClosesPeers closed closed'') (sym (map-append (λ s. s.output) sofar.sessions (session ∷ []))) (leaves_more closed closed' closed'' _ (output ∷ []) sofar.serves.left left);
             followed = follow_more old new new' err err' err'' sofar.sessions (session ∷ []) sofar.serves.followed (before, new', err'', fresh, served, says, (refl, Keeps-refl err''));
           };
           counted = omega (arith, length-append sofar.sessions (session ∷ []), sofar.counted);

@@ -13,11 +13,11 @@ use Rattle.wire_server.specs.Arrivals.{Brings, Arrives}
 use Rattle.wire_server.specs.Sends.{SendsReply}
 use Rattle.wire_server.specs.Serves.{Serves, Stops, reported}
 use Rattle.wire_server.specs.Exchanges.{Exchanged}
-use Rattle.wire_server.proofs.Told.{Told}
+use Rattle.wire_server.proofs.Reported.{Reported}
 use Rattle.wire_server.proofs.Ends.{told_read, stopped, still, ended, refused, refused_in_part, answered_in_part, answered_lost, closed, goes_on}
 
 module _ {S : Type 0} (answers : S → RequestHead → List ℕ → Replied → S → Type 0) (input output : Option (List ℕ)) (s : S)
-    (mid rest out : Option (List ℕ)) (held held' : List ℕ) (t t' : S) (n : ℕ) (told : Told answers input mid output out held s t n) where
+    (mid rest out : Option (List ℕ)) (held held' : List ℕ) (t t' : S) (n : ℕ) (told : Reported answers input mid output out held s t n) where
   -- the input is at its end
   pub turn_end : Exchanged answers mid rest held held' t t' (Ok None) → Serves answers input output out s t' (reported n)
   turn_end (read, taken, (none, end, same)) =
@@ -25,10 +25,11 @@ module _ {S : Type 0} (answers : S → RequestHead → List ℕ → Replied → 
       subst (λ u. Serves answers input output out s u (reported n)) (sym same) (ended answers input output s rest out (held ++ read) t n read_told none end)
 
   -- nothing came
-  pub turn_broken : {B : Type 0} (taken : B → List ℕ) (e : WireError) → Arrives taken mid rest held held' (Err (Failed e)) → Stops answers input output out s t e
-  turn_broken taken e (read, consumed, brings) = stopped answers input output s mid out held t n told e (λ is. by e brings is)
+  pub turn_broken : {C B : Type 0} (decides : S → RequestHead → C → Type 0) (taken : B → List ℕ) (e : WireError)
+      → Arrives answers decides taken t mid rest held held' (Err (Failed e)) → Stops answers input output out s t e
+  turn_broken decides taken e (read, consumed, brings) = stopped answers input output s mid out held t n told e (λ is. by e brings is)
     where
-      by : (v : WireError) → Brings taken (held ++ read) held' rest (Err (Failed v)) → v ≡ Write → ⊥
+      by : (v : WireError) → Brings answers decides taken t (held ++ read) held' rest (Err (Failed v)) → v ≡ Write → ⊥
       by Read brings is = cc
       by Write none is = none
       by Memory brings is = cc
@@ -80,10 +81,10 @@ module _ {S : Type 0} (answers : S → RequestHead → List ℕ → Replied → 
           (refused answers input output s rest out out' (held ++ read) t n fault read_told some is (subst (Appends out out') (as_refused _ said close) sent))
 
       -- all of it was written, and the next may come
-      pub turn_on : Exchanged answers mid rest held held' t t' (Ok (Some x)) → x.close ≡ false → Told answers input rest output out' held' s t' (n + 1)
+      pub turn_on : Exchanged answers mid rest held held' t t' (Ok (Some x)) → x.close ≡ false → Reported answers input rest output out' held' s t' (n + 1)
       turn_on (read, taken, inl (a, close, kept)) on =
           let read_told = told_read answers input output s mid rest out held (held ++ read) read t n told taken refl in
-          subst (λ h. Told answers input rest output out' h s t' (n + 1)) (sym kept)
+          subst (λ h. Reported answers input rest output out' h s t' (n + 1)) (sym kept)
           (goes_on answers input output s rest out (held ++ read) t n a.head a.size a.h read_told a.holds out' t' (replied x.response) a.answered (sym close ∙ on)
           (subst (λ v. Appends out out' (reply_bytes v (replied x.response))) close sent))
       turn_on (read, taken, inr ((fault, some, is, (said, close)), same)) on =

@@ -7,7 +7,9 @@ use Rattle.wire_messages.specs.declared.error.ReceiveError.{ReceiveError}
 use Rattle.wire_messages.specs.declared.error.ReceiveError.TheVariants as received
 use Rattle.wire_messages.specs.Heads.{Holds}
 use Rattle.wire_messages.specs.Messages.{HoldsMessage, IsFault}
-use Rattle.wire_server.specs.Answers.{body_in}
+use Rattle.wire_server.specs.Responses.{Replied}
+use Rattle.wire_server.specs.Answers.{body_in, IsReady}
+use Rattle.wire_server.specs.declared.begun.Begun.{Begun}
 use Rattle.wire_server.specs.declared.error.WireError.{WireError}
 use Rattle.wire_server.specs.declared.error.WireError.TheVariants.{Read, Write, Memory}
 use Rattle.wire_server.specs.declared.receiving.Halt.{Halt}
@@ -21,27 +23,28 @@ broken_of received.Read = Read
 broken_of received.Silent = Read
 broken_of received.Memory = Memory
 
-module _ {B : Type 0} (taken : B → List ℕ) where
-  -- All the bytes begin with a message, whose whole body was taken. Its head is held, and what follows the message.
-  pub record Whole (all held : List ℕ) (head : Head) (size : ℕ) (body : B) : Type 0 where
+module _ {S C B : Type 0} (answers : S → RequestHead → List ℕ → Replied → S → Type 0) (decides : S → RequestHead → C → Type 0) (taken : B → List ℕ) (s : S) where
+  -- All the bytes begin with a message, whose whole body came, and this is ready to be answered. Its head is held, and what follows
+  -- the message.
+  pub record Whole (all held : List ℕ) (head : Head) (size : ℕ) (begun : Begun C B) : Type 0 where
     pub h : RequestHead
     pub message : HoldsMessage all head size h
     pub holds : Holds held head h
-    pub all_taken : taken body ≡ body_in all head size
+    pub ready : IsReady answers decides taken s h (body_in all head size) begun
     pub rest : drop (head.spans.len + size) held ≡ drop (head.spans.len + size) all
 
   -- what all the bytes are that were held and read: nothing, at the end of the input; a message; or no message, whatever follows
-  abbrev pub Arrived : List ℕ → List ℕ → Option (List ℕ) → Next B → Type 0
+  abbrev pub Arrived : List ℕ → List ℕ → Option (List ℕ) → Next C B → Type 0
   Arrived all held rest End = (all ≡ []) × IsAtEnd rest
-  Arrived all held rest (Message head size body) = Whole all held head size body
+  Arrived all held rest (Message head size begun) = Whole all held head size begun
   Arrived all held rest (Faulty fault) = (0 < length all) × IfSome rest (λ more. IsFault (all ++ more) fault)
 
   -- at an error the writer has no part in it; a silent reader leaves nothing held
-  abbrev pub Brings : List ℕ → List ℕ → Option (List ℕ) → Result (Next B) Halt → Type 0
+  abbrev pub Brings : List ℕ → List ℕ → Option (List ℕ) → Result (Next C B) Halt → Type 0
   Brings all held rest (Ok next) = Arrived all held rest next
   Brings all held rest (Err (Failed Write)) = ⊥
   Brings all held rest (Err (Failed e)) = ⊤
   Brings all held rest (Err Silent) = held ≡ []
 
-  abbrev pub Arrives : Option (List ℕ) → Option (List ℕ) → List ℕ → List ℕ → Result (Next B) Halt → Type 0
+  abbrev pub Arrives : Option (List ℕ) → Option (List ℕ) → List ℕ → List ℕ → Result (Next C B) Halt → Type 0
   Arrives old new held held' result = (read : List ℕ) × Consumes old new read × Brings (held ++ read) held' new result

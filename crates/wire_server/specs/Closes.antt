@@ -9,9 +9,9 @@ use Rattle.wire_server.specs.declared.sessions.Close.{Close}
 use Rattle.wire_server.specs.declared.sessions.Close.TheVariants.{Ended, Idle}
 
 -- nothing is said of a peer who was silent between two messages
-abbrev pub Tells : Close → Option (List ℕ) → Option (List ℕ) → Type 0
-Tells (Ended end) err err' = Says end err err'
-Tells (Idle count) err err' = Keeps err err'
+abbrev pub Reports : Close → Option (List ℕ) → Option (List ℕ) → Type 0
+Reports (Ended end) err err' = Says end err err'
+Reports (Idle count) err err' = Keeps err err'
 
 -- and that is no failure
 abbrev pub failed : Close → ℕ

@@ -2,16 +2,16 @@
 use Rattle.std.specs.Prelude.{◌≡◌, ⊤, ℕ, List, [], ◌++◌, map, Option, Some, None}
 
 -- the next peers were taken, of whom this is known of what they send
-abbrev pub Takes : Option (List (List ℕ)) → Option (List (List ℕ)) → List (Option (List ℕ)) → Type 0
-Takes None new inputs = ⊤
-Takes (Some all) None inputs = ⊥
-Takes (Some all) (Some rest) inputs = (sent : List (List ℕ)) × (inputs ≡ map Some sent) × (all ≡ sent ++ rest)
+abbrev pub AcceptsPeers : Option (List (List ℕ)) → Option (List (List ℕ)) → List (Option (List ℕ)) → Type 0
+AcceptsPeers None new inputs = ⊤
+AcceptsPeers (Some all) None inputs = ⊥
+AcceptsPeers (Some all) (Some rest) inputs = (sent : List (List ℕ)) × (inputs ≡ map Some sent) × (all ≡ sent ++ rest)
 
 -- further connections were closed, of which this is known of what was written on them
-abbrev pub Leaves : Option (List (List ℕ)) → Option (List (List ℕ)) → List (Option (List ℕ)) → Type 0
-Leaves None new outputs = ⊤
-Leaves (Some all) None outputs = ⊥
-Leaves (Some all) (Some more) outputs = (written : List (List ℕ)) × (outputs ≡ map Some written) × (more ≡ all ++ written)
+abbrev pub ClosesPeers : Option (List (List ℕ)) → Option (List (List ℕ)) → List (Option (List ℕ)) → Type 0
+ClosesPeers None new outputs = ⊤
+ClosesPeers (Some all) None outputs = ⊥
+ClosesPeers (Some all) (Some more) outputs = (written : List (List ℕ)) × (outputs ≡ map Some written) × (more ≡ all ++ written)
 
 -- nothing was written yet
 abbrev pub IsFresh : Option (List ℕ) → Type 0

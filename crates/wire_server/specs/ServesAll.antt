@@ -4,8 +4,8 @@ use Rattle.std.specs.Io.KnownBytes.{Keeps}
 use Rattle.std.specs.declared.io.Error.{Error}
 use Rattle.httparse.specs.Grammar.{RequestHead}
 use Rattle.wire_server.specs.Responses.{Replied}
-use Rattle.wire_server.specs.Peers.{IsFresh, Leaves, Takes}
-use Rattle.wire_server.specs.Closes.{Closes, Tells, failed}
+use Rattle.wire_server.specs.Peers.{IsFresh, ClosesPeers, AcceptsPeers}
+use Rattle.wire_server.specs.Closes.{Closes, Reports, failed}
 use Rattle.wire_server.specs.declared.sessions.Close.{Close}
 
 -- a connection: what its peer sent, what was written to it, and how it came to be closed
@@ -25,12 +25,12 @@ module _ {S : Type 0} (answers : S → RequestHead → List ℕ → Replied → 
   Follow old err [] new err' = (new ≡ old) × Keeps err err'
   Follow old err (session ∷ sessions) new err' =
       (fresh : Option (List ℕ)) × (mid : S) × (said : Option (List ℕ)) × IsFresh fresh
-      × Closes answers session.input fresh session.output old mid session.close × Tells session.close err said × Follow mid said sessions new err'
+      × Closes answers session.input fresh session.output old mid session.close × Reports session.close err said × Follow mid said sessions new err'
 
   -- these connections were taken from a listener, served, and closed
   pub record Serves (waiting waiting' closed closed' : Option (List (List ℕ))) (err err' : Option (List ℕ)) (old new : S) (sessions : List Session) : Type 0 where
-    pub taken : Takes waiting waiting' (map (λ session. session.input) sessions)
-    pub left : Leaves closed closed' (map (λ session. session.output) sessions)
+    pub taken : AcceptsPeers waiting waiting' (map (λ session. session.input) sessions)
+    pub left : ClosesPeers closed closed' (map (λ session. session.output) sessions)
     pub followed : Follow old err sessions new err'
 
   -- This number of connections was served, and those that failed are counted; or fewer were, and then an accept failed.

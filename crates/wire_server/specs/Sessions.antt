@@ -1,13 +1,13 @@
 -- How a connection ended, and what was said of it.
 use Rattle.std.specs.Prelude.{◌≡◌, ℕ, List, Option, Result, Ok, Err}
 use Rattle.std.specs.Io.KnownBytes.{Appends, Keeps}
-use Rattle.streams.specs.Sends.{AppendsFront}
+use Rattle.streams.specs.Sends.{AppendsPrefix}
 use Rattle.report.specs.Failures as lines
 use Rattle.report.specs.declared.failures.Failure.TheVariants as gone
 use Rattle.wire_server.specs.declared.error.WireError.{WireError}
 use Rattle.wire_server.specs.declared.error.WireError.TheVariants.{Read, Write, Memory}
 use Rattle.wire_server.specs.declared.sessions.End.{End}
-use Rattle.wire_server.specs.declared.sessions.End.TheVariants.{Served, Told, Untold}
+use Rattle.wire_server.specs.declared.sessions.End.TheVariants.{Served, Reported, Unreported}
 
 -- the line that says why one failed
 abbrev pub failure_line : WireError → List ℕ
@@ -18,14 +18,14 @@ failure_line Memory = lines.failure_line gone.Memory
 -- what became of it
 abbrev pub result_of : End → Result ℕ WireError
 result_of (Served count) = Ok count
-result_of (Told fault) = Err fault
-result_of (Untold fault) = Err fault
+result_of (Reported fault) = Err fault
+result_of (Unreported fault) = Err fault
 
 -- nothing is said of one that was served to its end; of one that failed its line, or a prefix of it where that couldn't be written
 abbrev pub Says : End → Option (List ℕ) → Option (List ℕ) → Type 0
 Says (Served count) err err' = Keeps err err'
-Says (Told fault) err err' = Appends err err' (failure_line fault)
-Says (Untold fault) err err' = AppendsFront err err' (failure_line fault)
+Says (Reported fault) err err' = Appends err err' (failure_line fault)
+Says (Unreported fault) err err' = AppendsPrefix err err' (failure_line fault)
 
 -- the line of that fault, or a prefix of it
 abbrev pub SaysOf : WireError → End → Option (List ℕ) → Option (List ℕ) → Type 0
@@ -34,5 +34,5 @@ SaysOf fault end err err' = (result_of end ≡ Err fault) × Says end err err'
 -- how many failures it counts for
 abbrev pub failure : End → ℕ
 failure (Served count) = 0
-failure (Told fault) = 1
-failure (Untold fault) = 1
+failure (Reported fault) = 1
+failure (Unreported fault) = 1

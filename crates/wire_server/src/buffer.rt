@@ -2,7 +2,7 @@
 ghost use Rattle.std.specs.Prelude.{◌≡◌, drop};
 
 /// Removes a number of bytes from the beginning of a buffer, or all where it has fewer.
-pub(crate) fn take_front(buffer: &mut Vec<u8>, n: usize)
+pub(crate) fn drain_prefix(buffer: &mut Vec<u8>, n: usize)
     ensures { buffer.new.items ≡ drop n buffer.old.items }
 {
     let taken = n.min(buffer.len());

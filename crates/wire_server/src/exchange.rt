@@ -1,9 +1,13 @@
 //! What a connection brings next, and its response.
-ghost use Rattle.std.specs.Prelude.{◌≡◌, IfOk, List, ℕ, Option};
+ghost use Rattle.std.specs.Prelude.{IfOk, List, ℕ, Option};
+ghost use Rattle.httparse.specs.Grammar.{RequestHead};
+ghost use Rattle.wire_messages.specs.Heads.{Holds};
+ghost use Rattle.wire_server.specs.Answers.{Answered, IsReady};
 ghost use Rattle.wire_server.specs.Arrivals.{Arrived, Whole};
 ghost use Rattle.wire_server.specs.Exchanges.{Comes, IsRefusal, Responds};
 
-use crate::buffer::take_front;
+use crate::begun::Begun;
+use crate::buffer::drain_prefix;
 use crate::faults::refuse;
 use crate::receiving::Next;
 use crate::responder::Responder;
@@ -28,25 +32,43 @@ fn refused(alloc: Global, fault: Fault) -> Result<Exchange, AllocError>
     })
 }
 
-/// Has a message answered, whose head is held and whose body was taken, and takes it off the buffer.
+/// The response to a message whose head is held and whose body has come.
+fn respond<T, A: Responder<T>>(
+    responder: &A,
+    state: &mut T,
+    held: &[u8],
+    head: &Head,
+    begun: Begun<A::Course, A::Body>,
+) -> Result<Response, AllocError>
+    requires { (h : RequestHead) × (body : List ℕ) × Holds held.now head.now h × IsReady A.answers A.decides A.Body.taken state.old h body begun }
+    ensures { (h : RequestHead) (body : List ℕ) → Holds held.now head.now h → IsReady A.answers A.decides A.Body.taken state.old h body begun
+        → Answered A.answers state.old h body result state.new }
+{
+    match begun {
+        Begun::Accepted(course, body) => responder.answer(state, held, head, course, body),
+        Begun::Refused(response) => Ok(response),
+    }
+}
+
+/// Has a message answered, whose head is held and whose body has come, and takes it off the buffer.
 fn answer_message<T, A: Responder<T>>(
     responder: &A,
     state: &mut T,
     buffer: &mut Vec<u8>,
     head: &Head,
     size: usize,
-    body: A::Body,
+    begun: Begun<A::Course, A::Body>,
 ) -> Result<Exchange, AllocError>
-    requires { (all : List ℕ) × Whole A.Body.taken all buffer.old.items head.now size body }
-    ensures { (all : List ℕ) → Whole A.Body.taken all buffer.old.items head.now size body
+    requires { (all : List ℕ) × Whole A.answers A.decides A.Body.taken state.old all buffer.old.items head.now size begun }
+    ensures { (all : List ℕ) → Whole A.answers A.decides A.Body.taken state.old all buffer.old.items head.now size begun
         → Responds A.answers all buffer.new.items state.old state.new result }
 {
     let close = closes(buffer, head);
-    let response = match responder.answer(state, buffer, head, body) {
+    let response = match respond(responder, state, buffer, head, begun) {
         Ok(response) => response,
         Err(fault) => return Err(fault),
     };
-    take_front(buffer, head.spans.len.saturating_add(size));
+    drain_prefix(buffer, head.spans.len.saturating_add(size));
     Ok(Exchange { response, close })
 }
 
@@ -60,16 +82,16 @@ pub(crate) fn answer_next<T, A: Responder<T>>(
     responder: &A,
     state: &mut T,
     buffer: &mut Vec<u8>,
-    next: Next<A::Body>,
+    next: Next<A::Course, A::Body>,
 ) -> Result<Option<Exchange>, AllocError>
-    requires { (all : List ℕ) × (rest : Option (List ℕ)) × Arrived A.Body.taken all buffer.old.items rest next }
-    ensures { (all : List ℕ) (rest : Option (List ℕ)) → Arrived A.Body.taken all buffer.old.items rest next
+    requires { (all : List ℕ) × (rest : Option (List ℕ)) × Arrived A.answers A.decides A.Body.taken state.old all buffer.old.items rest next }
+    ensures { (all : List ℕ) (rest : Option (List ℕ)) → Arrived A.answers A.decides A.Body.taken state.old all buffer.old.items rest next
         → Comes A.answers all buffer.new.items rest state.old state.new result }
 {
     match next {
         Next::End => Ok(None),
-        Next::Message(head, size, body) => {
-            match answer_message(responder, state, buffer, &head, size, body) {
+        Next::Message(head, size, begun) => {
+            match answer_message(responder, state, buffer, &head, size, begun) {
                 Ok(exchange) => Ok(Some(exchange)),
                 Err(fault) => Err(fault),
             }

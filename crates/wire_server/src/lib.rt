@@ -1,6 +1,7 @@
 //! Replies over HTTP, connections and listeners.
 #![tactic(auto)]
 
+mod begun;
 mod buffer;
 mod connections;
 mod draining;
@@ -19,6 +20,7 @@ mod serving;
 mod sessions;
 mod statuses;
 
+pub use begun::Begun;
 pub use connections::serve_on;
 pub use error::WireError;
 pub use listener::Listener;

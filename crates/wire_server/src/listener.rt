@@ -1,6 +1,6 @@
 //! Where connections come from.
 ghost use Rattle.std.specs.Prelude.{ℕ, List, [], ◌∷◌, Option, IfOk, OnErr};
-ghost use Rattle.wire_server.specs.Peers.{IsFresh, Leaves, Takes};
+ghost use Rattle.wire_server.specs.Peers.{IsFresh, ClosesPeers, AcceptsPeers};
 
 use std::io;
 use std::io::{Read, Write};
@@ -21,13 +21,13 @@ pub trait Listener {
 
     /// The connection of the next peer, on which nothing was read or written yet.
     fn accept(&mut self) -> io::Result<(Self::Input, Self::Output)>
-        ensures taken { IfOk result (λ c. Takes (waiting self.old) (waiting self.new) (Self.Input.remaining c.0 ∷ [])) }
-        ensures none { OnErr result (Takes (waiting self.old) (waiting self.new) []) }
+        ensures taken { IfOk result (λ c. AcceptsPeers (waiting self.old) (waiting self.new) (Self.Input.remaining c.0 ∷ [])) }
+        ensures none { OnErr result (AcceptsPeers (waiting self.old) (waiting self.new) []) }
         ensures fresh { IfOk result (λ c. IsFresh (Self.Output.contents c.1)) }
-        ensures left { Leaves (closed self.old) (closed self.new) [] };
+        ensures left { ClosesPeers (closed self.old) (closed self.new) [] };
 
     /// Closes a connection.
     fn close(&mut self, input: Self::Input, output: Self::Output)
-        ensures taken { Takes (waiting self.old) (waiting self.new) [] }
-        ensures left { Leaves (closed self.old) (closed self.new) (Self.Output.contents output ∷ []) };
+        ensures taken { AcceptsPeers (waiting self.old) (waiting self.new) [] }
+        ensures left { ClosesPeers (closed self.old) (closed self.new) (Self.Output.contents output ∷ []) };
 }

@@ -3,18 +3,19 @@ ghost use Rattle.std.specs.Prelude.{◌≡◌, ◌<◌, length};
 ghost use Rattle.wire_messages.specs.Messages.{HoldsHead};
 ghost use Rattle.wire_server.specs.Arrivals.{Arrives, broken_of};
 
+use crate::begun::Begun;
 use crate::error::WireError;
 use crate::responder::Responder;
 use std::io::Read;
-use wire_messages::{Fault, Head, ReceiveError, Received, receive_body, receive_head};
+use wire_messages::{Fault, Head, ReceiveError, Received, pass_body, receive_body, receive_head};
 
 /// What a connection brings next.
 #[derive(Drop)]
-pub(crate) enum Next<B> {
+pub(crate) enum Next<C, B> {
     /// The input is at its end.
     End,
-    /// A head, the length of the body after it, and what has taken the body.
-    Message(Head, usize, B),
+    /// A head, the length of the body after it, and what the head decided. The whole body came: it was taken, or isn't kept.
+    Message(Head, usize, Begun<C, B>),
     /// The input begins with no message.
     Faulty(Fault),
 }
@@ -37,7 +38,7 @@ fn broken(fault: ReceiveError) -> WireError
     }
 }
 
-/// Receives the body of a message whose head is held.
+/// Receives the body of a message whose head is held. One that isn't wanted is read all the same, and not kept.
 fn receive_message<R: Read, T, A: Responder<T>>(
     input: &mut R,
     held: &[u8],
@@ -45,16 +46,25 @@ fn receive_message<R: Read, T, A: Responder<T>>(
     state: &T,
     head: Head,
     size: usize,
-) -> Result<Next<A::Body>, Halt>
+) -> Result<Next<A::Course, A::Body>, Halt>
     requires some { 0 < length held.now }
     requires head { HoldsHead held.now head size }
-    ensures { Arrives A.Body.taken (R.remaining input.old) (R.remaining input.new) held.now held.now result }
+    ensures { Arrives A.answers A.decides A.Body.taken state.now (R.remaining input.old) (R.remaining input.new) held.now held.now result }
 {
-    let mut body = responder.begin(state, held, &head, size);
-    match receive_body(input, held, &head, size, &mut body) {
-        Ok(true) => Ok(Next::Message(head, size, body)),
-        Ok(false) => Ok(Next::Faulty(Fault::BadLength)),
-        Err(fault) => Err(Halt::Failed(broken(fault))),
+    match responder.begin(state, held, &head, size) {
+        Ok(Begun::Accepted(course, mut body)) => {
+            match receive_body(input, held, &head, size, &mut body) {
+                Ok(true) => Ok(Next::Message(head, size, Begun::Accepted(course, body))),
+                Ok(false) => Ok(Next::Faulty(Fault::BadLength)),
+                Err(fault) => Err(Halt::Failed(broken(fault))),
+            }
+        }
+        Ok(Begun::Refused(response)) => match pass_body(input, held, &head, size) {
+            Ok(true) => Ok(Next::Message(head, size, Begun::Refused(response))),
+            Ok(false) => Ok(Next::Faulty(Fault::BadLength)),
+            Err(fault) => Err(Halt::Failed(broken(fault))),
+        },
+        Err(_) => Err(Halt::Failed(WireError::Memory)),
     }
 }
 
@@ -69,9 +79,9 @@ pub(crate) fn receive_next<R: Read, T, A: Responder<T>>(
     buffer: &mut Vec<u8>,
     responder: &A,
     state: &T,
-) -> Result<Next<A::Body>, Halt>
+) -> Result<Next<A::Course, A::Body>, Halt>
     requires { 0 < length window.old }
-    ensures { Arrives A.Body.taken (R.remaining input.old) (R.remaining input.new) buffer.old.items buffer.new.items result }
+    ensures { Arrives A.answers A.decides A.Body.taken state.now (R.remaining input.old) (R.remaining input.new) buffer.old.items buffer.new.items result }
 {
     match receive_head(input, window, buffer) {
         Ok(Received::Message(head, size)) => {

@@ -1,6 +1,6 @@
 //! The head of a reply.
 ghost use Rattle.std.specs.Prelude.{◌≡◌, ◌++◌, OnOk, Some, None, option_map, string_bytes};
-ghost use Rattle.wire_server.specs.ReplyHead.{reply_head, front_lines, allow_field, close_field, last_lines};
+ghost use Rattle.wire_server.specs.ReplyHead.{reply_head, leading_lines, allow_field, close_field, last_lines};
 
 use http::StatusCode;
 use std::alloc::AllocError;
@@ -20,9 +20,9 @@ pub struct ReplyHead<'a> {
 }
 
 /// The status, and the kind of the text.
-#[tactic(auto, unfolding(crate::specs::ReplyHead::front_lines))]
-fn write_front(out: &mut String, status: StatusCode, kind: &str) -> Result<(), AllocError>
-    ensures { OnOk result (string_bytes out.new ≡ string_bytes out.old ++ front_lines status kind.now) }
+#[tactic(auto, unfolding(crate::specs::ReplyHead::leading_lines))]
+fn write_start(out: &mut String, status: StatusCode, kind: &str) -> Result<(), AllocError>
+    ensures { OnOk result (string_bytes out.new ≡ string_bytes out.old ++ leading_lines status kind.now) }
 {
     write!(out, "HTTP/1.1 {status}\r\ncontent-type: {kind}\r\n")
 }
@@ -64,7 +64,7 @@ pub fn write_reply_head(out: &mut String, head: &ReplyHead) -> Result<(), AllocE
     ensures { OnOk result (string_bytes out.new ≡ string_bytes out.old
         ++ reply_head head.now.status head.now.kind.now (option_map (λ methods. methods.now) head.now.allow) head.now.close head.now.size) }
 {
-    write_front(out, head.status, head.kind)?;
+    write_start(out, head.status, head.kind)?;
     write_allow(out, head.allow)?;
     write_close(out, head.close)?;
     write_last(out, head.size)

@@ -1,10 +1,11 @@
 //! What answers the messages of a connection.
-ghost use Rattle.std.specs.Prelude.{◌≡◌, ℕ, List, []};
+ghost use Rattle.std.specs.Prelude.{ℕ, List, IfOk};
 ghost use Rattle.httparse.specs.Grammar.{RequestHead};
 ghost use Rattle.wire_messages.specs.Heads.{Holds};
 ghost use Rattle.wire_server.specs.Responses.{Replied};
-ghost use Rattle.wire_server.specs.Answers.{Answered};
+ghost use Rattle.wire_server.specs.Answers.{Answered, IsBegun};
 
+use crate::begun::Begun;
 use crate::response::Response;
 use std::alloc::AllocError;
 use streams::Sink;
@@ -12,16 +13,33 @@ use wire_messages::Head;
 
 /// Answers messages, one after another, from a state that it changes.
 pub trait Responder<T> {
+    /// How a message is answered once its body has come, as its head decides.
+    type Course: Drop;
+
     /// What takes a body as it arrives.
     type Body: Sink + Drop;
 
     /// What a head and a body may be answered with from a state, and the state afterwards.
     ghost answers: { T → RequestHead → List ℕ → Replied → T → Type 0 };
 
-    /// What takes the body, of a given length, of a message whose head is held before some bytes. Nothing of it has come yet.
-    fn begin(&self, state: &T, held: &[u8], head: &Head, size: usize) -> Self::Body
+    /// A head decides this from a state.
+    ghost decides: { T → RequestHead → Self.Course → Type 0 };
+
+    /// What is decided by the head of a message, which is held before some bytes. Its body, of a given length, hasn't come yet.
+    ///
+    /// # Errors
+    ///
+    /// Memory was refused.
+    fn begin(
+        &self,
+        state: &T,
+        held: &[u8],
+        head: &Head,
+        size: usize,
+    ) -> Result<Begun<Self::Course, Self::Body>, AllocError>
         requires { (h : RequestHead) × Holds held.now head.now h }
-        ensures { Self.Body.taken result ≡ [] };
+        ensures { (h : RequestHead) → Holds held.now head.now h
+            → IfOk result (IsBegun answers decides Self.Body.taken state.now h) };
 
     /// The response to a message, of which the head is held and the whole body has come. Where memory is refused the message was not
     /// answered, or it was and its response is lost.
@@ -30,9 +48,10 @@ pub trait Responder<T> {
         state: &mut T,
         held: &[u8],
         head: &Head,
+        course: Self::Course,
         body: Self::Body,
     ) -> Result<Response, AllocError>
-        requires { (h : RequestHead) × Holds held.now head.now h }
-        ensures { (h : RequestHead) → Holds held.now head.now h
+        requires { (h : RequestHead) × Holds held.now head.now h × decides state.old h course }
+        ensures { (h : RequestHead) → Holds held.now head.now h → decides state.old h course
             → Answered answers state.old h (Self.Body.taken body) result state.new };
 }

@@ -2,7 +2,7 @@
 ghost use Rattle.std.specs.Prelude.{◌≡◌};
 ghost use Rattle.wire_server.specs.Serves.{Served};
 ghost use Rattle.wire_server.specs.Sessions.{Says, SaysOf, failure, failure_line, result_of};
-ghost use Rattle.wire_server.specs.Closes.{Closes, Tells, failed};
+ghost use Rattle.wire_server.specs.Closes.{Closes, Reports, failed};
 
 use crate::error::WireError;
 use crate::responder::Responder;
@@ -18,9 +18,9 @@ pub enum End {
     /// The connection was served to its end: this number of messages was answered.
     Served(u64),
     /// The connection failed, and a line says why.
-    Told(WireError),
+    Reported(WireError),
     /// The connection failed, and the line that says why couldn't be written whole.
-    Untold(WireError),
+    Unreported(WireError),
 }
 
 /// How the connection of a peer came to be closed.
@@ -39,7 +39,7 @@ impl Close {
     {
         match self {
             Close::Ended(End::Served(_)) | Close::Idle(_) => 0,
-            Close::Ended(End::Told(_)) | Close::Ended(End::Untold(_)) => 1,
+            Close::Ended(End::Reported(_)) | Close::Ended(End::Unreported(_)) => 1,
         }
     }
 }
@@ -56,12 +56,12 @@ fn line_of(fault: WireError) -> &'static str
 }
 
 /// Says on `errors` why a connection failed.
-fn tell<E: Write>(fault: WireError, errors: &mut E) -> End
+fn report_end<E: Write>(fault: WireError, errors: &mut E) -> End
     ensures { SaysOf fault result (E.contents errors.old) (E.contents errors.new) }
 {
     match send_bytes(errors, line_of(fault).as_bytes()) {
-        Ok(()) => End::Told(fault),
-        Err(_) => End::Untold(fault),
+        Ok(()) => End::Reported(fault),
+        Err(_) => End::Unreported(fault),
     }
 }
 
@@ -79,7 +79,7 @@ pub fn serve_connection<R: Read, W: Write, E: Write, T, A: Responder<T>>(
 {
     match serve(alloc, input, output, responder, state) {
         Ok(count) => End::Served(count),
-        Err(fault) => tell(fault, errors),
+        Err(fault) => report_end(fault, errors),
     }
 }
 
@@ -95,11 +95,11 @@ pub(crate) fn serve_peer<R: Read, W: Write, E: Write, T, A: Responder<T>>(
 ) -> Close
     ensures served { Closes A.answers (R.remaining input.old) (W.contents output.old) (W.contents output.new)
         state.old state.new result }
-    ensures said { Tells result (E.contents errors.old) (E.contents errors.new) }
+    ensures said { Reports result (E.contents errors.old) (E.contents errors.new) }
 {
     match run(alloc, input, output, responder, state) {
         Ok(count) => Close::Ended(End::Served(count)),
-        Err(Stop::Failed(fault)) => Close::Ended(tell(fault, errors)),
+        Err(Stop::Failed(fault)) => Close::Ended(report_end(fault, errors)),
         Err(Stop::Silent(count)) => Close::Idle(count),
     }
 }

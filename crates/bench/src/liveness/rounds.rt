@@ -1,7 +1,7 @@
 //! Rounds of all that `live` does with one graph, each part timed.
 
 ghost use Rattle.std.specs.Prelude.{◌<◌, All, length};
-ghost use Rattle.live.specs.Handed.{rows_view, roots_view};
+ghost use Rattle.live.specs.Arguments.{rows_view, roots_view};
 ghost use Rattle.live.specs.Numbering.{AllValid, Rise, paths_of};
 
 use super::{KEEP, made};

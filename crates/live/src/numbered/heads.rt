@@ -1,7 +1,7 @@
 //! The first bytes of paths as numbers, which a search compares in place of paths.
 ghost use Rattle.std.specs.Prelude.{◌≡◌, IfOk};
 ghost use Rattle.live.specs.Heads.{AreHeads, IsBytes, head_of as head};
-ghost use Rattle.live.specs.Handed.{rows_view};
+ghost use Rattle.live.specs.Arguments.{rows_view};
 ghost use Rattle.live.specs.Numbering.{paths_of};
 
 use crate::numbered::rows::Row;

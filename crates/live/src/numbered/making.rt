@@ -1,7 +1,7 @@
 //! Making a graph of rows, and roots of their targets.
 ghost use Rattle.std.specs.Prelude.{◌≡◌, ◌<◌, IfOk, All, length};
 ghost use Rattle.live.specs.Numbering.{AllValid, IsAimed, Rise, numbered, paths_of};
-ghost use Rattle.live.specs.Handed.{rows_view, roots_view};
+ghost use Rattle.live.specs.Arguments.{rows_view, roots_view};
 
 use crate::numbered::guesses::Guesses;
 use crate::numbered::heads::heads_of;
@@ -13,6 +13,16 @@ use std::alloc::{AllocError, Global};
 
 impl Graph {
     /// The graph of some rows, which strictly rise. Nothing stays lent.
+    ///
+    /// ```rust
+    /// use live::{Graph, Row};
+    /// use paths::StorePath;
+    ///
+    /// let path = StorePath::from_base(alloc, "00000000000000000000000000000000-p")?;
+    /// let rows = [Row { path: &path, references: &[], outputs: &[], deriver: None }];
+    /// let graph = Graph::new(alloc, &rows)?;
+    /// assert_eq!(rt; graph.len(), 1);
+    /// ```
     pub fn new(alloc: Global, rows: &[Row]) -> Result<Graph, AllocError>
         requires { Rise (paths_of (rows_view rows.now)) }
         ensures { IfOk result (λ g. g ≡ numbered (rows_view rows.now)) }
@@ -32,6 +42,17 @@ impl Graph {
 
 impl Roots {
     /// The roots of a graph, in their order. Each target is a row's path.
+    ///
+    /// ```rust
+    /// use live::{Kind, Root, Roots, Row};
+    /// use paths::StorePath;
+    ///
+    /// let path = StorePath::from_base(alloc, "00000000000000000000000000000000-p")?;
+    /// let rows = [Row { path: &path, references: &[], outputs: &[], deriver: None }];
+    /// let root = Root { kind: Kind::User, target: &path, label: "gcroots/per-user/ann/p" };
+    /// let roots = Roots::new(alloc, &rows, &[root])?;
+    /// assert_eq!(rt; roots.len(), 1);
+    /// ```
     pub fn new(alloc: Global, rows: &[Row], roots: &[Root]) -> Result<Roots, AllocError>
         requires rows { Rise (paths_of (rows_view rows.now)) }
         requires targets { AllValid (rows_view rows.now) (roots_view roots.now) }

@@ -1,7 +1,7 @@
 //! The places of paths among rows.
 ghost use Rattle.std.specs.Prelude.{◌≡◌, ◌++◌, IfOk, OnOk};
 ghost use Rattle.live.specs.Numbering.{Rise, numbered_links, paths_of, place_of as place, places_of};
-ghost use Rattle.live.specs.Handed.{row_view, rows_view};
+ghost use Rattle.live.specs.Arguments.{row_view, rows_view};
 ghost use Rattle.live.specs.Heads.{AreHeads, AreTexts};
 ghost use Rattle.live.specs.Added.{IsAdded};
 ghost use Rattle.live.specs.Searched.{IsSearched};

@@ -1,7 +1,7 @@
 //! The texts of rows' paths in one list, so that a comparison reads memory twice and not four times.
 ghost use Rattle.std.specs.Prelude.{IfOk};
 ghost use Rattle.live.specs.Heads.{AreTexts};
-ghost use Rattle.live.specs.Handed.{rows_view};
+ghost use Rattle.live.specs.Arguments.{rows_view};
 ghost use Rattle.live.specs.Numbering.{paths_of};
 
 use crate::numbered::rows::Row;

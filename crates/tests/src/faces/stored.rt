@@ -16,7 +16,7 @@ fn caller_of_tables(rt: HostRuntime) -> Result<(), Fail> {
     let dir = StoreDir::parse(alloc, "/nix/store")?;
     let path = StorePath::from_base(alloc, TEXT)?;
     let mut tables = Tables::open_in_memory(alloc, &dir)?;
-    let is_there = tables.index().object(&path).is_some();
+    let is_there = tables.outline().object(&path).is_some();
     let archive = tables.archive(&path);
     let conn = tables.release();
     assert!(rt; !is_there && archive?.is_none());

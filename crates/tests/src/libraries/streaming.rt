@@ -2,7 +2,7 @@
 use crate::fakes::{Drip, Narrow};
 use std::alloc::Global;
 use std::io::ErrorKind;
-use streams::{Held, read_at_most, send_bytes};
+use streams::{Held, ReadError, read_at_most, send_bytes};
 use wire_messages::{ReceiveError, Received, receive_body, receive_head};
 
 const BYTES: &[u8] = b"mycontent\n";
@@ -14,6 +14,7 @@ fn readers_that_fail(rt: HostRuntime) {
         (100, 11, ErrorKind::Other),
         (4, 4, ErrorKind::Interrupted),
         (100, 11, ErrorKind::Interrupted),
+        (100, 11, ErrorKind::OutOfMemory),
     ] {
         for calls in 0..14usize {
             let mut input = Drip {
@@ -23,9 +24,11 @@ fn readers_that_fail(rt: HostRuntime) {
                 fault,
             };
             let found = read_at_most(rt.alloc(), &mut input, most);
+            let is_failed = matches!(&found, Err(ReadError::Input));
             let is_whole = found.is_ok_and(|bytes| BYTES.starts_with(&bytes)
                 && bytes.len() == most.min(10));
             assert!(rt; is_whole == (calls >= needed), "{calls} calls for {most}");
+            assert!(rt; is_failed == (calls < needed), "{calls} calls for {most}");
         }
     }
 }
@@ -65,14 +68,16 @@ fn gives_message(alloc: Global, input: &mut Drip) -> Result<bool, ReceiveError> 
 #[test]
 fn messages_of_readers_that_fail(rt: HostRuntime) {
     let message = b"POST / HTTP/1.1\r\ncontent-length: 10\r\n\r\n0123456789";
-    for calls in 0..message.len() {
-        let mut input = Drip {
-            rest: message,
-            most: 1,
-            calls,
-            fault: ErrorKind::Other,
-        };
-        let found = gives_message(rt.alloc(), &mut input);
-        assert!(rt; matches!(&found, Err(ReceiveError::Read)), "{calls}");
+    for fault in [ErrorKind::Other, ErrorKind::OutOfMemory] {
+        for calls in 0..message.len() {
+            let mut input = Drip {
+                rest: message,
+                most: 1,
+                calls,
+                fault,
+            };
+            let found = gives_message(rt.alloc(), &mut input);
+            assert!(rt; matches!(&found, Err(ReceiveError::Read)), "{calls}");
+        }
     }
 }

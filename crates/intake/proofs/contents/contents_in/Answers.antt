@@ -18,7 +18,7 @@ returns c = λ old count is.
     let behind = c.split_at.result.1.now in
     let left : c.saturating_sub-left.result ≡ long - (length old - 96) =
     c.saturating_sub-left.ensures
-    ∙ ap (λ n. n - c.saturating_sub-had.result) c.length_behind_front.ensures
+    ∙ ap (λ n. n - c.saturating_sub-had.result) c.length_after_prefix.ensures
     ∙ ap (λ n. long - n) (c.saturating_sub-had.ensures ∙ ap (λ n. n - 96) (sym count)) in
     let skipped : c.saturating_sub-skipped.result ≡ 96 - length old = c.saturating_sub-skipped.ensures ∙ ap (λ n. 96 - n) (sym count) in
     let rest : behind ≡ drop (96 - length old) piece =

@@ -1,5 +1,5 @@
-use Rattle.laws.proofs.Mirror.{mirrors_steps}
-use Rattle.laws.proofs.MirrorRuns.{mirrors_runs, runs_look_alike}
+use Rattle.model.proofs.Mirror.{mirrors_steps}
+use Rattle.model.proofs.MirrorRuns.{mirrors_runs, runs_look_alike}
 use Rattle.laws.proofs.privacy.runtime_labels_do_not_show.Goals as goal
 
 pub returns-clause-step : goal.returns-clause-step

@@ -1,7 +1,7 @@
 use Rattle.std.proofs.Common.{◌+◌, ap, arith}
 use Rattle.live.specs.Keeping.{keep_view}
 use Rattle.live.proofs.Walked.{start_at, begin_at, taken_at, smaller, placed, ended, finish_at}
-use Rattle.live.specs.Marking.{Front}
+use Rattle.live.specs.Marking.{Frontier}
 use Rattle.live.proofs.Firsts.{exact_at}
 use Rattle.live.proofs.marking.mark.Goals as goal
 
@@ -36,7 +36,7 @@ marking_of : goal.returns-clause-places
 marking_of c = finish_at (keep_view c.args.keep) c.args.graph.now c.args.roots.now c.len.ensures.inside c.requires
     c.roots.root c.len-none.result c.roots.walk c.roots.walker c.walk-2.inside.first.items c.steps.result
     c.roots-test.false c.roots.auto.root-end c.len-none.ensures c.roots.invariant.1 c.roots.invariant.0
-    (ap (λ (f : Front). f.first) c.walk-2.view_is) c.steps.ensures (omega arith) c.len.result (omega arith) c.len.ensures.value
+    (ap (λ (f : Frontier). f.first) c.walk-2.view_is) c.steps.ensures (omega arith) c.len.result (omega arith) c.len.ensures.value
 
 pub returns-clause-places : goal.returns-clause-places
 returns-clause-places c = marking_of c

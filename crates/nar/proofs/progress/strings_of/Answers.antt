@@ -19,12 +19,12 @@ returns-in_err-step-in-Ok-clause-err c =
     passed_on _ _ _ c.from_residual.ensures.1 (step_err c.in_err-step-in-Ok.field-0.0 (symbols_of c.args.nest.now) (symbols_of c.strings.nest) c.args.room c.strings.at.room c.args.bytes.now c.strings.at.rest.now c.in-Ok.text.now c.in-Ok.after.room c.in-Ok.after.rest.now
     c.in_err-step-in-Ok.ensures.err open_ c.in-Ok.ensures.ok so_far.bytes so_far.fed)
 
-pub returns-in_err-want_of_more-in-Err-clause-err : goal.returns-in_err-want_of_more-in-Err-clause-err
-returns-in_err-want_of_more-in-Err-clause-err c =
+pub returns-in_err-needs_more-in-Err-clause-err : goal.returns-in_err-needs_more-in-Err-clause-err
+returns-in_err-needs_more-in-Err-clause-err c =
     let so_far = c.strings.invariant in
     let open_ : symbols_of c.strings.nest ≢ [] = λ e. both_ways _ c.if-is_done.false (c.is_done.ensures.1 e) in
-    let found = c.in_err-want_of_more-in-Err.ensures.err in
-    passed_on _ _ _ c.from_residual-in_err-want_of_more-in-Err.ensures.1 (string_err_of c.in_err-want_of_more-in-Err.field-0.0 c.in-Err.e (symbols_of c.args.nest.now) (symbols_of c.strings.nest) c.args.room c.strings.at.room c.args.bytes.now c.strings.at.rest.now
+    let found = c.in_err-needs_more-in-Err.ensures.err in
+    passed_on _ _ _ c.from_residual-in_err-needs_more-in-Err.ensures.1 (string_err_of c.in_err-needs_more-in-Err.field-0.0 c.in-Err.e (symbols_of c.args.nest.now) (symbols_of c.strings.nest) c.args.room c.strings.at.room c.args.bytes.now c.strings.at.rest.now
     c.in-Err.ensures.err found.0 found.1 open_ so_far.bytes so_far.fed)
 
 pub strings-preserved : goal.strings-preserved

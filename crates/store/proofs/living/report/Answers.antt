@@ -10,6 +10,6 @@ returns c caller w is = (
   λ i. replied.usage
       ((c.usage.ensures w is ∙ ap (usage_of w) (c.deref.ensures.value ∙ c.in_ok-live.ensures.live w is)) i)
       ((c.usage-2.ensures w is ∙ ap (usage_of w) (c.deref-2.ensures.value ∙ c.in_ok-live.ensures.dead w is)) i)
-      ((c.usage-3.ensures w is ∙ ap (usage_of w) (c.deref-3.ensures.value ∙ c.in_ok-all.ensures ∙ all_outlined c.args.index.now w is)) i),
+      ((c.usage-3.ensures w is ∙ ap (usage_of w) (c.deref-3.ensures.value ∙ c.in_ok-all.ensures ∙ all_outlined c.args.outline.now w is)) i),
   refl,
 )

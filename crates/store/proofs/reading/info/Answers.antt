@@ -6,11 +6,11 @@ use Rattle.store_steps.proofs.Outlined.{valid_by, record_by}
 use Rattle.store.proofs.reading.info.Goals as goal
 
 pub returns-in_default : goal.returns-in_default
-returns-in_default c s caller w is = (ap (λ b. first_failing (unless b NotValid ∷ [])) (valid_by c.args.index.now w c.args.path None is c.in_default.ensures), refl)
+returns-in_default c s caller w is = (ap (λ b. first_failing (unless b NotValid ∷ [])) (valid_by c.args.outline.now w c.args.path None is c.in_default.ensures), refl)
 
 pub returns : goal.returns
 returns c s caller w is = (
-  ap (λ b. first_failing (unless b NotValid ∷ [])) (valid_by c.args.index.now w c.args.path (Some c.in-Some.object.now) is c.in-Some.ensures),
-  ap record_of c.in_ok-record.ensures ∙ record_by c.args.index.now w c.args.path c.in-Some.object.now is c.in-Some.ensures,
+  ap (λ b. first_failing (unless b NotValid ∷ [])) (valid_by c.args.outline.now w c.args.path (Some c.in-Some.object.now) is c.in-Some.ensures),
+  ap record_of c.in_ok-record.ensures ∙ record_by c.args.outline.now w c.args.path c.in-Some.object.now is c.in-Some.ensures,
   refl,
 )

@@ -4,4 +4,4 @@ use Rattle.store_steps.proofs.Outlined.{all_outlined}
 use Rattle.store.proofs.reading.list.Goals as goal
 
 pub returns : goal.returns
-returns c s caller w is = (refl, ap paths (c.in_ok-paths.ensures ∙ all_outlined c.args.index.now w is), refl)
+returns c s caller w is = (refl, ap paths (c.in_ok-paths.ensures ∙ all_outlined c.args.outline.now w is), refl)

@@ -1,7 +1,7 @@
 use Rattle.std.proofs.Common.{[], ◌∷◌, refl, sym, ap, ◌∙◌}
 use Rattle.std.specs.FinMap as finite
 use Rattle.policy.specs.declared.kinds.Class.{Class}
-use Rattle.tables_outline.specs.Outline.{Outline}
+use Rattle.tables_outline.specs.Outline.{OutlineValue}
 use Rattle.model.specs.Liveness.{roots_that_keep}
 use Rattle.model.specs.Reply.{roots}
 use Rattle.model.specs.declared.refusal.Refusal.TheVariants.{NotValid}
@@ -13,12 +13,12 @@ use Rattle.store.proofs.root_listing.list_roots_of.Goals as goal
 pub returns-then-not-has : goal.returns-then-not-has
 returns-then-not-has c w is =
     let p = c.args.path in
-    (ap (λ b. first_failing (unless b NotValid ∷ [])) (sym (has_outlined w p) ∙ ap (λ (x : Outline). finite.contains_key x.objects p) is ∙ sym c.has.ensures ∙ c.if-not-has.true), refl)
+    (ap (λ b. first_failing (unless b NotValid ∷ [])) (sym (has_outlined w p) ∙ ap (λ (x : OutlineValue). finite.contains_key x.objects p) is ∙ sym c.has.ensures ∙ c.if-not-has.true), refl)
 
 pub returns : goal.returns
 returns c w is =
     let p = c.args.path in (
-      ap (λ b. first_failing (unless b NotValid ∷ [])) (sym (has_outlined w p) ∙ ap (λ (x : Outline). finite.contains_key x.objects p) is ∙ sym c.has.ensures ∙ c.if-not-has.false),
+      ap (λ b. first_failing (unless b NotValid ∷ [])) (sym (has_outlined w p) ∙ ap (λ (x : OutlineValue). finite.contains_key x.objects p) is ∙ sym c.has.ensures ∙ c.if-not-has.false),
       ap roots (c.in_ok-roots.ensures w is ∙ ap (λ (class : Class). seen class (roots_that_keep c.args.config.now w p)) c.class.ensures),
       refl,
     )

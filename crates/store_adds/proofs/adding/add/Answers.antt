@@ -1,27 +1,28 @@
 use Rattle.std.proofs.Common.{refl, sym, ap, ◌∙◌}
 use Rattle.std.specs.FinMap as finite
-use Rattle.tables_outline.specs.Outline.{Outline}
+use Rattle.tables_outline.specs.Outline.{OutlineValue}
+use Rattle.tables.specs.RowsPut.{AddedRows}
 use Rattle.store_adds.proofs.AddedObjects.{added_there, sound_put, added_new, added_not}
 use Rattle.store_adds.proofs.adding.add.Goals as goal
 
 pub returns-then-has : goal.returns-then-has
 returns-then-has g c =
     added_there g.S.Store c.args.added.path c.args.added.object c.args.tables.now c.args.added.nar
-    (ap (λ (x : Outline). finite.contains_key x.objects c.args.added.path) (sym c.index.ensures) ∙ sym c.has.ensures ∙ c.if-has.true)
+    (ap (λ (x : OutlineValue). finite.contains_key x.objects c.args.added.path) (sym c.outline.ensures) ∙ sym c.has.ensures ∙ c.if-has.true)
 
 pub insert_object-requires-clause-sound : goal.insert_object-requires-clause-sound
 insert_object-requires-clause-sound g c =
     sound_put g.S.Store c.args.added.path c.args.added.object c.args.tables.now c.args.added.nar c.args.added.nar refl
-    (ap (λ (x : Outline). finite.contains_key x.objects c.args.added.path) (sym c.index.ensures) ∙ sym c.has.ensures ∙ c.if-has.false) c.requires.sound
+    (ap (λ (x : OutlineValue). finite.contains_key x.objects c.args.added.path) (sym c.outline.ensures) ∙ sym c.has.ensures ∙ c.if-has.false) c.requires.sound
 
 pub returns-in-Ok : goal.returns-in-Ok
 returns-in-Ok g c =
     added_new g.S.Store c.args.added.path c.args.added.object c.args.tables.now c.args.added.nar c.args.added.nar refl
-    (ap (λ (x : Outline). finite.contains_key x.objects c.args.added.path) (sym c.index.ensures) ∙ sym c.has.ensures ∙ c.if-has.false)
-    c.insert_object.new.self c.insert_object.ensures.dir c.insert_object.ensures.survives c.in-Ok.ensures.done c.in-Ok.ensures.durable c.in-Ok.ensures.was_open
+    (ap (λ (x : OutlineValue). finite.contains_key x.objects c.args.added.path) (sym c.outline.ensures) ∙ sym c.has.ensures ∙ c.if-has.false)
+    c.insert_object.new.self c.in-Ok.ensures.frame
 
 pub returns-in-Err : goal.returns-in-Err
 returns-in-Err g c =
     added_not g.S.Store c.args.added.path c.args.added.object c.args.tables.now c.args.added.nar c.args.added.nar refl
-    (ap (λ (x : Outline). finite.contains_key x.objects c.args.added.path) (sym c.index.ensures) ∙ sym c.has.ensures ∙ c.if-has.false)
-    c.insert_object.new.self c.insert_object.ensures.dir c.insert_object.ensures.survives c.in-Err.failure c.in-Err.ensures.failed
+    (ap (λ (x : OutlineValue). finite.contains_key x.objects c.args.added.path) (sym c.outline.ensures) ∙ sym c.has.ensures ∙ c.if-has.false)
+    c.insert_object.new.self c.in-Err.failure c.in-Err.ensures.frame (AddedRows c.args.added.path c.args.added.nar c.args.added.object) c.in-Err.ensures.cause

@@ -9,7 +9,7 @@ use Rattle.store_adds.proofs.references.is_complete.Goals as goal
 
 pub returns : goal.returns
 returns c =
-    let o = c.args.index.now in
+    let o = c.args.outline.now in
     let p = c.args.path.now in
     let refs = c.args.refs.now in
     all_from_yields_List (λ r. finite.contains_key o.objects r || same r p) _ _ _ c.all.ensures.ran (YieldsList-from_slice refs cc) (λ x b q k. search (rules, tests))

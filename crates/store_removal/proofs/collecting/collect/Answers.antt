@@ -15,19 +15,19 @@ remove-requires g c =
     let gone = c.in-Ok.gone in
     let asked = collect c.args.ignores c.args.limit in
     sound_as g.S.Store c.args.tables.now (λ w. without w gone.paths.items) (λ w. effect s w asked)
-    (λ w t. collected_left s w c.args.ignores c.args.limit gone.paths.items (c.in-Ok.ensures.paths w (t.outline ∙ sym c.index.ensures)))
+    (λ w t. collected_left s w c.args.ignores c.args.limit gone.paths.items (c.in-Ok.ensures.paths w (t.outline ∙ sym c.outline.ensures)))
     (λ w t. sound_left s w c.args.ignores c.args.limit c.args.tables.now.dir t.sound)
 
 pub returns-in-Ok : goal.returns-in-Ok
 returns-in-Ok g c caller =
     let s = c.args.config.now in
     let gone = c.in-Ok.gone in
-    c.remove.ensures s caller (collect c.args.ignores c.args.limit) (λ w is. record {
+    c.remove.ensures s caller (collect c.args.ignores c.args.limit) refl (λ w is. record {
       passes = refl;
-      answers = ap₂ freed (c.in-Ok.ensures.paths w (is ∙ sym c.index.ensures)) (c.in-Ok.ensures.bytes w (is ∙ sym c.index.ensures));
-      becomes = collected_left s w c.args.ignores c.args.limit gone.paths.items (c.in-Ok.ensures.paths w (is ∙ sym c.index.ensures));
+      answers = ap₂ freed (c.in-Ok.ensures.paths w (is ∙ sym c.outline.ensures)) (c.in-Ok.ensures.bytes w (is ∙ sym c.outline.ensures));
+      becomes = collected_left s w c.args.ignores c.args.limit gone.paths.items (c.in-Ok.ensures.paths w (is ∙ sym c.outline.ensures));
     })
 
 pub returns-in-Err : goal.returns-in-Err
 returns-in-Err g c caller =
-    met_by_stopping g.S.Store c.args.config.now caller (collect c.args.ignores c.args.limit) c.args.tables.now (Failed Memory) c.index.result.now c.index.ensures (λ w is. tt)
+    met_by_stopping g.S.Store c.args.config.now caller (collect c.args.ignores c.args.limit) c.args.tables.now (Failed Memory) c.outline.result.now c.outline.ensures (λ w is. refl)

@@ -3,7 +3,7 @@ use Rattle.std.specs.Prelude.{All, filter}
 use Rattle.std.specs.List.{slice_index}
 use Rattle.std.proofs.lemmas.List.{length-map}
 use Rattle.std.proofs.lemmas.Result.{IfOk-weaker}
-use Rattle.live.specs.Handed.{roots_view, rows_view}
+use Rattle.live.specs.Arguments.{roots_view, rows_view}
 use Rattle.live.specs.Keeping.{keep_view}
 use Rattle.live.specs.Numbering.{path_at}
 use Rattle.live.specs.declared.numbered.rows.Row.{Row as Handed}
@@ -17,11 +17,11 @@ use Rattle.store_removal.proofs.Valid.{aims_well}
 use Rattle.store_removal.proofs.collecting.limited_paths.Goals as goal
 
 pub places-requires-clause-rows : goal.places-requires-clause-rows
-places-requires-clause-rows c = handed_rise c.args.index.now (rows_view c.deref-4.result.now) (ap rows_view c.deref-4.ensures.value ∙ c.in_ok-rows.ensures)
+places-requires-clause-rows c = handed_rise c.args.outline.now (rows_view c.deref-4.result.now) (ap rows_view c.deref-4.ensures.value ∙ c.in_ok-rows.ensures)
 
 pub places-requires-clause-roots : goal.places-requires-clause-roots
 places-requires-clause-roots c =
-    let o = c.args.index.now in
+    let o = c.args.outline.now in
     let same : roots_view c.deref-5.result.now ≡ filter (aims_well o) (roots_of (rooted o)) =
     ap roots_view c.deref-5.ensures.value ∙ c.in_ok-valid.ensures
     ∙ ap (filter (aims_well o)) (ap roots_view c.deref-2.ensures.value ∙ c.in_ok-given.ensures ∙ ap (map root_view) c.deref.ensures.value ∙ c.in_ok-roots.ensures) in
@@ -29,7 +29,7 @@ places-requires-clause-roots c =
 
 pub places-requires-clause-targets : goal.places-requires-clause-targets
 places-requires-clause-targets c =
-    let o = c.args.index.now in
+    let o = c.args.outline.now in
     let same : roots_view c.deref-5.result.now ≡ filter (aims_well o) (roots_of (rooted o)) =
     ap roots_view c.deref-5.ensures.value ∙ c.in_ok-valid.ensures
     ∙ ap (filter (aims_well o)) (ap roots_view c.deref-2.ensures.value ∙ c.in_ok-given.ensures ∙ ap (map root_view) c.deref.ensures.value ∙ c.in_ok-roots.ensures) in
@@ -37,12 +37,12 @@ places-requires-clause-targets c =
 
 pub places-requires-clause-sizes : goal.places-requires-clause-sizes
 places-requires-clause-sizes c =
-    let o = c.args.index.now in
+    let o = c.args.outline.now in
     ap length (c.deref-6.ensures.value ∙ c.in_ok-sizes.ensures) ∙ length-map c.deref-3.result.now (λ (r : Handed). size_in o r.path.now) ∙ ap length (c.deref-3.ensures.value ∙ sym c.deref-4.ensures.value)
 
 pub paths_at-requires : goal.paths_at-requires
 paths_at-requires c =
-    let o = c.args.index.now in
+    let o = c.args.outline.now in
     let at_places : map (λ (r : Handed). size_in o r.path.now) c.deref-4.result.now ≡ c.deref-6.result.now =
     ap (map (λ (r : Handed). size_in o r.path.now)) (c.deref-4.ensures.value ∙ sym c.deref-3.ensures.value) ∙ sym (c.deref-6.ensures.value ∙ c.in_ok-sizes.ensures) in
     let each : (i : ℕ) → i < length (rows_view c.deref-4.result.now) → size_in o (path_at (rows_view c.deref-4.result.now) i) ≡ slice_index c.deref-6.result.now i =
@@ -52,7 +52,7 @@ paths_at-requires c =
 
 pub returns : goal.returns
 returns c =
-    let o = c.args.index.now in
+    let o = c.args.outline.now in
     let same : roots_view c.deref-5.result.now ≡ filter (aims_well o) (roots_of (rooted o)) =
     ap roots_view c.deref-5.ensures.value ∙ c.in_ok-valid.ensures
     ∙ ap (filter (aims_well o)) (ap roots_view c.deref-2.ensures.value ∙ c.in_ok-given.ensures ∙ ap (map root_view) c.deref.ensures.value ∙ c.in_ok-roots.ensures) in

@@ -1,6 +1,6 @@
 use Rattle.std.proofs.Common.{length, refl}
 use Rattle.std.proofs.lemmas.List.{length-map}
-use Rattle.live.specs.Handed.{roots_view, row_view, rows_view}
+use Rattle.live.specs.Arguments.{roots_view, row_view, rows_view}
 use Rattle.live.specs.Keeping.{keep_view}
 use Rattle.store_removal.proofs.Deleted.{within}
 use Rattle.store_removal.proofs.collecting.places.Goals as goal

@@ -4,4 +4,4 @@ use Rattle.store_removal.proofs.collecting.sizes.Given as goal
 
 -- those of the first
 abbrev pub invariant-loop-row : goal.invariant-loop-row
-invariant-loop-row l = l.sizes.items ≡ map (λ r. size_in l.index r.path.now) (take l.row-index l.rows)
+invariant-loop-row l = l.sizes.items ≡ map (λ r. size_in l.outline r.path.now) (take l.row-index l.rows)

@@ -1,5 +1,5 @@
 use Rattle.std.proofs.Common.{◌<◌, List, [], ◌∷◌, ◌++◌, length, get_or, sym, ap₂, ◌∙◌, arith}
-use Rattle.live.specs.Handed.{rows_view}
+use Rattle.live.specs.Arguments.{rows_view}
 use Rattle.live.specs.Numbering.{path_at}
 use Rattle.model.specs.World.{Path}
 use Rattle.store_removal.proofs.Deleted.{taken_more}

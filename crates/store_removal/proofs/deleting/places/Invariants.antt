@@ -2,7 +2,7 @@ use Rattle.std.proofs.Common.{◌≡◌, ◌<◌, Bool, false, [], length, map, 
 use Rattle.std.specs.Prelude.{All, filter}
 use Rattle.std.specs.List.{list_any}
 use Rattle.live.specs.Graph.{same}
-use Rattle.live.specs.Handed.{rows_view}
+use Rattle.live.specs.Arguments.{rows_view}
 use Rattle.live.specs.Numbering.{path_at, paths_of}
 use Rattle.model.specs.World.{Path}
 use Rattle.store_removal.proofs.deleting.places.Given as goal

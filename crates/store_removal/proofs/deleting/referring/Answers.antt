@@ -1,6 +1,6 @@
 use Rattle.std.proofs.Common.{length}
 use Rattle.std.proofs.lemmas.List.{length-map}
-use Rattle.live.specs.Handed.{row_view, rows_view}
+use Rattle.live.specs.Arguments.{row_view, rows_view}
 use Rattle.store_removal.proofs.Deleted.{within}
 use Rattle.store_removal.proofs.deleting.referring.Goals as goal
 

@@ -1,6 +1,6 @@
 use Rattle.std.proofs.Common.{◌≡◌, ◌<◌, Some, is_some, length, map, option_map, sym, ap, ◌∙◌, arith}
 use Rattle.std.specs.Prelude.{filter}
-use Rattle.live.specs.Handed.{root_view as lent_view, roots_view, rows_view}
+use Rattle.live.specs.Arguments.{root_view as lent_view, roots_view, rows_view}
 use Rattle.live.specs.Keeping.{keep_view}
 use Rattle.live.specs.Numbering.{root_at}
 use Rattle.model.specs.World.{roots_of}
@@ -14,11 +14,11 @@ use Rattle.store_removal.proofs.Valid.{aims_well}
 use Rattle.store_removal.proofs.keeping.first_kept.Goals as goal
 
 pub marks-requires-clause-rows : goal.marks-requires-clause-rows
-marks-requires-clause-rows c = handed_rise c.args.index.now (rows_view c.deref-3.result.now) (ap rows_view c.deref-3.ensures.value ∙ c.in_ok-rows.ensures)
+marks-requires-clause-rows c = handed_rise c.args.outline.now (rows_view c.deref-3.result.now) (ap rows_view c.deref-3.ensures.value ∙ c.in_ok-rows.ensures)
 
 pub marks-requires-clause-roots : goal.marks-requires-clause-roots
 marks-requires-clause-roots c =
-    let o = c.args.index.now in
+    let o = c.args.outline.now in
     let same : roots_view c.deref-4.result.now ≡ filter (aims_well o) (roots_of (rooted o)) =
     ap roots_view c.deref-4.ensures.value ∙ c.in_ok-valid.ensures
     ∙ ap (filter (aims_well o)) (ap roots_view c.deref-2.ensures.value ∙ c.in_ok-given.ensures ∙ ap (map root_view) c.deref.ensures.value ∙ c.in_ok-roots.ensures) in
@@ -26,7 +26,7 @@ marks-requires-clause-roots c =
 
 pub marks-requires-clause-targets : goal.marks-requires-clause-targets
 marks-requires-clause-targets c =
-    let o = c.args.index.now in
+    let o = c.args.outline.now in
     let same : roots_view c.deref-4.result.now ≡ filter (aims_well o) (roots_of (rooted o)) =
     ap roots_view c.deref-4.ensures.value ∙ c.in_ok-valid.ensures
     ∙ ap (filter (aims_well o)) (ap roots_view c.deref-2.ensures.value ∙ c.in_ok-given.ensures ∙ ap (map root_view) c.deref.ensures.value ∙ c.in_ok-roots.ensures) in
@@ -35,7 +35,7 @@ marks-requires-clause-targets c =
 pub returns-in_default-clause-root : goal.returns-in_default-clause-root
 returns-in_default-clause-root c w told =
     let s = c.args.config.now in
-    let o = c.args.index.now in
+    let o = c.args.outline.now in
     let same : roots_view c.deref-4.result.now ≡ filter (aims_well o) (roots_of (rooted o)) =
     ap roots_view c.deref-4.ensures.value ∙ c.in_ok-valid.ensures
     ∙ ap (filter (aims_well o)) (ap roots_view c.deref-2.ensures.value ∙ c.in_ok-given.ensures ∙ ap (map root_view) c.deref.ensures.value ∙ c.in_ok-roots.ensures) in
@@ -46,7 +46,7 @@ returns-in_default-clause-root c w told =
 pub returns-in_default-clause-lives : goal.returns-in_default-clause-lives
 returns-in_default-clause-lives c w told =
     let s = c.args.config.now in
-    let o = c.args.index.now in
+    let o = c.args.outline.now in
     let same : roots_view c.deref-4.result.now ≡ filter (aims_well o) (roots_of (rooted o)) =
     ap roots_view c.deref-4.ensures.value ∙ c.in_ok-valid.ensures
     ∙ ap (filter (aims_well o)) (ap roots_view c.deref-2.ensures.value ∙ c.in_ok-given.ensures ∙ ap (map root_view) c.deref.ensures.value ∙ c.in_ok-roots.ensures) in
@@ -57,7 +57,7 @@ returns-in_default-clause-lives c w told =
 pub returns-clause-root : goal.returns-clause-root
 returns-clause-root c w told =
     let s = c.args.config.now in
-    let o = c.args.index.now in
+    let o = c.args.outline.now in
     let same : roots_view c.deref-4.result.now ≡ filter (aims_well o) (roots_of (rooted o)) =
     ap roots_view c.deref-4.ensures.value ∙ c.in_ok-valid.ensures
     ∙ ap (filter (aims_well o)) (ap roots_view c.deref-2.ensures.value ∙ c.in_ok-given.ensures ∙ ap (map root_view) c.deref.ensures.value ∙ c.in_ok-roots.ensures) in
@@ -72,7 +72,7 @@ returns-clause-root c w told =
 pub returns-clause-lives : goal.returns-clause-lives
 returns-clause-lives c w told =
     let s = c.args.config.now in
-    let o = c.args.index.now in
+    let o = c.args.outline.now in
     let same : roots_view c.deref-4.result.now ≡ filter (aims_well o) (roots_of (rooted o)) =
     ap roots_view c.deref-4.ensures.value ∙ c.in_ok-valid.ensures
     ∙ ap (filter (aims_well o)) (ap roots_view c.deref-2.ensures.value ∙ c.in_ok-given.ensures ∙ ap (map root_view) c.deref.ensures.value ∙ c.in_ok-roots.ensures) in

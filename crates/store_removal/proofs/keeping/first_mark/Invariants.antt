@@ -1,6 +1,6 @@
 use Rattle.std.proofs.Common.{◌≡◌, ℕ, None, Option, take}
 use Rattle.paths.specs.Root.{Root}
-use Rattle.live.specs.Handed.{rows_view}
+use Rattle.live.specs.Arguments.{rows_view}
 use Rattle.model.specs.World.{Path}
 use Rattle.store_removal.specs.Keeping.{AreMarked, first_value}
 use Rattle.store_removal.proofs.keeping.first_mark.Given as goal

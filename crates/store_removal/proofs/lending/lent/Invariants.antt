@@ -1,5 +1,5 @@
 use Rattle.std.proofs.Common.{◌≡◌, map, take}
-use Rattle.live.specs.Handed.{roots_view}
+use Rattle.live.specs.Arguments.{roots_view}
 use Rattle.tables_listing.specs.View.{root_view}
 use Rattle.store_removal.proofs.lending.lent.Given as goal
 

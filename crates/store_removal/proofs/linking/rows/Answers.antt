@@ -1,7 +1,7 @@
 use Rattle.std.proofs.Common.{◌≡◌, ◌++◌, map, Option, Some, None, Bor, refl, ap, ◌∙◌}
 use Rattle.std.specs.Prelude.{option_map}
 use Rattle.std.specs.Option.{option_copied}
-use Rattle.live.specs.Handed.{row_view}
+use Rattle.live.specs.Arguments.{row_view}
 use Rattle.store_removal.specs.Linked.{row_in}
 use Rattle.tables_listing.proofs.Loops.{moved, ended}
 use Rattle.store_removal.proofs.linking.rows.Goals as goal

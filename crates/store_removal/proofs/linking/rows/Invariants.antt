@@ -1,5 +1,5 @@
 use Rattle.std.proofs.Common.{◌≡◌, ◌++◌, map}
-use Rattle.live.specs.Handed.{rows_view}
+use Rattle.live.specs.Arguments.{rows_view}
 use Rattle.store_removal.specs.Linked.{row_in}
 use Rattle.store_removal.proofs.linking.rows.Given as goal
 

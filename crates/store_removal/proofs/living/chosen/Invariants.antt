@@ -1,6 +1,6 @@
 use Rattle.std.proofs.Common.{◌≡◌, map, take}
 use Rattle.std.specs.Prelude.{Bool, filter}
-use Rattle.live.specs.Handed.{rows_view}
+use Rattle.live.specs.Arguments.{rows_view}
 use Rattle.live.specs.Numbering.{paths_of}
 use Rattle.model.specs.World.{Path}
 use Rattle.store_removal.specs.Linked.{is_wanted}

@@ -2,7 +2,7 @@ use Rattle.std.proofs.Common.{◌≡◌, map, sym, ap, ◌∙◌}
 use Rattle.std.specs.Prelude.{filter}
 use Rattle.std.proofs.lemmas.List.{length-map}
 use Rattle.std.proofs.lemmas.Result.{IfOk-weaker}
-use Rattle.live.specs.Handed.{roots_view, row_view, rows_view}
+use Rattle.live.specs.Arguments.{roots_view, row_view, rows_view}
 use Rattle.live.specs.Keeping.{keep_view}
 use Rattle.model.specs.World.{roots_of}
 use Rattle.tables_listing.specs.Rooted.{rooted}
@@ -12,11 +12,11 @@ use Rattle.store_removal.proofs.Valid.{aims_well}
 use Rattle.store_removal.proofs.living.lives.Goals as goal
 
 pub marks-requires-clause-rows : goal.marks-requires-clause-rows
-marks-requires-clause-rows c = handed_rise c.args.index.now (rows_view c.args.rows.now) c.requires
+marks-requires-clause-rows c = handed_rise c.args.outline.now (rows_view c.args.rows.now) c.requires
 
 pub marks-requires-clause-roots : goal.marks-requires-clause-roots
 marks-requires-clause-roots c =
-    let o = c.args.index.now in
+    let o = c.args.outline.now in
     let same : roots_view c.deref-3.result.now ≡ filter (aims_well o) (roots_of (rooted o)) =
     ap roots_view c.deref-3.ensures.value ∙ c.in_ok-valid.ensures
     ∙ ap (filter (aims_well o)) (ap roots_view c.deref-2.ensures.value ∙ c.in_ok-given.ensures ∙ ap (map root_view) c.deref.ensures.value ∙ c.in_ok-roots.ensures) in
@@ -24,7 +24,7 @@ marks-requires-clause-roots c =
 
 pub marks-requires-clause-targets : goal.marks-requires-clause-targets
 marks-requires-clause-targets c =
-    let o = c.args.index.now in
+    let o = c.args.outline.now in
     let same : roots_view c.deref-3.result.now ≡ filter (aims_well o) (roots_of (rooted o)) =
     ap roots_view c.deref-3.ensures.value ∙ c.in_ok-valid.ensures
     ∙ ap (filter (aims_well o)) (ap roots_view c.deref-2.ensures.value ∙ c.in_ok-given.ensures ∙ ap (map root_view) c.deref.ensures.value ∙ c.in_ok-roots.ensures) in
@@ -32,7 +32,7 @@ marks-requires-clause-targets c =
 
 pub returns : goal.returns
 returns c =
-    let o = c.args.index.now in
+    let o = c.args.outline.now in
     let same : roots_view c.deref-3.result.now ≡ filter (aims_well o) (roots_of (rooted o)) =
     ap roots_view c.deref-3.ensures.value ∙ c.in_ok-valid.ensures
     ∙ ap (filter (aims_well o)) (ap roots_view c.deref-2.ensures.value ∙ c.in_ok-given.ensures ∙ ap (map root_view) c.deref.ensures.value ∙ c.in_ok-roots.ensures) in

@@ -1,7 +1,7 @@
 use Rattle.std.proofs.Common.{◌≡◌, [], take}
 use Rattle.std.specs.Prelude.{filter}
 use Rattle.live.specs.Graph.{same}
-use Rattle.live.specs.Handed.{rows_view}
+use Rattle.live.specs.Arguments.{rows_view}
 use Rattle.live.specs.Numbering.{paths_of}
 use Rattle.store_removal.proofs.reaching.place_of.Given as goal
 

@@ -4,7 +4,7 @@ use Rattle.std.specs.List.{range_with_len}
 use Rattle.std.proofs.lemmas.List.{length-map}
 use Rattle.std.proofs.lemmas.List.Elements.{All-filter}
 use Rattle.std.proofs.lemmas.List.FromFn.{get_or-range_with_len, length-range_with_len}
-use Rattle.live.specs.Handed.{root_view, roots_view, rows_view}
+use Rattle.live.specs.Arguments.{root_view, roots_view, rows_view}
 use Rattle.store_removal.proofs.reaching.reaching.Goals as goal
 
 below : (n : ℕ) → All (λ k. k < n) (range_with_len 0 n)

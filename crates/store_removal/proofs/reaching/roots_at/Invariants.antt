@@ -1,5 +1,5 @@
 use Rattle.std.proofs.Common.{◌≡◌, map, take}
-use Rattle.live.specs.Handed.{roots_view}
+use Rattle.live.specs.Arguments.{roots_view}
 use Rattle.live.specs.Numbering.{root_at}
 use Rattle.store_removal.proofs.reaching.roots_at.Given as goal
 

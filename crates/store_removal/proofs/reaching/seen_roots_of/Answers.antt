@@ -1,7 +1,7 @@
 use Rattle.std.proofs.Common.{◌≡◌, ◌<◌, ℕ, length, map, subst, sym, ap, ◌∙◌}
 use Rattle.std.specs.Prelude.{filter}
 use Rattle.std.proofs.lemmas.Result.{IfOk-weaker}
-use Rattle.live.specs.Handed.{roots_view, rows_view}
+use Rattle.live.specs.Arguments.{roots_view, rows_view}
 use Rattle.live.specs.Keeping.{keep_view}
 use Rattle.live.specs.Numbering.{path_at}
 use Rattle.model.specs.World.{roots_of}
@@ -17,14 +17,14 @@ use Rattle.store_removal.proofs.reaching.seen_roots_of.Goals as goal
 pub returns-in_default : goal.returns-in_default
 returns-in_default c w is =
     ap (map labelled_bytes) c.new.ensures.items
-    ∙ none_keeps c.args.config.now c.args.index.now (rows_view c.deref.result.now) c.args.path.now (ap rows_view c.deref.ensures.value ∙ c.in_ok-rows.ensures) c.in_default.ensures.none c.args.class w is
+    ∙ none_keeps c.args.config.now c.args.outline.now (rows_view c.deref.result.now) c.args.path.now (ap rows_view c.deref.ensures.value ∙ c.in_ok-rows.ensures) c.in_default.ensures.none c.args.class w is
 
 pub reaching-requires-clause-rows : goal.reaching-requires-clause-rows
-reaching-requires-clause-rows c = handed_rise c.args.index.now (rows_view c.deref-4.result.now) (ap rows_view c.deref-4.ensures.value ∙ c.in_ok-rows.ensures)
+reaching-requires-clause-rows c = handed_rise c.args.outline.now (rows_view c.deref-4.result.now) (ap rows_view c.deref-4.ensures.value ∙ c.in_ok-rows.ensures)
 
 pub reaching-requires-clause-targets : goal.reaching-requires-clause-targets
 reaching-requires-clause-targets c =
-    let o = c.args.index.now in
+    let o = c.args.outline.now in
     let valid : roots_view c.deref-5.result.now ≡ filter (aims_well o) (roots_of (rooted o)) =
     ap roots_view c.deref-5.ensures.value ∙ c.in_ok-valid.ensures
     ∙ ap (filter (aims_well o)) (ap roots_view c.deref-3.ensures.value ∙ c.in_ok-given.ensures ∙ ap (map root_view) c.deref-2.ensures.value ∙ c.in_ok-roots.ensures) in
@@ -35,7 +35,7 @@ reaching-requires-clause-place c = subst (λ (n : ℕ). c.in-Some.place < n) (ap
 
 pub returns : goal.returns
 returns c =
-    let o = c.args.index.now in
+    let o = c.args.outline.now in
     let rows = ap rows_view c.deref-4.ensures.value ∙ c.in_ok-rows.ensures in
     let valid : roots_view c.deref-5.result.now ≡ filter (aims_well o) (roots_of (rooted o)) =
     ap roots_view c.deref-5.ensures.value ∙ c.in_ok-valid.ensures

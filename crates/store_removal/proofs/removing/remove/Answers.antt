@@ -4,12 +4,14 @@ use Rattle.store_types.specs.declared.replies.Answer.TheVariants.{Freed}
 use Rattle.store_types.specs.declared.replies.Stop.{Stop}
 use Rattle.store_steps.specs.Meets.{IsMet}
 use Rattle.store_removal.specs.Removing.{without}
+use Rattle.tables.specs.RowsPut.{NoRow}
+use Rattle.store_steps.proofs.Caused.{write_fails}
 use Rattle.store_steps.proofs.Written.{sound_as}
 use Rattle.store_removal.proofs.Removed.{met_by_none, met_by_removing}
 use Rattle.store_removal.proofs.removing.remove.Goals as goal
 
 pub returns-then-is_nothing : goal.returns-then-is_nothing
-returns-then-is_nothing g c s caller q removes =
+returns-then-is_nothing g c s caller q touches removes =
     let gone = c.args.gone in
     met_by_none g.S.Store s caller q c.args.tables.now gone.paths.items gone.bytes (Freed gone.paths gone.bytes) refl removes
     (sym c.deref.ensures.value ∙ c.is_nothing.ensures.none c.if-is_nothing.true)
@@ -20,8 +22,9 @@ remove_objects-requires g c = record {
 }
 
 pub returns : goal.returns
-returns g c s caller q removes =
+returns g c s caller q touches removes =
     let gone = c.args.gone in
     subst (λ (r : Result Answer Stop). IsMet g.S.Store s caller q r c.args.tables.now c.remove_objects.new.self) (sym c.answered.ensures)
     (met_by_removing g.S.Store s caller q c.args.tables.now gone.paths.items gone.bytes (Freed gone.paths gone.bytes) refl removes c.remove_objects.new.self c.deref-2.result.now c.deref-2.ensures.value
-    c.remove_objects.ensures.dir c.remove_objects.ensures.survives c.remove_objects.result c.remove_objects.ensures.done c.remove_objects.ensures.failed c.remove_objects.ensures.durable c.remove_objects.ensures.was_open)
+    c.remove_objects.result c.remove_objects.ensures.frame
+    (write_fails g.S.Store q c.args.tables.now c.remove_objects.new.self touches NoRow (λ t row none. absurd none) (Freed gone.paths gone.bytes) c.remove_objects.result c.remove_objects.ensures.cause))

@@ -1,7 +1,7 @@
 use Rattle.std.proofs.Common.{rules, arith, ◌≡◌, suc, ◌+◌, ◌<◌, length, map, take, [], ◌∷◌, ◌++◌, sym, ap, ◌∙◌}
 use Rattle.std.proofs.Math.Seq.{take-suc}
 use Rattle.model.specs.World.{pair_cmp}
-use Rattle.live.specs.Handed.{root_view, roots_view}
+use Rattle.live.specs.Arguments.{root_view, roots_view}
 use Rattle.tables_outline.specs.Maps.{labelled_bytes}
 use Rattle.model.specs.Seen.{seen}
 use Rattle.tables_listing.specs.Gaining.{has_tied}

@@ -1,10 +1,10 @@
 use Rattle.std.proofs.Common.{◌≡◌, map, take}
-use Rattle.live.specs.Handed.{roots_view}
+use Rattle.live.specs.Arguments.{roots_view}
 use Rattle.tables_outline.specs.Maps.{labelled_bytes}
 use Rattle.model.specs.Seen as spec
-use Rattle.store_removal.specs.Told.{AreTold}
+use Rattle.store_removal.specs.Unique.{AreListed}
 use Rattle.store_removal.proofs.seen.seen.Given as goal
 
 -- the roots so far are shown, and told
 abbrev pub invariant-loop-root : goal.invariant-loop-root
-invariant-loop-root l = (map labelled_bytes l.shown.items ≡ spec.seen l.class (roots_view (take l.root-index l.roots))) × AreTold l.class l.told.keys l.shown.items
+invariant-loop-root l = (map labelled_bytes l.shown.items ≡ spec.seen l.class (roots_view (take l.root-index l.roots))) × AreListed l.class l.told.keys l.shown.items

@@ -1,8 +1,8 @@
 use Rattle.std.proofs.Common.{[], ◌∷◌, ◌++◌, map, not, sym, ap, ◌∙◌, subst}
 use Rattle.std.specs.Prelude.{if◌then◌else◌}
-use Rattle.live.specs.Handed.{root_view}
+use Rattle.live.specs.Arguments.{root_view}
 use Rattle.tables_outline.specs.Maps.{labelled_bytes}
-use Rattle.store_removal.specs.Told.{AreTold}
+use Rattle.store_removal.specs.Unique.{AreListed}
 use Rattle.tables_listing.proofs.Loops.{map-append}
 use Rattle.store_removal.proofs.Shown.{seen_again, seen_more}
 use Rattle.store_removal.proofs.seen.show.Goals as goal
@@ -15,7 +15,7 @@ returns-in_ok-push-clause-shown c = λ before are shown.
 
 pub returns-else-is_first-clause-told : goal.returns-else-is_first-clause-told
 returns-else-is_first-clause-told c = λ are.
-    subst (λ b. AreTold c.args.class c.note.new.told.keys (if b then c.args.shown.now.items ++ c.in_ok-pair.pair ∷ [] else c.args.shown.now.items)) c.if-is_first.false
+    subst (λ b. AreListed c.args.class c.note.new.told.keys (if b then c.args.shown.now.items ++ c.in_ok-pair.pair ∷ [] else c.args.shown.now.items)) c.if-is_first.false
     (c.in_ok-is_first.ensures.told c.args.shown.now.items are)
 
 pub returns-else-is_first-clause-shown : goal.returns-else-is_first-clause-shown

@@ -3,4 +3,4 @@ use Rattle.store_removal.proofs.Sized.{bytes_told}
 use Rattle.store_removal.proofs.sizes.bytes_in.Goals as goal
 
 pub returns : goal.returns
-returns c w is = c.sum_of.ensures ∙ bytes_told w c.args.index.now is c.args.paths.now
+returns c w is = c.sum_of.ensures ∙ bytes_told w c.args.outline.now is c.args.paths.now

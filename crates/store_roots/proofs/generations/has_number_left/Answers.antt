@@ -1,17 +1,17 @@
 use Rattle.std.proofs.Common.{ℕ, sym, ap, ◌∙◌}
 use Rattle.std.specs.Prelude.{nat_le, string_bytes}
 use Rattle.model.specs.Profiles.{last_number, number_for}
-use Rattle.tables_outline.specs.Outline.{Outline, profile_of}
+use Rattle.tables_outline.specs.Outline.{OutlineValue, profile_of}
 use Rattle.model.specs.declared.refusal.Refusal.TheVariants.{GenerationLimit}
 use Rattle.model.specs.Tests.{unless}
 use Rattle.store_roots.proofs.generations.has_number_left.Goals as goal
 
 pub returns-in-Some-clause-told : goal.returns-in-Some-clause-told
 returns-in-Some-clause-told c w is =
-    let left = ap (λ (o : Outline). number_for (profile_of o (string_bytes c.args.owned.now.0, string_bytes c.args.owned.now.1)) c.args.path.now) is in
+    let left = ap (λ (o : OutlineValue). number_for (profile_of o (string_bytes c.args.owned.now.0, string_bytes c.args.owned.now.1)) c.args.path.now) is in
     (ap (λ (n : ℕ). unless (nat_le n last_number) GenerationLimit) left ∙ ap (λ b. unless b GenerationLimit) (sym c.in-Some.ensures.fits), c.in-Some.ensures.number ∙ sym left)
 
 pub returns-in-None-clause-told : goal.returns-in-None-clause-told
 returns-in-None-clause-told c w is =
-    let left = ap (λ (o : Outline). number_for (profile_of o (string_bytes c.args.owned.now.0, string_bytes c.args.owned.now.1)) c.args.path.now) is in
+    let left = ap (λ (o : OutlineValue). number_for (profile_of o (string_bytes c.args.owned.now.0, string_bytes c.args.owned.now.1)) c.args.path.now) is in
     ap (λ (n : ℕ). unless (nat_le n last_number) GenerationLimit) left ∙ ap (λ b. unless b GenerationLimit) (sym c.in-None.ensures.fits)

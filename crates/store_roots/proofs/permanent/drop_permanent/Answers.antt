@@ -6,7 +6,10 @@ use Rattle.model.specs.Effects.{without_permanent}
 use Rattle.store_types.specs.declared.replies.Answer.{Answer}
 use Rattle.store_types.specs.declared.replies.Answer.TheVariants.{Changed}
 use Rattle.store_types.specs.declared.replies.Stop.{Stop}
+use Rattle.store_types.specs.declared.replies.Stop.TheVariants.{Refused}
 use Rattle.store_steps.specs.Meets.{IsMet}
+use Rattle.tables.specs.RowsPut.{NoRow}
+use Rattle.store_steps.proofs.Caused.{write_fails}
 use Rattle.store_steps.proofs.Written.{met_by_stopping, met_by_writing}
 use Rattle.model.proofs.SoundRoots.{permanent_dropped}
 use Rattle.store_roots.proofs.permanent.drop_permanent.Goals as goal
@@ -20,11 +23,12 @@ returns-in-Ok g c s caller =
     let same = c.as_str-text.ensures.value in
     subst (λ (r : Result Answer Stop). IsMet g.S.Store s caller (drop_permanent name) r c.args.tables.now c.drop_permanent.new.self) (sym c.answered.ensures)
     (met_by_writing g.S.Store s caller (drop_permanent name) c.args.tables.now c.drop_permanent.new.self (λ w. without_permanent w c.as_str-text.result.now) Changed
-    (λ w is. subst (λ (n : List ℕ). refusal s w (drop_permanent n) ≡ None) same (c.in-Ok.ensures s w (is ∙ sym c.index.ensures)))
+    (λ w is. subst (λ (n : List ℕ). refusal s w (drop_permanent n) ≡ None) same (c.in-Ok.ensures s w (is ∙ sym c.outline.ensures)))
     (λ w is. refl) (λ w is. ap (λ (n : List ℕ). without_permanent w n) same)
-    c.drop_permanent.ensures.dir c.drop_permanent.ensures.survives c.drop_permanent.result c.drop_permanent.ensures.done c.drop_permanent.ensures.failed c.drop_permanent.ensures.durable c.drop_permanent.ensures.was_open)
+    c.drop_permanent.result c.drop_permanent.ensures.frame
+    (write_fails g.S.Store (drop_permanent name) c.args.tables.now c.drop_permanent.new.self refl NoRow (λ t row none. absurd none) Changed c.drop_permanent.result c.drop_permanent.ensures.cause))
 
 pub returns : goal.returns
 returns g c s caller =
-    subst (λ (n : List ℕ). IsMet g.S.Store s caller (drop_permanent n) (Err c.in-Err.stop) c.args.tables.now c.args.tables.now) c.as_str-text.ensures.value
-    (met_by_stopping g.S.Store s caller (drop_permanent c.as_str-text.result.now) c.args.tables.now c.in-Err.stop c.index.result.now c.index.ensures (λ w is. c.in-Err.ensures s w is))
+    subst (λ (n : List ℕ). IsMet g.S.Store s caller (drop_permanent n) (Err (Refused c.in-Err.refusal)) c.args.tables.now c.args.tables.now) c.as_str-text.ensures.value
+    (met_by_stopping g.S.Store s caller (drop_permanent c.as_str-text.result.now) c.args.tables.now (Refused c.in-Err.refusal) c.outline.result.now c.outline.ensures (λ w is. c.in-Err.ensures s w is))

@@ -6,14 +6,17 @@ use Rattle.model.specs.Effects.{with_permanent}
 use Rattle.store_types.specs.declared.replies.Answer.{Answer}
 use Rattle.store_types.specs.declared.replies.Answer.TheVariants.{Changed}
 use Rattle.store_types.specs.declared.replies.Stop.{Stop}
+use Rattle.store_types.specs.declared.replies.Stop.TheVariants.{Refused}
 use Rattle.store_steps.specs.Meets.{IsMet}
+use Rattle.tables.specs.RowsPut.{PermanentRow}
+use Rattle.store_steps.proofs.Caused.{write_fails}
 use Rattle.store_steps.proofs.Written.{met_by_stopping, met_by_writing}
 use Rattle.store_steps.proofs.Fits.{no_settings, permanent_fits}
 use Rattle.store_roots.proofs.permanent.set_permanent.Goals as goal
 
 pub put_permanent-requires : goal.put_permanent-requires
 put_permanent-requires g c = record {
-  sound = λ w t. permanent_fits c.args.tables.now.dir w t.sound c.as_str-text.result.now c.args.path (c.in-Ok.ensures no_settings w (t.outline ∙ sym c.index.ensures));
+  sound = λ w t. permanent_fits c.args.tables.now.dir w t.sound c.as_str-text.result.now c.args.path (c.in-Ok.ensures no_settings w (t.outline ∙ sym c.outline.ensures));
 }
 
 pub returns-in-Ok : goal.returns-in-Ok
@@ -23,12 +26,13 @@ returns-in-Ok g c s caller =
     let same = c.as_str-text.ensures.value in
     subst (λ (r : Result Answer Stop). IsMet g.S.Store s caller (set_permanent name path) r c.args.tables.now c.put_permanent.new.self) (sym c.answered.ensures)
     (met_by_writing g.S.Store s caller (set_permanent name path) c.args.tables.now c.put_permanent.new.self (λ w. with_permanent w c.as_str-text.result.now path) Changed
-    (λ w is. subst (λ (n : List ℕ). refusal s w (set_permanent n path) ≡ None) same (c.in-Ok.ensures s w (is ∙ sym c.index.ensures)))
+    (λ w is. subst (λ (n : List ℕ). refusal s w (set_permanent n path) ≡ None) same (c.in-Ok.ensures s w (is ∙ sym c.outline.ensures)))
     (λ w is. refl) (λ w is. ap (λ (n : List ℕ). with_permanent w n path) same)
-    c.put_permanent.ensures.dir c.put_permanent.ensures.survives c.put_permanent.result c.put_permanent.ensures.done c.put_permanent.ensures.failed c.put_permanent.ensures.durable c.put_permanent.ensures.was_open)
+    c.put_permanent.result c.put_permanent.ensures.frame
+    (write_fails g.S.Store (set_permanent name path) c.args.tables.now c.put_permanent.new.self refl (PermanentRow c.as_str-text.result.now path) (λ t row put. refl) Changed c.put_permanent.result c.put_permanent.ensures.cause))
 
 pub returns : goal.returns
 returns g c s caller =
     let path = c.args.path in
-    subst (λ (n : List ℕ). IsMet g.S.Store s caller (set_permanent n path) (Err c.in-Err.stop) c.args.tables.now c.args.tables.now) c.as_str-text.ensures.value
-    (met_by_stopping g.S.Store s caller (set_permanent c.as_str-text.result.now path) c.args.tables.now c.in-Err.stop c.index.result.now c.index.ensures (λ w is. c.in-Err.ensures s w is))
+    subst (λ (n : List ℕ). IsMet g.S.Store s caller (set_permanent n path) (Err (Refused c.in-Err.refusal)) c.args.tables.now c.args.tables.now) c.as_str-text.ensures.value
+    (met_by_stopping g.S.Store s caller (set_permanent c.as_str-text.result.now path) c.args.tables.now (Refused c.in-Err.refusal) c.outline.result.now c.outline.ensures (λ w is. c.in-Err.ensures s w is))

@@ -1,4 +1,4 @@
-use Rattle.std.proofs.Common.{ℕ, Option, Result, sym, ap, subst, ◌∙◌}
+use Rattle.std.proofs.Common.{ℕ, Option, Result, refl, sym, ap, subst, ◌∙◌}
 use Rattle.std.specs.Prelude.{string_bytes, unwrap_or}
 use Rattle.model.specs.World.{Pair}
 use Rattle.model.specs.Profiles.{profile_at, switched, rolled_back}
@@ -8,7 +8,10 @@ use Rattle.model.specs.Effects.{with_profile}
 use Rattle.store_types.specs.declared.replies.Answer.{Answer}
 use Rattle.store_types.specs.declared.replies.Answer.TheVariants.{Generation}
 use Rattle.store_types.specs.declared.replies.Stop.{Stop}
+use Rattle.store_types.specs.declared.replies.Stop.TheVariants.{Refused}
 use Rattle.store_steps.specs.Meets.{IsMet}
+use Rattle.tables.specs.RowsPut.{ProfileRow}
+use Rattle.store_steps.proofs.Caused.{write_fails}
 use Rattle.store_steps.proofs.Written.{sound_as, met_by_stopping, met_by_writing}
 use Rattle.store_roots.proofs.ProfileChanges.{there_as, rolled_as}
 use Rattle.store_steps.proofs.Fits.{no_settings, rollback_fits}
@@ -17,7 +20,7 @@ use Rattle.store_roots.proofs.profiles.rollback.Goals as goal
 pub switch_generation-requires-clause-there : goal.switch_generation-requires-clause-there
 switch_generation-requires-clause-there g c =
     there_as (string_bytes c.args.owned.0) (string_bytes c.args.owned.1) c.as_str.result.now c.as_str-in-Ok.result.now c.as_str.ensures.value c.as_str-in-Ok.ensures.value
-    c.index.result.now c.args.tables.now.outline c.index.ensures c.in-Ok.ensures.there
+    c.outline.result.now c.args.tables.now.outline c.outline.ensures c.in-Ok.ensures.there
 
 pub switch_generation-requires-clause-sound : goal.switch_generation-requires-clause-sound
 switch_generation-requires-clause-sound g c =
@@ -25,8 +28,8 @@ switch_generation-requires-clause-sound g c =
     let name = string_bytes c.args.owned.1 in
     let owned : Pair = (c.as_str.result.now, c.as_str-in-Ok.result.now) in
     sound_as g.S.Store c.args.tables.now (λ w. with_profile w owned (switched (profile_at w owned) c.in-Ok.number)) (λ w. with_profile w (owner, name) (rolled_back (profile_at w (owner, name))))
-    (λ w t. rolled_as owner name c.as_str.result.now c.as_str-in-Ok.result.now c.as_str.ensures.value c.as_str-in-Ok.ensures.value c.in-Ok.number w (c.in-Ok.ensures.told no_settings w (t.outline ∙ sym c.index.ensures)).1)
-    (λ w t. rollback_fits c.args.tables.now.dir w t.sound owner name (c.in-Ok.ensures.told no_settings w (t.outline ∙ sym c.index.ensures)).0)
+    (λ w t. rolled_as owner name c.as_str.result.now c.as_str-in-Ok.result.now c.as_str.ensures.value c.as_str-in-Ok.ensures.value c.in-Ok.number w (c.in-Ok.ensures.told no_settings w (t.outline ∙ sym c.outline.ensures)).1)
+    (λ w t. rollback_fits c.args.tables.now.dir w t.sound owner name (c.in-Ok.ensures.told no_settings w (t.outline ∙ sym c.outline.ensures)).0)
 
 pub returns-in-Ok : goal.returns-in-Ok
 returns-in-Ok g c s caller =
@@ -36,11 +39,12 @@ returns-in-Ok g c s caller =
     let asked = rollback owner name in
     subst (λ (r : Result Answer Stop). IsMet g.S.Store s caller asked r c.args.tables.now c.switch_generation.new.self) (sym c.answered.ensures)
     (met_by_writing g.S.Store s caller asked c.args.tables.now c.switch_generation.new.self (λ w. with_profile w owned (switched (profile_at w owned) c.in-Ok.number)) (Generation c.in-Ok.number)
-    (λ w is. (c.in-Ok.ensures.told s w (is ∙ sym c.index.ensures)).0)
-    (λ w is. ap (λ (r : Option ℕ). generation (unwrap_or r (profile_at w (owner, name)).current)) (c.in-Ok.ensures.told s w (is ∙ sym c.index.ensures)).1)
-    (λ w is. rolled_as owner name c.as_str.result.now c.as_str-in-Ok.result.now c.as_str.ensures.value c.as_str-in-Ok.ensures.value c.in-Ok.number w (c.in-Ok.ensures.told s w (is ∙ sym c.index.ensures)).1)
-    c.switch_generation.ensures.dir c.switch_generation.ensures.survives c.switch_generation.result c.switch_generation.ensures.done c.switch_generation.ensures.failed c.switch_generation.ensures.durable c.switch_generation.ensures.was_open)
+    (λ w is. (c.in-Ok.ensures.told s w (is ∙ sym c.outline.ensures)).0)
+    (λ w is. ap (λ (r : Option ℕ). generation (unwrap_or r (profile_at w (owner, name)).current)) (c.in-Ok.ensures.told s w (is ∙ sym c.outline.ensures)).1)
+    (λ w is. rolled_as owner name c.as_str.result.now c.as_str-in-Ok.result.now c.as_str.ensures.value c.as_str-in-Ok.ensures.value c.in-Ok.number w (c.in-Ok.ensures.told s w (is ∙ sym c.outline.ensures)).1)
+    c.switch_generation.result c.switch_generation.ensures.frame
+    (write_fails g.S.Store asked c.args.tables.now c.switch_generation.new.self refl (ProfileRow owned c.in-Ok.number) (λ t row put. refl) (Generation c.in-Ok.number) c.switch_generation.result c.switch_generation.ensures.cause))
 
 pub returns : goal.returns
 returns g c s caller =
-    met_by_stopping g.S.Store s caller (rollback (string_bytes c.args.owned.0) (string_bytes c.args.owned.1)) c.args.tables.now c.in-Err.stop c.index.result.now c.index.ensures (λ w is. c.in-Err.ensures.told s w is)
+    met_by_stopping g.S.Store s caller (rollback (string_bytes c.args.owned.0) (string_bytes c.args.owned.1)) c.args.tables.now (Refused c.in-Err.refusal) c.outline.result.now c.outline.ensures (λ w is. c.in-Err.ensures.told s w is)

@@ -1,15 +1,18 @@
-use Rattle.std.proofs.Common.{Result, sym, ap, ap₂, subst, ◌∙◌}
+use Rattle.std.proofs.Common.{Result, refl, sym, ap, ap₂, subst, ◌∙◌}
 use Rattle.std.specs.Prelude.{string_bytes}
 use Rattle.model.specs.World.{Pair}
 use Rattle.model.specs.Profiles.{number_for, profile_at, set_to}
-use Rattle.tables_outline.specs.Outline.{Outline, profile_of}
+use Rattle.tables_outline.specs.Outline.{OutlineValue, profile_of}
 use Rattle.model.specs.Request.{set_profile}
 use Rattle.model.specs.Reply.{generation}
 use Rattle.model.specs.Effects.{with_profile}
 use Rattle.store_types.specs.declared.replies.Answer.{Answer}
 use Rattle.store_types.specs.declared.replies.Answer.TheVariants.{Generation}
 use Rattle.store_types.specs.declared.replies.Stop.{Stop}
+use Rattle.store_types.specs.declared.replies.Stop.TheVariants.{Refused}
 use Rattle.store_steps.specs.Meets.{IsMet}
+use Rattle.tables.specs.RowsPut.{GenerationRows}
+use Rattle.store_steps.proofs.Caused.{write_fails}
 use Rattle.store_steps.proofs.Written.{sound_as, met_by_stopping, met_by_writing}
 use Rattle.store_roots.proofs.ProfileChanges.{same_owned, changed_as}
 use Rattle.store_steps.proofs.Fits.{no_settings, profile_fits}
@@ -18,7 +21,7 @@ use Rattle.store_roots.proofs.profiles.set_profile.Goals as goal
 pub set_profile-requires-clause-number : goal.set_profile-requires-clause-number
 set_profile-requires-clause-number g c =
     c.in-Ok.ensures.number
-    ∙ ap₂ (λ (o : Outline) (p : Pair). number_for (profile_of o p) c.args.path) c.index.ensures
+    ∙ ap₂ (λ (o : OutlineValue) (p : Pair). number_for (profile_of o p) c.args.path) c.outline.ensures
     (sym (same_owned (string_bytes c.args.owned.0) (string_bytes c.args.owned.1) c.as_str.result.now c.as_str-in-Ok.result.now c.as_str.ensures.value c.as_str-in-Ok.ensures.value))
 
 pub set_profile-requires-clause-sound : goal.set_profile-requires-clause-sound
@@ -28,7 +31,7 @@ set_profile-requires-clause-sound g c =
     let owned : Pair = (c.as_str.result.now, c.as_str-in-Ok.result.now) in
     sound_as g.S.Store c.args.tables.now (λ w. with_profile w owned (set_to (profile_at w owned) c.args.path)) (λ w. with_profile w (owner, name) (set_to (profile_at w (owner, name)) c.args.path))
     (λ w t. changed_as owner name c.as_str.result.now c.as_str-in-Ok.result.now c.as_str.ensures.value c.as_str-in-Ok.ensures.value (λ p. set_to p c.args.path) w)
-    (λ w t. profile_fits c.args.tables.now.dir w t.sound owner name c.args.path (c.in-Ok.ensures.told no_settings w (t.outline ∙ sym c.index.ensures)).0)
+    (λ w t. profile_fits c.args.tables.now.dir w t.sound owner name c.args.path (c.in-Ok.ensures.told no_settings w (t.outline ∙ sym c.outline.ensures)).0)
 
 pub returns-in-Ok : goal.returns-in-Ok
 returns-in-Ok g c s caller =
@@ -38,11 +41,12 @@ returns-in-Ok g c s caller =
     let asked = set_profile owner name c.args.path in
     subst (λ (r : Result Answer Stop). IsMet g.S.Store s caller asked r c.args.tables.now c.set_profile.new.self) (sym c.answered.ensures)
     (met_by_writing g.S.Store s caller asked c.args.tables.now c.set_profile.new.self (λ w. with_profile w owned (set_to (profile_at w owned) c.args.path)) (Generation c.in-Ok.number)
-    (λ w is. (c.in-Ok.ensures.told s w (is ∙ sym c.index.ensures)).0)
-    (λ w is. ap generation (c.in-Ok.ensures.told s w (is ∙ sym c.index.ensures)).1)
+    (λ w is. (c.in-Ok.ensures.told s w (is ∙ sym c.outline.ensures)).0)
+    (λ w is. ap generation (c.in-Ok.ensures.told s w (is ∙ sym c.outline.ensures)).1)
     (λ w is. changed_as owner name c.as_str.result.now c.as_str-in-Ok.result.now c.as_str.ensures.value c.as_str-in-Ok.ensures.value (λ p. set_to p c.args.path) w)
-    c.set_profile.ensures.dir c.set_profile.ensures.survives c.set_profile.result c.set_profile.ensures.done c.set_profile.ensures.failed c.set_profile.ensures.durable c.set_profile.ensures.was_open)
+    c.set_profile.result c.set_profile.ensures.frame
+    (write_fails g.S.Store asked c.args.tables.now c.set_profile.new.self refl (GenerationRows owned c.in-Ok.number c.args.path c.in-Ok.number) (λ t row put. refl) (Generation c.in-Ok.number) c.set_profile.result c.set_profile.ensures.cause))
 
 pub returns : goal.returns
 returns g c s caller =
-    met_by_stopping g.S.Store s caller (set_profile (string_bytes c.args.owned.0) (string_bytes c.args.owned.1) c.args.path) c.args.tables.now c.in-Err.stop c.index.result.now c.index.ensures (λ w is. c.in-Err.ensures.told s w is)
+    met_by_stopping g.S.Store s caller (set_profile (string_bytes c.args.owned.0) (string_bytes c.args.owned.1) c.args.path) c.args.tables.now (Refused c.in-Err.refusal) c.outline.result.now c.outline.ensures (λ w is. c.in-Err.ensures.told s w is)

@@ -20,5 +20,5 @@ returns c s w is = (
   ap (λ b. first_failing (unless b BadLabel ∷ []))
       (labels_mapped c.args.pairs.items ∙ ap (λ (ps : List (String Global × Path)). list_all (λ (p : String Global × Path). is_runtime_label (string_bytes p.0)) ps) (sym c.deref.ensures.value)
       ∙ sym c.are_runtime_labels.ensures ∙ c.if-not-are_runtime_labels.false),
-  c.in_ok-valid.ensures ∙ valid_by_outline c.args.index.now w is (map labelled_bytes c.args.pairs.items),
+  c.in_ok-valid.ensures ∙ valid_by_outline c.args.outline.now w is (map labelled_bytes c.args.pairs.items),
 )

@@ -1,4 +1,4 @@
-use Rattle.std.proofs.Common.{Result, sym, ap, subst, ◌∙◌}
+use Rattle.std.proofs.Common.{Result, refl, sym, ap, subst, ◌∙◌}
 use Rattle.std.specs.Prelude.{map}
 use Rattle.std.specs.FinMap as finite
 use Rattle.paths.specs.Root.{Set}
@@ -11,6 +11,8 @@ use Rattle.store_types.specs.declared.replies.Answer.{Answer}
 use Rattle.store_types.specs.declared.replies.Answer.TheVariants.{RuntimeCount}
 use Rattle.store_types.specs.declared.replies.Stop.{Stop}
 use Rattle.store_steps.specs.Meets.{IsMet}
+use Rattle.tables.specs.RowsPut.{RowsOf, RuntimeRow}
+use Rattle.store_steps.proofs.Caused.{write_fails}
 use Rattle.store_steps.proofs.Written.{sound_as, met_by_stopping, met_by_writing}
 use Rattle.store_steps.proofs.Fits.{no_settings, runtime_fits}
 use Rattle.store_roots.proofs.runtime.replace_runtime.Goals as goal
@@ -20,8 +22,8 @@ replace_runtime-requires g c =
     let pairs = map labelled_bytes c.args.pairs.items in
     record {
       sound = sound_as g.S.Store c.args.tables.now (λ w. with_runtime w (seen_set pair_cmp labelled_bytes c.in-Ok.valid.keys)) (λ w. with_runtime w (valid_pairs w pairs))
-          (λ w t. ap (with_runtime w) (c.in-Ok.ensures no_settings w (t.outline ∙ sym c.index.ensures)).1)
-          (λ w t. runtime_fits c.args.tables.now.dir w t.sound pairs (c.in-Ok.ensures no_settings w (t.outline ∙ sym c.index.ensures)).0);
+          (λ w t. ap (with_runtime w) (c.in-Ok.ensures no_settings w (t.outline ∙ sym c.outline.ensures)).1)
+          (λ w t. runtime_fits c.args.tables.now.dir w t.sound pairs (c.in-Ok.ensures no_settings w (t.outline ∙ sym c.outline.ensures)).0);
     }
 
 pub returns-in-Ok : goal.returns-in-Ok
@@ -29,11 +31,12 @@ returns-in-Ok g c s caller =
     let asked = replace_runtime (map labelled_bytes c.args.pairs.items) in
     subst (λ (r : Result Answer Stop). IsMet g.S.Store s caller asked r c.args.tables.now c.replace_runtime.new.self) (sym c.answered.ensures)
     (met_by_writing g.S.Store s caller asked c.args.tables.now c.replace_runtime.new.self (λ w. with_runtime w (seen_set pair_cmp labelled_bytes c.in-Ok.valid.keys)) (RuntimeCount c.count_of-count.result)
-    (λ w is. (c.in-Ok.ensures s w (is ∙ sym c.index.ensures)).0)
-    (λ w is. ap runtime_count (c.count_of-count.ensures ∙ ap (λ (m : Set pair_cmp). finite.len m) (c.in-Ok.ensures s w (is ∙ sym c.index.ensures)).1))
-    (λ w is. ap (with_runtime w) (c.in-Ok.ensures s w (is ∙ sym c.index.ensures)).1)
-    c.replace_runtime.ensures.dir c.replace_runtime.ensures.survives c.replace_runtime.result c.replace_runtime.ensures.done c.replace_runtime.ensures.failed c.replace_runtime.ensures.durable c.replace_runtime.ensures.was_open)
+    (λ w is. (c.in-Ok.ensures s w (is ∙ sym c.outline.ensures)).0)
+    (λ w is. ap runtime_count (c.count_of-count.ensures ∙ ap (λ (m : Set pair_cmp). finite.len m) (c.in-Ok.ensures s w (is ∙ sym c.outline.ensures)).1))
+    (λ w is. ap (with_runtime w) (c.in-Ok.ensures s w (is ∙ sym c.outline.ensures)).1)
+    c.replace_runtime.result c.replace_runtime.ensures.frame
+    (write_fails g.S.Store asked c.args.tables.now c.replace_runtime.new.self refl (RowsOf RuntimeRow (map labelled_bytes c.in-Ok.valid.keys)) (λ t row put. refl) (RuntimeCount c.count_of-count.result) c.replace_runtime.result c.replace_runtime.ensures.cause))
 
 pub returns-in-Err : goal.returns-in-Err
 returns-in-Err g c s caller =
-    met_by_stopping g.S.Store s caller (replace_runtime (map labelled_bytes c.args.pairs.items)) c.args.tables.now c.in-Err.stop c.index.result.now c.index.ensures (λ w is. c.in-Err.ensures s w is)
+    met_by_stopping g.S.Store s caller (replace_runtime (map labelled_bytes c.args.pairs.items)) c.args.tables.now c.in-Err.stop c.outline.result.now c.outline.ensures (λ w is. c.in-Err.ensures s w is)

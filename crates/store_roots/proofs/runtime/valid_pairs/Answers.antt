@@ -10,12 +10,12 @@ use Rattle.store_roots.proofs.runtime.valid_pairs.Goals as goal
 
 pub loop-pair-init : goal.loop-pair-init
 loop-pair-init c =
-    let test = λ (p : Pair). finite.contains_key c.args.index.now.objects p.1 in
+    let test = λ (p : Pair). finite.contains_key c.args.outline.now.objects p.1 in
     at_first pair_cmp (seen_set pair_cmp labelled_bytes c.new-valid.result.keys) (fronts labelled_bytes test c.args.pairs.items) (ap (seen_set pair_cmp labelled_bytes) c.new-valid.ensures.empty)
 
 pub loop-pair-preserved : goal.loop-pair-preserved
 loop-pair-preserved c =
-    let test = λ (p : Pair). finite.contains_key c.args.index.now.objects p.1 in
+    let test = λ (p : Pair). finite.contains_key c.args.outline.now.objects p.1 in
     let all = fronts labelled_bytes test in
     next_pair pair_cmp pair_total (test (labelled_bytes c.in-Some.pair)) (all c.loop-pair.left.items) (all c.pop.new.self.items) (labelled_bytes c.in-Some.pair)
     (seen_set pair_cmp labelled_bytes c.loop-pair.valid.keys) (seen_set pair_cmp labelled_bytes c.put_valid.new.valid.keys) (all c.args.pairs.items)
@@ -23,7 +23,7 @@ loop-pair-preserved c =
 
 pub returns : goal.returns
 returns c =
-    let test = λ (p : Pair). finite.contains_key c.args.index.now.objects p.1 in
+    let test = λ (p : Pair). finite.contains_key c.args.outline.now.objects p.1 in
     let all = fronts labelled_bytes test in
     let left = c.loop-pair.left in
     all_put pair_cmp pair_total pair_antisymmetric (all left.items) (seen_set pair_cmp labelled_bytes c.loop-pair.valid.keys) (all c.args.pairs.items)

@@ -9,8 +9,8 @@ use Rattle.store_roots.proofs.runtime.valid_pairs.Given as goal
 -- what is left
 abbrev pub invariant-loop-pair : goal.invariant-loop-pair
 invariant-loop-pair l =
-    Fronts pair_cmp (fronts labelled_bytes (λ (p : Pair). finite.contains_key l.index.objects p.1) l.left.items) (seen_set pair_cmp labelled_bytes l.valid.keys)
-    (fronts labelled_bytes (λ (p : Pair). finite.contains_key l.index.objects p.1) l.fn.pairs.items)
+    Fronts pair_cmp (fronts labelled_bytes (λ (p : Pair). finite.contains_key l.outline.objects p.1) l.left.items) (seen_set pair_cmp labelled_bytes l.valid.keys)
+    (fronts labelled_bytes (λ (p : Pair). finite.contains_key l.outline.objects p.1) l.fn.pairs.items)
 
 abbrev pub decreases-loop-pair : goal.decreases-loop-pair
 decreases-loop-pair l = length l.left.items

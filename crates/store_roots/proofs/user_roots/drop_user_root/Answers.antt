@@ -5,8 +5,11 @@ use Rattle.model.specs.Effects.{without_user_root}
 use Rattle.store_types.specs.declared.replies.Answer.{Answer}
 use Rattle.store_types.specs.declared.replies.Answer.TheVariants.{Changed}
 use Rattle.store_types.specs.declared.replies.Stop.{Stop}
+use Rattle.store_types.specs.declared.replies.Stop.TheVariants.{Refused}
 use Rattle.store_steps.specs.Meets.{IsMet}
 use Rattle.model.proofs.SoundRoots.{user_root_dropped}
+use Rattle.tables.specs.RowsPut.{NoRow}
+use Rattle.store_steps.proofs.Caused.{write_fails}
 use Rattle.store_steps.proofs.Written.{met_by_stopping, met_by_writing}
 use Rattle.store_roots.proofs.user_roots.drop_user_root.Goals as goal
 
@@ -19,10 +22,11 @@ returns-in-Ok g c s caller =
     let name = string_bytes c.args.owned.1 in
     subst (λ (r : Result Answer Stop). IsMet g.S.Store s caller (drop_user_root owner name) r c.args.tables.now c.drop_user_root.new.self) (sym c.answered.ensures)
     (met_by_writing g.S.Store s caller (drop_user_root owner name) c.args.tables.now c.drop_user_root.new.self (λ w. without_user_root w (c.as_str.result.now, c.as_str-in-Ok.result.now)) Changed
-    (λ w is. c.in-Ok.ensures s w (is ∙ sym c.index.ensures))
+    (λ w is. c.in-Ok.ensures s w (is ∙ sym c.outline.ensures))
     (λ w is. refl) (λ w is. ap₂ (λ (o n : List ℕ). without_user_root w (o, n)) c.as_str.ensures.value c.as_str-in-Ok.ensures.value)
-    c.drop_user_root.ensures.dir c.drop_user_root.ensures.survives c.drop_user_root.result c.drop_user_root.ensures.done c.drop_user_root.ensures.failed c.drop_user_root.ensures.durable c.drop_user_root.ensures.was_open)
+    c.drop_user_root.result c.drop_user_root.ensures.frame
+    (write_fails g.S.Store (drop_user_root owner name) c.args.tables.now c.drop_user_root.new.self refl NoRow (λ t row none. absurd none) Changed c.drop_user_root.result c.drop_user_root.ensures.cause))
 
 pub returns : goal.returns
 returns g c s caller =
-    met_by_stopping g.S.Store s caller (drop_user_root (string_bytes c.args.owned.0) (string_bytes c.args.owned.1)) c.args.tables.now c.in-Err.stop c.index.result.now c.index.ensures (λ w is. c.in-Err.ensures s w is)
+    met_by_stopping g.S.Store s caller (drop_user_root (string_bytes c.args.owned.0) (string_bytes c.args.owned.1)) c.args.tables.now (Refused c.in-Err.refusal) c.outline.result.now c.outline.ensures (λ w is. c.in-Err.ensures s w is)

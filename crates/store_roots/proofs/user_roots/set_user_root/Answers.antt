@@ -5,7 +5,10 @@ use Rattle.model.specs.Effects.{with_user_root}
 use Rattle.store_types.specs.declared.replies.Answer.{Answer}
 use Rattle.store_types.specs.declared.replies.Answer.TheVariants.{Changed}
 use Rattle.store_types.specs.declared.replies.Stop.{Stop}
+use Rattle.store_types.specs.declared.replies.Stop.TheVariants.{Refused}
 use Rattle.store_steps.specs.Meets.{IsMet}
+use Rattle.tables.specs.RowsPut.{UserRootRow}
+use Rattle.store_steps.proofs.Caused.{write_fails}
 use Rattle.store_steps.proofs.Written.{sound_as, met_by_stopping, met_by_writing}
 use Rattle.store_steps.proofs.Fits.{no_settings, user_root_fits}
 use Rattle.store_roots.proofs.user_roots.set_user_root.Goals as goal
@@ -18,7 +21,7 @@ put_user_root-requires g c =
     record {
       sound = sound_as g.S.Store c.args.tables.now (λ w. with_user_root w (c.as_str.result.now, c.as_str-in-Ok.result.now) path) (λ w. with_user_root w (owner, name) path)
           (λ w t. ap₂ (λ (o n : List ℕ). with_user_root w (o, n) path) c.as_str.ensures.value c.as_str-in-Ok.ensures.value)
-          (λ w t. user_root_fits c.args.tables.now.dir w t.sound owner name path (c.in-Ok.ensures no_settings w (t.outline ∙ sym c.index.ensures)));
+          (λ w t. user_root_fits c.args.tables.now.dir w t.sound owner name path (c.in-Ok.ensures no_settings w (t.outline ∙ sym c.outline.ensures)));
     }
 
 pub returns-in-Ok : goal.returns-in-Ok
@@ -28,10 +31,11 @@ returns-in-Ok g c s caller =
     let path = c.args.path in
     subst (λ (r : Result Answer Stop). IsMet g.S.Store s caller (set_user_root owner name path) r c.args.tables.now c.put_user_root.new.self) (sym c.answered.ensures)
     (met_by_writing g.S.Store s caller (set_user_root owner name path) c.args.tables.now c.put_user_root.new.self (λ w. with_user_root w (c.as_str.result.now, c.as_str-in-Ok.result.now) path) Changed
-    (λ w is. c.in-Ok.ensures s w (is ∙ sym c.index.ensures))
+    (λ w is. c.in-Ok.ensures s w (is ∙ sym c.outline.ensures))
     (λ w is. refl) (λ w is. ap₂ (λ (o n : List ℕ). with_user_root w (o, n) path) c.as_str.ensures.value c.as_str-in-Ok.ensures.value)
-    c.put_user_root.ensures.dir c.put_user_root.ensures.survives c.put_user_root.result c.put_user_root.ensures.done c.put_user_root.ensures.failed c.put_user_root.ensures.durable c.put_user_root.ensures.was_open)
+    c.put_user_root.result c.put_user_root.ensures.frame
+    (write_fails g.S.Store (set_user_root owner name path) c.args.tables.now c.put_user_root.new.self refl (UserRootRow (c.as_str.result.now, c.as_str-in-Ok.result.now) path) (λ t row put. refl) Changed c.put_user_root.result c.put_user_root.ensures.cause))
 
 pub returns : goal.returns
 returns g c s caller =
-    met_by_stopping g.S.Store s caller (set_user_root (string_bytes c.args.owned.0) (string_bytes c.args.owned.1) c.args.path) c.args.tables.now c.in-Err.stop c.index.result.now c.index.ensures (λ w is. c.in-Err.ensures s w is)
+    met_by_stopping g.S.Store s caller (set_user_root (string_bytes c.args.owned.0) (string_bytes c.args.owned.1) c.args.path) c.args.tables.now (Refused c.in-Err.refusal) c.outline.result.now c.outline.ensures (λ w is. c.in-Err.ensures s w is)

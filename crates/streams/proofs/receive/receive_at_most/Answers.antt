@@ -1,13 +1,22 @@
-use Rattle.std.proofs.Common.{rules, ◌≡◌, ◌+◌, ◌≤◌, ◌++◌, length, length-append, arith}
-use Rattle.std.proofs.KnownBytes.{Consumes-trans}
+use Rattle.std.proofs.Common.{rules, ◌≡◌, ◌+◌, ◌≤◌, ◌<◌, ◌++◌, ℕ, List, Option, Err, length, length-append, arith, ◌∙◌}
+use Rattle.std.proofs.KnownBytes.{Consumes-kept, Consumes-trans}
+use Rattle.std.specs.Io.KnownBytes.{Consumes}
+use Rattle.streams.specs.Reads.{ReadsOn, Receives}
+use Rattle.streams.specs.declared.error.ReadError.{ReadError}
+use Rattle.streams.specs.declared.error.ReadError.TheVariants.{Input, Memory}
 use Rattle.streams.proofs.receive.receive_at_most.Goals as goal
 
--- src/receive.rt:60:27
+-- a read that failed after others, or whose bytes were not passed on
+ended : (old mid new : Option (List ℕ)) (most left room : ℕ) (bs held held' held'' : List ℕ) (fault : ReadError) → 0 < left → room ≤ left
+    → Consumes old mid bs → length bs + left ≡ most → held' ≡ held ++ bs → ReadsOn room mid new held' held'' (Err fault) → Receives most old new held held'' (Err fault)
+ended old mid new most left room bs held held' held'' Input some within taken sum is (kept, same) =
+    (bs, Consumes-kept old mid new bs taken kept, omega arith, (omega arith, same ∙ is))
+ended old mid new most left room bs held held' held'' Memory some within taken sum is (more, came, least, fits) =
+    let size : length (bs ++ more) ≡ length bs + length more = length-append bs more in
+    (bs ++ more, Consumes-trans old mid new bs more taken came, omega arith, omega arith)
+
+-- src/receive.rt:53:27
 pub returns-in-Err : goal.returns-in-Err
 returns-in-Err g c =
-    let before = c.loop.invariant in
-    let read = c.in-Err.ensures in
-    let size : length (before.0 ++ read.0) ≡ length before.0 + length read.0 = length-append before.0 read.0 in
-    let sum : length before.0 + c.loop.left ≡ c.args.most = before.2 in
-    let within : length read.0 ≤ c.loop.left = search rules in
-    (before.0 ++ read.0, Consumes-trans _ _ _ before.0 read.0 before.1 read.1, omega arith, tt)
+    let before = c.reads.invariant in
+    ended _ _ _ c.args.most c.reads.left _ before.0 _ _ _ c.in-Err.fault c.reads-test.true (search rules) before.1 before.2 before.3 c.in-Err.ensures

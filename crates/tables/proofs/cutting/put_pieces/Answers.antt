@@ -1,15 +1,23 @@
-use Rattle.std.proofs.Common.{◌≡◌, ℕ, ◌+◌, ◌*◌, ◌<◌, ◌≤◌, length, arith, refl, sym, ap, subst, ◌∙◌, List}
+use Rattle.std.proofs.Common.{◌≡◌, ℕ, ◌+◌, ◌*◌, ◌<◌, ◌≤◌, length, map, arith, inl, inr, [], ◌∷◌, refl, sym, ap, subst, ◌∙◌, List}
 use Rattle.std.specs.Prelude.{ℤ, pos}
 use Rattle.std.specs.FinMap as finite
+use Rattle.sqlite_value.specs.declared.value.Value.TheVariants.{Int, Text, Blob}
+use Rattle.sqlite_value.specs.Order.{Row}
 use Rattle.sqlite.specs.Held.{state}
+use Rattle.streams.specs.Cut.{piece_of}
+use Rattle.tables_schema.specs.Forms.{piece}
 use Rattle.tables_sql.specs.Contents.{Contents, contents_of}
 use Rattle.tables_world.specs.Pieces.{further_pieces}
-use Rattle.tables.specs.Rewritten.{put_pieces}
+use Rattle.tables.specs.Rewritten.{AreFree, put_pieces}
+use Rattle.tables.specs.RowsPut.{RowsOf, PieceRow}
 use Rattle.tables_sql.proofs.Going.{Goes, goes_first, goes_next, goes_done}
 use Rattle.tables_sql.proofs.Transactions.{survives_none}
 use Rattle.tables.proofs.Cuts.{left_from, all_left, next_left, past_end}
 use Rattle.tables.proofs.Kept.{clean_before}
-use Rattle.tables_sql.proofs.TestFailures.{survives_both}
+use Rattle.tables_sql.proofs.TestFailures.{passed_on, survives_both}
+use Rattle.tables_sql.proofs.Orders.{numbered_total}
+use Rattle.tables.proofs.Free.{free_next}
+use Rattle.tables.proofs.Reasons.{is_none, next_reason, put_reason}
 use Rattle.tables.proofs.Transactions.{pieces_stand}
 use Rattle.tables.proofs.cutting.put_pieces.Goals as goal
 
@@ -21,6 +29,8 @@ pieces-init g c =
     record {
       same_reference = refl;
       goes = λ clean. subst (λ ps. Goes change (further_pieces nar) first first ps) (sym (all_left nar)) (goes_first change (further_pieces nar) first (c.requires.under_way clean) (c.requires.is_open clean));
+      free = λ clean. subst (λ ps. AreFree (contents_of first.now).pieces (map (λ (e : ℤ × List ℕ). (c.args.base.now, e.0)) ps)) (sym (all_left nar)) (c.requires.free clean);
+      among = λ t values. subst (λ ps. RowsOf (PieceRow c.args.base.now) ps t values) (all_left nar);
       survives = survives_none first;
     }
 
@@ -33,6 +43,7 @@ pieces-preserved g c =
     let next = state g.S.Store c.insert.new.tx.conn.now in
     let change : List (ℤ × List ℕ) → Contents → Contents = λ ps x. record x { pieces = put_pieces base ps x.pieces } in
     let was = contents_of now.now in
+    let keys : ℤ × List ℕ → List ℕ × ℤ = λ e. (base, e.0) in
     let n = c.pieces.number in
     let more : 65536 * n < length nar = omega arith in
     let same : change (left_from n nar) was ≡ change (left_from (n + 1) nar) (record was { pieces = finite.insert was.pieces (base, pos n) c.piece.result.now }) =
@@ -41,6 +52,11 @@ pieces-preserved g c =
     record {
       same_reference = c.in_ok-insert.ensures.frame.same_reference ∙ c.pieces.invariant.same_reference;
       goes = λ clean. goes_next change (further_pieces nar) first now next (left_from n nar) (left_from (n + 1) nar) _ (c.pieces.invariant.goes (clean_before now next _ c.insert.ensures.frame.survives clean)) (c.in_ok-insert.ensures.done clean) same;
+      free = λ clean.
+          let free = subst (λ ps. AreFree was.pieces (map keys ps)) (next_left n nar more) (c.pieces.invariant.free (clean_before now next _ c.insert.ensures.frame.survives clean)) in
+          let after = free_next numbered_total was.pieces (base, pos n) c.piece.result.now (map keys (left_from (n + 1) nar)) free in
+          subst (λ (x : Contents). AreFree x.pieces (map keys (left_from (n + 1) nar))) (sym (c.in_ok-insert.ensures.done clean).contents) after;
+      among = λ t values h. c.pieces.invariant.among t values (subst (λ ps. RowsOf (PieceRow base) ps t values) (sym (next_left n nar more)) (inr h));
       survives = survives_both first now next c.pieces.invariant.survives c.insert.ensures.frame.survives;
     }
 
@@ -56,3 +72,22 @@ returns-then-place-count-clause-done g c clean =
     let change : List (ℤ × List ℕ) → Contents → Contents = λ ps x. record x { pieces = put_pieces c.args.base.now ps x.pieces } in
     let end : length nar ≤ 65536 * n = omega arith in
     goes_done change (further_pieces nar) (state g.S.Store c.args.tx.now.conn.now) now (left_from n nar) (ap (λ ps. change ps (contents_of now.now)) (past_end n nar end)) (c.pieces.invariant.goes clean)
+
+-- one of them wasn't put: none was there before it
+pub returns-in_err-insert-clause-cause : goal.returns-in_err-insert-clause-cause
+returns-in_err-insert-clause-cause g c clean =
+    let base = c.args.base.now in
+    let nar = c.args.nar.now in
+    let first = state g.S.Store c.args.tx.now.conn.now in
+    let now = state g.S.Store c.pieces.tx.conn.now in
+    let next = state g.S.Store c.insert.new.tx.conn.now in
+    let was = contents_of now.now in
+    let n = c.pieces.number in
+    let more : 65536 * n < length nar = omega arith in
+    let early = clean_before now next _ c.insert.ensures.frame.survives clean in
+    let free = subst (λ ps. AreFree was.pieces (map (λ (e : ℤ × List ℕ). (base, e.0)) ps)) (next_left n nar more) (c.pieces.invariant.free early) in
+    let row : Row = Text base ∷ Int (pos n) ∷ Blob c.piece.result.now ∷ [] in
+    let is : row ≡ Text base ∷ Int (pos n) ∷ Blob (piece_of n nar) ∷ [] = ap (λ b. Text base ∷ Int (pos n) ∷ Blob b ∷ []) c.piece.ensures in
+    passed_on c.from_residual.result _ _ c.from_residual.ensures.1
+    (next_reason _ first now next _ (c.pieces.invariant.goes early).changes c.pieces.invariant.survives _
+    (put_reason (RowsOf (PieceRow base) (further_pieces nar)) now next piece row _ (c.pieces.invariant.among piece row (subst (λ ps. RowsOf (PieceRow base) ps piece row) (sym (next_left n nar more)) (inl (refl, is)))) (is_none _ free.free.0) _ (c.in_err-insert.ensures.cause clean)))

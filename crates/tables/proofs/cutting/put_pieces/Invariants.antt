@@ -1,9 +1,12 @@
-use Rattle.std.proofs.Common.{◌≡◌}
+use Rattle.std.proofs.Common.{◌≡◌, map}
+use Rattle.sqlite_value.specs.Order.{Row}
+use Rattle.sqlite_schema.specs.declared.schema.Table.{Table}
 use Rattle.sqlite.specs.State.{HasCleanDisk, Survives}
 use Rattle.sqlite.specs.Held.{state}
-use Rattle.tables_sql.specs.Contents.{Contents}
+use Rattle.tables_sql.specs.Contents.{Contents, contents_of}
 use Rattle.tables_world.specs.Pieces.{further_pieces}
-use Rattle.tables.specs.Rewritten.{put_pieces}
+use Rattle.tables.specs.Rewritten.{AreFree, put_pieces}
+use Rattle.tables.specs.RowsPut.{RowsOf, PieceRow}
 use Rattle.tables_sql.proofs.Going.{Goes}
 use Rattle.tables.proofs.Cuts.{left_from}
 use Rattle.tables.proofs.cutting.put_pieces.Given as goal
@@ -13,5 +16,7 @@ abbrev pub invariant-pieces : goal.invariant-pieces
 invariant-pieces g l = record {
   same_reference : l.tx.conn.ghost_name ≡ l.fn.tx.conn.ghost_name;
   goes : HasCleanDisk (state g.S.Store l.tx.conn.now) → Goes (λ ps (c : Contents). record c { pieces = put_pieces l.base ps c.pieces }) (further_pieces l.nar) (state g.S.Store l.fn.tx.conn.now) (state g.S.Store l.tx.conn.now) (left_from l.number l.nar);
+  free : HasCleanDisk (state g.S.Store l.tx.conn.now) → AreFree (contents_of (state g.S.Store l.tx.conn.now).now).pieces (map (λ e. (l.base, e.0)) (left_from l.number l.nar));
+  among : (t : Table) (values : Row) → RowsOf (PieceRow l.base) (left_from l.number l.nar) t values → RowsOf (PieceRow l.base) (further_pieces l.nar) t values;
   survives : Survives (state g.S.Store l.fn.tx.conn.now) (state g.S.Store l.tx.conn.now) (λ _. ⊥);
 }

@@ -1,17 +1,21 @@
-use Rattle.std.proofs.Common.{◌≡◌, ℕ, ◌+◌, ◌<◌, length, arith, drop, map, string_bytes, refl, sym, ap, ap₂, subst, ◌∷◌, ◌∙◌, List}
+use Rattle.std.proofs.Common.{◌≡◌, ℕ, ◌+◌, ◌<◌, length, arith, drop, map, string_bytes, refl, sym, ap, ap₂, subst, [], ◌∷◌, ◌∙◌, List}
 use Rattle.std.specs.List.{zip}
 use Rattle.std.specs.FinMap as finite
+use Rattle.sqlite_value.specs.declared.value.Value.TheVariants.{Text}
+use Rattle.sqlite_value.specs.Order.{Row}
 use Rattle.sqlite.specs.Held.{state}
 use Rattle.tables_sql.specs.Contents.{Contents, contents_of, pair_cmp}
 use Rattle.model.specs.World.{Path}
-use Rattle.tables_outline.proofs.Ordered.{from_true}
-use Rattle.tables.specs.Rewritten.{put_outputs}
+use Rattle.tables_sql.proofs.Orders.{pair_total}
+use Rattle.tables.specs.Rewritten.{AreFree, put_outputs}
+use Rattle.tables.specs.RowsPut.{OutputRow}
 use Rattle.tables_sql.proofs.Going.{goes_first, goes_next, goes_done}
-use Rattle.tables.proofs.Free.{AreFree, all_free, free_next}
+use Rattle.tables.proofs.Free.{free_next}
 use Rattle.tables.proofs.Kept.{clean_before}
 use Rattle.tables.proofs.Lists.{zip_at, no_pairs_left}
 use Rattle.tables_sql.proofs.Transactions.{survives_none}
-use Rattle.tables_sql.proofs.TestFailures.{survives_both}
+use Rattle.tables_sql.proofs.TestFailures.{passed_on, survives_both}
+use Rattle.tables.proofs.Reasons.{is_none, next_reason, of_item, put_reason}
 use Rattle.tables.proofs.objects.put_outputs.Goals as goal
 
 pub outputs-init : goal.outputs-init
@@ -21,7 +25,7 @@ outputs-init g c =
     record {
       same_reference = refl;
       goes = λ clean. goes_first (λ es (x : Contents). record x { outs = put_outputs c.args.base.now es x.outs }) all first (c.requires.under_way clean) (c.requires.is_open clean);
-      free = λ clean. record { sorted = from_true _ c.requires.ordered; free = all_free c.args.base.now (contents_of first.now).outs all (c.requires.free clean) };
+      free = c.requires.free;
       survives = survives_none first;
     }
 
@@ -33,6 +37,7 @@ outputs-preserved g c =
     let next = state g.S.Store c.insert.new.tx.conn.now in
     let change : List (List ℕ × Path) → Contents → Contents = λ es x. record x { outs = put_outputs base es x.outs } in
     let was = contents_of now.now in
+    let keys : List ℕ × Path → Path × List ℕ = λ e. (base, e.0) in
     let all = zip (map string_bytes c.args.names.now) c.args.outputs.now in
     let left = drop c.outputs.i all in
     let rest = drop (c.outputs.i + 1) all in
@@ -49,9 +54,9 @@ outputs-preserved g c =
       same_reference = c.in_ok-insert.ensures.frame.same_reference ∙ c.outputs.invariant.same_reference;
       goes = λ clean. goes_next change all first now next left rest _ (c.outputs.invariant.goes (clean_before now next _ c.insert.ensures.frame.survives clean)) (c.in_ok-insert.ensures.done clean) same;
       free = λ clean.
-          let free = subst (AreFree base was.outs) split (c.outputs.invariant.free (clean_before now next _ c.insert.ensures.frame.survives clean)) in
-          let after = free_next base was.outs (name, target) rest free in
-          subst (λ (x : Contents). AreFree base x.outs rest) (sym (c.in_ok-insert.ensures.done clean).contents) (subst (λ (m : finite.FinMap pair_cmp Path). AreFree base m rest) written after);
+          let free = subst (λ es. AreFree was.outs (map keys es)) split (c.outputs.invariant.free (clean_before now next _ c.insert.ensures.frame.survives clean)) in
+          let after = free_next pair_total was.outs (base, name) target (map keys rest) free in
+          subst (λ (x : Contents). AreFree x.outs (map keys rest)) (sym (c.in_ok-insert.ensures.done clean).contents) (subst (λ (m : finite.FinMap pair_cmp Path). AreFree m (map keys rest)) written after);
       survives = survives_both first now next c.outputs.invariant.survives c.insert.ensures.frame.survives;
     }
 
@@ -64,3 +69,27 @@ returns-clause-done g c = λ clean.
     let none = ap (λ n. drop n all) end ∙ no_pairs_left string_bytes c.args.names.now c.args.outputs.now c.requires.count in
     goes_done (λ es (x : Contents). record x { outs = put_outputs c.args.base.now es x.outs }) all first now (drop c.outputs.i all)
     (ap (λ es. record (contents_of now.now) { outs = put_outputs c.args.base.now es (contents_of now.now).outs }) none) (c.outputs.invariant.goes clean)
+
+-- one of them wasn't put: none was there before it
+pub returns-in_err-insert-clause-cause : goal.returns-in_err-insert-clause-cause
+returns-in_err-insert-clause-cause g c clean =
+    let base = c.args.base.now in
+    let first = state g.S.Store c.args.tx.now.conn.now in
+    let now = state g.S.Store c.outputs.tx.conn.now in
+    let next = state g.S.Store c.insert.new.tx.conn.now in
+    let was = contents_of now.now in
+    let all = zip (map string_bytes c.args.names.now) c.args.outputs.now in
+    let left = drop c.outputs.i all in
+    let rest = drop (c.outputs.i + 1) all in
+    let name = string_bytes c.index-names-i.result in
+    let target = c.index-outputs-i.result in
+    let inside : c.outputs.i < length c.args.names.now = omega arith in
+    let beside : c.outputs.i < length c.args.outputs.now = omega arith in
+    let split : left ≡ (name, target) ∷ rest = zip_at string_bytes c.args.names.now c.args.outputs.now c.outputs.i c.index-names-i.result target inside beside c.index-names-i.is c.index-outputs-i.is in
+    let early = clean_before now next _ c.insert.ensures.frame.survives clean in
+    let free = subst (λ es. AreFree was.outs (map (λ (e : List ℕ × Path). (base, e.0)) es)) split (c.outputs.invariant.free early) in
+    let row : Row = Text base ∷ Text c.as_str.result.now ∷ Text c.as_str-in-outputs.result.now ∷ [] in
+    let is : row ≡ Text base ∷ Text name ∷ Text target ∷ [] = ap₂ (λ n t. Text base ∷ Text n ∷ Text t ∷ []) c.as_str.ensures.value c.as_str-in-outputs.ensures.value in
+    passed_on c.from_residual.result _ _ c.from_residual.ensures.1
+    (next_reason _ first now next _ (c.outputs.invariant.goes early).changes c.outputs.invariant.survives _
+    (put_reason _ now next _ row _ (of_item (OutputRow base) all rest (name, target) c.outputs.i split _ row (refl, is)) (is_none _ (ap (λ n. finite.get was.outs (base, n)) c.as_str.ensures.value ∙ free.free.0)) _ (c.in_err-insert.ensures.cause clean)))

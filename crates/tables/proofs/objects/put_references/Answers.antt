@@ -1,14 +1,20 @@
-use Rattle.std.proofs.Common.{◌≡◌, ◌+◌, ◌∷◌, drop, refl, sym, ap, ◌∙◌, List}
+use Rattle.std.proofs.Common.{◌≡◌, ◌+◌, ◌∷◌, drop, [], map, refl, sym, ap, subst, ◌∙◌, List}
 use Rattle.std.specs.FinMap as finite
+use Rattle.sqlite_value.specs.declared.value.Value.TheVariants.{Text}
+use Rattle.sqlite_value.specs.Order.{Row}
 use Rattle.sqlite.specs.Held.{state}
 use Rattle.tables_sql.specs.Contents.{Contents, contents_of}
 use Rattle.model.specs.World.{Path}
-use Rattle.tables.specs.Rewritten.{put_references}
+use Rattle.tables.specs.Rewritten.{AreFree, put_references}
+use Rattle.tables.specs.RowsPut.{ReferenceRow}
 use Rattle.tables_sql.proofs.Going.{goes_first, goes_next}
 use Rattle.tables_sql.proofs.Transactions.{survives_none}
 use Rattle.tables.proofs.Kept.{clean_before}
 use Rattle.tables.proofs.Lists.{left_at}
-use Rattle.tables_sql.proofs.TestFailures.{survives_both}
+use Rattle.tables_sql.proofs.TestFailures.{passed_on, survives_both}
+use Rattle.tables_sql.proofs.Orders.{pair_total}
+use Rattle.tables.proofs.Free.{free_next}
+use Rattle.tables.proofs.Reasons.{is_none, next_reason, of_item, put_reason}
 use Rattle.tables.proofs.objects.put_references.Goals as goal
 
 pub targets-init : goal.targets-init
@@ -17,6 +23,7 @@ targets-init g c =
     record {
       same_reference = refl;
       goes = λ clean. goes_first (λ rs (x : Contents). record x { refs = put_references c.args.base.now rs x.refs }) c.args.targets.now first (c.requires.under_way clean) (c.requires.is_open clean);
+      free = c.requires.free;
       survives = survives_none first;
     }
 
@@ -28,6 +35,7 @@ targets-preserved g c =
     let next = state g.S.Store c.insert.new.tx.conn.now in
     let change : List Path → Contents → Contents = λ rs x. record x { refs = put_references base rs x.refs } in
     let was = contents_of now.now in
+    let keys : Path → Path × Path = λ t. (base, t) in
     let all = c.args.targets.now in
     let item = c.target-item.result in
     let left = drop c.targets.target-index all in
@@ -39,5 +47,31 @@ targets-preserved g c =
     record {
       same_reference = c.in_ok-insert.ensures.frame.same_reference ∙ c.targets.invariant.same_reference;
       goes = λ clean. goes_next change all first now next left rest _ (c.targets.invariant.goes (clean_before now next _ c.insert.ensures.frame.survives clean)) (c.in_ok-insert.ensures.done clean) same;
+      free = λ clean.
+          let free = subst (λ ts. AreFree was.refs (map keys ts)) split (c.targets.invariant.free (clean_before now next _ c.insert.ensures.frame.survives clean)) in
+          let after = free_next pair_total was.refs (base, item) tt (map keys rest) free in
+          subst (λ (x : Contents). AreFree x.refs (map keys rest)) (sym (c.in_ok-insert.ensures.done clean).contents)
+          (subst (λ (t : Path). AreFree (finite.insert was.refs (base, t) tt) (map keys rest)) (sym c.as_str.ensures.value) after);
       survives = survives_both first now next c.targets.invariant.survives c.insert.ensures.frame.survives;
     }
+
+-- one of them wasn't put: none was there before it
+pub returns-in_err-insert-clause-cause : goal.returns-in_err-insert-clause-cause
+returns-in_err-insert-clause-cause g c clean =
+    let base = c.args.base.now in
+    let first = state g.S.Store c.args.tx.now.conn.now in
+    let now = state g.S.Store c.targets.tx.conn.now in
+    let next = state g.S.Store c.insert.new.tx.conn.now in
+    let was = contents_of now.now in
+    let all = c.args.targets.now in
+    let item = c.target-item.result in
+    let left = drop c.targets.target-index all in
+    let rest = drop (c.targets.target-index + 1) all in
+    let split : left ≡ item ∷ rest = left_at all c.targets.target-index item c.targets-test.true c.target-item.is in
+    let early = clean_before now next _ c.insert.ensures.frame.survives clean in
+    let free = subst (λ ts. AreFree was.refs (map (λ (t : Path). (base, t)) ts)) split (c.targets.invariant.free early) in
+    let row : Row = Text base ∷ Text c.as_str.result.now ∷ [] in
+    let is : row ≡ Text base ∷ Text item ∷ [] = ap (λ t. Text base ∷ Text t ∷ []) c.as_str.ensures.value in
+    passed_on c.from_residual.result _ _ c.from_residual.ensures.1
+    (next_reason _ first now next _ (c.targets.invariant.goes early).changes c.targets.invariant.survives _
+    (put_reason _ now next _ row _ (of_item (ReferenceRow base) all rest item c.targets.target-index split _ row (refl, is)) (is_none _ (ap (λ t. finite.get was.refs (base, t)) c.as_str.ensures.value ∙ free.free.0)) _ (c.in_err-insert.ensures.cause clean)))

@@ -1,8 +1,8 @@
-use Rattle.std.proofs.Common.{◌≡◌, drop}
+use Rattle.std.proofs.Common.{◌≡◌, drop, map}
 use Rattle.sqlite.specs.State.{HasCleanDisk, Survives}
 use Rattle.sqlite.specs.Held.{state}
-use Rattle.tables_sql.specs.Contents.{Contents}
-use Rattle.tables.specs.Rewritten.{put_references}
+use Rattle.tables_sql.specs.Contents.{Contents, contents_of}
+use Rattle.tables.specs.Rewritten.{AreFree, put_references}
 use Rattle.tables_sql.proofs.Going.{Goes}
 use Rattle.tables.proofs.objects.put_references.Given as goal
 
@@ -11,5 +11,6 @@ abbrev pub invariant-targets : goal.invariant-targets
 invariant-targets g l = record {
   same_reference : l.tx.conn.ghost_name ≡ l.fn.tx.conn.ghost_name;
   goes : HasCleanDisk (state g.S.Store l.tx.conn.now) → Goes (λ rs (c : Contents). record c { refs = put_references l.base rs c.refs }) l.targets (state g.S.Store l.fn.tx.conn.now) (state g.S.Store l.tx.conn.now) (drop l.target-index l.targets);
+  free : HasCleanDisk (state g.S.Store l.tx.conn.now) → AreFree (contents_of (state g.S.Store l.tx.conn.now).now).refs (map (λ t. (l.base, t)) (drop l.target-index l.targets));
   survives : Survives (state g.S.Store l.fn.tx.conn.now) (state g.S.Store l.tx.conn.now) (λ _. ⊥);
 }

@@ -1,14 +1,16 @@
-use Rattle.std.proofs.Common.{ℕ, List, ap, ◌∙◌}
+use Rattle.std.proofs.Common.{arith, refl, ℕ, List, ap, ◌∙◌}
 use Rattle.std.specs.Prelude.{pos}
 use Rattle.std.specs.FinMap as finite
+use Rattle.sqlite.specs.State.{HasCleanDisk}
 use Rattle.sqlite.specs.Held.{state}
 use Rattle.tables_sql.specs.Contents.{Contents}
 use Rattle.tables_outline.proofs.Orders.{pair_total, pair_antisymmetric}
-use Rattle.tables_outline.proofs.Puts.{put_over}
+use Rattle.tables_outline.proofs.Puts.{get-gone, put_over}
 use Rattle.tables.proofs.Parts.{without_pair}
 use Rattle.tables_sql.proofs.Transactions.{done_both, failed_next}
 use Rattle.tables_sql.proofs.Steps.{under_after}
-use Rattle.tables_sql.proofs.TestFailures.{survives_both}
+use Rattle.tables_sql.proofs.TestFailures.{passed_on, survives_both}
+use Rattle.tables.proofs.Reasons.{as_reason, is_none, next_reason, put_reason, removal_reason}
 use Rattle.tables.proofs.profiles.put_current.Goals as goal
 
 pub insert-requires : goal.insert-requires
@@ -32,3 +34,18 @@ returns-clause-failed g c =
 pub returns-clause-survives : goal.returns-clause-survives
 returns-clause-survives g c =
     survives_both (state g.S.Store c.args.tx.now.conn.now) (state g.S.Store c.delete.new.tx.conn.now) (state g.S.Store c.insert.new.tx.conn.now) c.delete.ensures.frame.survives c.insert.ensures.frame.survives
+
+pub returns-in_err-delete-clause-cause : goal.returns-in_err-delete-clause-cause
+returns-in_err-delete-clause-cause g c clean =
+    passed_on c.from_residual.result _ _ c.from_residual.ensures.1 (removal_reason _ (state g.S.Store c.args.tx.now.conn.now) (state g.S.Store c.delete.new.tx.conn.now) _ (c.in_err-delete.ensures.cause clean))
+
+pub returns-clause-cause : goal.returns-clause-cause
+returns-clause-cause g c clean =
+    let owned : List ℕ × List ℕ = (c.args.owner.now, c.args.name.now) in
+    let a = state g.S.Store c.args.tx.now.conn.now in
+    let b = state g.S.Store c.delete.new.tx.conn.now in
+    let n = state g.S.Store c.insert.new.tx.conn.now in
+    let early : HasCleanDisk b = omega (arith, c.insert.ensures.frame.survives.clean, clean) in
+    let done = c.in_ok-delete.ensures.done early in
+    as_reason _ _ (λ e h. next_reason _ a b n _ done c.delete.ensures.frame.survives e
+    (put_reason _ b n _ _ _ (refl, refl) (is_none _ (ap (λ (x : Contents). finite.get x.profiles owned) done.contents ∙ ap (λ m. finite.get m owned) (without_pair _ owned.0 owned.1) ∙ get-gone pair_total pair_antisymmetric _ owned)) e h)) c.insert.result (c.insert.ensures.cause clean)

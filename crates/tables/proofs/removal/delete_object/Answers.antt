@@ -9,8 +9,9 @@ use Rattle.tables_sql.proofs.Steps.{under_after}
 use Rattle.tables.specs.Rewritten.{without_object}
 use Rattle.tables.proofs.Covered.{references_told, outputs_told, pieces_told, alone_goes}
 use Rattle.tables.proofs.Failing.{err_kept}
-use Rattle.tables_sql.proofs.TestFailures.{survives_both}
+use Rattle.tables_sql.proofs.TestFailures.{passed_on, survives_both}
 use Rattle.tables.proofs.Transactions.{changes_at, pieces_stand}
+use Rattle.tables.proofs.Reasons.{as_reason, next_reason, removal_reason}
 use Rattle.tables.proofs.removal.delete_object.Goals as goal
 
 pub delete_references-requires-clause-under_way : goal.delete_references-requires-clause-under_way
@@ -31,7 +32,7 @@ delete_references-requires-clause-told g c clean =
     let b = state g.S.Store c.delete.new.tx.conn.now in
     let it = c.in_ok-delete.ensures.done clean in
     let early : HasCleanDisk a = omega (arith, c.delete.ensures.frame.survives.clean, clean) in
-    references_told c.args.index.now (contents_of a.now) c.args.path.now c.as_str-base.result.now c.in-Some.object.now (c.requires.covers early it.was_open) c.in-Some.ensures c.as_str-base.ensures.value (contents_of b.now) (ap (λ (x : Contents). x.refs) it.contents)
+    references_told c.args.outline.now (contents_of a.now) c.args.path.now c.as_str-base.result.now c.in-Some.object.now (c.requires.covers early it.was_open) c.in-Some.ensures c.as_str-base.ensures.value (contents_of b.now) (ap (λ (x : Contents). x.refs) it.contents)
 
 pub returns-in_err-delete_references-clause-same_reference : goal.returns-in_err-delete_references-clause-same_reference
 returns-in_err-delete_references-clause-same_reference g c = c.delete_references.ensures.same_reference ∙ c.delete.ensures.frame.same_reference
@@ -50,7 +51,7 @@ returns-in_err-delete_references-clause-survives g c =
     let d = state g.S.Store c.delete_references.new.tx.conn.now in
     survives_both a b d c.delete.ensures.frame.survives c.delete_references.ensures.survives
 
--- one that the index hasn't has nothing else
+-- one that the outline hasn't has nothing else
 pub returns-in_default-clause-done : goal.returns-in_default-clause-done
 returns-in_default-clause-done g c clean =
     let a = state g.S.Store c.args.tx.now.conn.now in
@@ -58,7 +59,7 @@ returns-in_default-clause-done g c clean =
     let it = c.in_ok-delete.ensures.done clean in
     let early : HasCleanDisk a = omega (arith, c.delete.ensures.frame.survives.clean, clean) in
     let path = c.args.path.now in
-    changes_at a b _ (without_object path) (ap (λ p. record (contents_of a.now) { objects = finite.retain_keys (contents_of a.now).objects (λ k. not (same k p)) }) c.as_str-base.ensures.value ∙ alone_goes c.args.index.now (contents_of a.now) path (c.requires.covers early it.was_open) (sym c.in_default.ensures)) it
+    changes_at a b _ (without_object path) (ap (λ p. record (contents_of a.now) { objects = finite.retain_keys (contents_of a.now).objects (λ k. not (same k p)) }) c.as_str-base.ensures.value ∙ alone_goes c.args.outline.now (contents_of a.now) path (c.requires.covers early it.was_open) (sym c.in_default.ensures)) it
 
 pub delete_outputs-requires-clause-under_way : goal.delete_outputs-requires-clause-under_way
 delete_outputs-requires-clause-under_way g c clean =
@@ -81,7 +82,7 @@ delete_outputs-requires-clause-told g c clean =
     let d = state g.S.Store c.delete_references.new.tx.conn.now in
     let it = (steps_both a b d _ _ c.in_ok-delete.ensures.done c.delete_references.ensures.survives c.in_ok-delete_references.ensures.done) clean in
     let early : HasCleanDisk a = omega (arith, (survives_both a b d c.delete.ensures.frame.survives c.delete_references.ensures.survives).clean, clean) in
-    outputs_told c.args.index.now (contents_of a.now) c.args.path.now c.as_str-base.result.now c.in-Some.object.now (c.requires.covers early it.was_open) c.in-Some.ensures c.as_str-base.ensures.value (contents_of d.now) (ap (λ (x : Contents). x.outs) it.contents)
+    outputs_told c.args.outline.now (contents_of a.now) c.args.path.now c.as_str-base.result.now c.in-Some.object.now (c.requires.covers early it.was_open) c.in-Some.ensures c.as_str-base.ensures.value (contents_of d.now) (ap (λ (x : Contents). x.outs) it.contents)
 
 pub returns-in_err-delete_outputs-clause-same_reference : goal.returns-in_err-delete_outputs-clause-same_reference
 returns-in_err-delete_outputs-clause-same_reference g c = c.delete_outputs.ensures.same_reference ∙ c.delete_references.ensures.same_reference ∙ c.delete.ensures.frame.same_reference
@@ -134,7 +135,7 @@ delete_pieces-requires-clause-told g c clean =
     let e = state g.S.Store c.delete_outputs.new.tx.conn.now in
     let it = (steps_both a d e _ _ (steps_both a b d _ _ c.in_ok-delete.ensures.done c.delete_references.ensures.survives c.in_ok-delete_references.ensures.done) c.delete_outputs.ensures.survives c.in_ok-delete_outputs.ensures.done) clean in
     let early : HasCleanDisk a = omega (arith, (survives_both a d e (survives_both a b d c.delete.ensures.frame.survives c.delete_references.ensures.survives) c.delete_outputs.ensures.survives).clean, clean) in
-    pieces_told c.args.index.now (contents_of a.now) c.args.path.now c.as_str-base.result.now c.in-Some.object.now (c.requires.covers early it.was_open) c.in-Some.ensures c.as_str-base.ensures.value (contents_of e.now) (ap (λ (x : Contents). x.pieces) it.contents)
+    pieces_told c.args.outline.now (contents_of a.now) c.args.path.now c.as_str-base.result.now c.in-Some.object.now (c.requires.covers early it.was_open) c.in-Some.ensures c.as_str-base.ensures.value (contents_of e.now) (ap (λ (x : Contents). x.pieces) it.contents)
 
 pub returns-clause-same_reference : goal.returns-clause-same_reference
 returns-clause-same_reference g c = c.delete_pieces.ensures.same_reference ∙ c.delete_outputs.ensures.same_reference ∙ c.delete_references.ensures.same_reference ∙ c.delete.ensures.frame.same_reference
@@ -165,3 +166,41 @@ returns-clause-survives g c =
     let e = state g.S.Store c.delete_outputs.new.tx.conn.now in
     let f = state g.S.Store c.delete_pieces.new.tx.conn.now in
     survives_both a e f (survives_both a d e (survives_both a b d c.delete.ensures.frame.survives c.delete_references.ensures.survives) c.delete_outputs.ensures.survives) c.delete_pieces.ensures.survives
+
+-- ---- why it failed
+
+pub returns-in_err-delete-clause-cause : goal.returns-in_err-delete-clause-cause
+returns-in_err-delete-clause-cause g c clean =
+    passed_on c.from_residual.result _ _ c.from_residual.ensures.1 (removal_reason _ (state g.S.Store c.args.tx.now.conn.now) (state g.S.Store c.delete.new.tx.conn.now) _ (c.in_err-delete.ensures.cause clean))
+
+pub returns-in_err-delete_references-clause-cause : goal.returns-in_err-delete_references-clause-cause
+returns-in_err-delete_references-clause-cause g c clean =
+    let a = state g.S.Store c.args.tx.now.conn.now in
+    let b = state g.S.Store c.delete.new.tx.conn.now in
+    let d = state g.S.Store c.delete_references.new.tx.conn.now in
+    let late : HasCleanDisk b = omega (arith, c.delete_references.ensures.survives.clean, clean) in
+    passed_on c.from_residual-in_err-delete_references.result _ _ c.from_residual-in_err-delete_references.ensures.1
+    (next_reason _ a b d _ (c.in_ok-delete.ensures.done late) c.delete.ensures.frame.survives _ (c.in_err-delete_references.ensures.cause clean))
+
+pub returns-in_err-delete_outputs-clause-cause : goal.returns-in_err-delete_outputs-clause-cause
+returns-in_err-delete_outputs-clause-cause g c clean =
+    let a = state g.S.Store c.args.tx.now.conn.now in
+    let b = state g.S.Store c.delete.new.tx.conn.now in
+    let d = state g.S.Store c.delete_references.new.tx.conn.now in
+    let e = state g.S.Store c.delete_outputs.new.tx.conn.now in
+    let late : HasCleanDisk d = omega (arith, c.delete_outputs.ensures.survives.clean, clean) in
+    passed_on c.from_residual-in_err-delete_outputs.result _ _ c.from_residual-in_err-delete_outputs.ensures.1
+    (next_reason _ a d e _ (steps_both a b d _ _ c.in_ok-delete.ensures.done c.delete_references.ensures.survives c.in_ok-delete_references.ensures.done late)
+    (survives_both a b d c.delete.ensures.frame.survives c.delete_references.ensures.survives) _ (c.in_err-delete_outputs.ensures.cause clean))
+
+pub returns-clause-cause : goal.returns-clause-cause
+returns-clause-cause g c clean =
+    let a = state g.S.Store c.args.tx.now.conn.now in
+    let b = state g.S.Store c.delete.new.tx.conn.now in
+    let d = state g.S.Store c.delete_references.new.tx.conn.now in
+    let e = state g.S.Store c.delete_outputs.new.tx.conn.now in
+    let f = state g.S.Store c.delete_pieces.new.tx.conn.now in
+    let late : HasCleanDisk e = omega (arith, c.delete_pieces.ensures.survives.clean, clean) in
+    as_reason _ _ (next_reason _ a e f _
+    (steps_both a d e _ _ (steps_both a b d _ _ c.in_ok-delete.ensures.done c.delete_references.ensures.survives c.in_ok-delete_references.ensures.done) c.delete_outputs.ensures.survives c.in_ok-delete_outputs.ensures.done late)
+    (survives_both a d e (survives_both a b d c.delete.ensures.frame.survives c.delete_references.ensures.survives) c.delete_outputs.ensures.survives)) c.delete_pieces.result (c.delete_pieces.ensures.cause clean)

@@ -9,8 +9,9 @@ use Rattle.tables.proofs.Covered.{covers_less}
 use Rattle.tables.proofs.Kept.{clean_before}
 use Rattle.tables.proofs.Lists.{left_at, none_left}
 use Rattle.tables.proofs.Removed.{without_none, without_next}
-use Rattle.tables_sql.proofs.TestFailures.{survives_both}
+use Rattle.tables_sql.proofs.TestFailures.{passed_on, survives_both}
 use Rattle.tables.proofs.Transactions.{pieces_stand}
+use Rattle.tables.proofs.Reasons.{next_reason}
 use Rattle.tables.proofs.removal.delete_objects.Goals as goal
 
 pub paths-init : goal.paths-init
@@ -38,7 +39,7 @@ paths-preserved g c =
     record {
       same_reference = c.in_ok-delete_object.ensures.same_reference ∙ c.paths.invariant.same_reference;
       goes = λ clean. goes_next without_objects all first now next left rest _ (c.paths.invariant.goes (clean_before now next _ c.delete_object.ensures.survives clean)) (c.in_ok-delete_object.ensures.done clean) same;
-      covers = λ clean. subst (Covers c.args.index.now) (sym (c.in_ok-delete_object.ensures.done clean).contents) (covers_less c.args.index.now item was (c.paths.invariant.covers (clean_before now next _ c.delete_object.ensures.survives clean)));
+      covers = λ clean. subst (Covers c.args.outline.now) (sym (c.in_ok-delete_object.ensures.done clean).contents) (covers_less c.args.outline.now item was (c.paths.invariant.covers (clean_before now next _ c.delete_object.ensures.survives clean)));
       survives = survives_both first now next c.paths.invariant.survives c.delete_object.ensures.survives;
     }
 
@@ -57,3 +58,11 @@ returns-clause-done g c = λ clean.
     let none = ap (λ n. drop n all) end ∙ none_left all in
     goes_done without_objects all first now (drop c.paths.path-index all)
     (ap (λ (xs : List Path). without_objects xs (contents_of now.now)) none ∙ without_none (contents_of now.now)) (c.paths.invariant.goes clean)
+
+pub returns-in_err-delete_object-clause-cause : goal.returns-in_err-delete_object-clause-cause
+returns-in_err-delete_object-clause-cause g c clean =
+    let first = state g.S.Store c.args.tx.now.conn.now in
+    let now = state g.S.Store c.paths.tx.conn.now in
+    let next = state g.S.Store c.delete_object.new.tx.conn.now in
+    passed_on c.from_residual.result _ _ c.from_residual.ensures.1
+    (next_reason _ first now next _ (c.paths.invariant.goes (clean_before now next _ c.delete_object.ensures.survives clean)).changes c.paths.invariant.survives _ (c.in_err-delete_object.ensures.cause clean))

@@ -11,11 +11,11 @@ paths-preserved c =
     let left = drop c.paths.path-index all in
     let rest = drop (c.paths.path-index + 1) all in
     let split : left ≡ item ∷ rest = left_at all c.paths.path-index item c.paths-test.true c.path-item.is in
-    ap (outline_without rest) c.remove_object.ensures ∙ outline_next item rest c.paths.index ∙ ap (λ (xs : List Path). outline_without xs c.paths.index) (sym split) ∙ c.paths.invariant
+    ap (outline_without rest) c.remove_object.ensures ∙ outline_next item rest c.paths.outline ∙ ap (λ (xs : List Path). outline_without xs c.paths.outline) (sym split) ∙ c.paths.invariant
 
 pub returns : goal.returns
 returns c =
     let all = c.args.paths.now in
     let end : c.paths.path-index ≡ length all = omega arith in
     let none = ap (λ n. drop n all) end ∙ none_left all in
-    sym (ap (λ (xs : List Path). outline_without xs c.paths.index) none ∙ outline_none c.paths.index) ∙ c.paths.invariant
+    sym (ap (λ (xs : List Path). outline_without xs c.paths.outline) none ∙ outline_none c.paths.outline) ∙ c.paths.invariant

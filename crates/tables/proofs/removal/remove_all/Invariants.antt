@@ -4,4 +4,4 @@ use Rattle.tables.proofs.removal.remove_all.Given as goal
 
 -- what is left to take out
 abbrev pub invariant-paths : goal.invariant-paths
-invariant-paths l = outline_without (drop l.path-index l.paths) l.index ≡ outline_without l.paths l.fn.index
+invariant-paths l = outline_without (drop l.path-index l.paths) l.outline ≡ outline_without l.paths l.fn.outline

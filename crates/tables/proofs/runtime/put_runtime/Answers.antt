@@ -1,13 +1,20 @@
-use Rattle.std.proofs.Common.{◌≡◌, ◌∷◌, map, refl, sym, ap, ap₂, ◌∙◌, List}
+use Rattle.std.proofs.Common.{◌≡◌, inl, inr, [], ◌∷◌, map, refl, sym, ap, ap₂, subst, subst₂, ◌∙◌, List}
 use Rattle.std.specs.FinMap as finite
+use Rattle.sqlite_value.specs.declared.value.Value.TheVariants.{Text}
+use Rattle.sqlite_value.specs.Order.{Row}
 use Rattle.sqlite.specs.Held.{state}
-use Rattle.tables_sql.specs.Contents.{Contents, contents_of, Pair}
+use Rattle.tables_schema.specs.Forms.{runtime}
+use Rattle.tables_sql.specs.Contents.{Contents, contents_of, Pair, PairSet}
 use Rattle.tables_outline.specs.Maps.{labelled_bytes}
-use Rattle.tables.specs.Rewritten.{put_pairs}
+use Rattle.tables.specs.Rewritten.{AreFree, put_pairs}
+use Rattle.tables.specs.RowsPut.{RowsOf, RuntimeRow}
 use Rattle.tables_sql.proofs.Going.{goes_first, goes_next}
 use Rattle.tables_sql.proofs.Transactions.{survives_none}
 use Rattle.tables.proofs.Kept.{clean_before}
-use Rattle.tables_sql.proofs.TestFailures.{survives_both}
+use Rattle.tables_sql.proofs.TestFailures.{passed_on, survives_both}
+use Rattle.tables_sql.proofs.Orders.{pair_total}
+use Rattle.tables.proofs.Free.{free_next, runtime_free}
+use Rattle.tables.proofs.Reasons.{is_none, next_reason, put_reason}
 use Rattle.tables.proofs.runtime.put_runtime.Goals as goal
 
 pub roots-init : goal.roots-init
@@ -16,6 +23,11 @@ roots-init g c =
     record {
       same_reference = refl;
       goes = λ clean. goes_first (λ ps (x : Contents). record x { runtime = put_pairs ps x.runtime }) (map labelled_bytes c.into_iter-root-iterator.result) first (c.requires.under_way clean) (c.requires.is_open clean);
+      free = λ clean.
+          let same : c.into_iter-root-iterator.result ≡ c.args.roots.now.keys = cc in
+          subst (λ ks. AreFree (contents_of first.now).runtime (map labelled_bytes ks)) (sym same)
+          (subst (λ (m : PairSet). AreFree m (map labelled_bytes c.args.roots.now.keys)) (sym (c.requires.none clean)) (runtime_free c.args.roots.now.keys c.len-count.ensures.ordered));
+      among = λ t values h. h;
       survives = survives_none first;
     }
 
@@ -35,5 +47,32 @@ roots-preserved g c =
     record {
       same_reference = c.in_ok-insert.ensures.frame.same_reference ∙ c.roots.invariant.same_reference;
       goes = λ clean. goes_next change (map labelled_bytes c.into_iter-root-iterator.result) first now next left rest _ (c.roots.invariant.goes (clean_before now next _ c.insert.ensures.frame.survives clean)) (c.in_ok-insert.ensures.done clean) same;
+      free = λ clean.
+          let free = subst (AreFree was.runtime) split (c.roots.invariant.free (clean_before now next _ c.insert.ensures.frame.survives clean)) in
+          let after = free_next pair_total was.runtime (labelled_bytes c.in-Some.root.now) tt rest free in
+          subst (λ (x : Contents). AreFree x.runtime rest) (sym (c.in_ok-insert.ensures.done clean).contents)
+          (subst₂ (λ l t. AreFree (finite.insert was.runtime (l, t) tt) rest) (sym c.as_str.ensures.value) (sym c.as_str-in-roots.ensures.value) after);
+      among = λ t values h. c.roots.invariant.among t values (subst (λ ps. RowsOf RuntimeRow ps t values) (sym split) (inr h));
       survives = survives_both first now next c.roots.invariant.survives c.insert.ensures.frame.survives;
     }
+
+-- one of them wasn't put: none was there before it
+pub returns-in_err-insert-clause-cause : goal.returns-in_err-insert-clause-cause
+returns-in_err-insert-clause-cause g c clean =
+    let first = state g.S.Store c.args.tx.now.conn.now in
+    let now = state g.S.Store c.roots.tx.conn.now in
+    let next = state g.S.Store c.insert.new.tx.conn.now in
+    let was = contents_of now.now in
+    let left = map labelled_bytes c.roots.root-iterator in
+    let rest = map labelled_bytes c.next.new.self in
+    let pair = labelled_bytes c.in-Some.root.now in
+    let split : left ≡ pair ∷ rest = ap (map labelled_bytes) c.in-Some.ensures.steps in
+    let early = clean_before now next _ c.insert.ensures.frame.survives clean in
+    let free = subst (AreFree was.runtime) split (c.roots.invariant.free early) in
+    let row : Row = Text c.as_str.result.now ∷ Text c.as_str-in-roots.result.now ∷ [] in
+    let is : row ≡ Text pair.0 ∷ Text pair.1 ∷ [] = ap₂ (λ l t. Text l ∷ Text t ∷ []) c.as_str.ensures.value c.as_str-in-roots.ensures.value in
+    let same : c.into_iter-root-iterator.result ≡ c.args.roots.now.keys = cc in
+    passed_on c.from_residual.result _ _ c.from_residual.ensures.1
+    (next_reason _ first now next _ (c.roots.invariant.goes early).changes c.roots.invariant.survives _
+    (put_reason (RowsOf RuntimeRow (map labelled_bytes c.args.roots.now.keys)) now next runtime row _ (subst (λ ks. RowsOf RuntimeRow (map labelled_bytes ks) runtime row) same (c.roots.invariant.among runtime row (subst (λ ps. RowsOf RuntimeRow ps runtime row) (sym split) (inl (refl, is)))))
+    (is_none _ (ap₂ (λ l t. finite.get was.runtime (l, t)) c.as_str.ensures.value c.as_str-in-roots.ensures.value ∙ free.free.0)) _ (c.in_err-insert.ensures.cause clean)))

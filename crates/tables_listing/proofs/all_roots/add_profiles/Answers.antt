@@ -1,7 +1,7 @@
 use Rattle.std.proofs.Common.{refl, sym, ap, ◌∙◌}
 use Rattle.std.specs.List.{flat_map}
 use Rattle.model.specs.World.{generation_roots}
-use Rattle.tables_outline.specs.Index.{profile_view}
+use Rattle.tables_outline.specs.View.{profile_view}
 use Rattle.tables_outline.specs.Maps.{pair_bytes}
 use Rattle.tables_listing.specs.View.{root_set}
 use Rattle.tables_listing.proofs.RootOrder.{flat-map, some_more, no_more}

@@ -11,7 +11,7 @@ use Rattle.tables_listing.proofs.all_roots.all_roots.Goals as goal
 
 pub returns : goal.returns
 returns c =
-    let o = c.args.index.now in
+    let o = c.args.outline.now in
     let permanent = map permanent_root (finite.entries o.permanent) in
     let users = map user_root (finite.entries o.user_roots) in
     let generations = flat_map generation_roots (finite.entries o.profiles) in

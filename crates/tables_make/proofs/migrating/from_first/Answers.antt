@@ -9,8 +9,8 @@ use Rattle.tables_sql.specs.Contents.{Contents, contents_of}
 use Rattle.tables_sql.specs.Calls.{Leaves}
 use Rattle.tables_sql.proofs.Steps.{clean_before}
 use Rattle.tables_make.specs.Further.{grown}
-use Rattle.tables_world.specs.Rows.{one}
-use Rattle.tables_world.specs.Told.{IsSoundBy}
+use Rattle.tables_schema.specs.declared.schema.Schema.TheVariants.{V1}
+use Rattle.tables_world.specs.Worlds.{IsSoundBy}
 use Rattle.model.specs.World.{Path}
 use Rattle.tables_make.specs.Cutting.{cut_objects, renumbered}
 use Rattle.tables_make.specs.Migrated.{lacking, migrated_contents, LeavesMigrated}
@@ -19,8 +19,8 @@ use Rattle.tables_make.proofs.Rewritten.{first_written}
 use Rattle.tables_make.proofs.migrating.from_first.Goals as goal
 
 -- what was written by the names that were read is the whole migration
-written : (a b : Database) (names : List Path) (dir : List ℕ) → b ≡ a → names ≡ finite.keys (contents_of a).objects → IsSoundBy one dir (contents_of a)
-    → renumbered (cut_objects names (contents_of b)) ≡ migrated_contents one dir (contents_of a)
+written : (a b : Database) (names : List Path) (dir : List ℕ) → b ≡ a → names ≡ finite.keys (contents_of a).objects → IsSoundBy V1 dir (contents_of a)
+    → renumbered (cut_objects names (contents_of b)) ≡ migrated_contents V1 dir (contents_of a)
 written a b names dir same are sound = ap (λ (ps : List Path). renumbered (cut_objects ps (contents_of b))) are ∙ ap (λ (x : Database). renumbered (cut_objects (finite.keys (contents_of a).objects) (contents_of x))) same ∙ first_written dir (contents_of a) sound
 
 pub commit_first-requires-clause-first : goal.commit_first-requires-clause-first
@@ -37,7 +37,7 @@ returns-clause-done g c clean =
     let d = state g.S.Store c.commit_first.new.conn in
     let reads = c.in_ok-bases.ensures.reads (clean_before b d _ c.commit_first.ensures.survives clean) in
     let names = ap (map string_bytes) c.deref.ensures.value ∙ reads.1 in
-    on_done c.commit_first.result _ _ (λ done dir sound. grown_as (lacking one) _ _ a d (written a.now b.now (map string_bytes c.deref.result.now) dir reads.0.0.now_is names sound) (grown_from (lacking one) _ a b d reads.0 done)) (c.commit_first.ensures.done clean)
+    on_done c.commit_first.result _ _ (λ done dir sound. grown_as (lacking V1) _ _ a d (written a.now b.now (map string_bytes c.deref.result.now) dir reads.0.0.now_is names sound) (grown_from (lacking V1) _ a b d reads.0 done)) (c.commit_first.ensures.done clean)
 
 pub returns-clause-failed : goal.returns-clause-failed
 returns-clause-failed g c clean =
@@ -51,11 +51,11 @@ returns-clause-survives g c =
     let a = state g.S.Store c.args.conn.now in
     let b = state g.S.Store c.keys.new.conn in
     let d = state g.S.Store c.commit_first.new.conn in
-    let was : Trees → Type 0 = λ db. Leaves (grown (lacking one) b.now) db (renumbered (cut_objects (map string_bytes c.deref.result.now) (contents_of b.now))) in
-    let after : Trees → Type 0 = λ db. (dir : List ℕ) → IsSoundBy one dir (contents_of a.now) → LeavesMigrated one dir a.now db in
+    let was : Trees → Type 0 = λ db. Leaves (grown (lacking V1) b.now) db (renumbered (cut_objects (map string_bytes c.deref.result.now) (contents_of b.now))) in
+    let after : Trees → Type 0 = λ db. (dir : List ℕ) → IsSoundBy V1 dir (contents_of a.now) → LeavesMigrated V1 dir a.now db in
     survives_then a b d (λ _. ⊥) was after (λ clean db none. absurd none) (λ clean db l dir sound.
     let reads = c.in_ok-bases.ensures.reads (clean_before b d _ c.commit_first.ensures.survives clean) in
     let names = ap (map string_bytes) c.deref.ensures.value ∙ reads.1 in
-    subst (λ (x : Contents). Leaves (grown (lacking one) a.now) db x) (written a.now b.now (map string_bytes c.deref.result.now) dir reads.0.0.now_is names sound)
-    (subst (λ (x : Database). Leaves (grown (lacking one) x) db (renumbered (cut_objects (map string_bytes c.deref.result.now) (contents_of b.now)))) reads.0.0.now_is l))
+    subst (λ (x : Contents). Leaves (grown (lacking V1) a.now) db x) (written a.now b.now (map string_bytes c.deref.result.now) dir reads.0.0.now_is names sound)
+    (subst (λ (x : Database). Leaves (grown (lacking V1) x) db (renumbered (cut_objects (map string_bytes c.deref.result.now) (contents_of b.now)))) reads.0.0.now_is l))
     c.keys.ensures.frame.survives c.commit_first.ensures.survives

@@ -1,17 +1,18 @@
-use Rattle.std.proofs.Common.{sym, ◌∙◌}
+use Rattle.std.proofs.Common.{sym, subst, ◌∙◌}
+use Rattle.tables_schema.specs.declared.recognising.Recognised.{Recognised}
+use Rattle.tables_open.specs.Opened.{IsRecognised}
 use Rattle.sqlite.specs.Held.{state}
 use Rattle.tables_open.proofs.Opened.{found_none}
 use Rattle.tables_open.proofs.ReadableRows.{if_ok}
 use Rattle.tables_open.proofs.opening.open.Goals as goal
 
-pub returns-in-First-clause-nothing : goal.returns-in-First-clause-nothing
-returns-in-First-clause-nothing g c = if_ok c.taken_up.result _ _ (λ r some. (λ is. absurd (some is), λ none. absurd (let no = sym c.in-First.is ∙ c.recognise.ensures.nothing.1 none in cc))) c.taken_up.ensures.some
+pub inspect_tables-requires-clause-recognised : goal.inspect_tables-requires-clause-recognised
+inspect_tables-requires-clause-recognised g c =
+    let found = c.recognise.ensures in
+    subst (λ (r : Recognised). IsRecognised r c.args.conn.now.schema) c.in-Tables.is (record { nothing = found.nothing; first = found.first; second = found.second; third = found.third })
 
-pub returns-in-Second-clause-nothing : goal.returns-in-Second-clause-nothing
-returns-in-Second-clause-nothing g c = if_ok c.taken_up-in-Second.result _ _ (λ r some. (λ is. absurd (some is), λ none. absurd (let no = sym c.in-Second.is ∙ c.recognise.ensures.nothing.1 none in cc))) c.taken_up-in-Second.ensures.some
-
-pub returns-in-Third-clause-nothing : goal.returns-in-Third-clause-nothing
-returns-in-Third-clause-nothing g c = if_ok c.taken_up-in-Third.result _ _ (λ r some. (λ is. absurd (some is), λ none. absurd (let no = sym c.in-Third.is ∙ c.recognise.ensures.nothing.1 none in cc))) c.taken_up-in-Third.ensures.some
+pub returns-in-Tables-clause-nothing : goal.returns-in-Tables-clause-nothing
+returns-in-Tables-clause-nothing g c = if_ok c.inspect_tables.result _ _ (λ r some. (λ is. absurd (some is), λ none. absurd (let no = sym c.in-Tables.is ∙ c.recognise.ensures.nothing.1 none in cc))) c.inspect_tables.ensures.some
 
 pub returns-in_ok-probe-in_default-clause-found : goal.returns-in_ok-probe-in_default-clause-found
 returns-in_ok-probe-in_default-clause-found g c clean =
@@ -19,4 +20,4 @@ returns-in_ok-probe-in_default-clause-found g c clean =
     let new = state g.S.Store c.probe.new.conn in
     let same = c.in_ok-probe-in_default.ensures.unchanged clean in
     let found = c.recognise.ensures in
-    found_none c.recognise.result old new (record { nothing = found.nothing; first = found.first; second = found.second; third = found.third }) same (c.is_autocommit-settled.ensures.settled c.if-prove.false same.0.was_open) c.in_default.not-First c.in_default.not-Second c.in_default.not-Third
+    found_none c.recognise.result old new (record { nothing = found.nothing; first = found.first; second = found.second; third = found.third }) same (c.is_autocommit-settled.ensures.settled c.if-prove.false same.0.was_open) c.in_default.not-Tables

@@ -1,7 +1,7 @@
 use Rattle.std.proofs.Common.{sym, subst}
 use Rattle.sqlite.specs.Effect.{Database, IsDatabase}
 use Rattle.sqlite.specs.Held.{state}
-use Rattle.tables_schema.specs.Standing.{Stands}
+use Rattle.tables_schema.specs.Intact.{IsIntact}
 use Rattle.tables_sql.specs.Queries.{IsSelect}
 use Rattle.tables_sql.proofs.Scans.{err_with}
 use Rattle.tables_sql.proofs.TestFailures.{passed_on, fails_after}
@@ -35,7 +35,7 @@ returns-clause-told g c clean =
     let keyed = (tests_of table).keyed _ _ stands shown in
     then_told (λ d. HasOwnRowids d table) (λ d. HasReadableTexts d table) _ _ (state g.S.Store c.check-2.new.conn) c.check-2.result keyed
     (if_ok c.check-2.result _ _
-    (λ b h. (tests_of table).told _ _ (subst IsDatabase (sym keyed.0.0.now_is) (c.requires.sound first up)) (subst (λ (d : Database). Stands d.schema (form table)) (sym keyed.0.0.now_is) stands) b (rw c.texts.ensures at h))
+    (λ b h. (tests_of table).told _ _ (subst IsDatabase (sym keyed.0.0.now_is) (c.requires.sound first up)) (subst (λ (d : Database). IsIntact d.schema (form table)) (sym keyed.0.0.now_is) stands) b (rw c.texts.ensures at h))
     (c.check-2.ensures.shown clean))
 
 pub returns-clause-cause : goal.returns-clause-cause
@@ -43,7 +43,7 @@ returns-clause-cause g c clean =
     let table = c.args.table in
     let second = clean_before _ _ _ c.check-2.ensures.survives clean in
     let same = (c.in_ok-check.ensures.shown second).1.1.1 in
-    let stands = subst (λ (d : Database). Stands d.schema (form table)) (sym same.0.now_is) (c.requires.stands (clean_before _ _ _ c.check.ensures.survives second) same.0.was_open) in
+    let stands = subst (λ (d : Database). IsIntact d.schema (form table)) (sym same.0.now_is) (c.requires.stands (clean_before _ _ _ c.check.ensures.survives second) same.0.was_open) in
     err_with c.check-2.result _ _
     (λ f h. fails_after _ _ _ ⊥ _ (λ clean. same, c.check.ensures.survives) c.check-2.ensures.survives clean (λ same no. absurd no) f ((tests_of table).untold _ _ (λ up. stands) f (rw c.texts.ensures at h)))
     (c.check-2.ensures.cause clean)

@@ -9,14 +9,14 @@ pub returns-clause-told : goal.returns-clause-told
 returns-clause-told g c clean =
     let old = state g.S.Store c.args.conn.now in
     let early : HasCleanDisk old = omega (arith, c.all.ensures.frame.survives.clean) in
-    c.in_ok-take_all.ensures.told
-    ∙ generations_told c.in_ok-generations.generations.items c.args.index.now (contents_of old.now) (c.in_ok-generations.ensures.reads clean).1 (c.requires.profiles early)
+    c.in_ok-load_all.ensures.told
+    ∙ generations_told c.in_ok-generations.generations.items c.args.outline.now (contents_of old.now) (c.in_ok-generations.ensures.reads clean).1 (c.requires.profiles early)
 
 pub returns-clause-taken : goal.returns-clause-taken
 returns-clause-taken g c clean ok =
     let old = state g.S.Store c.args.conn.now in
     let early : HasCleanDisk old = omega (arith, c.all.ensures.frame.survives.clean) in
-    let told = generations_told c.in_ok-generations.generations.items c.args.index.now (contents_of old.now) (c.in_ok-generations.ensures.reads clean).1 (c.requires.profiles early) in
-    c.in_ok-take_all.ensures.taken ok
-    ∙ generations_taken c.in_ok-generations.generations.items c.args.index.now (contents_of old.now) (c.in_ok-generations.ensures.reads clean).1 (c.requires.profiles early)
-    (sym (c.in_ok-take_all.ensures.told ∙ told) ∙ ok)
+    let told = generations_told c.in_ok-generations.generations.items c.args.outline.now (contents_of old.now) (c.in_ok-generations.ensures.reads clean).1 (c.requires.profiles early) in
+    c.in_ok-load_all.ensures.taken ok
+    ∙ generations_taken c.in_ok-generations.generations.items c.args.outline.now (contents_of old.now) (c.in_ok-generations.ensures.reads clean).1 (c.requires.profiles early)
+    (sym (c.in_ok-load_all.ensures.told ∙ told) ∙ ok)

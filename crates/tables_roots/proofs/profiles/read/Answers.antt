@@ -7,17 +7,17 @@ use Rattle.sqlite.specs.Held.{state}
 use Rattle.sqlite.proofs.Callers.{unchanged_then}
 use Rattle.tables_sql.specs.Contents.{contents_of}
 use Rattle.tables_roots.proofs.Frames.{left_then}
-use Rattle.tables_world.specs.Told.{world_in}
+use Rattle.tables_world.specs.Worlds.{world_in}
 use Rattle.tables_outline.specs.Filling.{has_currents}
-use Rattle.tables_outline.specs.Outline.{Outline}
-use Rattle.tables_roots.specs.Taken.{is_profile, is_generation, bare_profiles}
+use Rattle.tables_outline.specs.Outline.{OutlineValue}
+use Rattle.tables_roots.specs.Loaded.{is_profile, is_generation, bare_profiles}
 use Rattle.tables_roots.proofs.ThreeTests.{first_failed, second_failed, third_decides}
 use Rattle.tables_roots.proofs.profiles.read.Goals as goal
 
 pub read-requires-clause-profiles : goal.read-requires-clause-profiles
 read-requires-clause-profiles g c clean =
     let same = (c.in_ok-read_bare.ensures.unchanged clean).0.now_is in
-    ap (λ (o : Outline). o.profiles) (c.in_ok-read_bare.ensures.taken clean c.if-not-branch.false) ∙ ap (λ (d : Database). bare_profiles (contents_of d).profiles) (sym same)
+    ap (λ (o : OutlineValue). o.profiles) (c.in_ok-read_bare.ensures.taken clean c.if-not-branch.false) ∙ ap (λ (d : Database). bare_profiles (contents_of d).profiles) (sym same)
 
 pub returns-then-not-branch-clause-told : goal.returns-then-not-branch-clause-told
 returns-then-not-branch-clause-told g c clean = first_failed (list_all is_profile (finite.entries (contents_of (state g.S.Store c.args.conn.now).now).profiles)) _ (sym (c.in_ok-read_bare.ensures.told clean) ∙ c.if-not-branch.true)
@@ -29,9 +29,9 @@ pub returns-then-not-branch-2-clause-told : goal.returns-then-not-branch-2-claus
 returns-then-not-branch-2-clause-told g c clean =
     let middle : HasCleanDisk (state g.S.Store c.read_bare.new.conn) = omega (arith, c.read.ensures.frame.survives.clean) in
     let same = (c.in_ok-read_bare.ensures.unchanged middle).0.now_is in
-    let index = c.in_ok-read_bare.ensures.taken middle c.if-not-branch.false in
+    let outline = c.in_ok-read_bare.ensures.taken middle c.if-not-branch.false in
     second_failed (list_all is_profile (finite.entries (contents_of (state g.S.Store c.args.conn.now).now).profiles)) _ _ (sym (c.in_ok-read_bare.ensures.told middle) ∙ c.if-not-branch.false)
-    (sym (λ i. list_all (is_generation (index i).objects (contents_of (same i)).profiles) (finite.entries (contents_of (same i)).generations)) ∙ sym (c.in_ok-read.ensures.told clean) ∙ c.if-not-branch-2.true)
+    (sym (λ i. list_all (is_generation (outline i).objects (contents_of (same i)).profiles) (finite.entries (contents_of (same i)).generations)) ∙ sym (c.in_ok-read.ensures.told clean) ∙ c.if-not-branch-2.true)
 
 pub returns-then-not-branch-2-clause-unchanged : goal.returns-then-not-branch-2-clause-unchanged
 returns-then-not-branch-2-clause-unchanged g c clean = unchanged_then _ _ _ (c.in_ok-read_bare.ensures.unchanged (omega (arith, clean, c.read.ensures.frame.survives.clean))) (c.in_ok-read.ensures.unchanged clean)
@@ -43,17 +43,17 @@ pub returns-clause-told : goal.returns-clause-told
 returns-clause-told g c clean =
     let middle : HasCleanDisk (state g.S.Store c.read_bare.new.conn) = omega (arith, c.read.ensures.frame.survives.clean) in
     let same = (c.in_ok-read_bare.ensures.unchanged middle).0.now_is in
-    let index = c.in_ok-read_bare.ensures.taken middle c.if-not-branch.false in
+    let outline = c.in_ok-read_bare.ensures.taken middle c.if-not-branch.false in
     third_decides (list_all is_profile (finite.entries (contents_of (state g.S.Store c.args.conn.now).now).profiles)) _ _ _ (sym (c.in_ok-read_bare.ensures.told middle) ∙ c.if-not-branch.false)
-    (sym (λ i. list_all (is_generation (index i).objects (contents_of (same i)).profiles) (finite.entries (contents_of (same i)).generations)) ∙ sym (c.in_ok-read.ensures.told clean) ∙ c.if-not-branch-2.false)
-    (c.has_currents.ensures ∙ ap (λ (o : Outline). has_currents o.profiles) (c.in_ok-read.ensures.taken clean c.if-not-branch-2.false) ∙ ap (λ (d : Database). has_currents (world_in (contents_of d)).profiles) same)
+    (sym (λ i. list_all (is_generation (outline i).objects (contents_of (same i)).profiles) (finite.entries (contents_of (same i)).generations)) ∙ sym (c.in_ok-read.ensures.told clean) ∙ c.if-not-branch-2.false)
+    (c.has_currents.ensures ∙ ap (λ (o : OutlineValue). has_currents o.profiles) (c.in_ok-read.ensures.taken clean c.if-not-branch-2.false) ∙ ap (λ (d : Database). has_currents (world_in (contents_of d)).profiles) same)
 
 pub returns-clause-taken : goal.returns-clause-taken
 returns-clause-taken g c clean ok =
     let middle : HasCleanDisk (state g.S.Store c.read_bare.new.conn) = omega (arith, c.read.ensures.frame.survives.clean) in
     let same = (c.in_ok-read_bare.ensures.unchanged middle).0.now_is in
-    let index = c.in_ok-read_bare.ensures.taken middle c.if-not-branch.false in
-    c.in_ok-read.ensures.taken clean c.if-not-branch-2.false ∙ (λ i. record (index i) { profiles = (world_in (contents_of (same i))).profiles })
+    let outline = c.in_ok-read_bare.ensures.taken middle c.if-not-branch.false in
+    c.in_ok-read.ensures.taken clean c.if-not-branch-2.false ∙ (λ i. record (outline i) { profiles = (world_in (contents_of (same i))).profiles })
 
 pub returns-clause-unchanged : goal.returns-clause-unchanged
 returns-clause-unchanged g c clean = unchanged_then _ _ _ (c.in_ok-read_bare.ensures.unchanged (omega (arith, clean, c.read.ensures.frame.survives.clean))) (c.in_ok-read.ensures.unchanged clean)

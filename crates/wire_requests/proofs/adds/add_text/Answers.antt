@@ -1,8 +1,7 @@
-use Rattle.std.proofs.Common.{◌≡◌, Err, refl, ap, ◌∙◌}
-use Rattle.wire_bodies.specs.declared.error.BodyError.TheVariants.{BadBodyHead}
+use Rattle.std.proofs.Common.{subst}
+use Rattle.wire_requests.specs.declared.kind.Kind.TheVariants as kinds
+use Rattle.wire_requests.specs.Reads.{Reads}
 use Rattle.wire_requests.proofs.adds.add_text.Goals as goal
 
-pub returns-in-Err-BadBodyHead : goal.returns-in-Err-BadBodyHead
-returns-in-Err-BadBodyHead c = λ target.
-    let told : c.named_body.result ≡ Err BadBodyHead = c.in-Err-BadBodyHead.is ∙ ap (λ e. Err e) c.in-Err-BadBodyHead.field-0-is in
-    (refl, λ q is. c.named_body.ensures.bad told is.0 is.1 is.2)
+pub returns-in-Ok : goal.returns-in-Ok
+returns-in-Ok c = λ target. subst (λ body. Reads c.args.dir.now kinds.AddText target body c.read_text.result) c.in-Ok.ensures (c.read_text.ensures target)

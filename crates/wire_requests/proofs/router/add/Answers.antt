@@ -1,10 +1,12 @@
+use Rattle.matchit.specs.Route.{parse_route}
 use Rattle.wire_requests.proofs.Inserted.{one_row}
+use Rattle.wire_requests.proofs.Conflicts.{only_memory}
 use Rattle.wire_requests.proofs.router.add.Goals as goal
-use Rattle.wire_requests.proofs.router.add.Goals.{in-Ok, in-Err}
 
-pub returns : goal.returns
-returns c =
-    elim c.match-insert.branch [
-      | in-Ok w ↦ rw w.result-is (λ table rows. one_row _ _ _ _ table _ (rw w.in-Ok.is at c.insert.ensures) rows)
-      | in-Err w ↦ rw w.result-is tt
-    ]
+pub no_conflict-requires : goal.no_conflict-requires
+no_conflict-requires c =
+    let r = c.requires in
+    only_memory (parse_route c.args.route.now) c.args.requests c.args.router.now c.insert.new.self r.0 c.in-Err.fault r.1 r.2 c.in-Err.ensures
+
+pub returns-in-Ok : goal.returns-in-Ok
+returns-in-Ok c = λ table rows. one_row (parse_route c.args.route.now) c.args.requests c.args.router.now c.insert.new.self table c.in-Ok.field-0 c.in-Ok.ensures rows

@@ -1,18 +1,25 @@
 use Rattle.std.proofs.Common.{rules, ◌∙◌, ◌+◌, ◌<◌, length}
-use Rattle.wire_server.proofs.Told.{closes_at}
+use Rattle.wire_server.specs.Answers.{body_in}
+use Rattle.wire_server.proofs.Reported.{closes_at}
 use Rattle.wire_server.proofs.Received.{answered_whole, lost_whole, drop_saturated}
 use Rattle.wire_server.proofs.exchange.answer_message.Goals as goal
+
+pub respond-requires : goal.respond-requires
+respond-requires g c =
+    let is = c.requires.1 in
+    (is.h, body_in c.requires.0 c.args.head.now c.args.size, rw c.deref-2.ensures.value is.holds, is.ready)
 
 pub returns-in-Err : goal.returns-in-Err
 returns-in-Err g c = λ all is.
     let answer = rw c.deref-2.ensures.value at c.in-Err.ensures in
-    lost_whole g.A.Responder.answers g.A.Body.Sink.taken all c.args.buffer.now.items c.args.head.now c.args.size c.args.body is c.args.state.now c.answer.new.state c.in-Err.fault (answer is.h is.holds)
+    lost_whole g.A.Responder.answers g.A.Responder.decides g.A.Body.Sink.taken c.args.state.now all c.args.buffer.now.items c.args.head.now c.args.size c.args.begun is c.respond.new.state c.in-Err.fault
+    (answer is.h (body_in all c.args.head.now c.args.size) is.holds is.ready)
 
 pub returns : goal.returns
 returns g c = λ all is.
     let fits : length c.args.buffer.now.items < 18446744073709551616 = search rules in
     let answer = rw c.deref-2.ensures.value at c.in-Ok.ensures in
     let closes = (rw c.deref.ensures.value at c.closes-close.ensures) ∙ closes_at c.args.buffer.now.items c.args.head.now is.h is.holds in
-    answered_whole g.A.Responder.answers g.A.Body.Sink.taken all c.args.buffer.now.items c.args.head.now c.args.size c.args.body is c.args.state.now c.answer.new.state
-    c.take_front.new.buffer.items (record { response = c.in-Ok.response; close = c.closes-close.result }) (answer is.h is.holds) closes
-    (c.take_front.ensures ∙ drop_saturated (c.args.head.now.spans.len + c.args.size) c.saturating_add.result c.args.buffer.now.items c.saturating_add.ensures fits)
+    answered_whole g.A.Responder.answers g.A.Responder.decides g.A.Body.Sink.taken c.args.state.now all c.args.buffer.now.items c.args.head.now c.args.size c.args.begun is c.respond.new.state
+    c.drain_prefix.new.buffer.items (record { response = c.in-Ok.response; close = c.closes-close.result }) (answer is.h (body_in all c.args.head.now c.args.size) is.holds is.ready) closes
+    (c.drain_prefix.ensures ∙ drop_saturated (c.args.head.now.spans.len + c.args.size) c.saturating_add.result c.args.buffer.now.items c.saturating_add.ensures fits)

@@ -1,20 +1,20 @@
 use Rattle.std.proofs.Common.{rules, ◌≡◌, sym, subst}
 use Rattle.wire_server.specs.Serves.{Serves, Stops, Rests}
-use Rattle.wire_server.proofs.Told.{Told}
+use Rattle.wire_server.proofs.Reported.{Reported}
 use Rattle.wire_server.proofs.Ends.{told_start, rested, counted_out}
 use Rattle.wire_server.proofs.Turns.{turn_end, turn_broken, turn_lost, turn_cut, turn_closed, turn_on}
 use Rattle.wire_server.proofs.serving.run.Goals as goal
 
 pub messages-init : goal.messages-init
 messages-init g c =
-    subst (λ held. Told g.A.Responder.answers (g.R.Read.remaining c.args.input.now) (g.R.Read.remaining c.args.input.now) (g.W.Write.contents c.args.output.now) (g.W.Write.contents c.args.output.now) held c.args.state.now c.args.state.now 0)
+    subst (λ held. Reported g.A.Responder.answers (g.R.Read.remaining c.args.input.now) (g.R.Read.remaining c.args.input.now) (g.W.Write.contents c.args.output.now) (g.W.Write.contents c.args.output.now) held c.args.state.now c.args.state.now 0)
     (sym c.new-buffer.ensures.items) (told_start g.A.Responder.answers (g.R.Read.remaining c.args.input.now) (g.W.Write.contents c.args.output.now) c.args.state.now)
 
 pub returns-in-Err-Failed : goal.returns-in-Err-Failed
 returns-in-Err-Failed g c =
     let broken = rw c.in-Err-Failed.field-0-is at c.in-Err-Failed.ensures in
     subst (λ e. Stops g.A.Responder.answers (g.R.Read.remaining c.args.input.now) (g.W.Write.contents c.args.output.now) (g.W.Write.contents c.messages.output) c.args.state.now c.messages.state e)
-    (sym c.in-Err-Failed.fault-is) (turn_broken g.A.Responder.answers (g.R.Read.remaining c.args.input.now) (g.W.Write.contents c.args.output.now) c.args.state.now (g.R.Read.remaining c.messages.input) (g.R.Read.remaining c.receive_next.new.input) (g.W.Write.contents c.messages.output) c.messages.buffer.items c.receive_next.new.buffer.items c.messages.state c.messages.state c.messages.count c.messages.invariant g.A.Body.Sink.taken c.in-Err-Failed.fault broken)
+    (sym c.in-Err-Failed.fault-is) (turn_broken g.A.Responder.answers (g.R.Read.remaining c.args.input.now) (g.W.Write.contents c.args.output.now) c.args.state.now (g.R.Read.remaining c.messages.input) (g.R.Read.remaining c.receive_next.new.input) (g.W.Write.contents c.messages.output) c.messages.buffer.items c.receive_next.new.buffer.items c.messages.state c.messages.state c.messages.count c.messages.invariant g.A.Responder.decides g.A.Body.Sink.taken c.in-Err-Failed.fault broken)
 
 pub returns-in-Err-Silent : goal.returns-in-Err-Silent
 returns-in-Err-Silent g c =

@@ -1,7 +1,7 @@
 use Rattle.std.proofs.Common.{◌≡◌, ◌∙◌, ◌+◌, ℕ, ap, sym, subst, arith, length, List, Vec, Global}
 use Rattle.std.proofs.lemmas.List.{length-map}
 use Rattle.live.specs.Numbering.{paths_of, place_of, root_at}
-use Rattle.live.specs.Handed.{row_view, rows_view, root_view, roots_view}
+use Rattle.live.specs.Arguments.{row_view, rows_view, root_view, roots_view}
 use Rattle.live.proofs.Aims.{AimsBelow, aims_more, aims_all, has_place, root_is}
 use Rattle.live.proofs.numbered.Roots.new.Goals as goal
 use Rattle.live.proofs.numbered.Roots.new.Goals.{in-Some+in_ok-push, in_default}

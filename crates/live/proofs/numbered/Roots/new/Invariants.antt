@@ -1,4 +1,4 @@
-use Rattle.live.specs.Handed.{rows_view, roots_view}
+use Rattle.live.specs.Arguments.{rows_view, roots_view}
 use Rattle.live.proofs.Aims.{AimsBelow}
 use Rattle.live.proofs.numbered.Roots.new.Given as goal
 

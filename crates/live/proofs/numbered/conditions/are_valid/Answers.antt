@@ -1,4 +1,4 @@
-use Rattle.live.specs.Handed.{rows_view}
+use Rattle.live.specs.Arguments.{rows_view}
 use Rattle.live.proofs.Conditions.{valid_more}
 use Rattle.live.proofs.numbered.conditions.are_valid.Goals as goal
 

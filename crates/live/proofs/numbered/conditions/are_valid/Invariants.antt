@@ -1,4 +1,4 @@
-use Rattle.live.specs.Handed.{rows_view, roots_view}
+use Rattle.live.specs.Arguments.{rows_view, roots_view}
 use Rattle.live.proofs.Conditions.{ValidBelow}
 use Rattle.live.proofs.numbered.conditions.are_valid.Given as goal
 

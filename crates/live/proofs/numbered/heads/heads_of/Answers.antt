@@ -1,5 +1,5 @@
 use Rattle.std.proofs.Common.{◌∙◌, ◌+◌, ap, sym, subst, arith, List, ℕ}
-use Rattle.live.specs.Handed.{rows_view}
+use Rattle.live.specs.Arguments.{rows_view}
 use Rattle.live.specs.Numbering.{paths_of}
 use Rattle.live.specs.Heads.{IsBytes, head_of}
 use Rattle.live.proofs.Headed.{HeadsBelow, heads_all, heads_more, path_of_row, rows_count}

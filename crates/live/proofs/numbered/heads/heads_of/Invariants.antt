@@ -1,4 +1,4 @@
-use Rattle.live.specs.Handed.{rows_view}
+use Rattle.live.specs.Arguments.{rows_view}
 use Rattle.live.specs.Numbering.{paths_of}
 use Rattle.live.proofs.Headed.{HeadsBelow}
 use Rattle.live.proofs.numbered.heads.heads_of.Given as goal

@@ -1,7 +1,7 @@
 use Rattle.std.proofs.Common.{ap, ◌∙◌, ◌++◌, sym, append-nil, Vec, Global, ℕ}
 use Rattle.std.specs.Option.{option_to_list}
 use Rattle.live.specs.Numbering.{paths_of}
-use Rattle.live.specs.Handed.{rows_view}
+use Rattle.live.specs.Arguments.{rows_view}
 use Rattle.live.proofs.Makings.{places_more}
 use Rattle.live.proofs.numbered.places.add_places.Goals as goal
 use Rattle.live.proofs.numbered.places.add_places.Goals.{in-Some+in_ok-push, in_default}

@@ -1,6 +1,6 @@
 use Rattle.std.proofs.Common.{◌≡◌, ◌++◌, take}
 use Rattle.live.specs.Numbering.{paths_of, places_of}
-use Rattle.live.specs.Handed.{rows_view}
+use Rattle.live.specs.Arguments.{rows_view}
 use Rattle.live.proofs.numbered.places.add_places.Given as goal
 
 abbrev pub invariant-loop-path : goal.invariant-loop-path

@@ -1,4 +1,4 @@
-use Rattle.live.specs.Handed.{rows_view}
+use Rattle.live.specs.Arguments.{rows_view}
 use Rattle.live.specs.Numbering.{paths_of}
 use Rattle.live.proofs.Texts.{found}
 use Rattle.live.proofs.numbered.places.place_guessed.Goals as goal

@@ -1,11 +1,11 @@
 use Rattle.std.proofs.Common.{◌≡◌, ℕ, List, length, ◌+◌, ◌*◌}
 use Rattle.nar.specs.Tree.{IsBytes}
-use Rattle.nar.specs.Progress.{StandsBefore, turns}
+use Rattle.nar.specs.Progress.{HasReadBefore, turns}
 use Rattle.nar.proofs.checking.Checker.take.Given as goal
 
 abbrev pub invariant-pieces : goal.invariant-pieces
 invariant-pieces l = record {
-  stands : (all : List ℕ) → IsBytes all → StandsBefore l.fn.self.progress l.fn.piece all → StandsBefore l.self.progress l.rest all;
+  stands : (all : List ℕ) → IsBytes all → HasReadBefore l.fn.self.progress l.fn.piece all → HasReadBefore l.self.progress l.rest all;
   failed : l.self.failed ≡ l.fn.self.failed;
 }
 

@@ -1,9 +1,9 @@
 use Rattle.std.proofs.Common.{subst}
 use Rattle.store_types.specs.View.{request_view}
 use Rattle.store_steps.specs.Meets.{IsMet}
-use Rattle.store.specs.Standing.{Standing}
+use Rattle.store.specs.View.{StoreView}
 use Rattle.store.proofs.calling.Store.act.Goals as goal
 
 pub returns-clause-met : goal.returns-clause-met
 returns-clause-met g c =
-    subst (λ (st : Standing g.row.S.Denot). IsMet g.S.Store st.settings c.args.caller.now (request_view c.args.request) c.act.result st.tables c.act.new.tables) c.self.view_is c.act.ensures
+    subst (λ (st : StoreView g.row.S.Denot). IsMet g.S.Store st.settings c.args.caller.now (request_view c.args.request) c.act.result st.tables c.act.new.tables) c.self.view_is c.act.ensures.met

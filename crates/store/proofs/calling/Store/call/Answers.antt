@@ -1,19 +1,54 @@
+use Rattle.std.proofs.Common.{inl, refl, sym, ap, subst, ◌∙◌}
+use Rattle.policy.specs.Class.{class_of}
+use Rattle.policy.specs.Rules.{first_broken}
+use Rattle.model.specs.Reply.{Reply, IsDone}
+use Rattle.model.specs.Verdict.{operation_of}
 use Rattle.store_types.specs.View.{request_view, reply_view}
-use Rattle.store.proofs.Replied.{step_forbidden, step_met, survives_met}
+use Rattle.store_steps.specs.Causes.{HasCause}
+use Rattle.store_steps.specs.Meets.{reply_to}
+use Rattle.store.proofs.Replied.{answered_of, cause_forbidden, step_forbidden, step_met, survives_met}
+use Rattle.store.proofs.Spent.{is_no_deletion, same_view, spent_denied, spent_fails}
 use Rattle.store.proofs.calling.Store.call.Goals as goal
 
 pub act-requires : goal.act-requires
-act-requires g c w t = (c.in-None.ensures w t).1
+act-requires g c w t = (c.in-None.ensures.told w t).1
 
 pub returns-in-Some-clause-step : goal.returns-in-Some-clause-step
 returns-in-Some-clause-step g c =
-    step_forbidden g.S.Store c.args.self.now.settings c.args.caller.now (request_view c.args.request) (reply_view c.in-Some.forbidden) c.args.self.now.tables c.in-Some.ensures
+    step_forbidden g.S.Store c.args.self.now.settings c.args.caller.now (request_view c.args.request) (reply_view c.in-Some.forbidden) c.args.self.now.tables c.in-Some.ensures.told
 
 pub returns-in-None-clause-step : goal.returns-in-None-clause-step
 returns-in-None-clause-step g c =
     step_met g.S.Store c.args.self.now.settings c.args.caller.now (request_view c.args.request) c.act.result (reply_view c.reply.result) c.args.self.now.tables c.act.new.self.tables
-    c.in-None.ensures c.reply.ensures c.act.ensures.met
+    c.in-None.ensures.told c.reply.ensures c.act.ensures.met
+
+pub returns-in-Some-clause-cause : goal.returns-in-Some-clause-cause
+returns-in-Some-clause-cause g c w t =
+    cause_forbidden g.S.Store c.args.self.now.settings c.args.caller.now (request_view c.args.request) c.args.self.now.tables (reply_view c.in-Some.forbidden) w (c.in-Some.ensures.told w t)
+
+pub returns-in-None-clause-cause : goal.returns-in-None-clause-cause
+returns-in-None-clause-cause g c w t =
+    subst (λ (x : Reply). HasCause g.S.Store (request_view c.args.request) x c.args.self.now.tables c.act.new.self.tables) (sym c.reply.ensures) (c.act.ensures.met.cause w t)
+
+pub returns-in-Some-clause-spent : goal.returns-in-Some-clause-spent
+returns-in-Some-clause-spent g c lost =
+    let rule = first_broken (class_of c.args.self.now.settings c.args.caller.now) c.args.caller.now (operation_of (request_view c.args.request)) in
+    (spent_denied rule (reply_view c.in-Some.forbidden) (c.in-Some.ensures.ruled (is_no_deletion c.args.request lost)), refl)
+
+pub returns-in-None-clause-spent : goal.returns-in-None-clause-spent
+returns-in-None-clause-spent g c lost =
+    let rule = first_broken (class_of c.args.self.now.settings c.args.caller.now) c.args.caller.now (operation_of (request_view c.args.request)) in
+    let fails = c.act.ensures.spent lost in (
+      c.reply.ensures ∙ ap reply_to fails.0 ∙ spent_fails rule (c.in-None.ensures.ruled (is_no_deletion c.args.request lost)),
+      same_view c.act.new.self c.args.self.now fails.1 c.act.ensures.settings,
+    )
 
 pub returns-in-None-clause-survives : goal.returns-in-None-clause-survives
 returns-in-None-clause-survives g c =
-    survives_met g.S.Store c.args.self.now.settings c.args.caller.now (request_view c.args.request) c.act.result c.args.self.now.tables c.act.new.self.tables c.in-None.ensures c.act.ensures.met
+    survives_met g.S.Store c.args.self.now.settings c.args.caller.now (request_view c.args.request) c.act.result c.args.self.now.tables c.act.new.self.tables c.in-None.ensures.told c.act.ensures.met
+
+pub returns-in-Some-clause-others : goal.returns-in-Some-clause-others
+returns-in-Some-clause-others g c = λ _ _ _. inl refl
+
+pub returns-in-None-clause-others : goal.returns-in-None-clause-others
+returns-in-None-clause-others g c done = c.act.ensures.met.others (answered_of c.act.result (subst IsDone c.reply.ensures done))

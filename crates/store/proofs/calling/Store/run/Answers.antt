@@ -7,9 +7,11 @@ use Rattle.model.specs.Reply.{Reply}
 use Rattle.tables.proofs.Kept.{clean_before}
 use Rattle.store_steps.specs.Disk.{StepOver}
 use Rattle.store_types.specs.View.{call_view, request_view, reply_view}
-use Rattle.model.proofs.Pins.{pins_throughout}
-use Rattle.store.proofs.Clean.{run_clean}
+use Rattle.store_types.specs.Spent.{spent_reply}
+use Rattle.store.proofs.Alike.{runs_alike}
+use Rattle.store.proofs.Pinned.{run_pins}
 use Rattle.store.proofs.Runs.{HasRun, begun, one_more, ended}
+use Rattle.store.proofs.Spent.{SpentSoFar, none_so_far, one_so_far, all_so_far}
 use Rattle.store.proofs.calling.Store.run.Goals as goal
 
 pub loop-asked-init : goal.loop-asked-init
@@ -18,6 +20,7 @@ loop-asked-init g c =
       settings = refl;
       room = omega (arith, c.in_ok-replies.ensures.len, c.in_ok-replies.ensures.capacity, c.len.ensures, c.args.calls.ok.0, ap length all);
       so_far = λ w t. (w, begun c.args.self.now.settings (map call_view c.args.calls.items) _ w _ _ (ap (map call_view) all) (ap (map reply_view) c.in_ok-replies.ensures.empty), t);
+      spent = none_so_far c.args.self.now.settings c.args.calls.items _ _ all (ap (map reply_view) c.in_ok-replies.ensures.empty);
     }
 
 pub push_reserved-requires : goal.push_reserved-requires
@@ -45,6 +48,11 @@ loop-asked-preserved g c =
                 (ap (map call_view) first) m.1 step),
             n.2,
           );
+      spent =
+          let grown : map reply_view c.push_reserved.new.self.items ≡ told ++ reply ∷ [] = ap (map reply_view) c.push_reserved.ensures.items ∙ map_push reply_view c.loop-asked.replies.items c.call-reply.result in
+          subst (λ (rs : List Reply). SpentSoFar s c.args.calls.items c.next.new.self.rest.items rs) (sym grown)
+          (one_so_far s c.args.calls.items c.loop-asked.asked-iterator.rest.items c.next.new.self.rest.items c.in-Some.asked told reply first c.loop-asked.invariant.spent
+          (λ lost. subst (λ (x : Settings). reply ≡ spent_reply x c.in-Some.asked.0 (request_view c.in-Some.asked.1)) c.loop-asked.invariant.settings (c.call-reply.ensures.spent lost).0));
     }
 
 pub loop-asked-preserved-in-Some : goal.loop-asked-preserved-in-Some
@@ -69,6 +77,11 @@ loop-asked-preserved-in-Some g c =
                 (ap (map call_view) first) m.1 step),
             n.2,
           );
+      spent =
+          let grown : map reply_view c.push_reserved.new.self.items ≡ told ++ reply ∷ [] = ap (map reply_view) c.push_reserved.ensures.items ∙ map_push reply_view c.loop-asked.replies.items c.call-reply.result in
+          subst (λ (rs : List Reply). SpentSoFar s c.args.calls.items c.next.new.self.rest.items rs) (sym grown)
+          (one_so_far s c.args.calls.items c.loop-asked.asked-iterator.rest.items c.next.new.self.rest.items c.in-Some.asked told reply first c.loop-asked.invariant.spent
+          (λ lost. subst (λ (x : Settings). reply ≡ spent_reply x c.in-Some.asked.0 (request_view c.in-Some.asked.1)) c.loop-asked.invariant.settings (c.call-reply.ensures.spent lost).0));
     }
 
 pub returns-clause-settings : goal.returns-clause-settings
@@ -82,7 +95,7 @@ returns-clause-runs g c w t =
     (m.0, ended c.args.self.now.settings (map call_view c.args.calls.items) _ w m.0 (map call_view rest.items) (map reply_view c.loop-asked.replies.items) (ap (map call_view) none) m.1, m.2)
 
 pub returns-clause-pins : goal.returns-clause-pins
-returns-clause-pins g c clean w t r throughout =
+returns-clause-pins g c w t r throughout =
     let m = c.loop-asked.invariant.so_far w t in
     let rest = c.loop-asked.asked-iterator.rest in
     let none = nil_from_length rest.items (omega (arith, c.in-None.ensures.steps.0, rest.ok.0)) in
@@ -90,4 +103,20 @@ returns-clause-pins g c clean w t r throughout =
     let calls = map call_view c.args.calls.items in
     let replies = map reply_view c.loop-asked.replies.items in
     let run = ended s calls _ w m.0 (map call_view rest.items) replies (ap (map call_view) none) m.1 in
-    (m.0, m.2, pins_throughout s w m.0 r calls replies (run_clean _ s w calls replies m.0 clean run) throughout)
+    (m.0, m.2, run_pins _ s w m.0 r calls replies run throughout)
+
+pub returns-clause-hides : goal.returns-clause-hides
+returns-clause-hides g c w v last others t differ run alike =
+    let m = c.loop-asked.invariant.so_far w t in
+    let rest = c.loop-asked.asked-iterator.rest in
+    let none = nil_from_length rest.items (omega (arith, c.in-None.ensures.steps.0, rest.ok.0)) in
+    let s = c.args.self.now.settings in
+    let calls = map call_view c.args.calls.items in
+    let replies = map reply_view c.loop-asked.replies.items in
+    runs_alike _ s w v m.0 last calls replies others differ (ended s calls _ w m.0 (map call_view rest.items) replies (ap (map call_view) none) m.1) run alike
+
+pub returns-clause-spent : goal.returns-clause-spent
+returns-clause-spent g c =
+    let rest = c.loop-asked.asked-iterator.rest in
+    all_so_far c.args.self.now.settings c.args.calls.items rest.items (map reply_view c.loop-asked.replies.items)
+    (nil_from_length rest.items (omega (arith, c.in-None.ensures.steps.0, rest.ok.0))) c.loop-asked.invariant.spent

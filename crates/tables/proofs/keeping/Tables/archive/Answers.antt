@@ -18,17 +18,17 @@ returns-clause-was_open g c clean some =
 
 pub returns-clause-same : goal.returns-clause-same
 returns-clause-same g c =
-    told_failed g.S.Store _ c.args.self.now c.self.view_is c.read_archive.new.conn c.self.inside.index c.self.invariant _ c.read_archive.ensures.survives c.read_archive.ensures.same refl
+    told_failed g.S.Store _ c.args.self.now c.self.view_is c.read_archive.new.conn c.self.inside.outline c.self.invariant _ c.read_archive.ensures.survives c.read_archive.ensures.same refl
 
 pub returns-in_err-found-clause-same : goal.returns-in_err-found-clause-same
 returns-in_err-found-clause-same g c =
-    told_failed g.S.Store _ c.args.self.now c.self.view_is c.read_archive.new.conn c.self.inside.index c.self.invariant _ c.read_archive.ensures.survives c.read_archive.ensures.same refl
+    told_failed g.S.Store _ c.args.self.now c.self.view_is c.read_archive.new.conn c.self.inside.outline c.self.invariant _ c.read_archive.ensures.survives c.read_archive.ensures.same refl
 
 pub read_archive-requires-clause-size : goal.read_archive-requires-clause-size
 read_archive-requires-clause-size g c clean is_open =
-    archive_size g.S.Store (record { connection = c.self.inside.connection; dir = c.self.inside.dir; outline = c.self.inside.index }) c.self.invariant c.as_str.result.now c.args.path.now c.as_str.ensures.value
+    archive_size g.S.Store (record { connection = c.self.inside.connection; dir = c.self.inside.dir; outline = c.self.inside.outline }) c.self.invariant c.as_str.result.now c.args.path.now c.as_str.ensures.value
     clean is_open c.in-Some.object.now c.size-size.result c.in-Some.ensures c.size-size.ensures
 
 pub returns-in_default-clause-found : goal.returns-in_default-clause-found
 returns-in_default-clause-found g c clean =
-    none_kept g.S.Store (record { connection = c.self.inside.connection; dir = c.self.inside.dir; outline = c.self.inside.index }) c.args.self.now c.self.view_is c.args.path.now c.in_default.ensures
+    none_kept g.S.Store (record { connection = c.self.inside.connection; dir = c.self.inside.dir; outline = c.self.inside.outline }) c.args.self.now c.self.view_is c.args.path.now c.in_default.ensures

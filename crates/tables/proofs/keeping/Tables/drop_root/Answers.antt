@@ -1,4 +1,4 @@
-use Rattle.std.proofs.Common.{Result, sym, subst}
+use Rattle.std.proofs.Common.{sym, subst}
 use Rattle.tables.specs.declared.named_roots.RootName.{RootName}
 use Rattle.tables.specs.Entries.{without_root}
 use Rattle.tables.specs.Frames.{CommitsChange, StaysSound}
@@ -7,17 +7,13 @@ use Rattle.tables.proofs.keeping.Tables.drop_root.Goals as goal
 pub drop_permanent-requires : goal.drop_permanent-requires
 drop_permanent-requires g c = record { sound = subst (λ (n : RootName). StaysSound g.S.Store c.args.self.now (without_root n)) c.in-Permanent.is c.requires }
 
+pub returns-in-Permanent-clause-frame : goal.returns-in-Permanent-clause-frame
+returns-in-Permanent-clause-frame g c =
+    subst (λ (n : RootName). CommitsChange g.S.Store c.args.self.now c.drop_permanent.new.self c.drop_permanent.result (without_root n)) (sym c.in-Permanent.is) c.drop_permanent.ensures.frame
+
 pub drop_user_root-requires : goal.drop_user_root-requires
 drop_user_root-requires g c = record { sound = subst (λ (n : RootName). StaysSound g.S.Store c.args.self.now (without_root n)) c.in-User.is c.requires }
 
-pub returns-in-Permanent : goal.returns-in-Permanent
-returns-in-Permanent g c =
-    let it = c.drop_permanent.ensures in
-    subst (λ (n : RootName). CommitsChange g.S.Store c.args.self.now c.drop_permanent.new.self c.drop_permanent.result (without_root n)) (sym c.in-Permanent.is)
-    (record { dir = it.dir; done = it.done; others = it.others; failed = it.failed; durable = it.durable; was_open = it.was_open; survives = it.survives })
-
-pub returns-in-User : goal.returns-in-User
-returns-in-User g c =
-    let it = c.drop_user_root.ensures in
-    subst (λ (n : RootName). CommitsChange g.S.Store c.args.self.now c.drop_user_root.new.self c.drop_user_root.result (without_root n)) (sym c.in-User.is)
-    (record { dir = it.dir; done = it.done; others = it.others; failed = it.failed; durable = it.durable; was_open = it.was_open; survives = it.survives })
+pub returns-in-User-clause-frame : goal.returns-in-User-clause-frame
+returns-in-User-clause-frame g c =
+    subst (λ (n : RootName). CommitsChange g.S.Store c.args.self.now c.drop_user_root.new.self c.drop_user_root.result (without_root n)) (sym c.in-User.is) c.drop_user_root.ensures.frame

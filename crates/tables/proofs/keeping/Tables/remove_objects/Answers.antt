@@ -1,13 +1,14 @@
 use Rattle.std.proofs.Common.{refl}
+use Rattle.tables.specs.RowsPut.{NoRow}
 use Rattle.tables.proofs.Covered.{covered}
-use Rattle.tables.proofs.Kept.{agrees_failed, told_failed}
-use Rattle.tables.proofs.RemovedObjects.{removed_agrees, removed_told, removed_survive}
+use Rattle.tables.proofs.Kept.{write_agrees, write_commits, write_fails, failure_agrees, failure_seen}
+use Rattle.tables.proofs.RemovedObjects.{removed_write}
 use Rattle.tables.proofs.keeping.Tables.remove_objects.Goals as goal
 
 pub delete_rows-requires-clause-covers : goal.delete_rows-requires-clause-covers
 delete_rows-requires-clause-covers g c clean is_open =
     let it = c.self.invariant.rows clean is_open in
-    covered c.self.inside.dir _ c.self.inside.index it.sound it.same
+    covered c.self.inside.dir _ c.self.inside.outline it.sound it.same
 
 pub delete_rows-requires-clause-frame : goal.delete_rows-requires-clause-frame
 delete_rows-requires-clause-frame g c = record {
@@ -18,28 +19,24 @@ delete_rows-requires-clause-frame g c = record {
 
 pub invariant_of-self : goal.invariant_of-self
 invariant_of-self g c =
-    removed_agrees g.S.Store _ c.args.self.now c.self.view_is c.delete_rows.new.conn c.remove_all.new.index c.args.paths.now c.self.invariant c.requires.sound c.delete_rows.ensures.survives (λ clean. c.in-Ok.ensures.done clean)
-    c.remove_all.ensures c.delete_rows.ensures.alone
+    write_agrees g.S.Store (removed_write g.S.Store _ c.args.self.now c.args.paths.now c.self.view_is c.self.invariant c.requires.sound) c.delete_rows.new.conn c.remove_all.new.outline _ (c.in-Ok.ensures.frame)
+    (c.remove_all.ensures)
 
 pub invariant_of-self-in-Err : goal.invariant_of-self-in-Err
 invariant_of-self-in-Err g c =
-    agrees_failed g.S.Store _ c.args.self.now c.self.view_is c.delete_rows.new.conn c.self.inside.index c.self.invariant _ c.delete_rows.ensures.survives (λ clean. c.in-Err.ensures.failed clean)
-    refl c.delete_rows.ensures.alone
+    failure_agrees g.S.Store (removed_write g.S.Store _ c.args.self.now c.args.paths.now c.self.view_is c.self.invariant c.requires.sound) c.delete_rows.new.conn c.self.inside.outline _ (c.in-Err.ensures.frame)
+    (refl)
 
-pub returns-in-Ok-clause-done : goal.returns-in-Ok-clause-done
-returns-in-Ok-clause-done g c =
-    removed_told g.S.Store _ c.args.self.now c.self.view_is c.delete_rows.new.conn c.remove_all.new.index c.args.paths.now c.self.invariant c.requires.sound c.delete_rows.ensures.survives (λ clean. c.in-Ok.ensures.done clean)
-    c.remove_all.ensures
+pub returns-in-Ok-clause-frame : goal.returns-in-Ok-clause-frame
+returns-in-Ok-clause-frame g c =
+    write_commits g.S.Store (removed_write g.S.Store _ c.args.self.now c.args.paths.now c.self.view_is c.self.invariant c.requires.sound) c.delete_rows.new.conn c.remove_all.new.outline _ (c.in-Ok.ensures.frame)
+    (c.remove_all.ensures) _
 
-pub returns-in-Ok-clause-survives : goal.returns-in-Ok-clause-survives
-returns-in-Ok-clause-survives g c =
-    removed_survive g.S.Store _ c.args.self.now c.self.view_is c.delete_rows.new.conn c.remove_all.new.index c.args.paths.now c.self.invariant c.requires.sound c.delete_rows.ensures.survives
+pub returns-in-Err-clause-frame : goal.returns-in-Err-clause-frame
+returns-in-Err-clause-frame g c =
+    write_fails g.S.Store (removed_write g.S.Store _ c.args.self.now c.args.paths.now c.self.view_is c.self.invariant c.requires.sound) c.delete_rows.new.conn c.self.inside.outline _ (c.in-Err.ensures.frame)
+    (refl) _
 
-pub returns-in-Err-clause-failed : goal.returns-in-Err-clause-failed
-returns-in-Err-clause-failed g c =
-    told_failed g.S.Store _ c.args.self.now c.self.view_is c.delete_rows.new.conn c.self.inside.index c.self.invariant _ c.delete_rows.ensures.survives (λ clean. c.in-Err.ensures.failed clean)
-    refl
-
-pub returns-in-Err-clause-survives : goal.returns-in-Err-clause-survives
-returns-in-Err-clause-survives g c =
-    removed_survive g.S.Store _ c.args.self.now c.self.view_is c.delete_rows.new.conn c.self.inside.index c.args.paths.now c.self.invariant c.requires.sound c.delete_rows.ensures.survives
+pub returns-in-Err-clause-cause : goal.returns-in-Err-clause-cause
+returns-in-Err-clause-cause g c =
+    failure_seen g.S.Store c.delete_rows.new.conn NoRow c.in-Err.failure c.self.view_is c.in-Err.ensures.cause

@@ -1,36 +1,33 @@
-use Rattle.std.proofs.Common.{refl}
+use Rattle.std.proofs.Common.{map, refl}
 use Rattle.std.specs.FinMap as finite
 use Rattle.paths.specs.Root.{bytes_cmp, Set}
 use Rattle.model.specs.World.{Path, pair_cmp}
 use Rattle.tables_outline.specs.Maps.{labelled_bytes, seen_set}
-use Rattle.tables.proofs.RootChanges.{roots_agree, roots_told, roots_survive}
-use Rattle.tables.proofs.Kept.{agrees_failed, told_failed}
+use Rattle.tables.specs.RowsPut.{RowsOf, RuntimeRow}
+use Rattle.tables.proofs.Kept.{write_agrees, write_commits, write_fails, failure_agrees, failure_seen}
+use Rattle.tables.proofs.RootChanges.{roots_write}
 use Rattle.tables.proofs.keeping.Tables.replace_runtime.Goals as goal
 
 pub invariant_of-self : goal.invariant_of-self
 invariant_of-self g c =
-    roots_agree (λ (m : finite.FinMap bytes_cmp Path). m) (λ (m : finite.FinMap pair_cmp Path). m) (λ (m : Set pair_cmp). seen_set pair_cmp labelled_bytes c.args.roots.keys) g.S.Store _ c.args.self.now c.self.view_is c.commit.new.conn c.replace_runtime.new.self c.self.invariant c.requires.sound c.commit.ensures.survives (λ clean. c.in-Ok.ensures.done clean)
-    c.replace_runtime.ensures c.commit.ensures.alone
+    write_agrees g.S.Store (roots_write (λ (m : finite.FinMap bytes_cmp Path). m) (λ (m : finite.FinMap pair_cmp Path). m) (λ (m : Set pair_cmp). seen_set pair_cmp labelled_bytes c.args.roots.keys) g.S.Store _ c.args.self.now c.self.view_is c.self.invariant c.requires.sound) c.commit.new.conn c.replace_runtime.new.self _ (c.in-Ok.ensures.frame)
+    (c.replace_runtime.ensures)
 
 pub invariant_of-self-in-Err : goal.invariant_of-self-in-Err
 invariant_of-self-in-Err g c =
-    agrees_failed g.S.Store _ c.args.self.now c.self.view_is c.commit.new.conn c.self.inside.index c.self.invariant _ c.commit.ensures.survives (λ clean. c.in-Err.ensures.failed clean)
-    refl c.commit.ensures.alone
+    failure_agrees g.S.Store (roots_write (λ (m : finite.FinMap bytes_cmp Path). m) (λ (m : finite.FinMap pair_cmp Path). m) (λ (m : Set pair_cmp). seen_set pair_cmp labelled_bytes c.args.roots.keys) g.S.Store _ c.args.self.now c.self.view_is c.self.invariant c.requires.sound) c.commit.new.conn c.self.inside.outline _ (c.in-Err.ensures.frame)
+    (refl)
 
-pub returns-in-Ok-clause-done : goal.returns-in-Ok-clause-done
-returns-in-Ok-clause-done g c =
-    roots_told (λ (m : finite.FinMap bytes_cmp Path). m) (λ (m : finite.FinMap pair_cmp Path). m) (λ (m : Set pair_cmp). seen_set pair_cmp labelled_bytes c.args.roots.keys) g.S.Store _ c.args.self.now c.self.view_is c.commit.new.conn c.replace_runtime.new.self c.self.invariant c.requires.sound c.commit.ensures.survives (λ clean. c.in-Ok.ensures.done clean)
-    c.replace_runtime.ensures
+pub returns-in-Ok-clause-frame : goal.returns-in-Ok-clause-frame
+returns-in-Ok-clause-frame g c =
+    write_commits g.S.Store (roots_write (λ (m : finite.FinMap bytes_cmp Path). m) (λ (m : finite.FinMap pair_cmp Path). m) (λ (m : Set pair_cmp). seen_set pair_cmp labelled_bytes c.args.roots.keys) g.S.Store _ c.args.self.now c.self.view_is c.self.invariant c.requires.sound) c.commit.new.conn c.replace_runtime.new.self _ (c.in-Ok.ensures.frame)
+    (c.replace_runtime.ensures) _
 
-pub returns-in-Ok-clause-survives : goal.returns-in-Ok-clause-survives
-returns-in-Ok-clause-survives g c =
-    roots_survive (λ (m : finite.FinMap bytes_cmp Path). m) (λ (m : finite.FinMap pair_cmp Path). m) (λ (m : Set pair_cmp). seen_set pair_cmp labelled_bytes c.args.roots.keys) g.S.Store _ c.args.self.now c.self.view_is c.commit.new.conn c.replace_runtime.new.self c.self.invariant c.requires.sound c.commit.ensures.survives
+pub returns-in-Err-clause-frame : goal.returns-in-Err-clause-frame
+returns-in-Err-clause-frame g c =
+    write_fails g.S.Store (roots_write (λ (m : finite.FinMap bytes_cmp Path). m) (λ (m : finite.FinMap pair_cmp Path). m) (λ (m : Set pair_cmp). seen_set pair_cmp labelled_bytes c.args.roots.keys) g.S.Store _ c.args.self.now c.self.view_is c.self.invariant c.requires.sound) c.commit.new.conn c.self.inside.outline _ (c.in-Err.ensures.frame)
+    (refl) _
 
-pub returns-in-Err-clause-failed : goal.returns-in-Err-clause-failed
-returns-in-Err-clause-failed g c =
-    told_failed g.S.Store _ c.args.self.now c.self.view_is c.commit.new.conn c.self.inside.index c.self.invariant _ c.commit.ensures.survives (λ clean. c.in-Err.ensures.failed clean)
-    refl
-
-pub returns-in-Err-clause-survives : goal.returns-in-Err-clause-survives
-returns-in-Err-clause-survives g c =
-    roots_survive (λ (m : finite.FinMap bytes_cmp Path). m) (λ (m : finite.FinMap pair_cmp Path). m) (λ (m : Set pair_cmp). seen_set pair_cmp labelled_bytes c.args.roots.keys) g.S.Store _ c.args.self.now c.self.view_is c.commit.new.conn c.self.inside.index c.self.invariant c.requires.sound c.commit.ensures.survives
+pub returns-in-Err-clause-cause : goal.returns-in-Err-clause-cause
+returns-in-Err-clause-cause g c =
+    failure_seen g.S.Store c.commit.new.conn (RowsOf RuntimeRow (map labelled_bytes c.args.roots.keys)) c.in-Err.failure c.self.view_is c.in-Err.ensures.cause

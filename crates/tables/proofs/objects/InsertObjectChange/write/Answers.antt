@@ -1,30 +1,31 @@
-use Rattle.std.proofs.Common.{ap, ap₂, arith, ◌∙◌}
+use Rattle.std.proofs.Common.{◌≡◌, ℕ, List, [], ◌∷◌, drop, map, inl, inr, refl, sym, ap, ap₂, subst, subst₂, arith, ◌∙◌, string_bytes}
+use Rattle.std.specs.Prelude.{ℤ}
 use Rattle.std.specs.List.{zip}
 use Rattle.std.specs.FinMap as finite
-use Rattle.std.specs.FinMap.Entries.{is_sorted}
-use Rattle.paths.specs.Root.{bytes_cmp}
+use Rattle.sqlite_value.specs.declared.value.Value.TheVariants.{Text, Blob}
+use Rattle.sqlite_value.specs.Order.{Row}
 use Rattle.sqlite.specs.State.{HasCleanDisk}
 use Rattle.sqlite.specs.Held.{state}
-use Rattle.tables_sql.specs.Contents.{Contents}
-use Rattle.tables_sql.specs.Entries.{stored}
-use Rattle.tables_world.specs.Pieces.{further_pieces}
-use Rattle.tables.specs.Rewritten.{put_object}
-use Rattle.tables.proofs.Lists.{zipped, keys_count, sorted_is}
+use Rattle.tables_sql.specs.Contents.{Contents, contents_of}
+use Rattle.tables_sql.specs.Entries.{stored, text_or_null}
+use Rattle.model.specs.World.{Path}
+use Rattle.tables_world.specs.Pieces.{piece_size, row_part, further_pieces}
+use Rattle.tables_world.proofs.Migrating.{rising}
+use Rattle.tables.specs.Rewritten.{AreFree, put_object}
+use Rattle.tables.specs.RowsPut.{RowsOf, ReferenceRow, OutputRow, PieceRow, ObjectRows}
+use Rattle.tables.proofs.Free.{outputs_free, pieces_free, references_free}
+use Rattle.tables.proofs.Lists.{zipped, keys_count}
+use Rattle.tables.proofs.Reasons.{as_reason, is_none, more_reason, next_reason, put_open, text_same}
 use Rattle.tables_sql.proofs.Transactions.{done_both, failed_next, steps_both}
 use Rattle.tables_sql.proofs.Steps.{under_after}
 use Rattle.tables.proofs.Failing.{err_kept}
-use Rattle.tables_sql.proofs.TestFailures.{survives_both}
+use Rattle.tables_sql.proofs.TestFailures.{passed_on, survives_both}
 use Rattle.tables.proofs.Transactions.{pieces_stand}
 use Rattle.tables.proofs.objects.InsertObjectChange.write.Goals as goal
 
 pub put_outputs-requires-clause-count : goal.put_outputs-requires-clause-count
 put_outputs-requires-clause-count g c =
     keys_count c.args.self.now.object.now.outputs c.names.result.now c.outputs.result.now c.names.ensures c.outputs.ensures
-
-pub put_outputs-requires-clause-ordered : goal.put_outputs-requires-clause-ordered
-put_outputs-requires-clause-ordered g c =
-    let m = c.args.self.now.object.now.outputs in
-    ap (is_sorted bytes_cmp) (ap₂ zip c.names.ensures c.outputs.ensures ∙ zipped (finite.entries m)) ∙ sorted_is m
 
 pub put_references-requires-clause-under_way : goal.put_references-requires-clause-under_way
 put_references-requires-clause-under_way g c clean =
@@ -57,15 +58,6 @@ put_outputs-requires-clause-is_open g c clean =
     let b = state g.S.Store c.insert.new.tx.conn.now in
     let d = state g.S.Store c.put_references.new.tx.conn.now in
     (steps_both a b d _ _ c.in_ok-insert.ensures.done c.put_references.ensures.survives c.in_ok-put_references.ensures.done clean).is_open
-
-pub put_outputs-requires-clause-free : goal.put_outputs-requires-clause-free
-put_outputs-requires-clause-free g c clean name =
-    let a = state g.S.Store c.args.tx.now.conn.now in
-    let b = state g.S.Store c.insert.new.tx.conn.now in
-    let d = state g.S.Store c.put_references.new.tx.conn.now in
-    let it = steps_both a b d _ _ c.in_ok-insert.ensures.done c.put_references.ensures.survives c.in_ok-put_references.ensures.done clean in
-    let early : HasCleanDisk a = omega (arith, c.insert.ensures.frame.survives.clean, c.put_references.ensures.survives.clean, clean) in
-    ap (λ (x : Contents). finite.get x.outs (c.args.self.now.base.now, name)) it.contents ∙ (c.requires.fits early it.was_open).1 name
 
 pub returns-in_err-put_outputs-clause-same_reference : goal.returns-in_err-put_outputs-clause-same_reference
 returns-in_err-put_outputs-clause-same_reference g c = c.put_outputs.ensures.same_reference ∙ c.put_references.ensures.same_reference ∙ c.insert.ensures.frame.same_reference
@@ -140,3 +132,86 @@ returns-clause-survives g c =
     let d = state g.S.Store c.put_references.new.tx.conn.now in
     let e = state g.S.Store c.put_outputs.new.tx.conn.now in
     survives_both a e (state g.S.Store c.put_pieces.new.tx.conn.now) (survives_both a d e (survives_both a b d c.insert.ensures.frame.survives c.put_references.ensures.survives) c.put_outputs.ensures.survives) c.put_pieces.ensures.survives
+
+-- ---- nothing of it is there
+
+pub put_references-requires-clause-free : goal.put_references-requires-clause-free
+put_references-requires-clause-free g c clean =
+    let it = c.args.self.now in
+    let a = state g.S.Store c.args.tx.now.conn.now in
+    let b = state g.S.Store c.insert.new.tx.conn.now in
+    let done = c.in_ok-insert.ensures.done clean in
+    let early : HasCleanDisk a = omega (arith, c.insert.ensures.frame.survives.clean, clean) in
+    subst₂ (λ (x : Contents) ts. AreFree x.refs (map (λ (t : Path). (it.base.now, t)) ts)) (sym done.contents) (sym c.references.ensures) (references_free it.base.now (contents_of a.now).refs it.object.now.references (c.requires.fits early done.was_open).references)
+
+pub put_outputs-requires-clause-free : goal.put_outputs-requires-clause-free
+put_outputs-requires-clause-free g c clean =
+    let it = c.args.self.now in
+    let a = state g.S.Store c.args.tx.now.conn.now in
+    let b = state g.S.Store c.insert.new.tx.conn.now in
+    let d = state g.S.Store c.put_references.new.tx.conn.now in
+    let done = steps_both a b d _ _ c.in_ok-insert.ensures.done c.put_references.ensures.survives c.in_ok-put_references.ensures.done clean in
+    let early : HasCleanDisk a = omega (arith, c.insert.ensures.frame.survives.clean, c.put_references.ensures.survives.clean, clean) in
+    let entries = finite.entries it.object.now.outputs in
+    subst₂ (λ (x : Contents) es. AreFree x.outs (map (λ (o : List ℕ × Path). (it.base.now, o.0)) es)) (sym done.contents) (sym (ap₂ zip c.names.ensures c.outputs.ensures ∙ zipped entries))
+    (outputs_free it.base.now (contents_of a.now).outs entries (c.requires.fits early done.was_open).outputs (finite.entries_sorted it.object.now.outputs))
+
+pub put_pieces-requires-clause-free : goal.put_pieces-requires-clause-free
+put_pieces-requires-clause-free g c clean =
+    let it = c.args.self.now in
+    let a = state g.S.Store c.args.tx.now.conn.now in
+    let b = state g.S.Store c.insert.new.tx.conn.now in
+    let d = state g.S.Store c.put_references.new.tx.conn.now in
+    let e = state g.S.Store c.put_outputs.new.tx.conn.now in
+    let done = steps_both a d e _ _ (steps_both a b d _ _ c.in_ok-insert.ensures.done c.put_references.ensures.survives c.in_ok-put_references.ensures.done) c.put_outputs.ensures.survives c.in_ok-put_outputs.ensures.done clean in
+    let early : HasCleanDisk a = omega (arith, c.insert.ensures.frame.survives.clean, c.put_references.ensures.survives.clean, c.put_outputs.ensures.survives.clean, clean) in
+    subst (λ (x : Contents). AreFree x.pieces (map (λ (p : ℤ × List ℕ). (it.base.now, p.0)) (further_pieces it.nar.now))) (sym done.contents)
+    (pieces_free it.base.now (contents_of a.now).pieces (further_pieces it.nar.now) (c.requires.fits early done.was_open).pieces (rising it.nar.now 1 (drop piece_size it.nar.now)))
+
+-- ---- why it failed
+
+pub returns-in_err-insert-clause-cause : goal.returns-in_err-insert-clause-cause
+returns-in_err-insert-clause-cause g c clean =
+    let it = c.args.self.now in
+    let a = state g.S.Store c.args.tx.now.conn.now in
+    let b = state g.S.Store c.insert.new.tx.conn.now in
+    let row : Row = Text it.base.now ∷ Blob c.first_of.result.now ∷ Blob c.hash.result.now ∷ text_or_null it.texts.now.deriver ∷ text_or_null it.texts.now.ca ∷ [] in
+    let is : row ≡ _ = λ i. Text it.base.now ∷ Blob (c.first_of.ensures i) ∷ Blob (c.hash.ensures i) ∷ text_same it.texts.now.deriver i ∷ text_same it.texts.now.ca i ∷ [] in
+    let early : HasCleanDisk a = omega (arith, c.insert.ensures.frame.survives.clean, clean) in
+    passed_on c.from_residual.result _ _ c.from_residual.ensures.1 (put_open (ObjectRows it.base.now (stored (row_part it.nar.now) it.object.now.hash it.texts.now.deriver it.texts.now.ca) (finite.keys it.object.now.references) (finite.entries it.object.now.outputs) (further_pieces it.nar.now)) a b _ row _ (inl (refl, is)) (λ up. is_none _ (c.requires.fits early up).object) _ (c.in_err-insert.ensures.cause clean))
+
+pub returns-in_err-put_references-clause-cause : goal.returns-in_err-put_references-clause-cause
+returns-in_err-put_references-clause-cause g c clean =
+    let it = c.args.self.now in
+    let a = state g.S.Store c.args.tx.now.conn.now in
+    let b = state g.S.Store c.insert.new.tx.conn.now in
+    let d = state g.S.Store c.put_references.new.tx.conn.now in
+    let late : HasCleanDisk b = omega (arith, c.put_references.ensures.survives.clean, clean) in
+    passed_on c.from_residual-in_err-put_references.result _ _ c.from_residual-in_err-put_references.ensures.1
+    (next_reason _ a b d _ (c.in_ok-insert.ensures.done late) c.insert.ensures.frame.survives _
+    (more_reason (RowsOf (ReferenceRow it.base.now) c.references.result.now) (ObjectRows it.base.now (stored (row_part it.nar.now) it.object.now.hash it.texts.now.deriver it.texts.now.ca) (finite.keys it.object.now.references) (finite.entries it.object.now.outputs) (further_pieces it.nar.now)) (λ t values h. inr (inl (subst (λ ts. RowsOf (ReferenceRow it.base.now) ts t values) c.references.ensures h))) b d _ (c.in_err-put_references.ensures.cause clean)))
+
+pub returns-in_err-put_outputs-clause-cause : goal.returns-in_err-put_outputs-clause-cause
+returns-in_err-put_outputs-clause-cause g c clean =
+    let it = c.args.self.now in
+    let a = state g.S.Store c.args.tx.now.conn.now in
+    let b = state g.S.Store c.insert.new.tx.conn.now in
+    let d = state g.S.Store c.put_references.new.tx.conn.now in
+    let e = state g.S.Store c.put_outputs.new.tx.conn.now in
+    let late : HasCleanDisk d = omega (arith, c.put_outputs.ensures.survives.clean, clean) in
+    let entries = finite.entries it.object.now.outputs in
+    passed_on c.from_residual-in_err-put_outputs.result _ _ c.from_residual-in_err-put_outputs.ensures.1
+    (next_reason _ a d e _ (steps_both a b d _ _ c.in_ok-insert.ensures.done c.put_references.ensures.survives c.in_ok-put_references.ensures.done late) (survives_both a b d c.insert.ensures.frame.survives c.put_references.ensures.survives) _
+    (more_reason (RowsOf (OutputRow it.base.now) (zip (map string_bytes c.names.result.now) c.outputs.result.now)) (ObjectRows it.base.now (stored (row_part it.nar.now) it.object.now.hash it.texts.now.deriver it.texts.now.ca) (finite.keys it.object.now.references) (finite.entries it.object.now.outputs) (further_pieces it.nar.now)) (λ t values h. inr (inr (inl (subst (λ es. RowsOf (OutputRow it.base.now) es t values) (ap₂ zip c.names.ensures c.outputs.ensures ∙ zipped entries) h)))) d e _ (c.in_err-put_outputs.ensures.cause clean)))
+
+pub returns-clause-cause : goal.returns-clause-cause
+returns-clause-cause g c clean =
+    let it = c.args.self.now in
+    let a = state g.S.Store c.args.tx.now.conn.now in
+    let b = state g.S.Store c.insert.new.tx.conn.now in
+    let d = state g.S.Store c.put_references.new.tx.conn.now in
+    let e = state g.S.Store c.put_outputs.new.tx.conn.now in
+    let f = state g.S.Store c.put_pieces.new.tx.conn.now in
+    let late : HasCleanDisk e = omega (arith, c.put_pieces.ensures.survives.clean, clean) in
+    as_reason _ _ (λ why h. next_reason _ a e f _ (steps_both a d e _ _ (steps_both a b d _ _ c.in_ok-insert.ensures.done c.put_references.ensures.survives c.in_ok-put_references.ensures.done) c.put_outputs.ensures.survives c.in_ok-put_outputs.ensures.done late) (survives_both a d e (survives_both a b d c.insert.ensures.frame.survives c.put_references.ensures.survives) c.put_outputs.ensures.survives) why
+    (more_reason (RowsOf (PieceRow it.base.now) (further_pieces it.nar.now)) (ObjectRows it.base.now (stored (row_part it.nar.now) it.object.now.hash it.texts.now.deriver it.texts.now.ca) (finite.keys it.object.now.references) (finite.entries it.object.now.outputs) (further_pieces it.nar.now)) (λ t values k. inr (inr (inr k))) e f why h)) c.put_pieces.result (c.put_pieces.ensures.cause clean)

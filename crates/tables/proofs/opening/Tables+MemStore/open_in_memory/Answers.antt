@@ -14,7 +14,7 @@ invariant_of-result c =
     let same : c.as_str.result.now ≡ c.in_ok-kept.kept = c.as_str.ensures.value ∙ sym c.in_ok-kept.ensures.cases in
     let valid : IsTrue (is_store_dir c.in_ok-kept.kept) = ap is_store_dir c.in_ok-kept.ensures.cases ∙ c.as_str.ensures.valid in
     let made : HasCleanDisk new → IsMade c.in_ok-kept.kept old new = λ clean. subst (λ (d : List ℕ). IsMade d old new) same (c.in_ok-make.ensures.done clean) in
-    made_agrees over_memory c.make.new.conn old c.in_ok-kept.kept c.new-index.result valid c.new-index.ensures made c.make.ensures.alone
+    made_agrees over_memory c.make.new.conn old c.in_ok-kept.kept c.new-outline.result valid c.new-outline.ensures made c.make.ensures.alone
 
 pub returns-clause-told : goal.returns-clause-told
 returns-clause-told c =
@@ -23,4 +23,4 @@ returns-clause-told c =
     let same : c.as_str.result.now ≡ c.in_ok-kept.kept = c.as_str.ensures.value ∙ sym c.in_ok-kept.ensures.cases in
     let valid : IsTrue (is_store_dir c.in_ok-kept.kept) = ap is_store_dir c.in_ok-kept.ensures.cases ∙ c.as_str.ensures.valid in
     let made : HasCleanDisk new → IsMade c.in_ok-kept.kept old new = λ clean. subst (λ (d : List ℕ). IsMade d old new) same (c.in_ok-make.ensures.done clean) in
-    made_tells over_memory c.make.new.conn old c.in_ok-kept.kept c.new-index.result valid c.new-index.ensures made
+    made_tells over_memory c.make.new.conn old c.in_ok-kept.kept c.new-outline.result valid c.new-outline.ensures made

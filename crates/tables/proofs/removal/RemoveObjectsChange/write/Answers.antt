@@ -6,8 +6,9 @@ use Rattle.tables_sql.proofs.Steps.{under_after}
 use Rattle.tables.specs.Rewritten.{Covers}
 use Rattle.tables.proofs.Covered.{covers_less}
 use Rattle.tables.proofs.Removed.{without_next}
-use Rattle.tables_sql.proofs.TestFailures.{survives_both}
+use Rattle.tables_sql.proofs.TestFailures.{passed_on, survives_both}
 use Rattle.tables.proofs.Transactions.{pieces_stand}
+use Rattle.tables.proofs.Reasons.{as_reason, next_reason}
 use Rattle.tables.proofs.removal.RemoveObjectsChange.write.Goals as goal
 
 pub delete_object-requires-clause-stands : goal.delete_object-requires-clause-stands
@@ -27,7 +28,7 @@ pub delete_objects-requires-clause-covers : goal.delete_objects-requires-clause-
 delete_objects-requires-clause-covers g c clean =
     let it = c.in_ok-delete_object.ensures.done clean in
     let early : HasCleanDisk (state g.S.Store c.args.tx.now.conn.now) = omega (arith, c.delete_object.ensures.survives.clean, clean) in
-    subst (Covers c.args.self.now.index.now) (sym it.contents) (covers_less c.args.self.now.index.now c.args.self.now.first.now _ (c.requires.fits early it.was_open))
+    subst (Covers c.args.self.now.outline.now) (sym it.contents) (covers_less c.args.self.now.outline.now c.args.self.now.first.now _ (c.requires.fits early it.was_open))
 
 pub delete_objects-requires-clause-stands : goal.delete_objects-requires-clause-stands
 delete_objects-requires-clause-stands g c clean =
@@ -50,3 +51,14 @@ returns-clause-failed g c =
 pub returns-clause-survives : goal.returns-clause-survives
 returns-clause-survives g c =
     survives_both (state g.S.Store c.args.tx.now.conn.now) (state g.S.Store c.delete_object.new.tx.conn.now) (state g.S.Store c.delete_objects.new.tx.conn.now) c.delete_object.ensures.survives c.delete_objects.ensures.survives
+
+pub returns-in_err-delete_object-clause-cause : goal.returns-in_err-delete_object-clause-cause
+returns-in_err-delete_object-clause-cause g c clean = passed_on c.from_residual.result _ _ c.from_residual.ensures.1 (c.in_err-delete_object.ensures.cause clean)
+
+pub returns-clause-cause : goal.returns-clause-cause
+returns-clause-cause g c clean =
+    let a = state g.S.Store c.args.tx.now.conn.now in
+    let b = state g.S.Store c.delete_object.new.tx.conn.now in
+    let d = state g.S.Store c.delete_objects.new.tx.conn.now in
+    let late : HasCleanDisk b = omega (arith, c.delete_objects.ensures.survives.clean, clean) in
+    as_reason _ _ (next_reason _ a b d _ (c.in_ok-delete_object.ensures.done late) c.delete_object.ensures.survives) c.delete_objects.result (c.delete_objects.ensures.cause clean)

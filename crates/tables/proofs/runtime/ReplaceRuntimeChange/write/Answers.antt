@@ -1,11 +1,13 @@
-use Rattle.std.proofs.Common.{map, ap, ◌∙◌}
+use Rattle.std.proofs.Common.{map, ap, arith, ◌∙◌}
+use Rattle.sqlite.specs.State.{HasCleanDisk}
 use Rattle.sqlite.specs.Held.{state}
 use Rattle.tables_sql.specs.Contents.{Contents}
 use Rattle.tables_outline.specs.Maps.{labelled_bytes}
 use Rattle.tables_sql.proofs.Transactions.{done_both, failed_next}
 use Rattle.tables_sql.proofs.Steps.{under_after}
 use Rattle.tables.proofs.PutPairs.{all_put}
-use Rattle.tables_sql.proofs.TestFailures.{survives_both}
+use Rattle.tables_sql.proofs.TestFailures.{passed_on, survives_both}
+use Rattle.tables.proofs.Reasons.{as_reason, next_reason, removal_reason}
 use Rattle.tables.proofs.runtime.ReplaceRuntimeChange.write.Goals as goal
 
 pub put_runtime-requires-clause-under_way : goal.put_runtime-requires-clause-under_way
@@ -30,3 +32,18 @@ returns-clause-failed g c =
 pub returns-clause-survives : goal.returns-clause-survives
 returns-clause-survives g c =
     survives_both (state g.S.Store c.args.tx.now.conn.now) (state g.S.Store c.delete_all.new.tx.conn.now) (state g.S.Store c.put_runtime.new.tx.conn.now) c.delete_all.ensures.frame.survives c.put_runtime.ensures.survives
+
+pub put_runtime-requires-clause-none : goal.put_runtime-requires-clause-none
+put_runtime-requires-clause-none g c clean = ap (λ (x : Contents). x.runtime) (c.in_ok-delete_all.ensures.done clean).contents
+
+pub returns-in_err-delete_all-clause-cause : goal.returns-in_err-delete_all-clause-cause
+returns-in_err-delete_all-clause-cause g c clean =
+    passed_on c.from_residual.result _ _ c.from_residual.ensures.1 (removal_reason _ (state g.S.Store c.args.tx.now.conn.now) (state g.S.Store c.delete_all.new.tx.conn.now) _ (c.in_err-delete_all.ensures.cause clean))
+
+pub returns-clause-cause : goal.returns-clause-cause
+returns-clause-cause g c clean =
+    let a = state g.S.Store c.args.tx.now.conn.now in
+    let b = state g.S.Store c.delete_all.new.tx.conn.now in
+    let d = state g.S.Store c.put_runtime.new.tx.conn.now in
+    let late : HasCleanDisk b = omega (arith, c.put_runtime.ensures.survives.clean, clean) in
+    as_reason _ _ (next_reason _ a b d _ (c.in_ok-delete_all.ensures.done late) c.delete_all.ensures.frame.survives) c.put_runtime.result (c.put_runtime.ensures.cause clean)

@@ -4,7 +4,7 @@ use Rattle.std.specs.Cmp.{nat_cmp_total}
 use Rattle.std.specs.Map.{lookup}
 use Rattle.std.specs.FinMap as finite
 use Rattle.tables_outline.specs.Maps.{seen_map}
-use Rattle.tables_outline.specs.Index.{profile_view}
+use Rattle.tables_outline.specs.View.{profile_view}
 use Rattle.tables_outline.proofs.Trees.{removed}
 use Rattle.tables_outline.proofs.profiles.Profile.drop_generation.Goals as goal
 

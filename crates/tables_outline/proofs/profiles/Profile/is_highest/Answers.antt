@@ -4,7 +4,7 @@ use Rattle.std.specs.Ordering.{eq_by_cmp}
 use Rattle.std.specs.FinMap as finite
 use Rattle.paths.specs.Root.{bytes_cmp}
 use Rattle.model.specs.Profiles.{is_path}
-use Rattle.tables_outline.specs.Index.{profile_view}
+use Rattle.tables_outline.specs.View.{profile_view}
 use Rattle.tables_outline.proofs.ProfileEntries.{generation_at}
 use Rattle.tables_outline.proofs.profiles.Profile.is_highest.Goals as goal
 

@@ -1,6 +1,6 @@
 use Rattle.std.proofs.Common.{ap, ◌∙◌}
 use Rattle.intake.specs.Arriving.{bytes_in}
-use Rattle.wire_bodies.specs.Front.{rest_of}
+use Rattle.wire_bodies.specs.Prefix.{rest_of}
 use Rattle.wire_requests.proofs.Parting.{archive_is}
 use Rattle.wire_requests.proofs.parted.Parted.into_archive.Goals as goal
 

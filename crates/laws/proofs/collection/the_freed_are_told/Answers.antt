@@ -1,8 +1,0 @@
-use Rattle.laws.proofs.Freed.{collection_told, deletion_told}
-use Rattle.laws.proofs.collection.the_freed_are_told.Goals as goal
-
-pub returns-clause-collection : goal.returns-clause-collection
-returns-clause-collection c = collection_told
-
-pub returns-clause-deletion : goal.returns-clause-deletion
-returns-clause-deletion c = deletion_told

@@ -1,5 +1,0 @@
-use Rattle.laws.proofs.ObjectListings.{telling_changes_nothing}
-use Rattle.laws.proofs.listings.what_only_tells_changes_nothing.Goals as goal
-
-pub returns : goal.returns
-returns c = telling_changes_nothing

@@ -1,5 +1,0 @@
-use Rattle.laws.proofs.RootsTold.{roots_set_are_told}
-use Rattle.laws.proofs.roots.roots_that_were_set_are_told.Goals as goal
-
-pub returns : goal.returns
-returns c = roots_set_are_told

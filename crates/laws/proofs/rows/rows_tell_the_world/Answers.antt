@@ -1,5 +1,0 @@
-use Rattle.tables_world.proofs.Columns.{tells_world}
-use Rattle.laws.proofs.rows.rows_tell_the_world.Goals as goal
-
-pub returns : goal.returns
-returns c = tells_world

@@ -1,5 +1,0 @@
-use Rattle.nar.proofs.Fronts.{outcome_front}
-use Rattle.nar.proofs.laws.a_front_decides.Goals as goal
-
-pub returns : goal.returns
-returns c = outcome_front

@@ -1,6 +1,0 @@
-use Rattle.std.proofs.Common.{◌∙◌}
-use Rattle.store_steps.proofs.Passing.{pass}
-use Rattle.store_roots.proofs.sessions.may_end.Goals as goal
-
-pub returns-clause-told : goal.returns-clause-told
-returns-clause-told c s w = pass _ _ c.in_ok-is_named.ensures ∙ pass _ _ c.in_ok-session.ensures.told

@@ -1,0 +1,45 @@
+use Rattle.std.proofs.Common.{◌≡◌, ℕ, List, None, Err, Result, refl, sym, ap₂, subst, ◌∙◌}
+use Rattle.std.specs.Prelude.{string_bytes}
+use Rattle.model.specs.Sound.{IsSound}
+use Rattle.model.specs.Request.{add_temp}
+use Rattle.model.specs.Tests.{refusal}
+use Rattle.model.specs.Effects.{with_temporary}
+use Rattle.store_types.specs.declared.replies.Answer.{Answer}
+use Rattle.store_types.specs.declared.replies.Answer.TheVariants.{Changed}
+use Rattle.store_types.specs.declared.replies.Stop.{Stop}
+use Rattle.store_types.specs.declared.replies.Stop.TheVariants.{Refused}
+use Rattle.store_steps.specs.Meets.{IsMet}
+use Rattle.tables.specs.RowsPut.{TemporaryRow}
+use Rattle.store_steps.proofs.Caused.{write_fails}
+use Rattle.store_steps.proofs.Written.{met_by_stopping, met_by_writing}
+use Rattle.store_steps.proofs.Fits.{no_settings, temporary_fits}
+use Rattle.store_roots.proofs.temporary.add_temp.Goals as goal
+
+pub add_temp-requires : goal.add_temp-requires
+add_temp-requires g c =
+    let owner = c.as_str-text.result.now in
+    record {
+      sound = λ w t. subst (λ (n : ℕ). IsSound c.args.tables.now.dir (with_temporary w (record { owner = owner; session = n; path = c.args.path }))) (sym c.in-Ok.ensures.number)
+          (temporary_fits c.args.tables.now.dir w t.sound owner c.args.session c.args.path (c.in-Ok.ensures.told no_settings w (t.outline ∙ sym c.outline.ensures)));
+    }
+
+pub returns-in-Ok : goal.returns-in-Ok
+returns-in-Ok g c s caller =
+    let owner = string_bytes c.args.owner in
+    let session = c.args.session in
+    let path = c.args.path in
+    subst (λ (r : Result Answer Stop). IsMet g.S.Store s caller (add_temp owner session path) r c.args.tables.now c.add_temp.new.self) (sym c.answered.ensures)
+    (met_by_writing g.S.Store s caller (add_temp owner session path) c.args.tables.now c.add_temp.new.self
+    (λ w. with_temporary w (record { owner = c.as_str-text.result.now; session = c.in-Ok.number; path = path })) Changed
+    (λ w is. subst (λ (n : List ℕ). refusal s w (add_temp n session path) ≡ None) c.as_str-text.ensures.value (c.in-Ok.ensures.told s w (is ∙ sym c.outline.ensures)))
+    (λ w is. refl)
+    (λ w is. ap₂ (λ (o : List ℕ) (n : ℕ). with_temporary w (record { owner = o; session = n; path = path })) c.as_str-text.ensures.value c.in-Ok.ensures.number)
+    c.add_temp.result c.add_temp.ensures.frame
+    (write_fails g.S.Store (add_temp owner session path) c.args.tables.now c.add_temp.new.self refl (TemporaryRow (record { owner = c.as_str-text.result.now; session = c.in-Ok.number; path = path })) (λ t row put. refl) Changed c.add_temp.result c.add_temp.ensures.cause))
+
+pub returns : goal.returns
+returns g c s caller =
+    let session = c.args.session in
+    let path = c.args.path in
+    subst (λ (n : List ℕ). IsMet g.S.Store s caller (add_temp n session path) (Err (Refused c.in-Err.refusal)) c.args.tables.now c.args.tables.now) c.as_str-text.ensures.value
+    (met_by_stopping g.S.Store s caller (add_temp c.as_str-text.result.now session path) c.args.tables.now (Refused c.in-Err.refusal) c.outline.result.now c.outline.ensures (λ w is. c.in-Err.ensures.told s w is))

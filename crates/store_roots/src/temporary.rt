@@ -1,0 +1,102 @@
+//! Sessions keep paths, and end.
+
+ghost use Rattle.std.specs.Prelude.{◌≡◌, IfOk, string_bytes};
+ghost use Rattle.paths.specs.Root.{is_session};
+ghost use Rattle.policy.specs.Settings.{Settings};
+ghost use Rattle.model.specs.World.{World};
+ghost use Rattle.tables_outline.specs.Outline.{outline_of};
+ghost use Rattle.model.specs.Tests.{refusal, unless};
+ghost use Rattle.store_types.specs.Tested.{Tested};
+ghost use Rattle.policy.specs.Caller.{Caller};
+ghost use Rattle.store_steps.specs.Meets.{IsMet};
+ghost use Rattle.model.specs.Request as asked;
+
+use crate::naming::is_named;
+use paths::StorePath;
+use sqlite::Alter;
+use store_steps::validity::is_valid;
+use store_steps::writing::answered;
+use store_types::{Answer, Refusal, Stop};
+use tables::Tables;
+use tables_outline::Outline;
+
+/// The greatest number of a session.
+const LAST_SESSION: u64 = 4_194_304;
+
+/// Whether a session has this number.
+fn is_session(number: u64) -> bool
+    ensures { result ≡ is_session number }
+{
+    1 <= number && number <= LAST_SESSION
+}
+
+/// Tests that a session has this number; gives it.
+fn has_number(number: u64) -> Result<u32, Refusal>
+    ensures told { Tested result (unless (is_session number) Refusal.BadSession) }
+    ensures number { IfOk result (λ n. n ≡ number) }
+{
+    if !is_session(number) {
+        return Err(Refusal::BadSession);
+    }
+    Ok(number as u32)
+}
+
+/// Tests a path that a session is to keep; gives the number of the session.
+pub fn may_keep(
+    outline: &Outline,
+    owner: &str,
+    number: u64,
+    path: &StorePath,
+) -> Result<u32, Refusal>
+    ensures told { (s : Settings) (w : World) → outline_of w ≡ outline.now → Tested result (refusal s w (asked.add_temp owner.now number path.now)) }
+    ensures number { IfOk result (λ n. n ≡ number) }
+{
+    is_named(owner)?;
+    let session = has_number(number)?;
+    is_valid(outline, path)?;
+    Ok(session)
+}
+
+/// Tests a session that is to end; gives its number.
+pub fn may_end(owner: &str, number: u64) -> Result<u32, Refusal>
+    ensures told { (s : Settings) (w : World) → Tested result (refusal s w (asked.end_session owner.now number)) }
+    ensures number { IfOk result (λ n. n ≡ number) }
+{
+    is_named(owner)?;
+    let session = has_number(number)?;
+    Ok(session)
+}
+
+/// A session keeps a path, whether it kept that already or not.
+pub fn add_temp<S: Alter>(
+    tables: &mut Tables<S>,
+    owner: String,
+    session: u64,
+    path: StorePath,
+) -> Result<Answer, Stop>
+    ensures { (s : Settings) (c : Caller) → IsMet S.Store s c (asked.add_temp (string_bytes owner) session path) result tables.old tables.new }
+{
+    let text = owner.as_str();
+    match may_keep(tables.outline(), text, session, &path) {
+        Ok(number) => answered(tables.add_temp(text, number, &path), Answer::Changed),
+        Err(refusal) => Err(Stop::Refused(refusal)),
+    }
+}
+
+/// A session ends: the answer is how many paths it kept.
+pub fn end_session<S: Alter>(
+    tables: &mut Tables<S>,
+    owner: String,
+    session: u64,
+) -> Result<Answer, Stop>
+    ensures { (s : Settings) (c : Caller) → IsMet S.Store s c (asked.end_session (string_bytes owner) session) result tables.old tables.new }
+{
+    let text = owner.as_str();
+    match may_end(text, session) {
+        Ok(number) => match tables.end_session(text, number) {
+            Ok(count) => Ok(Answer::TemporaryCount(count)),
+            Err(failure) => Err(Stop::Failed(failure)),
+        },
+        Err(refusal) => Err(Stop::Refused(refusal)),
+    }
+}

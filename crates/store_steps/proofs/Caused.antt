@@ -1,0 +1,57 @@
+-- Why requests fail.
+use Rattle.std.proofs.Common.{◌≡◌, ◌⊎◌, Result, Ok, Err, IsTrue, inl, inr}
+use Rattle.std.specs.Prelude.{IsSome}
+use Rattle.sqlite_value.specs.Order.{Row}
+use Rattle.sqlite_schema.specs.declared.schema.Table.{Table}
+use Rattle.sqlite_trees.specs.declared.store.Store.{Ghosts}
+use Rattle.sqlite.specs.State.{State}
+use Rattle.sqlite.specs.Held.{state}
+use Rattle.tables_sql.specs.Failures.{HasDiskCause}
+use Rattle.tables_sql.specs.declared.failure.Failure.{Failure}
+use Rattle.tables_sql.specs.declared.failure.Failure.TheVariants.{Memory, Size, Disk}
+use Rattle.policy.specs.Settings.{Settings}
+use Rattle.policy.specs.Caller.{Caller}
+use Rattle.model.specs.World.{World}
+use Rattle.model.specs.Request.{Request}
+use Rattle.model.specs.Reply.{disk}
+use Rattle.tables.specs.Failures.{Rows, LacksRowid}
+use Rattle.tables.specs.Frames.{FailsToChange}
+use Rattle.tables.specs.Kept.{Kept}
+use Rattle.store_types.specs.Meets.{Meets}
+use Rattle.store_types.specs.declared.replies.Answer.{Answer}
+use Rattle.store_types.specs.declared.replies.Stop.{Stop}
+use Rattle.store_types.specs.declared.replies.Stop.TheVariants.{Refused, Failed}
+use Rattle.store_steps.specs.Causes.{HasCause, IsWriteReason, puts_rows, touches_disk}
+use Rattle.store_steps.specs.Disk.{reads_disk}
+use Rattle.store_steps.specs.Meets.{reply_to}
+use Rattle.store_steps.specs.Writing.{answered}
+
+module _ {S : Type 0} (g : Ghosts S) (q : Request) (old new : Kept S) where
+  -- what is done without the disk runs out of memory, if it fails
+  pub memory_alone : (s : Settings) (w : World) (c : Caller) (r : Result Answer Stop) (next : World) → Meets s w c q r next → HasCause g q (reply_to r) old new
+  memory_alone s w c (Ok a) next m = tt
+  memory_alone s w c (Err (Refused r)) next m = tt
+  memory_alone s w c (Err (Failed Memory)) next m = tt
+  memory_alone s w c (Err (Failed Size)) next m = let is : Size ≡ Memory = m.0 in let no : ⊥ = cc in absurd no
+  memory_alone s w c (Err (Failed Disk)) next m = let is : Disk ≡ Memory = m.0 in let no : ⊥ = cc in absurd no
+
+  -- what is read of the disk may fail for it
+  pub read_fails : IsTrue (touches_disk q) → IsTrue (reads_disk q) → (r : Result Answer Stop) → HasCause g q (reply_to r) old new
+  read_fails touches reads (Ok a) = tt
+  read_fails touches reads (Err (Refused r)) = tt
+  read_fails touches reads (Err (Failed Memory)) = tt
+  read_fails touches reads (Err (Failed Size)) = (touches, λ _. inl reads)
+  read_fails touches reads (Err (Failed Disk)) = (touches, λ _. inl reads)
+
+  module _ (touches : IsTrue (touches_disk q)) (rows : Rows) (puts : (t : Table) (row : Row) → rows t row → IsTrue (puts_rows q)) where
+    by_disk : (s t : State) → HasDiskCause s t ⊎ (IsSome s.step_limit ⊎ LacksRowid rows s.now) → IsWriteReason q disk s t
+    by_disk s t (inl fault) = inl fault
+    by_disk s t (inr (inl limited)) = inr (inl limited)
+    by_disk s t (inr (inr x)) = inr (inr (puts x.2 x.3 x.4, (x.0, x.1, x.2, x.5)))
+
+    -- a change that isn't written has a reason
+    pub write_fails : (a : Answer) (r : Result (Unit {0}) Failure) → FailsToChange g old new r rows → HasCause g q (reply_to (answered r a)) old new
+    write_fails a (Ok u) cause = tt
+    write_fails a (Err Memory) cause = tt
+    write_fails a (Err Size) cause = (touches, λ clean. let x = cause clean in inr (puts x.1.2 x.1.3 x.1.4, x.0))
+    write_fails a (Err Disk) cause = (touches, λ clean. inr (by_disk (state g old.connection) (state g new.connection) (cause clean)))

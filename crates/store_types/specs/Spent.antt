@@ -1,0 +1,30 @@
+-- Requests whose archive was lost to memory as it came.
+use Rattle.std.specs.Prelude.{◌≡◌, Bool, false, List, [], ◌∷◌, None, is_none, IsTrue}
+use Rattle.std.specs.Option.{option_map_or}
+use Rattle.policy.specs.Settings.{Settings}
+use Rattle.policy.specs.Caller.{Caller}
+use Rattle.policy.specs.Class.{class_of}
+use Rattle.policy.specs.Rules.{first_broken}
+use Rattle.model.specs.Request as asked
+use Rattle.model.specs.Reply.{Reply, denied, failed, memory}
+use Rattle.model.specs.Verdict.{operation_of}
+use Rattle.store_types.specs.declared.requests.Request.{Request}
+use Rattle.store_types.specs.declared.requests.Request.TheVariants.{AddSource, Import}
+use Rattle.store_types.specs.View.{request_view}
+
+-- whether the archive that a request adds was lost: its intake was refused memory, and has no bytes any more
+abbrev pub is_spent : Request → Bool
+is_spent (AddSource name refs nar) = is_none nar
+is_spent (Import p hash refs deriver ca nar) = is_none nar
+is_spent _ = false
+
+-- the reply to such a request: the denial of the first rule that forbids it, or out of memory, ahead of all tests
+abbrev pub spent_reply : Settings → Caller → asked.Request → Reply
+spent_reply s c q = option_map_or (λ rule. denied rule None) (first_broken (class_of s c) c (operation_of q)) (failed memory)
+
+-- of some calls each of a spent request had that reply
+abbrev pub SpentAreAnswered : Settings → List (Caller × Request) → List Reply → Type 0
+SpentAreAnswered s [] [] = Unit {0}
+SpentAreAnswered s (call ∷ calls) (reply ∷ replies) =
+    (IsTrue (is_spent call.1) → reply ≡ spent_reply s call.0 (request_view call.1)) × SpentAreAnswered s calls replies
+SpentAreAnswered s _ _ = ⊥

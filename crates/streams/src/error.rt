@@ -1,0 +1,25 @@
+//! Why an input wasn't read to its end or its bound.
+ghost use Rattle.std.specs.Prelude.{◌≡◌};
+ghost use Rattle.streams.specs.declared.error.ReadError.TheVariants.{Memory};
+
+use std::alloc::AllocError;
+use thiserror::Error;
+
+/// Why an input wasn't read to its end or its bound.
+#[derive(Clone, Copy, Debug, PartialEq, Eq, Error)]
+pub enum ReadError {
+    /// The reader failed, whatever the kind of its fault.
+    #[error("input")]
+    Input,
+    /// What came couldn't be held: memory was refused.
+    #[error("memory")]
+    Memory,
+}
+
+impl From<AllocError> for ReadError {
+    ghost from_gives = { λ _ e. e ≡ Memory };
+
+    fn from(_refused: AllocError) -> ReadError {
+        ReadError::Memory
+    }
+}

@@ -1,0 +1,57 @@
+use Rattle.std.proofs.Common.{ℕ, List, Err, refl, ap, ap₂, subst, ◌∙◌}
+use Rattle.std.specs.FinMap as finite
+use Rattle.tables_sql.specs.Contents.{Contents}
+use Rattle.model.specs.World.{Pair}
+use Rattle.model.specs.Profiles.{has_generation, put_at, switched}
+use Rattle.tables_outline.specs.Maps.{pair_bytes}
+use Rattle.tables_outline.specs.Outline.{profile_of}
+use Rattle.tables.specs.Failures.{HasReason}
+use Rattle.tables.specs.Kept.{Kept}
+use Rattle.tables.specs.Rewritten.{put_generation}
+use Rattle.tables.specs.RowsPut.{GenerationRows}
+use Rattle.tables.proofs.Kept.{write_agrees, write_commits, write_fails, failure_agrees, failure_seen, rows_as}
+use Rattle.tables.proofs.ProfileWrites.{profile_write}
+use Rattle.tables.proofs.AddedGenerations.{add_follows, put_there, generation_put}
+use Rattle.tables.proofs.keeping.Tables.replace_generation.Goals as goal
+
+pub invariant_of-self : goal.invariant_of-self
+invariant_of-self g c =
+    let owned : Pair = (c.args.owner.now, c.args.name.now) in
+    write_agrees g.S.Store (profile_write owned (λ p. switched (put_at p c.args.number c.args.target.now) c.args.current) (put_generation owned c.args.number c.args.target.now c.args.current) g.S.Store _ c.args.self.now c.self.view_is c.self.invariant c.requires.sound
+    (λ clean is_open. add_follows _ _ (c.self.invariant.rows clean is_open).sound owned c.args.number c.args.target.now c.args.current)) c.commit.new.conn c.switch_generation.new.self _ (rows_as g.S.Store _ _ (ap {B = Contents → Contents} (λ (t : List ℕ). put_generation owned c.args.number t c.args.current) c.as_str.ensures.value) c.in-Ok.ensures.frame)
+    (generation_put c.self.inside.outline c.replace_generation.new.self owned (pair_bytes c.in_ok-key.key) (pair_bytes c.in_ok-key.key) c.args.number c.args.target.now c.in_ok-value.value c.in_ok-key.ensures c.in_ok-key.ensures c.in_ok-value.ensures.cases c.replace_generation.ensures c.switch_generation.new.self c.args.current c.switch_generation.ensures)
+
+pub invariant_of-self-in-Err : goal.invariant_of-self-in-Err
+invariant_of-self-in-Err g c =
+    let owned : Pair = (c.args.owner.now, c.args.name.now) in
+    failure_agrees g.S.Store (profile_write owned (λ p. switched (put_at p c.args.number c.args.target.now) c.args.current) (put_generation owned c.args.number c.args.target.now c.args.current) g.S.Store _ c.args.self.now c.self.view_is c.self.invariant c.requires.sound
+    (λ clean is_open. add_follows _ _ (c.self.invariant.rows clean is_open).sound owned c.args.number c.args.target.now c.args.current)) c.commit.new.conn c.self.inside.outline _ (rows_as g.S.Store _ _ (ap {B = Contents → Contents} (λ (t : List ℕ). put_generation owned c.args.number t c.args.current) c.as_str.ensures.value) c.in-Err.ensures.frame)
+    (refl)
+
+pub returns-in-Ok-clause-frame : goal.returns-in-Ok-clause-frame
+returns-in-Ok-clause-frame g c =
+    let owned : Pair = (c.args.owner.now, c.args.name.now) in
+    write_commits g.S.Store (profile_write owned (λ p. switched (put_at p c.args.number c.args.target.now) c.args.current) (put_generation owned c.args.number c.args.target.now c.args.current) g.S.Store _ c.args.self.now c.self.view_is c.self.invariant c.requires.sound
+    (λ clean is_open. add_follows _ _ (c.self.invariant.rows clean is_open).sound owned c.args.number c.args.target.now c.args.current)) c.commit.new.conn c.switch_generation.new.self _ (rows_as g.S.Store _ _ (ap {B = Contents → Contents} (λ (t : List ℕ). put_generation owned c.args.number t c.args.current) c.as_str.ensures.value) c.in-Ok.ensures.frame)
+    (generation_put c.self.inside.outline c.replace_generation.new.self owned (pair_bytes c.in_ok-key.key) (pair_bytes c.in_ok-key.key) c.args.number c.args.target.now c.in_ok-value.value c.in_ok-key.ensures c.in_ok-key.ensures c.in_ok-value.ensures.cases c.replace_generation.ensures c.switch_generation.new.self c.args.current c.switch_generation.ensures) _
+
+pub returns-clause-frame : goal.returns-clause-frame
+returns-clause-frame g c =
+    let owned : Pair = (c.args.owner.now, c.args.name.now) in
+    write_fails g.S.Store (profile_write owned (λ p. switched (put_at p c.args.number c.args.target.now) c.args.current) (put_generation owned c.args.number c.args.target.now c.args.current) g.S.Store _ c.args.self.now c.self.view_is c.self.invariant c.requires.sound
+    (λ clean is_open. add_follows _ _ (c.self.invariant.rows clean is_open).sound owned c.args.number c.args.target.now c.args.current)) c.commit.new.conn c.self.inside.outline _ (rows_as g.S.Store _ _ (ap {B = Contents → Contents} (λ (t : List ℕ). put_generation owned c.args.number t c.args.current) c.as_str.ensures.value) c.in-Err.ensures.frame)
+    (refl) _
+
+pub returns-clause-cause : goal.returns-clause-cause
+returns-clause-cause g c =
+    subst (λ (t : List ℕ). HasReason {T = Unit {0}} g.S.Store c.args.self.now.connection c.commit.new.conn (Err c.in-Err.failure) (GenerationRows (c.args.owner.now, c.args.name.now) c.args.number t c.args.current)) c.as_str.ensures.value
+    (failure_seen g.S.Store c.commit.new.conn (GenerationRows (c.args.owner.now, c.args.name.now) c.args.number c.as_str.result.now c.args.current) c.in-Err.failure c.self.view_is c.in-Err.ensures.cause)
+
+pub replace_generation-requires : goal.replace_generation-requires
+replace_generation-requires g c =
+    ap₂ (λ (n : Kept _) (k : Pair). has_generation (profile_of n.outline k) c.args.number) c.self.view_is c.in_ok-key.ensures ∙ c.requires.there
+
+pub switch_generation-requires : goal.switch_generation-requires
+switch_generation-requires g c =
+    let owned : Pair = (c.args.owner.now, c.args.name.now) in
+    put_there c.self.inside.outline c.replace_generation.new.self owned (pair_bytes c.in_ok-key.key) (pair_bytes c.in_ok-key.key) c.args.number c.args.target.now c.in_ok-value.value c.in_ok-key.ensures c.in_ok-key.ensures c.in_ok-value.ensures.cases c.replace_generation.ensures

@@ -1,0 +1,16 @@
+use Rattle.sqlite.specs.Held.{state}
+use Rattle.tables_sql.specs.Contents.{contents_of}
+use Rattle.tables.proofs.Covered.{keyless, no_outputs}
+use Rattle.tables.proofs.Transactions.{changes_nothing}
+use Rattle.tables.proofs.Reasons.{as_reason, removal_reason}
+use Rattle.tables.proofs.object_rows.delete_outputs.Goals as goal
+
+-- the object has none, and so there is no row
+pub returns-then-is_empty-clause-done : goal.returns-then-is_empty-clause-done
+returns-then-is_empty-clause-done g c clean =
+    let s = state g.S.Store c.args.tx.now.conn.now in
+    changes_nothing s _ (c.requires.under_way clean) (c.requires.is_open clean)
+    (no_outputs (contents_of s.now) c.args.base.now (λ name there. keyless c.args.object.now.outputs (λ e. e.1) c.outputs.result.now c.outputs.ensures c.if-is_empty.ensures name (c.requires.told clean name there)))
+
+pub returns-clause-cause : goal.returns-clause-cause
+returns-clause-cause g c clean = as_reason _ _ (removal_reason _ (state g.S.Store c.args.tx.now.conn.now) (state g.S.Store c.delete_of.new.tx.conn.now)) c.delete_of.result (c.delete_of.ensures.cause clean)

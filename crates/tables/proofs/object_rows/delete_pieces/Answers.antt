@@ -1,0 +1,19 @@
+use Rattle.std.proofs.Common.{◌<◌, arith}
+use Rattle.sqlite.specs.Held.{state}
+use Rattle.tables_sql.specs.Contents.{contents_of}
+use Rattle.tables_world.specs.Pieces.{piece_size}
+use Rattle.tables.proofs.Covered.{no_pieces}
+use Rattle.tables.proofs.Cuts.{size_is}
+use Rattle.tables.proofs.Transactions.{changes_nothing}
+use Rattle.tables.proofs.Reasons.{as_reason, removal_reason}
+use Rattle.tables.proofs.object_rows.delete_pieces.Goals as goal
+
+-- the row holds the whole archive, and so there is no piece
+pub returns-then-size-le-PIECE_SIZE-clause-done : goal.returns-then-size-le-PIECE_SIZE-clause-done
+returns-then-size-le-PIECE_SIZE-clause-done g c clean =
+    let s = state g.S.Store c.args.tx.now.conn.now in
+    changes_nothing s _ (c.requires.under_way clean) (c.requires.is_open clean)
+    (no_pieces (contents_of s.now) c.args.base.now (λ n there. let longer : piece_size < c.args.object.now.size = c.requires.told clean n there in omega (arith, longer, size_is, c.size.ensures, c.if-size-le-PIECE_SIZE.true)))
+
+pub returns-clause-cause : goal.returns-clause-cause
+returns-clause-cause g c clean = as_reason _ _ (removal_reason _ (state g.S.Store c.args.tx.now.conn.now) (state g.S.Store c.delete_of.new.tx.conn.now)) c.delete_of.result (c.delete_of.ensures.cause clean)

@@ -1,0 +1,40 @@
+-- Why a change isn't made, by the rows that it puts.
+use Rattle.std.specs.Prelude.{⊤, ◌≡◌, ◌⊎◌, Result, IsSome, IsTrue, IfErr}
+use Rattle.sqlite_value.specs.Order.{Row}
+use Rattle.sqlite_schema.specs.declared.schema.Table.{Table}
+use Rattle.sqlite_trees.specs.declared.store.Store.{Ghosts}
+use Rattle.sqlite.specs.Effect.{Database}
+use Rattle.sqlite.specs.State.{State, HasCleanDisk}
+use Rattle.sqlite.specs.Held.{Held, state}
+use Rattle.tables_sql.specs.Calls.{KeepsTheirs}
+use Rattle.tables_sql.specs.Failures.{HasDiskCause, HasNoRowidLeft, IsTooLarge}
+use Rattle.tables_sql.specs.declared.failure.Failure.{Failure}
+use Rattle.tables_sql.specs.declared.failure.Failure.TheVariants.{Memory, Size, Disk}
+
+-- some rows of the store's tables: of which table, and with which values after the rowid
+abbrev pub Rows : Type 1
+Rows = Table → Row → Type 0
+
+-- a database that a transaction over the first one may show: the schema and the tables of other programs are as they were
+pub record IsWithin (old db : Database) : Type 0 where
+  pub schema : db.schema ≡ old.schema
+  pub theirs : KeepsTheirs old db
+
+-- there, one of the rows, or its entry in an index, is larger than the store takes
+abbrev pub HasLargeRow : Rows → Database → Type 0
+HasLargeRow rows old = (db : Database) × IsWithin old db × (t : Table) × (values : Row) × rows t values × IsTooLarge db t values
+
+-- there, no rowid is left for one of the rows
+abbrev pub LacksRowid : Rows → Database → Type 0
+LacksRowid rows old = (db : Database) × IsWithin old db × (t : Table) × (values : Row) × rows t values × HasNoRowidLeft db t
+
+-- Why a call that puts these rows failed. A size is named for one of them alone, over an open connection. The disk is named for a fault of it in this call,
+-- for an earlier one that had shut the connection, for a limit on steps, or where no rowid is left; never since an entry was there already.
+abbrev pub IsReason : Rows → State → State → Failure → Type 0
+IsReason rows old new Memory = ⊤
+IsReason rows old new Size = IsTrue old.is_open × HasLargeRow rows old.now
+IsReason rows old new Disk = HasDiskCause old new ⊎ (IsSome old.step_limit ⊎ LacksRowid rows old.now)
+
+-- the same of its result
+abbrev pub HasReason : {S T : Type 0} → Ghosts S → Held S → Held S → Result T Failure → Rows → Type 0
+HasReason g old new result rows = HasCleanDisk (state g new) → IfErr result (IsReason rows (state g old) (state g new))

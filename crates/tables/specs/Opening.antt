@@ -1,0 +1,157 @@
+-- What opening a database says of it.
+use Rattle.std.specs.Prelude.{◌≡◌, ◌≢◌, ◌⊎◌, ◌↔◌, ℕ, false, List, None, IsTrue, IsFalse}
+use Rattle.std.specs.List.{AllByRecursion}
+use Rattle.std.specs.FinMap as finite
+use Rattle.sqlite_trees.specs.declared.store.Store.{Ghosts}
+use Rattle.sqlite_schema.specs.declared.schema.Schema.{Schema as Shown}
+use Rattle.sqlite_schema.specs.declared.schema.Table.{Table}
+use Rattle.sqlite.specs.Effect.{Database}
+use Rattle.sqlite.specs.State.{State}
+use Rattle.sqlite.specs.Held.{state}
+use Rattle.tables_schema.specs.Forms.{our_tables, piece, temp_root}
+use Rattle.tables_schema.specs.Intact.{IsKnown, tree_named}
+use Rattle.tables_schema.specs.Finding.{HasNone, HasFirst, HasSecond, HasThird}
+use Rattle.tables_sql.specs.Contents.{contents_of}
+use Rattle.tables_sql.specs.Texts.{AreReadable}
+use Rattle.tables_sql.specs.Frozen.{SparesFrozen}
+use Rattle.tables_sql.specs.Calls.{Remains, HasFurther, KeepsTheirs}
+use Rattle.tables_make.specs.Making.{LeavesMade, FailsToMake, all_created, store_tables_created}
+use Rattle.tables_make.specs.Migrated.{lacking, migrated_contents, LeavesMigrated}
+use Rattle.tables_sql.specs.declared.failure.Failure.{Failure}
+use Rattle.tables_open.specs.Opened.{FailsToOpen}
+use Rattle.model.specs.World.{no_world}
+use Rattle.tables_schema.specs.declared.schema.Schema.{Schema}
+use Rattle.tables_schema.specs.declared.schema.Schema.TheVariants.{V1, V2, V3}
+use Rattle.tables_schema.specs.Schemas.{has_pieces, has_temporary}
+use Rattle.tables_world.specs.Worlds.{IsSoundBy, world_in}
+use Rattle.tables_outline.specs.Outline.{OutlineValue, outline_of}
+use Rattle.tables.specs.Kept.{Kept, HasWorld}
+use Rattle.tables.specs.InTheWay.{is_name_used, has_store_tables, are_others_in_the_way}
+use Rattle.tables.specs.declared.refusing.Cause.{Cause}
+use Rattle.tables.specs.declared.refusing.Cause.TheVariants.{BadSchema, OtherStoreDir, Failed}
+
+-- the same connection without a limit on steps
+abbrev pub unlimited : State → State
+unlimited s = record s { step_limit = None }
+
+-- each further table that a schema has is there, and one that it hasn't holds nothing
+pub record HasFurtherOf (schema : Schema) (db : Database) : Type 0 where
+  pub pieces : IsTrue (has_pieces schema) → HasFurther db piece
+  pub no_pieces : IsFalse (has_pieces schema) → (contents_of db).pieces ≡ finite.empty
+  pub temporary : IsTrue (has_temporary schema) → HasFurther db temp_root
+  pub no_temporary : IsFalse (has_temporary schema) → (contents_of db).temp_roots ≡ finite.empty
+
+-- our tables are those of a schema, and the names of those that it lacks are free
+abbrev pub HasTablesOf : Schema → Shown → Type 0
+HasTablesOf V1 s = HasFirst s
+HasTablesOf V2 s = HasSecond s
+HasTablesOf V3 s = HasThird s
+
+-- the tables of a schema are there, and of no other, and their texts can be read; the further ones too, as the schema has them
+pub record IsFoundBy (schema : Schema) (db : Database) : Type 0 where
+  pub tables : HasTablesOf schema db.schema
+  pub only : (other : Schema) → HasTablesOf other db.schema → other ≡ schema
+  pub some : ¬ HasNone db.schema
+  pub readable : AreReadable (contents_of db)
+  pub further : HasFurtherOf schema db
+
+-- the tables of a schema are there, their texts can be read, and their rows are those of a database of this store directory
+pub record HoldsBy (schema : Schema) (dir : List ℕ) (db : Database) : Type 0 where
+  pub tables : HasTablesOf schema db.schema
+  pub readable : AreReadable (contents_of db)
+  pub sound : IsSoundBy schema dir (contents_of db)
+
+-- the same by one of the three schemas
+abbrev pub HoldsStore : List ℕ → Database → Type 0
+HoldsStore dir db = (schema : Schema) × HoldsBy schema dir db
+
+-- the rows are sound by a schema, and have this outline
+abbrev pub AreRead : Schema → List ℕ → Database → OutlineValue → Type 0
+AreRead schema dir db outline = IsSoundBy schema dir (contents_of db) × (outline_of (world_in (contents_of db)) ≡ outline)
+
+module _ {S : Type 0} (g : Ghosts S) where
+  -- A store of the third schema was there: nothing changed, the connection is open, and the tables have the world of its rows.
+  pub record OpensExisting (dir : List ℕ) (db : Database) (t : Kept S) : Type 0 where
+    pub holds : HoldsBy V3 dir db
+    pub is_open : IsTrue (state g t.connection).is_open
+    pub same : (state g t.connection).now ≡ db
+    pub told : HasWorld g t (world_in (contents_of db))
+
+  -- None of the store's tables was there: they were made next to the tables of other programs, and have the new world.
+  pub record OpensNew (db : Database) (t : Kept S) : Type 0 where
+    pub none : HasNone db.schema
+    pub is_open : IsTrue (state g t.connection).is_open
+    pub schema : (state g t.connection).now.schema ≡ store_tables_created db.schema
+    pub theirs : KeepsTheirs db (state g t.connection).now
+    pub frozen : SparesFrozen db (state g t.connection).now
+    pub told : HasWorld g t no_world
+
+  -- A store of an earlier schema was there: what it held was brought to the third, next to the tables of other programs, and the tables have the world of the rows that it had.
+  pub record OpensMigrated (from : Schema) (dir : List ℕ) (db : Database) (t : Kept S) : Type 0 where
+    pub holds : HoldsBy from dir db
+    pub is_open : IsTrue (state g t.connection).is_open
+    pub schema : (state g t.connection).now.schema ≡ all_created db.schema (lacking from)
+    pub contents_are : contents_of (state g t.connection).now ≡ migrated_contents from dir (contents_of db)
+    pub theirs : KeepsTheirs db (state g t.connection).now
+    pub frozen : SparesFrozen db (state g t.connection).now
+    pub told : HasWorld g t (world_in (contents_of db))
+
+  -- one of these
+  abbrev pub OpensStore : List ℕ → Database → Kept S → Type 0
+  OpensStore dir db t = OpensNew db t ⊎ (OpensExisting dir db t ⊎ (OpensMigrated V1 dir db t ⊎ OpensMigrated V2 dir db t))
+
+-- none of our tables was there, and this is what a crash may leave of making them, if it leaves any of it
+abbrev pub LeavesNew : List ℕ → Database → Remains → Type 0
+LeavesNew dir db left = HasNone db.schema × LeavesMade dir db left
+
+-- a store of an earlier schema was there, and this is what a crash may leave of bringing it to the third, if it leaves any of it
+abbrev pub LeavesMigration : Schema → List ℕ → Database → Remains → Type 0
+LeavesMigration from dir db left = HoldsBy from dir db × LeavesMigrated from dir db left
+
+-- What a crash may leave of opening a database, besides what it could leave before: the new tables, or those that were brought to the third schema.
+abbrev pub LeavesOpening : List ℕ → Database → Remains → Type 0
+LeavesOpening dir db left = LeavesNew dir db left ⊎ (LeavesMigration V1 dir db left ⊎ LeavesMigration V2 dir db left)
+
+-- a table of the store's is there in exactly its form, whatever is next to it
+abbrev pub HasItsForm : Shown → Table → Type 0
+HasItsForm s t = (at : ℕ) × IsKnown s t.name at (record t { tree = tree_named s t.name })
+
+-- our tables are there by a schema, each in exactly its form, and nothing has the name of one that it lacks
+abbrev pub HasFormsOf : Schema → Shown → Type 0
+HasFormsOf V1 s = AllByRecursion (HasItsForm s) our_tables × (is_name_used s piece ≡ false) × (is_name_used s temp_root ≡ false)
+HasFormsOf V2 s = AllByRecursion (HasItsForm s) our_tables × HasItsForm s piece × (is_name_used s temp_root ≡ false)
+HasFormsOf V3 s = AllByRecursion (HasItsForm s) our_tables × HasItsForm s piece × HasItsForm s temp_root
+
+-- the store's tables are there by a schema, their texts can be read, and their rows are those of a database of this store directory, whatever is next to them
+pub record IsPresentBy (schema : Schema) (dir : List ℕ) (db : Database) : Type 0 where
+  pub forms : HasFormsOf schema db.schema
+  pub readable : AreReadable (contents_of db)
+  pub sound : IsSoundBy schema dir (contents_of db)
+
+-- the same by one of the three schemas
+abbrev pub IsPresent : List ℕ → Database → Type 0
+IsPresent dir db = (schema : Schema) × IsPresentBy schema dir db
+
+-- Why a store isn't opened for a failure: what its tables are or hold can't be read, or rowids are shared or no integers (FailsToOpen); where there are none, they aren't made; or they are those of an earlier schema, which the call may fail to bring to the third.
+abbrev pub FailsToAdopt : List ℕ → State → State → Failure → Type 0
+FailsToAdopt dir old new f =
+    FailsToOpen old new f ⊎ ((HasNone old.now.schema × FailsToMake dir old new f) ⊎ (HasFirst old.now.schema ⊎ HasSecond old.now.schema))
+
+-- Why a database isn't opened: the store's tables are there soundly by no schema and for no directory, though some of them are there; or tables of other programs are in their way; or the store of another directory is there.
+abbrev pub IsRefusal : List ℕ → Database → Cause → Type 0
+IsRefusal dir db BadSchema = (IsTrue (has_store_tables db.schema) × ((d : List ℕ) → ¬ IsPresent d db)) ⊎ IsTrue (are_others_in_the_way db.schema)
+IsRefusal dir db OtherStoreDir = (d : List ℕ) × HoldsStore d db × (d ≢ dir)
+IsRefusal dir db (Failed f) = ⊥
+
+-- This is the cause of what it shows, or of a failure on the way from one state to another.
+abbrev pub IsCause : List ℕ → State → State → Cause → Type 0
+IsCause dir old new (Failed f) = FailsToAdopt dir old new f
+IsCause dir old new refusal = IsRefusal dir old.now refusal
+
+-- neither is there none of the store's tables, with nothing waiting for one, nor the store of some directory
+abbrev pub IsNoStore : Database → Type 0
+IsNoStore db = ¬ HasNone db.schema × ((d : List ℕ) → ¬ HoldsStore d db)
+
+-- By the definitions, a database is refused as no store exactly where it is neither opened as the store of some directory nor given new tables.
+abbrev pub RefusesTheRest : Type 0
+RefusesTheRest = (dir : List ℕ) (db : Database) → IsRefusal dir db BadSchema ↔ IsNoStore db

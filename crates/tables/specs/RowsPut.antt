@@ -1,0 +1,89 @@
+-- The rows that each write puts.
+use Rattle.std.specs.Prelude.{◌≡◌, ◌⊎◌, ℕ, ℤ, pos, List, [], ◌∷◌, Option, Some, None}
+use Rattle.std.specs.FinMap as finite
+use Rattle.sqlite_value.specs.declared.value.Value.TheVariants.{Int, Text, Blob}
+use Rattle.sqlite_value.specs.Order.{Row}
+use Rattle.sqlite_schema.specs.declared.schema.Table.{Table}
+use Rattle.sqlite.specs.Values.{or_null}
+use Rattle.tables_schema.specs.Forms.{object, refs, outs, piece, permanent, user_root, profile, generation, runtime, temp_root}
+use Rattle.tables_sql.specs.Contents.{Stored}
+use Rattle.model.specs.World.{Path, Pair, Temporary}
+use Rattle.tables_world.specs.Rows.{address_in}
+use Rattle.tables_world.specs.Pieces.{row_part, further_pieces}
+use Rattle.tables_outline.specs.Outline.{Outlined}
+use Rattle.tables.specs.Failures.{Rows}
+use Rattle.tables.specs.declared.named_roots.RootName.{RootName}
+use Rattle.tables.specs.declared.named_roots.RootName.TheVariants.{Permanent, User}
+
+-- this row of this table
+abbrev pub IsRow : Table → Row → Rows
+IsRow table values t row = (t ≡ table) × (row ≡ values)
+
+-- none
+abbrev pub NoRow : Rows
+NoRow t row = ⊥
+
+-- those of each item of a list
+abbrev pub RowsOf : {X : Type 0} → (X → Rows) → List X → Rows
+RowsOf rows [] t row = ⊥
+RowsOf rows (x ∷ xs) t row = rows x t row ⊎ RowsOf rows xs t row
+
+-- ---- roots
+
+abbrev pub PermanentRow : List ℕ → Path → Rows
+PermanentRow name target = IsRow permanent (Text name ∷ Text target ∷ [])
+
+abbrev pub UserRootRow : Pair → Path → Rows
+UserRootRow owned target = IsRow user_root (Text owned.0 ∷ Text owned.1 ∷ Text target ∷ [])
+
+-- a root by its name
+abbrev pub RootRow : RootName → Path → Rows
+RootRow (Permanent name) target = PermanentRow name.now target
+RootRow (User owner name) target = UserRootRow (owner.now, name.now) target
+
+-- a runtime root: its label and its target
+abbrev pub RuntimeRow : Pair → Rows
+RuntimeRow p = IsRow runtime (Text p.0 ∷ Text p.1 ∷ [])
+
+abbrev pub TemporaryRow : Temporary → Rows
+TemporaryRow t = IsRow temp_root (Text t.owner ∷ Int (pos t.session) ∷ Text t.path ∷ [])
+
+-- ---- profiles
+
+-- a profile with its current number
+abbrev pub ProfileRow : Pair → ℕ → Rows
+ProfileRow owned current = IsRow profile (Text owned.0 ∷ Text owned.1 ∷ Int (pos current) ∷ [])
+
+-- a profile, and a path at a number of it
+abbrev pub GenerationRows : Pair → ℕ → Path → ℕ → Rows
+GenerationRows owned n target current t row = ProfileRow owned current t row ⊎ IsRow generation (Text owned.0 ∷ Text owned.1 ∷ Int (pos n) ∷ Text target ∷ []) t row
+
+-- a profile, and a path at a number of it, if one is given
+abbrev pub NumberedRows : Pair → Option (ℕ × Path) → ℕ → Rows
+NumberedRows owned None current = ProfileRow owned current
+NumberedRows owned (Some e) current = GenerationRows owned e.0 e.1 current
+
+-- ---- objects
+
+abbrev pub ReferenceRow : Path → Path → Rows
+ReferenceRow p target = IsRow refs (Text p ∷ Text target ∷ [])
+
+-- an output: its name and its path
+abbrev pub OutputRow : Path → List ℕ × Path → Rows
+OutputRow p e = IsRow outs (Text p ∷ Text e.0 ∷ Text e.1 ∷ [])
+
+-- a further piece of an archive: its number and its bytes
+abbrev pub PieceRow : Path → ℤ × List ℕ → Rows
+PieceRow p e = IsRow piece (Text p ∷ Int e.0 ∷ Blob e.1 ∷ [])
+
+-- an object, as its rows hold it, with its references, its outputs and the further pieces of its archive
+abbrev pub ObjectRows : Path → Stored → List Path → List (List ℕ × Path) → List (ℤ × List ℕ) → Rows
+ObjectRows p o references outputs pieces t row =
+    IsRow object (Text p ∷ Blob o.nar ∷ Blob o.hash ∷ or_null Text o.deriver ∷ or_null Text o.ca ∷ []) t row
+    ⊎ (RowsOf (ReferenceRow p) references t row ⊎ (RowsOf (OutputRow p) outputs t row ⊎ RowsOf (PieceRow p) pieces t row))
+
+-- the same of an archive and its summary, with a text of the content address
+abbrev pub AddedRows : Path → List ℕ → Outlined → Rows
+AddedRows p nar o t row =
+    (ca : Option (List ℕ)) × (address_in ca ≡ o.ca)
+    × ObjectRows p (record { nar = row_part nar; hash = o.hash; deriver = o.deriver; ca = ca }) (finite.keys o.references) (finite.entries o.outputs) (further_pieces nar) t row

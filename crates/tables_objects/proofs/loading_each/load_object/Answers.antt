@@ -1,0 +1,53 @@
+use Rattle.std.proofs.Common.{◌≡◌, List, map, string_bytes, ap, subst, ◌∙◌}
+use Rattle.std.specs.List.{filter}
+use Rattle.std.specs.Ordering.{eq_by_cmp}
+use Rattle.sqlite.specs.Held.{state}
+use Rattle.paths.specs.Root.{bytes_cmp}
+use Rattle.tables_sql.specs.declared.references.Reference.{Reference}
+use Rattle.tables_sql.specs.declared.outputs.Output.{Output}
+use Rattle.tables_sql.specs.Entries.{numbered_in}
+use Rattle.tables_sql.specs.Contents.{contents_of}
+use Rattle.tables_outline.specs.Outline.{OutlineValue}
+use Rattle.tables_objects.specs.Rising.{Rises}
+use Rattle.tables_objects.specs.Rows.{AreRowsOf, AreRowsAt}
+use Rattle.tables_objects.specs.Loaded.{Objects}
+use Rattle.tables_objects.proofs.Columns.{targets_taken, named_taken}
+use Rattle.tables_objects.proofs.ReadRows.{clean_before}
+use Rattle.tables_objects.proofs.Takes.{told_one, put_is}
+use Rattle.tables_objects.proofs.loading_each.load_object.Goals as goal
+
+pub rows_at-requires-clause-listed : goal.rows_at-requires-clause-listed
+rows_at-requires-clause-listed g c clean = ap (map numbered_in) c.deref.ensures.value ∙ (c.requires.joined clean).pieces
+
+pub returns-clause-told : goal.returns-clause-told
+returns-clause-told g c clean =
+    let s0 = state g.S.Store c.args.conn.now in
+    let s1 = state g.S.Store c.rows_at.new.conn in
+    let x = contents_of s0.now in
+    let p = c.args.base.now in
+    let rows : AreRowsOf x p c.in-Some.rows = subst (AreRowsAt x p) c.in-Some.is (c.in_ok-rows.ensures.reads clean).1 in
+    let all = c.requires.joined (clean_before s0 s1 (λ _. ⊥) c.rows_at.ensures.survives clean) in
+    let refs = c.group-references.result.now in
+    let outs = c.group-outputs.result.now in
+    let refs_are = targets_taken x p c.args.joined.now.references.items refs all.references
+    (subst (λ (l : List Reference). Rises (map (λ (r : Reference). string_bytes r.base) l) → refs ≡ filter (λ (r : Reference). eq_by_cmp bytes_cmp p (string_bytes r.base)) l) c.deref-2.ensures.value c.group-references.ensures) in
+    let outs_are = named_taken x p c.args.joined.now.outputs.items outs all.outputs
+    (subst (λ (l : List Output). Rises (map (λ (r : Output). string_bytes r.base) l) → outs ≡ filter (λ (r : Output). eq_by_cmp bytes_cmp p (string_bytes r.base)) l) c.deref-3.ensures.value c.group-outputs.ensures) in
+    told_one c.args.schema c.args.dir.now x p c.in-Some.rows rows refs outs refs_are outs_are c.in_ok-load_rows.field-0 c.in_ok-load_rows.ensures.told
+
+pub returns-clause-taken : goal.returns-clause-taken
+returns-clause-taken g c clean ok =
+    let s0 = state g.S.Store c.args.conn.now in
+    let s1 = state g.S.Store c.rows_at.new.conn in
+    let x = contents_of s0.now in
+    let p = c.args.base.now in
+    let rows : AreRowsOf x p c.in-Some.rows = subst (AreRowsAt x p) c.in-Some.is (c.in_ok-rows.ensures.reads clean).1 in
+    let all = c.requires.joined (clean_before s0 s1 (λ _. ⊥) c.rows_at.ensures.survives clean) in
+    let refs = c.group-references.result.now in
+    let outs = c.group-outputs.result.now in
+    let refs_are = targets_taken x p c.args.joined.now.references.items refs all.references
+    (subst (λ (l : List Reference). Rises (map (λ (r : Reference). string_bytes r.base) l) → refs ≡ filter (λ (r : Reference). eq_by_cmp bytes_cmp p (string_bytes r.base)) l) c.deref-2.ensures.value c.group-references.ensures) in
+    let outs_are = named_taken x p c.args.joined.now.outputs.items outs all.outputs
+    (subst (λ (l : List Output). Rises (map (λ (r : Output). string_bytes r.base) l) → outs ≡ filter (λ (r : Output). eq_by_cmp bytes_cmp p (string_bytes r.base)) l) c.deref-3.ensures.value c.group-outputs.ensures) in
+    let old : OutlineValue = c.args.outline.now in
+    c.in_ok-load_rows.ensures.taken ok ∙ ap (λ (m : Objects). record old { objects = m }) (put_is c.args.schema c.args.dir.now x p c.in-Some.rows rows refs outs refs_are outs_are old.objects (c.in_ok-load_rows.ensures.told.0 ok))

@@ -1,0 +1,60 @@
+//! All objects of the rows, tested and put into the outline, and what is tested with them.
+#![tactic(auto, using(tables_sql::proofs::TestFailures::read_fails, tables_sql::proofs::TestFailures::read_passed, tables_sql::proofs::TestFailures::memory_passed, tables_sql::proofs::TestFailures::read_then, tables_sql::proofs::TestFailures::read_then_passed))]
+
+ghost use Rattle.std.specs.Prelude.{◌≡◌, ◌↔◌, false, IsTrue, IsFalse, IfOk, OnOk};
+ghost use Rattle.std.specs.FinMap as finite;
+ghost use Rattle.sqlite.specs.State.{HasCleanDisk, IsUnchanged, Survives};
+ghost use Rattle.sqlite.specs.Held.{state};
+ghost use Rattle.tables_schema.specs.Forms.{piece};
+ghost use Rattle.tables_sql.specs.Contents.{contents_of};
+ghost use Rattle.tables_sql.specs.Calls.{HasFurther, IsReady, KeepsShown};
+ghost use Rattle.tables_rows.specs.Frames.{FailsInReads};
+ghost use Rattle.tables_schema.specs.Schemas.{has_pieces};
+ghost use Rattle.tables_world.specs.Worlds.{rows_of, world_in};
+ghost use Rattle.tables_outline.specs.Outline.{outline_of};
+ghost use Rattle.tables_objects.specs.Loaded.{AreSoundInPieces};
+
+use crate::joined::{are_joined, read_joined};
+use crate::loading_each::load_all;
+use paths::StoreDir;
+use sqlite::{Alter, Connection};
+use std::alloc::Global;
+use tables_outline::Outline;
+use tables_schema::Schema;
+use tables_sql::failure::Failure;
+
+/// Whether the objects of the rows are sound in a store directory, by their schema: each archive cut the right way, each object with
+/// its whole archive, its references and its outputs, each reference one of an object to an object, and each output and each piece one
+/// of an object. If so, they are put into the outline, which has no objects before. Archives are read one after another. The first
+/// schema has no table of pieces.
+///
+/// # Errors
+///
+/// Memory or the disk failed. The rows are as they were, and the outline may have some of the objects.
+pub fn load_objects<S: Alter>(
+    alloc: Global,
+    conn: &mut Connection<S>,
+    schema: Schema,
+    dir: &StoreDir,
+    outline: &mut Outline,
+) -> Result<bool, Failure>
+    requires alone { conn.old.in_transaction ≡ false }
+    requires ready { HasCleanDisk (state S.Store conn.old) → IsTrue (state S.Store conn.old).is_open → IsReady (state S.Store conn.old) }
+    requires stands { HasCleanDisk (state S.Store conn.old) → IsTrue (has_pieces schema) → IsTrue (state S.Store conn.old).is_open → HasFurther (state S.Store conn.old).now piece }
+    requires no_table { HasCleanDisk (state S.Store conn.old) → IsFalse (has_pieces schema) → IsTrue (state S.Store conn.old).is_open → (contents_of (state S.Store conn.old).now).pieces ≡ finite.empty }
+    requires empty { outline.old.objects ≡ finite.empty }
+    ensures alone { conn.new.in_transaction ≡ false }
+    ensures cause { FailsInReads S.Store conn.old conn.new result }
+    ensures told { HasCleanDisk (state S.Store conn.new) → IfOk result (λ ok. IsTrue ok ↔ AreSoundInPieces schema dir.now (rows_of (contents_of (state S.Store conn.old).now))) }
+    ensures taken { HasCleanDisk (state S.Store conn.new) → IfOk result (λ ok. IsTrue ok → outline.new ≡ record outline.old { objects = (outline_of (world_in (contents_of (state S.Store conn.old).now))).objects }) }
+    ensures unchanged { HasCleanDisk (state S.Store conn.new) → OnOk result (IsUnchanged (state S.Store conn.old) (state S.Store conn.new)) }
+    ensures same { HasCleanDisk (state S.Store conn.new) → KeepsShown (state S.Store conn.old) (state S.Store conn.new) }
+    ensures ready { HasCleanDisk (state S.Store conn.new) → IsTrue (state S.Store conn.new).is_open → IsReady (state S.Store conn.new) }
+    ensures survives { Survives (state S.Store conn.old) (state S.Store conn.new) (λ _. ⊥) }
+{
+    let joined = read_joined(alloc, conn, schema)?;
+    if !load_all(alloc, conn, schema, dir, outline, &joined)? {
+        return Ok(false);
+    }
+    Ok(are_joined(alloc, outline, &joined)?)
+}

@@ -1,0 +1,165 @@
+//! Objects, tested one after another and put into the outline.
+#![tactic(auto, using(tables_sql::proofs::TestFailures::read_fails, tables_sql::proofs::TestFailures::read_passed, tables_sql::proofs::TestFailures::memory_passed, tables_sql::proofs::TestFailures::read_then, tables_sql::proofs::TestFailures::read_then_passed))]
+
+ghost use Rattle.std.specs.Prelude.{◌≡◌, ◌↔◌, false, IsTrue, IsFalse, IfOk, OnOk, map, string_bytes};
+ghost use Rattle.std.specs.List.{AllByRecursion};
+ghost use Rattle.std.specs.FinMap as finite;
+ghost use Rattle.sqlite.specs.State.{HasCleanDisk, IsUnchanged, Survives};
+ghost use Rattle.sqlite.specs.Held.{state};
+ghost use Rattle.tables_schema.specs.Forms.{piece};
+ghost use Rattle.tables_sql.specs.Contents.{contents_of};
+ghost use Rattle.tables_sql.specs.Calls.{HasFurther, IsReady, KeepsShown};
+ghost use Rattle.tables_rows.specs.Frames.{FailsInReads};
+ghost use Rattle.tables_sql.specs.Entries.{stored_of};
+ghost use Rattle.tables_schema.specs.Schemas.{has_pieces};
+ghost use Rattle.tables_objects.specs.Cut.{parts_of, whole_of};
+ghost use Rattle.tables_objects.specs.Rows.{AreJoined};
+ghost use Rattle.tables_objects.specs.Tested.{IsSoundAt, kept_of, named_of, targets_of};
+ghost use Rattle.tables_objects.specs.Loaded.{IsCutBy, IsSoundOne, with_object, with_objects};
+
+use crate::cutting::is_cut;
+use crate::groups::group;
+use crate::joined::Joined;
+use crate::objects::sound_object;
+use crate::reading::{ObjectRows, rows_at};
+use paths::StoreDir;
+use sqlite::{Alter, Connection};
+use std::alloc::{AllocError, Global};
+use tables_outline::Outline;
+use tables_rows::objects;
+use tables_schema::Schema;
+use tables_sql::failure::Failure;
+use tables_sql::outputs::Output;
+use tables_sql::pieces::Piece;
+use tables_sql::references::Reference;
+
+/// Whether an archive is cut the right way, where there is a table of pieces.
+fn is_cut_by(schema: Schema, row: &[u8], pieces: &[Piece]) -> bool
+    ensures { IsTrue result ↔ IsCutBy schema row.now (parts_of pieces.now) }
+{
+    if !schema.has_pieces() {
+        return true;
+    }
+    is_cut(row, pieces)
+}
+
+/// Whether the rows of an object are sound. If so, it is put into the outline.
+fn load_rows(
+    alloc: Global,
+    schema: Schema,
+    dir: &StoreDir,
+    outline: &mut Outline,
+    rows: ObjectRows,
+    references: &[Reference],
+    outputs: &[Output],
+) -> Result<bool, AllocError>
+    ensures told { IfOk result (λ ok. IsTrue ok ↔ (IsCutBy schema (stored_of rows.object).1.nar (parts_of rows.pieces.items)
+        × IsSoundAt dir.now (stored_of rows.object).0 (whole_of (stored_of rows.object).1 (parts_of rows.pieces.items)) (targets_of references.now) (named_of outputs.now))) }
+    ensures taken { IfOk result (λ ok. IsTrue ok → outline.new ≡ record outline.old {
+      objects = finite.insert outline.old.objects (stored_of rows.object).0
+          (kept_of dir.now (stored_of rows.object).0 (whole_of (stored_of rows.object).1 (parts_of rows.pieces.items)) (targets_of references.now));
+    }) }
+{
+    let ObjectRows { object, pieces } = rows;
+    if !is_cut_by(schema, &object.nar, &pieces) {
+        return Ok(false);
+    }
+    let Some((path, summary)) = sound_object(alloc, dir, object, pieces, references, outputs)?
+    else {
+        return Ok(false);
+    };
+    outline.insert_object(path, summary)?;
+    Ok(true)
+}
+
+/// Whether this base is an object's, whose rows are sound. If so, it is put into the outline. Rows of other tables were read before.
+fn load_object<S: Alter>(
+    alloc: Global,
+    conn: &mut Connection<S>,
+    schema: Schema,
+    dir: &StoreDir,
+    outline: &mut Outline,
+    joined: &Joined,
+    base: &str,
+) -> Result<bool, Failure>
+    requires alone { conn.old.in_transaction ≡ false }
+    requires ready { HasCleanDisk (state S.Store conn.old) → IsTrue (state S.Store conn.old).is_open → IsReady (state S.Store conn.old) }
+    requires stands { HasCleanDisk (state S.Store conn.old) → IsTrue (has_pieces schema) → IsTrue (state S.Store conn.old).is_open → HasFurther (state S.Store conn.old).now piece }
+    requires no_table { HasCleanDisk (state S.Store conn.old) → IsFalse (has_pieces schema) → IsTrue (state S.Store conn.old).is_open → (contents_of (state S.Store conn.old).now).pieces ≡ finite.empty }
+    requires joined { HasCleanDisk (state S.Store conn.old) → AreJoined (contents_of (state S.Store conn.old).now) joined.now }
+    ensures alone { conn.new.in_transaction ≡ false }
+    ensures cause { FailsInReads S.Store conn.old conn.new result }
+    ensures told { HasCleanDisk (state S.Store conn.new) → IfOk result (λ ok. IsTrue ok ↔ IsSoundOne schema dir.now (contents_of (state S.Store conn.old).now) base.now) }
+    ensures taken { HasCleanDisk (state S.Store conn.new) → IfOk result (λ ok. IsTrue ok → outline.new ≡ record outline.old { objects = with_object (contents_of (state S.Store conn.old).now) base.now outline.old.objects }) }
+    ensures unchanged { HasCleanDisk (state S.Store conn.new) → OnOk result (IsUnchanged (state S.Store conn.old) (state S.Store conn.new)) }
+    ensures same { HasCleanDisk (state S.Store conn.new) → KeepsShown (state S.Store conn.old) (state S.Store conn.new) }
+    ensures ready { HasCleanDisk (state S.Store conn.new) → IsTrue (state S.Store conn.new).is_open → IsReady (state S.Store conn.new) }
+    ensures survives { Survives (state S.Store conn.old) (state S.Store conn.new) (λ _. ⊥) }
+{
+    let Some(rows) = rows_at(alloc, conn, schema, &joined.pieces, base)? else {
+        return Ok(false);
+    };
+    let references = group(&joined.references, base);
+    let outputs = group(&joined.outputs, base);
+    Ok(load_rows(alloc, schema, dir, outline, rows, references, outputs)?)
+}
+
+/// Whether each base is an object's, whose rows are sound. If so, they are put into the outline.
+fn load_each<S: Alter>(
+    alloc: Global,
+    conn: &mut Connection<S>,
+    schema: Schema,
+    dir: &StoreDir,
+    outline: &mut Outline,
+    joined: &Joined,
+    bases: &[String],
+) -> Result<bool, Failure>
+    requires alone { conn.old.in_transaction ≡ false }
+    requires ready { HasCleanDisk (state S.Store conn.old) → IsTrue (state S.Store conn.old).is_open → IsReady (state S.Store conn.old) }
+    requires opened { HasCleanDisk (state S.Store conn.old) → IsTrue (state S.Store conn.old).is_open }
+    requires stands { HasCleanDisk (state S.Store conn.old) → IsTrue (has_pieces schema) → IsTrue (state S.Store conn.old).is_open → HasFurther (state S.Store conn.old).now piece }
+    requires no_table { HasCleanDisk (state S.Store conn.old) → IsFalse (has_pieces schema) → IsTrue (state S.Store conn.old).is_open → (contents_of (state S.Store conn.old).now).pieces ≡ finite.empty }
+    requires joined { HasCleanDisk (state S.Store conn.old) → AreJoined (contents_of (state S.Store conn.old).now) joined.now }
+    ensures alone { conn.new.in_transaction ≡ false }
+    ensures cause { FailsInReads S.Store conn.old conn.new result }
+    ensures told { HasCleanDisk (state S.Store conn.new) → IfOk result (λ ok. IsTrue ok ↔ AllByRecursion (IsSoundOne schema dir.now (contents_of (state S.Store conn.old).now)) (map string_bytes bases.now)) }
+    ensures taken { HasCleanDisk (state S.Store conn.new) → IfOk result (λ ok. IsTrue ok → outline.new ≡ record outline.old { objects = with_objects (contents_of (state S.Store conn.old).now) (map string_bytes bases.now) outline.old.objects }) }
+    ensures unchanged { HasCleanDisk (state S.Store conn.new) → OnOk result (IsUnchanged (state S.Store conn.old) (state S.Store conn.new)) }
+    ensures same { HasCleanDisk (state S.Store conn.new) → KeepsShown (state S.Store conn.old) (state S.Store conn.new) }
+    ensures ready { HasCleanDisk (state S.Store conn.new) → IsTrue (state S.Store conn.new).is_open → IsReady (state S.Store conn.new) }
+    ensures survives { Survives (state S.Store conn.old) (state S.Store conn.new) (λ _. ⊥) }
+{
+    'bases: for base in bases {
+        if !load_object(alloc, conn, schema, dir, outline, joined, base.as_str())? {
+            return Ok(false);
+        }
+    }
+    Ok(true)
+}
+
+/// Whether all objects of the rows are sound, each by itself. If so, they are put into the outline.
+pub(crate) fn load_all<S: Alter>(
+    alloc: Global,
+    conn: &mut Connection<S>,
+    schema: Schema,
+    dir: &StoreDir,
+    outline: &mut Outline,
+    joined: &Joined,
+) -> Result<bool, Failure>
+    requires alone { conn.old.in_transaction ≡ false }
+    requires ready { HasCleanDisk (state S.Store conn.old) → IsTrue (state S.Store conn.old).is_open → IsReady (state S.Store conn.old) }
+    requires stands { HasCleanDisk (state S.Store conn.old) → IsTrue (has_pieces schema) → IsTrue (state S.Store conn.old).is_open → HasFurther (state S.Store conn.old).now piece }
+    requires no_table { HasCleanDisk (state S.Store conn.old) → IsFalse (has_pieces schema) → IsTrue (state S.Store conn.old).is_open → (contents_of (state S.Store conn.old).now).pieces ≡ finite.empty }
+    requires joined { HasCleanDisk (state S.Store conn.old) → AreJoined (contents_of (state S.Store conn.old).now) joined.now }
+    ensures alone { conn.new.in_transaction ≡ false }
+    ensures cause { FailsInReads S.Store conn.old conn.new result }
+    ensures told { HasCleanDisk (state S.Store conn.new) → IfOk result (λ ok. IsTrue ok ↔ AllByRecursion (IsSoundOne schema dir.now (contents_of (state S.Store conn.old).now)) (finite.keys (contents_of (state S.Store conn.old).now).objects)) }
+    ensures taken { HasCleanDisk (state S.Store conn.new) → IfOk result (λ ok. IsTrue ok → outline.new ≡ record outline.old { objects = with_objects (contents_of (state S.Store conn.old).now) (finite.keys (contents_of (state S.Store conn.old).now).objects) outline.old.objects }) }
+    ensures unchanged { HasCleanDisk (state S.Store conn.new) → OnOk result (IsUnchanged (state S.Store conn.old) (state S.Store conn.new)) }
+    ensures same { HasCleanDisk (state S.Store conn.new) → KeepsShown (state S.Store conn.old) (state S.Store conn.new) }
+    ensures ready { HasCleanDisk (state S.Store conn.new) → IsTrue (state S.Store conn.new).is_open → IsReady (state S.Store conn.new) }
+    ensures survives { Survives (state S.Store conn.old) (state S.Store conn.new) (λ _. ⊥) }
+{
+    let bases = objects::keys(alloc, conn)?;
+    load_each(alloc, conn, schema, dir, outline, joined, &bases)
+}

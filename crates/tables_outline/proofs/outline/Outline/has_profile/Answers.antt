@@ -1,0 +1,12 @@
+use Rattle.std.proofs.Common.{sym, ap, ◌∙◌}
+use Rattle.std.specs.FinMap as finite
+use Rattle.model.specs.World.{pair_cmp}
+use Rattle.tables_outline.specs.Maps.{pair_bytes}
+use Rattle.tables_outline.specs.View.{profile_view}
+use Rattle.tables_outline.specs.Outline.{OutlineValue}
+use Rattle.tables_outline.proofs.Orders.{pair_total, pair_antisymmetric}
+use Rattle.tables_outline.proofs.Trees.{has_seen}
+use Rattle.tables_outline.proofs.outline.Outline.has_profile.Goals as goal
+
+pub returns : goal.returns
+returns c = c.contains_key.ensures ∙ sym (has_seen pair_cmp pair_bytes profile_view pair_total pair_antisymmetric c.self.inside.profiles.entries (pair_bytes c.args.owned.now)) ∙ ap (λ (o : OutlineValue). finite.contains_key o.profiles (pair_bytes c.args.owned.now)) c.self.view_is

@@ -1,0 +1,74 @@
+use Rattle.std.proofs.Common.{sym, ap, subst, ◌∙◌, arith}
+use Rattle.sqlite.specs.Effect.{Database}
+use Rattle.sqlite.specs.State.{HasCleanDisk}
+use Rattle.sqlite.specs.Held.{state}
+use Rattle.tables_schema.specs.Forms.{temp_root}
+use Rattle.tables_sql.specs.Calls.{HasFurther}
+use Rattle.tables_sql.specs.Contents.{contents_of}
+use Rattle.tables_roots.proofs.Frames.{left_then}
+use Rattle.tables_world.specs.Worlds.{world_in}
+use Rattle.tables_outline.specs.Outline.{OutlineValue}
+use Rattle.tables_roots.specs.Loaded.{with_explicit, are_temporary}
+use Rattle.tables_roots.proofs.TwoReads.{taken_next, unchanged_next}
+use Rattle.tables_roots.proofs.Sessions.{none_kept}
+use Rattle.tables_roots.proofs.AllReads.{all_unsound, all_lasting, sessions_told}
+use Rattle.tables_roots.proofs.roots.load_roots.Goals as goal
+
+pub read-requires-clause-stands : goal.read-requires-clause-stands
+read-requires-clause-stands g c clean is_open =
+    let early : HasCleanDisk (state g.S.Store c.args.conn.now) = omega (arith, c.load_explicit.ensures.frame.survives.clean) in
+    let lasting = (c.in_ok-load_explicit.ensures.unchanged clean).0 in
+    subst (λ (d : Database). HasFurther d temp_root) (sym lasting.now_is) (c.requires.stands early (sym c.has_temporary.ensures ∙ c.if-not-has_temporary.false) lasting.was_open)
+
+pub read-requires-clause-empty : goal.read-requires-clause-empty
+read-requires-clause-empty g c clean =
+    let early : HasCleanDisk (state g.S.Store c.args.conn.now) = omega (arith, c.load_explicit.ensures.frame.survives.clean) in
+    ap (λ (o : OutlineValue). o.temporary) (c.in_ok-load_explicit.ensures.taken clean c.if-not-branch.false) ∙ c.requires.temporary early
+
+pub returns-then-not-branch-clause-told : goal.returns-then-not-branch-clause-told
+returns-then-not-branch-clause-told g c clean =
+    all_unsound c.args.outline.now.objects (contents_of (state g.S.Store c.args.conn.now).now) c.in_ok-load_explicit.field-0 c.if-not-branch.true (c.in_ok-load_explicit.ensures.told clean)
+
+pub returns-then-not-has_temporary-clause-told : goal.returns-then-not-has_temporary-clause-told
+returns-then-not-has_temporary-clause-told g c clean =
+    let early : HasCleanDisk (state g.S.Store c.args.conn.now) = omega (arith, c.load_explicit.ensures.frame.survives.clean) in
+    let none = c.requires.no_table early (sym c.has_temporary.ensures ∙ c.if-not-has_temporary.true) (c.in_ok-load_explicit.ensures.unchanged clean).0.was_open in
+    all_lasting c.args.outline.now.objects (contents_of (state g.S.Store c.args.conn.now).now) c.in_ok-load_explicit.field-0 c.if-not-branch.false none (c.in_ok-load_explicit.ensures.told clean)
+
+pub returns-then-not-has_temporary-clause-taken : goal.returns-then-not-has_temporary-clause-taken
+returns-then-not-has_temporary-clause-taken g c clean ok =
+    let early : HasCleanDisk (state g.S.Store c.args.conn.now) = omega (arith, c.load_explicit.ensures.frame.survives.clean) in
+    let x = contents_of (state g.S.Store c.args.conn.now).now in
+    let old : OutlineValue = c.args.outline.now in
+    let none = c.requires.no_table early (sym c.has_temporary.ensures ∙ c.if-not-has_temporary.true) (c.in_ok-load_explicit.ensures.unchanged clean).0.was_open in
+    c.in_ok-load_explicit.ensures.taken clean c.if-not-branch.false
+    ∙ ap (λ t. record (with_explicit old x) { temporary = t }) (c.requires.temporary early ∙ sym (none_kept x none))
+
+pub returns-clause-told : goal.returns-clause-told
+returns-clause-told g c clean =
+    let a = state g.S.Store c.args.conn.now in
+    let b = state g.S.Store c.load_explicit.new.conn in
+    let middle : HasCleanDisk b = omega (arith, c.read.ensures.frame.survives.clean) in
+    let same = (c.in_ok-load_explicit.ensures.unchanged middle).0.now_is in
+    let outline = c.in_ok-load_explicit.ensures.taken middle c.if-not-branch.false in
+    sessions_told c.args.outline.now.objects (contents_of a.now) c.read.result c.in_ok-load_explicit.field-0 c.if-not-branch.false (c.in_ok-load_explicit.ensures.told middle) _
+    (λ i. are_temporary (outline i).objects (contents_of (same i))) (c.read.ensures.told clean)
+
+pub returns-clause-taken : goal.returns-clause-taken
+returns-clause-taken g c clean =
+    let a = state g.S.Store c.args.conn.now in
+    let b = state g.S.Store c.load_explicit.new.conn in
+    let middle : HasCleanDisk b = omega (arith, c.read.ensures.frame.survives.clean) in
+    let same = (c.in_ok-load_explicit.ensures.unchanged middle).0.now_is in
+    let outline = c.in_ok-load_explicit.ensures.taken middle c.if-not-branch.false in
+    taken_next c.read.result c.read.new.outline _ _ (λ i. record (outline i) { temporary = (world_in (contents_of (same i))).temporary }) (c.read.ensures.taken clean)
+
+pub returns-clause-unchanged : goal.returns-clause-unchanged
+returns-clause-unchanged g c clean =
+    let a = state g.S.Store c.args.conn.now in
+    let b = state g.S.Store c.load_explicit.new.conn in
+    let middle : HasCleanDisk b = omega (arith, c.read.ensures.frame.survives.clean) in
+    unchanged_next c.read.result a b (state g.S.Store c.read.new.conn) (c.in_ok-load_explicit.ensures.unchanged middle) (c.read.ensures.unchanged clean)
+
+pub returns-clause-frame : goal.returns-clause-frame
+returns-clause-frame g c = left_then _ _ _ c.load_explicit.ensures.frame c.read.ensures.frame

@@ -1,0 +1,60 @@
+-- What a command line does with a store: it asks it something, or serves it.
+use Rattle.std.specs.Prelude.{◌⊎◌, Bool, true, Option, Some, None, option_map}
+use Rattle.clap.specs.Walk.{Text}
+use Rattle.sqlite_trees.specs.declared.store.Store.{Ghosts}
+use Rattle.model.specs.World.{World, no_world}
+use Rattle.model.specs.Reply.{Failure as Lack, failed}
+use Rattle.policy.specs.Settings.{Settings}
+use Rattle.policy.specs.Caller.{Caller}
+use Rattle.tables.specs.Kept.{Kept}
+use Rattle.report.specs.Outputs.{Console}
+use Rattle.wire.specs.Answers as message
+use Rattle.wire.specs.Worlds.{AnswersFrom}
+use Rattle.tool_pure.specs.Printing.{IsPrinted}
+use Rattle.tool_words.specs.Asked.{asked_view}
+use Rattle.tool_words.specs.declared.line.ServeArguments.{ServeArguments}
+use Rattle.tool.specs.declared.work.Work.{Work}
+use Rattle.tool.specs.declared.work.Work.TheVariants as work
+use Rattle.tool.specs.Calls.{AnswersIn, AnswersStep, Serves}
+use Rattle.tool.specs.Requests.{Ask, asks, reads_all}
+use Rattle.tool.specs.Serving.{ServesBy}
+
+-- what is done with a store
+pub data OnStore : Type 0 where
+  -- a caller asks something of it
+  calls : Caller → Ask → OnStore
+  -- it is served over HTTP
+  serves : ServeArguments → OnStore
+
+-- the work of the code, seen so; none where the subcommand asks nothing of a store
+abbrev pub work_view : Work → Option OnStore
+work_view (work.Call c t) = option_map (calls c.now) (asks (asked_view t.now))
+work_view (work.Serve a) = Some (serves a)
+
+-- whether the input may be read to its end for it, however long it is
+abbrev pub reads_whole : Work → Bool
+reads_whole (work.Call c t) = reads_all (asked_view t.now)
+reads_whole (work.Serve a) = true
+
+-- it is done over tables
+abbrev pub DoesOver : {S : Type 0} → Ghosts S → Settings → Kept S → OnStore → Console → Type 0
+DoesOver g s t (calls c ask) console = AnswersIn (Serves g s t c console.written) ask s.store_dir c console.input console.written
+DoesOver g s t (serves a) console = ServesBy (message.Answers g) a console (record { tables = t; settings = s })
+
+-- it is done in a world
+abbrev pub DoesIn : Settings → World → OnStore → Console → Type 0
+DoesIn s w (calls c ask) console = AnswersIn (AnswersStep s w c console.written) ask s.store_dir c console.input console.written
+DoesIn s w (serves a) console = ServesBy (AnswersFrom s) a console w
+
+-- how it is done with some store, under settings
+abbrev pub Doing : Type 1
+Doing = Settings → OnStore → Console → Type 0
+
+-- in a store in memory there is nothing yet; or there was no store to be had
+abbrev pub DoesNew : Doing
+DoesNew s d console = DoesIn s no_world d console ⊎ ((f : Lack) × IsPrinted s.store_dir (failed f) console.written)
+
+-- it is done with the store of the file, if one is named, and else with one in memory
+unfoldable pub DoesWith : Doing → Option Text → Doing
+DoesWith of_file None s d console = DoesNew s d console
+DoesWith of_file (Some file) s d console = of_file s d console

@@ -1,0 +1,17 @@
+use Rattle.std.proofs.Common.{◌≡◌, sym, subst, ap, ◌∙◌}
+use Rattle.wire_server.specs.Responses.{replied}
+use Rattle.wire.specs.Courses.{refuses, admits, admission_of}
+use Rattle.wire.proofs.Asked.{refused_by_head}
+use Rattle.wire.proofs.server.ServerResponderStore.begin.Goals as goal
+
+pub returns-in-Admitted : goal.returns-in-Admitted
+returns-in-Admitted g c = λ h is.
+    let head = rw c.in-Admitted.is at c.in_ok-caller.ensures in
+    let it = subst (λ s. admits c.in-Admitted.caller c.in-Admitted.kind ≡ admission_of s h) c.config.ensures (head h is) in
+    (sym it, c.body_for-body.ensures)
+
+pub returns-in-Refused : goal.returns-in-Refused
+returns-in-Refused g c = λ h is.
+    let head = rw c.in-Refused.is at c.in_ok-caller.ensures in
+    let it = subst (λ s. refuses (replied c.in-Refused.response) ≡ admission_of s h) c.config.ensures (head h is) in
+    refused_by_head g.S.Store c.args.store.now h (replied c.in-Refused.response) it

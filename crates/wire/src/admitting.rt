@@ -1,0 +1,113 @@
+//! The tests of the head of a message, in their order.
+ghost use Rattle.std.specs.Prelude.{◌≡◌, IfOk, Some, option_map};
+ghost use Rattle.httparse.specs.Grammar.{RequestHead};
+ghost use Rattle.wire_messages.specs.Heads.{Holds};
+ghost use Rattle.wire_requests.specs.Methods.{kind_of};
+ghost use Rattle.wire_requests.specs.Table.{requests_of};
+ghost use Rattle.wire_server.specs.Responses.{refused};
+ghost use Rattle.wire.specs.Courses.{refuses, denied, by_method, by_route, by_caller, admission_of, admission_view};
+
+use crate::admission::Admission;
+use crate::parts::{method_of, target_of};
+use http::StatusCode;
+use paths::StoreDir;
+use policy::{Caller, CallerError, Config, Op, Rule, class, decide, store_dir};
+use report::{Refusal, denial_line};
+use std::alloc::{AllocError, Global};
+use wire_messages::{Head, read_caller};
+use wire_requests::{Requests, Routes};
+use wire_server::Response;
+
+/// A refusal, with the methods of the route where it refuses another.
+fn refuse(
+    alloc: Global,
+    refusal: Refusal,
+    allow: Option<&'static str>,
+) -> Result<Admission, AllocError>
+    ensures { IfOk result (λ it. admission_view it ≡ refuses (refused refusal (option_map (λ methods. methods.now) allow.entry))) }
+{
+    Ok(Admission::Refused(Response::refused(alloc, refusal, allow)?))
+}
+
+/// A caller whom a rule forbids to connect.
+fn deny(alloc: Global, dir: &StoreDir, rule: Rule) -> Result<Admission, AllocError>
+    ensures { IfOk result (λ it. admission_view it ≡ refuses (denied dir.now rule)) }
+{
+    let line = denial_line(alloc, dir, rule, None)?;
+    let response = Response::plain(alloc, StatusCode::FORBIDDEN, line.as_str())?;
+    Ok(Admission::Refused(response))
+}
+
+/// The method, on a route.
+fn on_method(
+    alloc: Global,
+    caller: Caller,
+    route: Requests,
+    method: &[u8],
+) -> Result<Admission, AllocError>
+    ensures { IfOk result (λ it. admission_view it ≡ by_method caller route (kind_of route method.now)) }
+{
+    match route.kind(alloc, method) {
+        Some(kind) => Ok(Admission::Admitted(caller, kind)),
+        None => refuse(alloc, Refusal::BadMethod, Some(route.allow())),
+    }
+}
+
+/// The route, and the method.
+fn on_route(
+    alloc: Global,
+    routes: &Routes,
+    caller: Caller,
+    method: &[u8],
+    target: &str,
+) -> Result<Admission, AllocError>
+    ensures { IfOk result (λ it. admission_view it ≡ by_route caller method.now (requests_of target.now)) }
+{
+    match routes.find(target) {
+        Some(route) => on_method(alloc, caller, route, method),
+        None => refuse(alloc, Refusal::NoRoute, None),
+    }
+}
+
+/// The rule `Connect`, the route, and the method.
+fn on_caller(
+    alloc: Global,
+    routes: &Routes,
+    config: &Config,
+    caller: Caller,
+    method: &[u8],
+    target: &str,
+) -> Result<Admission, AllocError>
+    ensures { IfOk result (λ it. admission_view it ≡ by_caller config.now method.now target.now (Some caller)) }
+{
+    match decide(class(config, &caller), &caller, &Op::Plain) {
+        Some(rule) => deny(alloc, store_dir(config), rule),
+        None => on_route(alloc, routes, caller, method, target),
+    }
+}
+
+/// What the head of a message decides, which is held.
+///
+/// # Errors
+///
+/// Memory was refused.
+pub(crate) fn admit(
+    alloc: Global,
+    routes: &Routes,
+    config: &Config,
+    held: &[u8],
+    head: &Head,
+) -> Result<Admission, AllocError>
+    requires { (h : RequestHead) × Holds held.now head.now h }
+    ensures { (h : RequestHead) → Holds held.now head.now h → IfOk result (λ it. admission_view it ≡ admission_of config.now h) }
+{
+    match read_caller(alloc, held, head) {
+        Ok(caller) => {
+            let method = method_of(held, head);
+            let target = target_of(held, head);
+            on_caller(alloc, routes, config, caller, method, target)
+        }
+        Err(CallerError::BadCaller) => refuse(alloc, Refusal::BadCaller, None),
+        Err(CallerError::Memory) => Err(AllocError),
+    }
+}

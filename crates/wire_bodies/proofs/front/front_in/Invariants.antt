@@ -1,6 +1,0 @@
-use Rattle.std.proofs.Common.{take, drop}
-use Rattle.wire_bodies.proofs.Fronts.{Reached}
-use Rattle.wire_bodies.proofs.front.front_in.Given as goal
-
-abbrev pub invariant-loop-i : goal.invariant-loop-i
-invariant-loop-i l = Reached l.fn.place l.piece l.behind (take l.i l.piece) (drop l.i l.piece)

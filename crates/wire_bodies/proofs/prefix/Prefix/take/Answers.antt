@@ -1,0 +1,27 @@
+use Rattle.std.proofs.Common.{◌≡◌, ◌++◌, ap, sym, ◌∙◌, subst}
+use Rattle.std.proofs.lemmas.List.{take_rest}
+use Rattle.wire_bodies.specs.Prefix.{prefix_from, prefix_of, rest_of, IsPrefix}
+use Rattle.wire_bodies.proofs.Fronts.{front_more, rest_more, is_front_more}
+use Rattle.wire_bodies.proofs.prefix.Prefix.take.Goals as goal
+
+pub invariant_of-self-2 : goal.invariant_of-self-2
+invariant_of-self-2 c =
+    let old = c.self.inside in
+    let new : c.extend_from_slice.new.self.items ≡ old.bytes.items ++ prefix_from old.place c.args.piece.now =
+    c.in_ok-extend_from_slice.ensures.items ∙ ap (λ t. old.bytes.items ++ t) c.prefix_in-count.ensures.front in
+    subst (λ t. IsPrefix t c.prefix_in-count.result.1) (sym new)
+    (subst (λ p. IsPrefix (old.bytes.items ++ prefix_from old.place c.args.piece.now) p) (sym c.prefix_in-count.ensures.behind)
+    (is_front_more old.bytes.items c.args.piece.now old.place c.self.invariant))
+
+pub returns-clause-front : goal.returns-clause-front
+returns-clause-front c =
+    let old = c.self.inside in
+    let new : c.extend_from_slice.new.self.items ≡ old.bytes.items ++ prefix_from old.place c.args.piece.now =
+    c.in_ok-extend_from_slice.ensures.items ∙ ap (λ t. old.bytes.items ++ t) c.prefix_in-count.ensures.front in
+    new ∙ front_more old.bytes.items c.args.piece.now old.place c.self.invariant ∙ ap (λ t. prefix_of (t ++ c.args.piece.now)) c.self.view_is
+
+pub returns-clause-rest : goal.returns-clause-rest
+returns-clause-rest c =
+    let old = c.self.inside in
+    take_rest c.args.piece.now c.prefix_in-count.result.0 ∙ c.prefix_in-count.ensures.rest
+    ∙ rest_more old.bytes.items c.args.piece.now old.place c.self.invariant ∙ ap (λ t. rest_of (t ++ c.args.piece.now)) c.self.view_is

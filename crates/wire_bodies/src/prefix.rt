@@ -1,0 +1,113 @@
+//! The lines before the payload of a body that comes in pieces.
+ghost use Rattle.std.specs.Prelude.{◌≡◌, ◌++◌, ◌≤◌, [], IfOk, OnErr, length, take, drop};
+ghost use Rattle.wire_bodies.specs.Prefix.{next, place_after, prefix_from, rest_from, prefix_of, rest_of};
+
+use std::alloc::{AllocError, Global};
+use std::marker::Model;
+
+/// Where in a body the next byte is.
+#[derive(Clone, Copy)]
+enum Place {
+    /// At the beginning of a line.
+    BeginsLine,
+    /// In a line that has begun.
+    WithinLine,
+    /// After the empty line: it is payload.
+    AfterPrefix,
+}
+
+/// The beginning of a body that comes in pieces, however they are cut: its lines up to and with the first empty one. What
+/// follows is its payload. Contracts see the bytes of these lines that have come.
+#[derive(Drop)]
+pub struct Prefix {
+    bytes: Vec<u8>,
+    place: Place,
+}
+
+impl Model for Prefix {
+    ghost use Rattle.std.specs.Prelude.{List, ℕ};
+    ghost use Rattle.wire_bodies.specs.Prefix.{IsPrefix};
+
+    ghost Value = { List ℕ };
+
+    ghost view = { λ front. front.bytes.items };
+
+    ghost invariant = { λ front. IsPrefix front.bytes.items front.place };
+}
+
+/// The place after one more byte.
+fn place_after(place: Place, byte: u8) -> Place
+    ensures { result ≡ next place byte }
+{
+    match place {
+        Place::BeginsLine => {
+            if byte == b'\n' {
+                Place::AfterPrefix
+            } else {
+                Place::WithinLine
+            }
+        }
+        Place::WithinLine => {
+            if byte == b'\n' {
+                Place::BeginsLine
+            } else {
+                Place::WithinLine
+            }
+        }
+        Place::AfterPrefix => Place::AfterPrefix,
+    }
+}
+
+/// How many bytes of a piece, whose place is given, belong to these lines, and the place after them.
+fn prefix_in(place: Place, piece: &[u8]) -> (usize, Place)
+    ensures within { result.0 ≤ length piece.now }
+    ensures front { take result.0 piece.now ≡ prefix_from place piece.now }
+    ensures rest { drop result.0 piece.now ≡ rest_from place piece.now }
+    ensures behind { result.1 ≡ place_after place piece.now }
+{
+    let mut behind = place;
+    for (i, byte) in piece.iter().enumerate() {
+        if let Place::AfterPrefix = behind {
+            return (i, behind);
+        }
+        behind = place_after(behind, *byte);
+    }
+    (piece.len(), behind)
+}
+
+impl Prefix {
+    /// No bytes yet. It takes no memory.
+    pub fn new(alloc: Global) -> Prefix
+        ensures { result ≡ [] }
+    {
+        Prefix {
+            bytes: Vec::new(alloc),
+            place: Place::BeginsLine,
+        }
+    }
+
+    /// Takes what of the next piece belongs to these lines, and returns the rest of it, which is payload. It looks at
+    /// no byte after them.
+    ///
+    /// # Errors
+    ///
+    /// Memory was refused. The lines are then as before.
+    pub fn take<'a>(&mut self, piece: &'a [u8]) -> Result<&'a [u8], AllocError>
+        ensures front { IfOk result (λ rest. self.new ≡ prefix_of (self.old ++ piece.now)) }
+        ensures rest { IfOk result (λ rest. rest.now ≡ rest_of (self.old ++ piece.now)) }
+        ensures refused { OnErr result (self.new ≡ self.old) }
+    {
+        let (count, place) = prefix_in(self.place, piece);
+        self.bytes.extend_from_slice(&piece[..count])?;
+        self.place = place;
+        Ok(&piece[count..])
+    }
+
+    /// The bytes of the lines that have come.
+    pub fn bytes(&self) -> &[u8]
+        ensures now { result.now ≡ self.now }
+        ensures front { prefix_of self.now ≡ self.now }
+    {
+        &self.bytes
+    }
+}

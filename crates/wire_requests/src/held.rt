@@ -1,0 +1,56 @@
+//! A body in one buffer, as it comes.
+ghost use Rattle.std.specs.Prelude.{◌≡◌, ◌++◌, [], OnOk};
+
+use std::alloc::{AllocError, Global};
+use std::marker::Model;
+
+/// The bytes of a body whose length is known: room for all of them is made when the first come, and then the buffer doesn't grow.
+/// Contracts see the bytes.
+#[derive(Drop)]
+pub(crate) struct Held {
+    bytes: Vec<u8>,
+    size: usize,
+}
+
+impl Model for Held {
+    ghost use Rattle.std.specs.Prelude.{List, ℕ};
+
+    ghost Value = { List ℕ };
+
+    ghost view = { λ held. held.bytes.items };
+}
+
+impl Held {
+    /// No bytes yet, of a body of this length. It takes no memory.
+    pub(crate) fn new(alloc: Global, size: usize) -> Held
+        ensures { result ≡ [] }
+    {
+        Held {
+            bytes: Vec::new(alloc),
+            size,
+        }
+    }
+
+    /// Takes the next piece.
+    pub(crate) fn push(&mut self, piece: &[u8]) -> Result<(), AllocError>
+        ensures { OnOk result (self.new ≡ self.old ++ piece.now) }
+    {
+        let missing = self.size.saturating_sub(self.bytes.len());
+        self.bytes.reserve_exact(missing.max(piece.len()))?;
+        self.bytes.extend_from_slice(piece)
+    }
+
+    /// What has come.
+    pub(crate) fn bytes(&self) -> &[u8]
+        ensures { result.now ≡ self.now }
+    {
+        &self.bytes
+    }
+
+    /// What has come, as its own.
+    pub(crate) fn into_bytes(self) -> Vec<u8>
+        ensures { result.items ≡ self }
+    {
+        self.bytes
+    }
+}
