@@ -7,9 +7,8 @@ use Rattle.std.specs.Ordering.{eq_by_cmp, is_eq, nat_cmp, int_cmp, ordering_then
 use Rattle.std.specs.Cmp.{IsTotalOrder, nat_cmp_total, int_cmp_total, tied_itself}
 use Rattle.std.specs.FinMap as finite
 use Rattle.std.proofs.lemmas.Bool.{false≢true}
-use Rattle.tables_sql.specs.declared.profiles.Profile.{Profile as ProfileRow}
 use Rattle.tables_sql.specs.declared.generations.Generation.{Generation}
-use Rattle.tables_sql.specs.Entries.{current_of, generation_in}
+use Rattle.tables_sql.specs.Entries.{generation_in}
 use Rattle.tables_sql.specs.Contents.{Contents, Triple, triple_cmp}
 use Rattle.tables_sql.proofs.Orders.{triple_total, triple_antisymmetric}
 use Rattle.paths.specs.Root.{bytes_cmp}
@@ -23,25 +22,15 @@ use Rattle.tables_outline.specs.Filling.{with_number, with_found, with_generatio
 use Rattle.tables_outline.proofs.Orders.{nat_antisymmetric, pair_total, pair_antisymmetric}
 use Rattle.tables_outline.proofs.Puts.{tied_is, option_same}
 use Rattle.tables_outline.proofs.Told.{told, told_insert, get-told}
-use Rattle.tables_roots.specs.Loaded.{all_pass, all_put, Objects, is_target, is_number, is_profile, is_generation, bare, bare_profiles}
+use Rattle.tables_roots.specs.Loaded.{all_pass, all_put, LoadAs, Objects, is_target, is_number, is_generation, bare, bare_profiles}
 use Rattle.tables_roots.proofs.PutAll.{all_put_again}
 use Rattle.tables_roots.proofs.EachEntry.{all_true, each_key}
-use Rattle.tables_roots.proofs.Rows.{pass_each, pass_so}
+use Rattle.tables_roots.proofs.Rows.{pass_so}
 
 -- ---- profiles
 
-abbrev pub put_profile : ProfileRow → OutlineValue → OutlineValue
-put_profile r o = record o { profiles = finite.insert o.profiles (string_bytes r.owner, string_bytes r.name) (bare r.current) }
-
 abbrev pub bare_of : Pair × ℤ → Pair × Profile
 bare_of e = (e.0, bare e.1)
-
-pub profile_pass : (xs : List ProfileRow) (o : OutlineValue) → all_pass (λ r (p : OutlineValue). is_profile (current_of r)) put_profile xs o ≡ list_all is_profile (map current_of xs)
-profile_pass = pass_each current_of (λ (objects : Objects) e. is_profile e) put_profile (λ x o. refl)
-
-pub profile_put : (xs : List ProfileRow) (o : OutlineValue) → all_put put_profile xs o ≡ record o { profiles = put_all (map bare_of (map current_of xs)) o.profiles }
-profile_put [] o = refl
-profile_put (x ∷ xs) o = profile_put xs (put_profile x o)
 
 module _ {K X Y : Type 0} {R : K → K → Ordering} (o : IsTotalOrder R) (alike : finite.IsAntisymmetric R) (f : K → X → Y) where
   told_each : (es : List (K × X)) (m : finite.FinMap R X) → put_all (map (λ e. (e.0, f e.0 e.1)) es) (told o alike f m) ≡ told o alike f (put_all es m)
@@ -240,10 +229,13 @@ beside_bare objects m [] = refl
 beside_bare objects m (e ∷ es) = ap₂ (λ a b. (is_number e.0.2 && (is_target objects e.1 && a)) && b) (bare_has m (e.0.0, e.0.1)) (beside_bare objects m es)
 
 module _ (xs : List Generation) (o : OutlineValue) (c : Contents) (reads : map generation_in xs ≡ finite.entries c.generations) (profiles : o.profiles ≡ bare_profiles c.profiles) where
-  pub generations_told : all_pass (λ r (p : OutlineValue). is_generation p.objects p.profiles (generation_in r)) put_generation xs o ≡ list_all (is_generation o.objects c.profiles) (finite.entries c.generations)
+  generations_told : all_pass (λ r (p : OutlineValue). is_generation p.objects p.profiles (generation_in r)) put_generation xs o ≡ list_all (is_generation o.objects c.profiles) (finite.entries c.generations)
   generations_told =
       generation_pass xs o ∙ ap₂ (λ (m : finite.FinMap pair_cmp Profile) es. list_all (is_generation o.objects m) es) profiles reads
       ∙ beside_bare o.objects c.profiles (finite.entries c.generations)
 
-  pub generations_taken : list_all (is_generation o.objects c.profiles) (finite.entries c.generations) ≡ true → all_put put_generation xs o ≡ record o { profiles = (world_in c).profiles }
-  generations_taken sound = generation_put xs o ∙ ap (λ m. record o { profiles = m }) (ap₂ with_all reads profiles ∙ profiles_filled o.objects c sound)
+  pub load_generations : LoadAs (λ r (p : OutlineValue). is_generation p.objects p.profiles (generation_in r)) put_generation xs o (list_all (is_generation o.objects c.profiles) (finite.entries c.generations)) (record o { profiles = (world_in c).profiles })
+  load_generations = record {
+    told = generations_told;
+    taken = λ sound. generation_put xs o ∙ ap (λ m. record o { profiles = m }) (ap₂ with_all reads profiles ∙ profiles_filled o.objects c sound);
+  }

@@ -1,14 +1,13 @@
 -- Rows that are tested and put into the outline one after another.
-use Rattle.std.proofs.Common.{◌≡◌, List, [], ◌∷◌, map, Bool, ◌&&◌, refl, ap, ap₂, ◌∙◌, string_bytes}
+use Rattle.std.proofs.Common.{◌≡◌, List, [], ◌∷◌, map, Bool, ◌&&◌, Result, Ok, Err, IfOk, refl, sym, ap, ap₂, ◌∙◌}
 use Rattle.std.specs.List.{list_all}
+use Rattle.std.specs.declared.cmp.Ordering.{Ordering}
+use Rattle.std.specs.Cmp.{IsTotalOrder}
 use Rattle.std.specs.FinMap as finite
-use Rattle.tables_sql.specs.declared.permanent.PermanentRoot.{PermanentRoot}
-use Rattle.tables_sql.specs.declared.user_roots.UserRoot.{UserRoot}
-use Rattle.tables_sql.specs.declared.runtime.RuntimeRoot.{RuntimeRoot}
-use Rattle.tables_sql.specs.Entries.{permanent_of, user_root_of, runtime_of}
 use Rattle.tables_outline.specs.Maps.{put_all}
 use Rattle.tables_outline.specs.Outline.{OutlineValue}
-use Rattle.tables_roots.specs.Loaded.{all_pass, all_put, Objects, is_permanent_root, is_user_root, is_runtime_root}
+use Rattle.tables_roots.specs.Loaded.{all_pass, all_put, LoadAs, Objects}
+use Rattle.tables_roots.proofs.PutAll.{all_put_again}
 
 -- rows that leave the objects as they are
 module _ {X E : Type 0} (entry : X → E) (test : Objects → E → Bool) (put : X → OutlineValue → OutlineValue) (keeps : (x : X) (o : OutlineValue) → (put x o).objects ≡ o.objects) where
@@ -26,32 +25,42 @@ module _ {X E : Type 0} (entry : X → E) (test : OutlineValue → E → Bool) (
   pass_so [] o = refl
   pass_so (x ∷ xs) o = ap (λ b. test o (entry x) && b) (pass_so xs (put x o) ∙ alike x o (map entry xs))
 
-abbrev pub put_permanent : PermanentRoot → OutlineValue → OutlineValue
-put_permanent r o = record o { permanent = finite.insert o.permanent (string_bytes r.name) (string_bytes r.target) }
+-- a part of an outline beside its objects, and how it is replaced
+pub record IsPart {M : Type 0} (part : OutlineValue → M) (with_part : M → OutlineValue → OutlineValue) : Type 0 where
+  pub objects : (m : M) (o : OutlineValue) → (with_part m o).objects ≡ o.objects
+  pub read_back : (m : M) (o : OutlineValue) → part (with_part m o) ≡ m
+  pub last : (m n : M) (o : OutlineValue) → with_part n (with_part m o) ≡ with_part n o
+  pub same : (o : OutlineValue) → with_part (part o) o ≡ o
 
-pub permanent_pass : (xs : List PermanentRoot) (o : OutlineValue) → all_pass (λ r (p : OutlineValue). is_permanent_root p.objects (permanent_of r)) put_permanent xs o ≡ list_all (is_permanent_root o.objects) (map permanent_of xs)
-permanent_pass = pass_each permanent_of is_permanent_root put_permanent (λ x o. refl)
+-- rows of which each is one entry of such a part
+module _ {X E K V : Type 0} {R : K → K → Ordering} (entry : X → E) (test : Objects → E → Bool) (seen : E → K × V) (part : OutlineValue → finite.FinMap R V) (with_part : finite.FinMap R V → OutlineValue → OutlineValue) (is : IsPart part with_part) where
+  abbrev put_entry : X → OutlineValue → OutlineValue
+  put_entry x o = with_part (finite.insert (part o) (seen (entry x)).0 (seen (entry x)).1) o
 
-pub permanent_put : (xs : List PermanentRoot) (o : OutlineValue) → all_put put_permanent xs o ≡ record o { permanent = put_all (map permanent_of xs) o.permanent }
-permanent_put [] o = refl
-permanent_put (x ∷ xs) o = permanent_put xs (put_permanent x o)
+  put_each : (xs : List X) (o : OutlineValue) → all_put put_entry xs o ≡ with_part (put_all (map seen (map entry xs)) (part o)) o
+  put_each [] o = sym (is.same o)
+  put_each (x ∷ xs) o =
+      let m = finite.insert (part o) (seen (entry x)).0 (seen (entry x)).1 in
+      put_each xs (put_entry x o) ∙ ap (λ n. with_part (put_all (map seen (map entry xs)) n) (put_entry x o)) (is.read_back m o)
+      ∙ is.last m (put_all (map seen (map entry xs)) m) o
 
-abbrev pub put_user_root : UserRoot → OutlineValue → OutlineValue
-put_user_root r o = record o { user_roots = finite.insert o.user_roots (string_bytes r.owner, string_bytes r.name) (string_bytes r.target) }
+  -- they are put into a part that is empty, and make one of which they are all entries
+  pub load_entries : (m : finite.FinMap R V) (es : List E) → put_all (map seen es) finite.empty ≡ m → (xs : List X) → map entry xs ≡ es → (o : OutlineValue) → part o ≡ finite.empty
+      → LoadAs (λ x (p : OutlineValue). test p.objects (entry x)) put_entry xs o (list_all (test o.objects) es) (with_part m o)
+  load_entries m es makes xs listed o none = record {
+    told = pass_each entry test put_entry (λ x p. is.objects _ p) xs o ∙ ap (list_all (test o.objects)) listed;
+    taken = λ sound. put_each xs o ∙ ap₂ (λ l n. with_part (put_all (map seen l) n) o) listed none ∙ ap (λ n. with_part n o) makes;
+  }
 
-pub user_pass : (xs : List UserRoot) (o : OutlineValue) → all_pass (λ r (p : OutlineValue). is_user_root p.objects (user_root_of r)) put_user_root xs o ≡ list_all (is_user_root o.objects) (map user_root_of xs)
-user_pass = pass_each user_root_of is_user_root put_user_root (λ x o. refl)
+-- entries as they are
+map_same : {E : Type 0} (es : List E) → map (λ e. e) es ≡ es
+map_same [] = refl
+map_same (e ∷ es) = ap (λ l. e ∷ l) (map_same es)
 
-pub user_put : (xs : List UserRoot) (o : OutlineValue) → all_put put_user_root xs o ≡ record o { user_roots = put_all (map user_root_of xs) o.user_roots }
-user_put [] o = refl
-user_put (x ∷ xs) o = user_put xs (put_user_root x o)
+pub entries_again : {K V : Type 0} {R : K → K → Ordering} → IsTotalOrder R → finite.IsAntisymmetric R → (m : finite.FinMap R V) → put_all (map (λ e. e) (finite.entries m)) finite.empty ≡ m
+entries_again total alike m = ap (λ es. put_all es finite.empty) (map_same (finite.entries m)) ∙ all_put_again total alike m
 
-abbrev pub put_runtime : RuntimeRoot → OutlineValue → OutlineValue
-put_runtime r o = record o { runtime = finite.insert o.runtime (string_bytes r.label, string_bytes r.target) tt }
-
-pub runtime_pass : (xs : List RuntimeRoot) (o : OutlineValue) → all_pass (λ r (p : OutlineValue). is_runtime_root p.objects (runtime_of r)) put_runtime xs o ≡ list_all (is_runtime_root o.objects) (map runtime_of xs)
-runtime_pass = pass_each runtime_of is_runtime_root put_runtime (λ x o. refl)
-
-pub runtime_put : (xs : List RuntimeRoot) (o : OutlineValue) → all_put put_runtime xs o ≡ record o { runtime = put_all (map runtime_of xs) o.runtime }
-runtime_put [] o = refl
-runtime_put (x ∷ xs) o = runtime_put xs (put_runtime x o)
+-- what is read is one thing, and so another
+pub reads_so : {T E : Type 0} (r : Result T E) (U : Type 0) (P Q : T → Type 0) → IfOk r (λ x. U × P x) → ((x : T) → P x → Q x) → IfOk r (λ x. U × Q x)
+reads_so (Ok x) U P Q h so = (h.0, so x h.1)
+reads_so (Err e) U P Q h so = tt

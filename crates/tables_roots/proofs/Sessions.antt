@@ -1,15 +1,12 @@
 -- Temporary roots that are put into the outline one after another, and what is tested of them.
 use Rattle.std.proofs.Common.{◌≡◌, ℤ, pos, negsuc, List, [], ◌∷◌, map, Bool, true, false, cond, Some, None, Option, is_some, refl, sym, ap, ◌∙◌, IsTrue}
 use Rattle.std.specs.Prelude.{◌↔◌, ℕ}
-use Rattle.std.specs.List.{list_all}
 use Rattle.std.specs.declared.cmp.Ordering.{Ordering}
 use Rattle.std.specs.Ordering.{eq_by_cmp}
 use Rattle.std.specs.Cmp.{IsTotalOrder}
 use Rattle.std.specs.FinMap as finite
 use Rattle.std.specs.FinMap.Entries.{find as find_entry}
 use Rattle.std.proofs.lemmas.Bool.{false≢true}
-use Rattle.tables_sql.specs.declared.temp_roots.TempRoot.{TempRoot}
-use Rattle.tables_sql.specs.Entries.{temp_root_of}
 use Rattle.tables_sql.specs.Contents.{Contents, Kept, kept_cmp}
 use Rattle.tables_sql.proofs.Orders.{kept_total, kept_antisymmetric}
 use Rattle.paths.specs.Names.{is_plain_name}
@@ -20,26 +17,14 @@ use Rattle.tables_world.specs.Worlds.{rows_of, world_in}
 use Rattle.tables_world.specs.Parts.{IsSoundSession}
 use Rattle.model.proofs.Empty.{no_entries, no_key}
 use Rattle.tables_outline.specs.Maps.{put_all}
-use Rattle.tables_outline.specs.Outline.{OutlineValue}
 use Rattle.tables_outline.proofs.Orders.{temporary_total, temporary_antisymmetric}
-use Rattle.tables_roots.specs.Loaded.{all_pass, all_put, Objects, is_session_number, is_temporary_root, are_temporary, AreObjects}
+use Rattle.tables_roots.specs.Loaded.{Objects, is_session_number, is_temporary_root, are_temporary, AreObjects}
 use Rattle.tables_roots.proofs.EachEntry.{tested_entries}
-use Rattle.tables_roots.proofs.Rows.{pass_each}
 use Rattle.tables_roots.proofs.SoundRoots.{first_true, second_true, both_true, some_key, from_target, to_target}
-
-abbrev pub put_temporary : TempRoot → OutlineValue → OutlineValue
-put_temporary r o = record o { temporary = finite.insert o.temporary (temporary_in (temp_root_of r).0) tt }
-
-pub temporary_pass : (xs : List TempRoot) (o : OutlineValue) → all_pass (λ r (p : OutlineValue). is_temporary_root p.objects (temp_root_of r)) put_temporary xs o ≡ list_all (is_temporary_root o.objects) (map temp_root_of xs)
-temporary_pass = pass_each temp_root_of is_temporary_root put_temporary (λ x o. refl)
 
 -- what a row makes a member of
 abbrev pub member : Kept × Unit {0} → Temporary × Unit {0}
 member e = (temporary_in e.0, tt)
-
-pub temporary_put : (xs : List TempRoot) (o : OutlineValue) → all_put put_temporary xs o ≡ record o { temporary = put_all (map member (map temp_root_of xs)) o.temporary }
-temporary_put [] o = refl
-temporary_put (x ∷ xs) o = temporary_put xs (put_temporary x o)
 
 -- ---- members that are put one after another make the set of all
 

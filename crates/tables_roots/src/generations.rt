@@ -1,19 +1,7 @@
 //! Generations of profiles.
-#![tactic(auto, using(tables_sql::proofs::TestFailures::read_passed, tables_sql::proofs::TestFailures::memory_passed))]
 
-ghost use Rattle.std.specs.Prelude.{◌≡◌, IsTrue, IfOk, OnOk};
-ghost use Rattle.std.specs.List.{list_all};
-ghost use Rattle.std.specs.FinMap as finite;
-ghost use Rattle.sqlite.specs.State.{HasCleanDisk, IsUnchanged};
-ghost use Rattle.sqlite.specs.Held.{state};
-ghost use Rattle.tables_sql.specs.Contents.{contents_of};
-ghost use Rattle.tables_world.specs.Worlds.{world_in};
-ghost use Rattle.tables_roots.specs.Loaded.{is_generation, bare_profiles};
-ghost use Rattle.tables_rows.specs.Frames.{MayRead, LeftAsItWas, FailsInReads};
-
-use crate::loading;
-use crate::loading::Load;
 use crate::numbers::number_of;
+use crate::table::RootTable;
 use crate::targets::target_of;
 use sqlite::{Alter, Connection};
 use std::alloc::{AllocError, Global};
@@ -22,16 +10,30 @@ use tables_rows::generations as stored;
 use tables_rows::generations::Generation;
 use tables_sql::failure::Failure;
 
-impl Load for Generation {
-    ghost use Rattle.std.specs.Prelude.{string_bytes};
+impl RootTable for Generation {
+    ghost use Rattle.std.specs.Prelude.{◌≡◌};
+    ghost use Rattle.std.specs.List.{list_all};
+    ghost use Rattle.std.specs.FinMap as finite;
     ghost use Rattle.tables_sql.specs.Entries.{generation_in};
     ghost use Rattle.tables_world.specs.Rows.{number_in};
+    ghost use Rattle.tables_world.specs.Worlds.{world_in};
     ghost use Rattle.tables_outline.specs.Filling.{with_generation};
-    ghost use Rattle.tables_roots.specs.Loaded.{is_generation};
+    ghost use Rattle.tables_roots.specs.Loaded.{is_generation, bare_profiles};
 
     ghost passes = { λ r o. is_generation o.objects o.profiles (generation_in r) };
 
-    ghost put = { λ r o. record o { profiles = with_generation (string_bytes r.owner, string_bytes r.name) (number_in r.number) (string_bytes r.target) o.profiles } };
+    ghost put = { λ r o. let e = generation_in r in
+        record o { profiles = with_generation (e.0.0, e.0.1) (number_in e.0.2) e.1 o.profiles } };
+
+    ghost fits = { λ o c. o.profiles ≡ bare_profiles c.profiles };
+
+    ghost are_sound = { λ objects c. list_all (is_generation objects c.profiles) (finite.entries c.generations) };
+
+    ghost loaded = { λ o c. record o { profiles = (world_in c).profiles } };
+
+    fn all<S: Alter>(alloc: Global, conn: &mut Connection<S>) -> Result<Vec<Generation>, Failure> {
+        stored::all(alloc, conn)
+    }
 
     fn take(self, alloc: Global, outline: &mut Outline) -> Result<bool, AllocError> {
         let Generation {
@@ -48,29 +50,4 @@ impl Load for Generation {
         };
         outline.add_generation(&(owner, name), number, path)
     }
-}
-
-/// Whether the generations of the rows are sound with the objects and the profiles of the outline. If so, they are
-/// put into the outline.
-pub(crate) fn read<S: Alter>(
-    alloc: Global,
-    conn: &mut Connection<S>,
-    outline: &mut Outline,
-) -> Result<bool, Failure>
-    requires frame { MayRead S.Store conn.old }
-    requires profiles { HasCleanDisk (state S.Store conn.old)
-        → outline.old.profiles ≡ bare_profiles (contents_of (state S.Store conn.old).now).profiles }
-    ensures frame { LeftAsItWas S.Store conn.old conn.new }
-    ensures cause { FailsInReads S.Store conn.old conn.new result }
-    ensures told { HasCleanDisk (state S.Store conn.new) → IfOk result
-        (λ ok. ok
-        ≡ list_all (is_generation outline.old.objects (contents_of (state S.Store conn.old).now).profiles) (finite.entries (contents_of (state S.Store conn.old).now).generations)) }
-    ensures taken { HasCleanDisk (state S.Store conn.new) → IfOk result
-        (λ ok. IsTrue ok → outline.new
-        ≡ record outline.old { profiles = (world_in (contents_of (state S.Store conn.old).now)).profiles }) }
-    ensures unchanged { HasCleanDisk (state S.Store conn.new) → OnOk result
-        (IsUnchanged (state S.Store conn.old) (state S.Store conn.new)) }
-{
-    let generations = stored::all(alloc, conn)?;
-    Ok(loading::load_all(alloc, outline, generations)?)
 }

@@ -3,15 +3,16 @@
 
 mod generations;
 mod labels;
-mod loading;
 mod numbers;
-pub mod permanent;
+mod permanent;
 pub mod profiles;
 mod roots;
-pub mod runtime;
+mod runtime;
 pub mod settings;
+mod table;
 mod targets;
-pub mod temporary;
-pub mod user_roots;
+mod temporary;
+mod user_roots;
 
 pub use roots::load_roots;
+pub use table::{RootTable, load_table};

@@ -1,17 +1,6 @@
 //! Permanent roots.
-#![tactic(auto, using(tables_sql::proofs::TestFailures::read_passed, tables_sql::proofs::TestFailures::memory_passed))]
 
-ghost use Rattle.std.specs.Prelude.{◌≡◌, IsTrue, IfOk, OnOk};
-ghost use Rattle.std.specs.List.{list_all};
-ghost use Rattle.std.specs.FinMap as finite;
-ghost use Rattle.sqlite.specs.State.{HasCleanDisk, IsUnchanged};
-ghost use Rattle.sqlite.specs.Held.{state};
-ghost use Rattle.tables_sql.specs.Contents.{contents_of};
-ghost use Rattle.tables_roots.specs.Loaded.{is_permanent_root};
-ghost use Rattle.tables_rows.specs.Frames.{MayRead, LeftAsItWas, FailsInReads};
-
-use crate::loading;
-use crate::loading::Load;
+use crate::table::RootTable;
 use crate::targets::target_of;
 use paths::is_plain_name;
 use sqlite::{Alter, Connection};
@@ -21,15 +10,29 @@ use tables_rows::permanent as stored;
 use tables_rows::permanent::PermanentRoot;
 use tables_sql::failure::Failure;
 
-impl Load for PermanentRoot {
-    ghost use Rattle.std.specs.Prelude.{string_bytes};
+impl RootTable for PermanentRoot {
+    ghost use Rattle.std.specs.Prelude.{◌≡◌};
+    ghost use Rattle.std.specs.List.{list_all};
     ghost use Rattle.std.specs.FinMap as finite;
     ghost use Rattle.tables_sql.specs.Entries.{permanent_of};
     ghost use Rattle.tables_roots.specs.Loaded.{is_permanent_root};
 
     ghost passes = { λ r o. is_permanent_root o.objects (permanent_of r) };
 
-    ghost put = { λ r o. record o { permanent = finite.insert o.permanent (string_bytes r.name) (string_bytes r.target) } };
+    ghost put = { λ r o. let e = permanent_of r in record o { permanent = finite.insert o.permanent e.0 e.1 } };
+
+    ghost fits = { λ o c. o.permanent ≡ finite.empty };
+
+    ghost are_sound = { λ objects c. list_all (is_permanent_root objects) (finite.entries c.permanent) };
+
+    ghost loaded = { λ o c. record o { permanent = c.permanent } };
+
+    fn all<S: Alter>(
+        alloc: Global,
+        conn: &mut Connection<S>,
+    ) -> Result<Vec<PermanentRoot>, Failure> {
+        stored::all(alloc, conn)
+    }
 
     fn take(self, alloc: Global, outline: &mut Outline) -> Result<bool, AllocError> {
         let PermanentRoot { name, target } = self;
@@ -42,28 +45,4 @@ impl Load for PermanentRoot {
         outline.put_permanent(name, path)?;
         Ok(true)
     }
-}
-
-/// Whether the permanent roots of the rows are sound with the objects of the outline. If so, they are put into the
-/// outline.
-pub fn read<S: Alter>(
-    alloc: Global,
-    conn: &mut Connection<S>,
-    outline: &mut Outline,
-) -> Result<bool, Failure>
-    requires frame { MayRead S.Store conn.old }
-    requires empty { HasCleanDisk (state S.Store conn.old) → outline.old.permanent ≡ finite.empty }
-    ensures frame { LeftAsItWas S.Store conn.old conn.new }
-    ensures cause { FailsInReads S.Store conn.old conn.new result }
-    ensures told { HasCleanDisk (state S.Store conn.new) → IfOk result
-        (λ ok. ok
-        ≡ list_all (is_permanent_root outline.old.objects) (finite.entries (contents_of (state S.Store conn.old).now).permanent)) }
-    ensures taken { HasCleanDisk (state S.Store conn.new) → IfOk result
-        (λ ok. IsTrue ok → outline.new
-        ≡ record outline.old { permanent = (contents_of (state S.Store conn.old).now).permanent }) }
-    ensures unchanged { HasCleanDisk (state S.Store conn.new) → OnOk result
-        (IsUnchanged (state S.Store conn.old) (state S.Store conn.new)) }
-{
-    let roots = stored::all(alloc, conn)?;
-    Ok(loading::load_all(alloc, outline, roots)?)
 }

@@ -2,35 +2,46 @@
 #![tactic(auto, using(tables_sql::proofs::TestFailures::read_passed, tables_sql::proofs::TestFailures::memory_passed, tables_sql::proofs::TestFailures::read_then_passed))]
 
 ghost use Rattle.std.specs.Prelude.{◌≡◌, IsTrue, IfOk, OnOk};
-ghost use Rattle.std.specs.List.{list_all};
 ghost use Rattle.std.specs.FinMap as finite;
 ghost use Rattle.sqlite.specs.State.{HasCleanDisk, IsUnchanged};
 ghost use Rattle.sqlite.specs.Held.{state};
 ghost use Rattle.tables_sql.specs.Contents.{contents_of};
 ghost use Rattle.tables_world.specs.Worlds.{world_in};
-ghost use Rattle.tables_roots.specs.Loaded.{is_profile, bare_profiles, are_profiles};
+ghost use Rattle.tables_roots.specs.Loaded.{are_profiles};
 ghost use Rattle.tables_rows.specs.Frames.{MayRead, LeftAsItWas, FailsInReads};
 
-use crate::loading::Load;
 use crate::numbers::number_of;
-use crate::{generations, loading};
+use crate::table::{RootTable, load_table};
 use paths::is_plain_name;
 use sqlite::{Alter, Connection};
 use std::alloc::{AllocError, Global};
 use tables_outline::Outline;
+use tables_rows::generations::Generation;
 use tables_rows::profiles as stored;
 use tables_rows::profiles::Profile;
 use tables_sql::failure::Failure;
 
-impl Load for Profile {
-    ghost use Rattle.std.specs.Prelude.{string_bytes};
+/// The rows of profiles by themselves: each is put into the outline without generations.
+impl RootTable for Profile {
+    ghost use Rattle.std.specs.Prelude.{◌≡◌};
+    ghost use Rattle.std.specs.List.{list_all};
     ghost use Rattle.std.specs.FinMap as finite;
     ghost use Rattle.tables_sql.specs.Entries.{current_of};
-    ghost use Rattle.tables_roots.specs.Loaded.{is_profile, bare};
+    ghost use Rattle.tables_roots.specs.Loaded.{is_profile, bare, bare_profiles};
 
     ghost passes = { λ r o. is_profile (current_of r) };
 
-    ghost put = { λ r o. record o { profiles = finite.insert o.profiles (string_bytes r.owner, string_bytes r.name) (bare r.current) } };
+    ghost put = { λ r o. let e = current_of r in record o { profiles = finite.insert o.profiles e.0 (bare e.1) } };
+
+    ghost fits = { λ o c. o.profiles ≡ finite.empty };
+
+    ghost are_sound = { λ objects c. list_all is_profile (finite.entries c.profiles) };
+
+    ghost loaded = { λ o c. record o { profiles = bare_profiles c.profiles } };
+
+    fn all<S: Alter>(alloc: Global, conn: &mut Connection<S>) -> Result<Vec<Profile>, Failure> {
+        stored::all(alloc, conn)
+    }
 
     fn take(self, alloc: Global, outline: &mut Outline) -> Result<bool, AllocError> {
         let Profile {
@@ -49,31 +60,8 @@ impl Load for Profile {
     }
 }
 
-/// Whether the rows of profiles are sound by themselves. If so, they are put into the outline, without generations.
-fn read_bare<S: Alter>(
-    alloc: Global,
-    conn: &mut Connection<S>,
-    outline: &mut Outline,
-) -> Result<bool, Failure>
-    requires frame { MayRead S.Store conn.old }
-    requires empty { HasCleanDisk (state S.Store conn.old) → outline.old.profiles ≡ finite.empty }
-    ensures frame { LeftAsItWas S.Store conn.old conn.new }
-    ensures cause { FailsInReads S.Store conn.old conn.new result }
-    ensures told { HasCleanDisk (state S.Store conn.new) → IfOk result
-        (λ ok. ok ≡ list_all is_profile (finite.entries (contents_of (state S.Store conn.old).now).profiles)) }
-    ensures taken { HasCleanDisk (state S.Store conn.new) → IfOk result
-        (λ ok. IsTrue ok → outline.new
-        ≡ record outline.old { profiles = bare_profiles (contents_of (state S.Store conn.old).now).profiles }) }
-    ensures unchanged { HasCleanDisk (state S.Store conn.new) → OnOk result
-        (IsUnchanged (state S.Store conn.old) (state S.Store conn.new)) }
-{
-    let profiles = stored::all(alloc, conn)?;
-    Ok(loading::load_all(alloc, outline, profiles)?)
-}
-
-/// Whether the profiles of the rows are sound, and their generations with the objects of the outline, and each
-/// profile has a
-/// generation of its current number. If so, they are put into the outline.
+/// Whether the profiles of the rows are sound, and their generations with the objects of the outline, and each profile
+/// has a generation of its current number. If so, they are put into the outline.
 pub fn read<S: Alter>(
     alloc: Global,
     conn: &mut Connection<S>,
@@ -91,10 +79,10 @@ pub fn read<S: Alter>(
     ensures unchanged { HasCleanDisk (state S.Store conn.new) → OnOk result
         (IsUnchanged (state S.Store conn.old) (state S.Store conn.new)) }
 {
-    if !read_bare(alloc, conn, outline)? {
+    if !load_table::<Profile, S>(alloc, conn, outline)? {
         return Ok(false);
     }
-    if !generations::read(alloc, conn, outline)? {
+    if !load_table::<Generation, S>(alloc, conn, outline)? {
         return Ok(false);
     }
     Ok(outline.has_currents())

@@ -14,10 +14,15 @@ ghost use Rattle.tables_world.specs.Parts.{AreSoundRoots};
 ghost use Rattle.tables_roots.specs.Loaded.{are_fixed, are_moving, with_explicit, with_roots, AreAllSound, AreObjects};
 ghost use Rattle.tables_rows.specs.Frames.{MayRead, LeftAsItWas, FailsInReads};
 
-use crate::{permanent, profiles, runtime, temporary, user_roots};
+use crate::profiles;
+use crate::table::load_table;
 use sqlite::{Alter, Connection};
 use std::alloc::Global;
 use tables_outline::Outline;
+use tables_rows::permanent::PermanentRoot;
+use tables_rows::runtime::RuntimeRoot;
+use tables_rows::temp_roots::TempRoot;
+use tables_rows::user_roots::UserRoot;
 use tables_schema::Schema;
 use tables_sql::failure::Failure;
 
@@ -43,10 +48,10 @@ fn load_fixed<S: Alter>(
     ensures unchanged { HasCleanDisk (state S.Store conn.new) → OnOk result
         (IsUnchanged (state S.Store conn.old) (state S.Store conn.new)) }
 {
-    if !permanent::read(alloc, conn, outline)? {
+    if !load_table::<PermanentRoot, S>(alloc, conn, outline)? {
         return Ok(false);
     }
-    user_roots::read(alloc, conn, outline)
+    load_table::<UserRoot, S>(alloc, conn, outline)
 }
 
 /// Profiles and runtime roots.
@@ -74,7 +79,7 @@ fn load_moving<S: Alter>(
     if !profiles::read(alloc, conn, outline)? {
         return Ok(false);
     }
-    runtime::read(alloc, conn, outline)
+    load_table::<RuntimeRoot, S>(alloc, conn, outline)
 }
 
 /// All roots but the temporary ones.
@@ -143,5 +148,5 @@ pub fn load_roots<S: Alter>(
     if !schema.has_temporary() {
         return Ok(true);
     }
-    temporary::read(alloc, conn, outline)
+    load_table::<TempRoot, S>(alloc, conn, outline)
 }

@@ -10,36 +10,36 @@ use Rattle.tables_roots.specs.Loaded.{is_permanent_root, is_user_root}
 use Rattle.tables_roots.proofs.TwoReads.{told_next, taken_next, unchanged_next}
 use Rattle.tables_roots.proofs.roots.load_fixed.Goals as goal
 
-pub read-requires-2-clause-empty : goal.read-requires-2-clause-empty
-read-requires-2-clause-empty g c clean =
-    let early : HasCleanDisk (state g.S.Store c.args.conn.now) = omega (arith, c.read.ensures.frame.survives.clean) in
-    ap (λ (o : OutlineValue). o.user_roots) (c.in_ok-read.ensures.taken clean c.if-not-branch.false) ∙ c.requires.user_roots early
+pub load_table-requires-2-clause-fits : goal.load_table-requires-2-clause-fits
+load_table-requires-2-clause-fits g c clean =
+    let early : HasCleanDisk (state g.S.Store c.args.conn.now) = omega (arith, c.load_table.ensures.frame.survives.clean) in
+    ap (λ (o : OutlineValue). o.user_roots) (c.in_ok-load_table.ensures.taken clean c.if-not-branch.false) ∙ c.requires.user_roots early
 
 pub returns-clause-told : goal.returns-clause-told
 returns-clause-told g c clean =
     let a = state g.S.Store c.args.conn.now in
-    let b = state g.S.Store c.read.new.conn in
-    let middle : HasCleanDisk b = omega (arith, c.read-2.ensures.frame.survives.clean) in
-    let same = (c.in_ok-read.ensures.unchanged middle).0.now_is in
-    let outline = c.in_ok-read.ensures.taken middle c.if-not-branch.false in
-    told_next c.read-2.result (list_all (is_permanent_root c.args.outline.now.objects) (finite.entries (contents_of a.now).permanent)) _ _ (sym (c.in_ok-read.ensures.told middle) ∙ c.if-not-branch.false)
-    (λ i. list_all (is_user_root (outline i).objects) (finite.entries (contents_of (same i)).user_roots)) (c.read-2.ensures.told clean)
+    let b = state g.S.Store c.load_table.new.conn in
+    let middle : HasCleanDisk b = omega (arith, c.load_table-2.ensures.frame.survives.clean) in
+    let same = (c.in_ok-load_table.ensures.unchanged middle).0.now_is in
+    let outline = c.in_ok-load_table.ensures.taken middle c.if-not-branch.false in
+    told_next c.load_table-2.result (list_all (is_permanent_root c.args.outline.now.objects) (finite.entries (contents_of a.now).permanent)) _ _ (sym (c.in_ok-load_table.ensures.told middle) ∙ c.if-not-branch.false)
+    (λ i. list_all (is_user_root (outline i).objects) (finite.entries (contents_of (same i)).user_roots)) (c.load_table-2.ensures.told clean)
 
 pub returns-clause-taken : goal.returns-clause-taken
 returns-clause-taken g c clean =
     let a = state g.S.Store c.args.conn.now in
-    let b = state g.S.Store c.read.new.conn in
-    let middle : HasCleanDisk b = omega (arith, c.read-2.ensures.frame.survives.clean) in
-    let same = (c.in_ok-read.ensures.unchanged middle).0.now_is in
-    let outline = c.in_ok-read.ensures.taken middle c.if-not-branch.false in
-    taken_next c.read-2.result c.read-2.new.outline _ _ (λ i. record (outline i) { user_roots = (contents_of (same i)).user_roots }) (c.read-2.ensures.taken clean)
+    let b = state g.S.Store c.load_table.new.conn in
+    let middle : HasCleanDisk b = omega (arith, c.load_table-2.ensures.frame.survives.clean) in
+    let same = (c.in_ok-load_table.ensures.unchanged middle).0.now_is in
+    let outline = c.in_ok-load_table.ensures.taken middle c.if-not-branch.false in
+    taken_next c.load_table-2.result c.load_table-2.new.outline _ _ (λ i. record (outline i) { user_roots = (contents_of (same i)).user_roots }) (c.load_table-2.ensures.taken clean)
 
 pub returns-clause-unchanged : goal.returns-clause-unchanged
 returns-clause-unchanged g c clean =
     let a = state g.S.Store c.args.conn.now in
-    let b = state g.S.Store c.read.new.conn in
-    let middle : HasCleanDisk b = omega (arith, c.read-2.ensures.frame.survives.clean) in
-    unchanged_next c.read-2.result a b (state g.S.Store c.read-2.new.conn) (c.in_ok-read.ensures.unchanged middle) (c.read-2.ensures.unchanged clean)
+    let b = state g.S.Store c.load_table.new.conn in
+    let middle : HasCleanDisk b = omega (arith, c.load_table-2.ensures.frame.survives.clean) in
+    unchanged_next c.load_table-2.result a b (state g.S.Store c.load_table-2.new.conn) (c.in_ok-load_table.ensures.unchanged middle) (c.load_table-2.ensures.unchanged clean)
 
 pub returns-clause-frame : goal.returns-clause-frame
-returns-clause-frame g c = left_then _ _ _ c.read.ensures.frame c.read-2.ensures.frame
+returns-clause-frame g c = left_then _ _ _ c.load_table.ensures.frame c.load_table-2.ensures.frame

@@ -14,14 +14,14 @@ use Rattle.tables_roots.proofs.Sessions.{none_kept}
 use Rattle.tables_roots.proofs.AllReads.{all_unsound, all_lasting, sessions_told}
 use Rattle.tables_roots.proofs.roots.load_roots.Goals as goal
 
-pub read-requires-clause-stands : goal.read-requires-clause-stands
-read-requires-clause-stands g c clean is_open =
+pub load_table-requires-clause-stands : goal.load_table-requires-clause-stands
+load_table-requires-clause-stands g c clean is_open =
     let early : HasCleanDisk (state g.S.Store c.args.conn.now) = omega (arith, c.load_explicit.ensures.frame.survives.clean) in
     let lasting = (c.in_ok-load_explicit.ensures.unchanged clean).0 in
     subst (λ (d : Database). HasFurther d temp_root) (sym lasting.now_is) (c.requires.stands early (sym c.has_temporary.ensures ∙ c.if-not-has_temporary.false) lasting.was_open)
 
-pub read-requires-clause-empty : goal.read-requires-clause-empty
-read-requires-clause-empty g c clean =
+pub load_table-requires-clause-fits : goal.load_table-requires-clause-fits
+load_table-requires-clause-fits g c clean =
     let early : HasCleanDisk (state g.S.Store c.args.conn.now) = omega (arith, c.load_explicit.ensures.frame.survives.clean) in
     ap (λ (o : OutlineValue). o.temporary) (c.in_ok-load_explicit.ensures.taken clean c.if-not-branch.false) ∙ c.requires.temporary early
 
@@ -48,27 +48,27 @@ pub returns-clause-told : goal.returns-clause-told
 returns-clause-told g c clean =
     let a = state g.S.Store c.args.conn.now in
     let b = state g.S.Store c.load_explicit.new.conn in
-    let middle : HasCleanDisk b = omega (arith, c.read.ensures.frame.survives.clean) in
+    let middle : HasCleanDisk b = omega (arith, c.load_table.ensures.frame.survives.clean) in
     let same = (c.in_ok-load_explicit.ensures.unchanged middle).0.now_is in
     let outline = c.in_ok-load_explicit.ensures.taken middle c.if-not-branch.false in
-    sessions_told c.args.outline.now.objects (contents_of a.now) c.read.result c.in_ok-load_explicit.field-0 c.if-not-branch.false (c.in_ok-load_explicit.ensures.told middle) _
-    (λ i. are_temporary (outline i).objects (contents_of (same i))) (c.read.ensures.told clean)
+    sessions_told c.args.outline.now.objects (contents_of a.now) c.load_table.result c.in_ok-load_explicit.field-0 c.if-not-branch.false (c.in_ok-load_explicit.ensures.told middle) _
+    (λ i. are_temporary (outline i).objects (contents_of (same i))) (c.load_table.ensures.told clean)
 
 pub returns-clause-taken : goal.returns-clause-taken
 returns-clause-taken g c clean =
     let a = state g.S.Store c.args.conn.now in
     let b = state g.S.Store c.load_explicit.new.conn in
-    let middle : HasCleanDisk b = omega (arith, c.read.ensures.frame.survives.clean) in
+    let middle : HasCleanDisk b = omega (arith, c.load_table.ensures.frame.survives.clean) in
     let same = (c.in_ok-load_explicit.ensures.unchanged middle).0.now_is in
     let outline = c.in_ok-load_explicit.ensures.taken middle c.if-not-branch.false in
-    taken_next c.read.result c.read.new.outline _ _ (λ i. record (outline i) { temporary = (world_in (contents_of (same i))).temporary }) (c.read.ensures.taken clean)
+    taken_next c.load_table.result c.load_table.new.outline _ _ (λ i. record (outline i) { temporary = (world_in (contents_of (same i))).temporary }) (c.load_table.ensures.taken clean)
 
 pub returns-clause-unchanged : goal.returns-clause-unchanged
 returns-clause-unchanged g c clean =
     let a = state g.S.Store c.args.conn.now in
     let b = state g.S.Store c.load_explicit.new.conn in
-    let middle : HasCleanDisk b = omega (arith, c.read.ensures.frame.survives.clean) in
-    unchanged_next c.read.result a b (state g.S.Store c.read.new.conn) (c.in_ok-load_explicit.ensures.unchanged middle) (c.read.ensures.unchanged clean)
+    let middle : HasCleanDisk b = omega (arith, c.load_table.ensures.frame.survives.clean) in
+    unchanged_next c.load_table.result a b (state g.S.Store c.load_table.new.conn) (c.in_ok-load_explicit.ensures.unchanged middle) (c.load_table.ensures.unchanged clean)
 
 pub returns-clause-frame : goal.returns-clause-frame
-returns-clause-frame g c = left_then _ _ _ c.load_explicit.ensures.frame c.read.ensures.frame
+returns-clause-frame g c = left_then _ _ _ c.load_explicit.ensures.frame c.load_table.ensures.frame

@@ -1,0 +1,98 @@
+//! A table of roots: its rows are read, tested, and put into the outline.
+#![tactic(auto, using(tables_sql::proofs::TestFailures::read_passed, tables_sql::proofs::TestFailures::memory_passed))]
+
+ghost use Rattle.std.specs.Prelude.{◌≡◌, Bool, IsTrue, IfOk, OnOk, ⊤};
+ghost use Rattle.sqlite.specs.Effect.{Database};
+ghost use Rattle.sqlite.specs.State.{HasCleanDisk, IsUnchanged};
+ghost use Rattle.sqlite.specs.Held.{state};
+ghost use Rattle.tables_sql.specs.Contents.{Contents, contents_of};
+ghost use Rattle.tables_rows.specs.Frames.{MayRead, LeftAsItWas, Reads, FailsAlone, FailsInReads};
+ghost use Rattle.tables_outline.specs.Outline.{OutlineValue};
+ghost use Rattle.tables_roots.specs.Loaded.{Objects, all_pass, all_put, LoadAs};
+
+use sqlite::{Alter, Connection};
+use std::alloc::{AllocError, Global};
+use tables_outline::Outline;
+use tables_sql::failure::Failure;
+
+/// A table of roots, by its rows.
+pub trait RootTable: Sized + Drop {
+    // Whether a row passes, with what the outline has.
+    ghost passes: { Self → OutlineValue → Bool };
+
+    // The outline with a row's root.
+    ghost put: { Self → OutlineValue → OutlineValue };
+
+    // What has to be there beside the tables of each schema.
+    ghost needs: { Database → Type 0 } = { λ _. ⊤ };
+
+    // The outlines that the roots may be put into.
+    ghost fits: { OutlineValue → Contents → Type 0 };
+
+    // Whether all roots are sound with these objects.
+    ghost are_sound: { Objects → Contents → Bool };
+
+    // The outline with all roots.
+    ghost loaded: { OutlineValue → Contents → OutlineValue };
+
+    /// All rows, in order.
+    fn all<S: Alter>(alloc: Global, conn: &mut Connection<S>) -> Result<Vec<Self>, Failure>
+        requires frame { MayRead S.Store conn.old }
+        requires stands { HasCleanDisk (state S.Store conn.old) → IsTrue (state S.Store conn.old).is_open
+            → needs (state S.Store conn.old).now }
+        ensures frame { LeftAsItWas S.Store conn.old conn.new }
+        ensures reads { Reads S.Store conn.old conn.new result (λ c rows. (o : OutlineValue) → fits o c
+            → LoadAs passes put rows.items o (are_sound o.objects c) (loaded o c)) }
+        ensures cause { FailsAlone S.Store conn.old conn.new result };
+
+    /// Whether the row passes. If so, its root is put into the outline.
+    fn take(self, alloc: Global, outline: &mut Outline) -> Result<bool, AllocError>
+        ensures told { IfOk result (λ ok. ok ≡ passes self outline.old) }
+        ensures taken { IfOk result (λ ok. IsTrue ok → outline.new ≡ put self outline.old) };
+}
+
+/// Whether each row passes. If so, the outline has them all.
+fn load_rows<T: RootTable>(
+    alloc: Global,
+    outline: &mut Outline,
+    rows: Vec<T>,
+) -> Result<bool, AllocError>
+    ensures told { IfOk result (λ ok. ok ≡ all_pass T.passes T.put rows.items outline.old) }
+    ensures taken { IfOk result (λ ok. IsTrue ok → outline.new ≡ all_put T.put rows.items outline.old) }
+{
+    'rows: for row in rows {
+        if !row.take(alloc, outline)? {
+            return Ok(false);
+        }
+    }
+    Ok(true)
+}
+
+/// Whether the roots of one table are sound with the objects of the outline. If so, they are put into the outline.
+///
+/// # Errors
+///
+/// Memory or the disk failed. The rows are as they were, and the outline may have some of the roots.
+pub fn load_table<T: RootTable, S: Alter>(
+    alloc: Global,
+    conn: &mut Connection<S>,
+    outline: &mut Outline,
+) -> Result<bool, Failure>
+    requires frame { MayRead S.Store conn.old }
+    requires stands { HasCleanDisk (state S.Store conn.old) → IsTrue (state S.Store conn.old).is_open
+        → T.needs (state S.Store conn.old).now }
+    requires fits { HasCleanDisk (state S.Store conn.old)
+        → T.fits outline.old (contents_of (state S.Store conn.old).now) }
+    ensures frame { LeftAsItWas S.Store conn.old conn.new }
+    ensures cause { FailsInReads S.Store conn.old conn.new result }
+    ensures told { HasCleanDisk (state S.Store conn.new) → IfOk result
+        (λ ok. ok ≡ T.are_sound outline.old.objects (contents_of (state S.Store conn.old).now)) }
+    ensures taken { HasCleanDisk (state S.Store conn.new) → IfOk result
+        (λ ok. IsTrue ok → outline.new ≡ T.loaded outline.old (contents_of (state S.Store conn.old).now)) }
+    ensures unchanged { HasCleanDisk (state S.Store conn.new) → OnOk result
+        (IsUnchanged (state S.Store conn.old) (state S.Store conn.new)) }
+{
+    let rows = T::all(alloc, conn)?;
+    let sound = load_rows::<T>(alloc, outline, rows)?;
+    Ok(sound)
+}
