@@ -1,7 +1,9 @@
 """The parts of a team's deployment on this machine's loopback: the server, nixkeep-cache, and real Nix over a store
 of its own. Also how a script here reports: a line for each check, and `N passed, M failed` at the end."""
+import argparse
 import contextlib
 import hashlib
+import json
 import os
 import random
 import shutil
@@ -10,7 +12,9 @@ import socket
 import sqlite3
 import subprocess
 import sys
+import tempfile
 import time
+from pathlib import Path
 
 HERE = os.path.dirname(os.path.realpath(__file__))
 ROOT = os.path.dirname(os.path.dirname(HERE))
@@ -22,21 +26,9 @@ sys.path.insert(0, TOOLS)
 sys.dont_write_bytecode = True
 from nixkeep_tools import nar, paths, store_file
 
-PACKAGES = {
-    "nginx": "nginx-light",
-    "nix": "nix-bin",
-    "nix-store": "nix-bin",
-    "htpasswd": "apache2-utils",
-    "dot": "graphviz",
-    "sqlite3": "sqlite3",
-    "openssl": "openssl",
-    "curl": "curl",
-    "wrk": "wrk",
-    "chromium": "chromium",
-    "aiohttp": "python3-aiohttp",
-    "zstandard": "python3-zstandard",
-    "jinja2": "python3-jinja2",
-}
+# The Debian package of a tool that has another name.
+PACKAGES = {"nginx": "nginx-light", "nix": "nix-bin", "nix-store": "nix-bin", "htpasswd": "apache2-utils",
+            "dot": "graphviz"}
 counts = {"passed": 0, "failed": 0}
 skips = []
 # A script that is ended ends its parts, too.
@@ -62,26 +54,36 @@ def end():
     sys.exit(1 if counts["failed"] else 0)
 
 
+def script(doc, what, run, *tools, more=lambda asked: None):
+    """Runs a script with its words, and a folder among them, and ends it; all of it is skipped without these tools."""
+    asked = argparse.ArgumentParser(description=doc, formatter_class=argparse.RawDescriptionHelpFormatter)
+    asked.add_argument("--program", default=PROGRAM, metavar="FILE")
+    more(asked)
+    words = asked.parse_args()
+    words.program = os.path.abspath(words.program)
+    with tempfile.TemporaryDirectory() as words.folder:
+        if not skipped(what, *tools):
+            run(words)
+    end()
+
+
 def skip(why):
     skips.append(why)
     print(f"SKIPPED: {why}", flush=True)
 
 
-def skipped(what, missing):
-    packages = dict.fromkeys(PACKAGES.get(it, it) for it in missing)
-    skip(f"{what}: install the Debian packages: {' '.join(packages)}")
+def skipped(what, *tools):
+    """Whether some of these aren't installed: then this is skipped. A module of Debian's Python is `python3-NAME`."""
+    lacking = [it for it in tools if not found(it)]
+    if lacking:
+        skip(f"{what}: install the Debian packages: {' '.join(dict.fromkeys(PACKAGES.get(it, it) for it in lacking))}")
+    return bool(lacking)
 
 
 def found(tool):
+    if tool.startswith("python3-"):
+        return subprocess.run(["/usr/bin/python3", "-c", f"import {tool[8:]}"], capture_output=True).returncode == 0
     return shutil.which(tool) or shutil.which(tool, path="/usr/sbin")
-
-
-def missing(tools=(), modules=()):
-    """The tools that aren't installed, and the modules of Debian's Python."""
-    lacks = lambda module: subprocess.run(
-        ["/usr/bin/python3", "-c", f"import {module}"], stderr=subprocess.DEVNULL
-    ).returncode
-    return [*(it for it in tools if not found(it)), *(it for it in modules if lacks(it))]
 
 
 def free_port():
@@ -116,8 +118,7 @@ class Part:
             self.running = subprocess.Popen(self.words, stdin=subprocess.DEVNULL, stdout=log, stderr=log)
         until(f"{self.name} listens", lambda: is_open(self.place) or self.running.poll() is not None)
         if self.running.poll() is not None:
-            with open(self.log) as log:
-                sys.exit(f"{self.name} ended with {self.running.returncode}: {log.read()[-2000:]}")
+            sys.exit(f"{self.name} ended with {self.running.returncode}: {Path(self.log).read_text()[-2000:]}")
         return self
 
     def end(self, by=signal.SIGTERM):
@@ -144,29 +145,20 @@ def cache(folder, port, place=None, *more):
     """nixkeep-cache before the server on that port; a proxy says who asks where nothing else is said."""
     place = place or free_port()
     listen = place if isinstance(place, str) else f"127.0.0.1:{place}"
-    words = [
-        f"{TOOLS}/nixkeep-cache",
-        "--store",
-        f"127.0.0.1:{port}",
-        "--listen",
-        listen,
-        "--waiting",
-        f"{folder}/waiting",
-        "--patience",
-        "300",
-    ]
+    words = [f"{TOOLS}/nixkeep-cache", "--store", f"127.0.0.1:{port}", "--listen", listen]
+    words += ["--waiting", f"{folder}/waiting", "--patience", "300"]
     return Part("nixkeep-cache", [*words, *(more or ["--proxied"])], place, f"{folder}/cache.log")
+
+
+def some_path(rng, name):
+    return f"/nix/store/{paths.base32(rng.randbytes(20))}-{name}"
 
 
 def put_store(file, count, rng, roots, label="/proc/1/exe"):
     """A file with so many texts that refer to one another, and for each of three users so many roots and twelve
     generations."""
     with contextlib.closing(sqlite3.connect(file)) as conn, conn:
-        for table, (columns, key) in store_file.FORMS.items():
-            written = [it[:-2] if it.endswith(" ?") else f"{it} NOT NULL" for it in columns]
-            keys = ", ".join(it.split()[0] for it in columns[:key])
-            conn.execute(f"CREATE TABLE {table} ({', '.join(written)}, PRIMARY KEY ({keys})) STRICT")
-        conn.executemany("INSERT INTO meta VALUES (?, ?)", [("schema", "3"), ("store-dir", "/nix/store")])
+        put_tables(conn, 3)
         made = put_objects(conn, count, rng)
         for user in ("ann", "bob", "carol"):
             rows = [(user, f"root{at}", rng.choice(made)) for at in range(roots)]
@@ -179,18 +171,33 @@ def put_store(file, count, rng, roots, label="/proc/1/exe"):
     return made
 
 
+def put_tables(conn, schema):
+    """The tables of a schema, without any object."""
+    for table in [it for it in store_file.FORMS if it not in store_file.LACKS[schema]]:
+        columns, key = store_file.FORMS[table]
+        written = [it[:-2] if it.endswith(" ?") else f"{it} NOT NULL" for it in columns]
+        keys = ", ".join(it.split()[0] for it in columns[:key])
+        conn.execute(f"CREATE TABLE {table} ({', '.join(written)}, PRIMARY KEY ({keys})) STRICT")
+    conn.executemany("INSERT INTO meta VALUES (?, ?)", [("schema", str(schema)), ("store-dir", "/nix/store")])
+
+
+def put_text(conn, name, contents, references=()):
+    """The rows of a text. Returns its path."""
+    digest = paths.sha256([contents])
+    path, archive = paths.path_of("text", digest, name, references), nar.regular_file(contents)
+    address = paths.address("text", digest)
+    conn.execute("INSERT INTO object VALUES (?, ?, ?, NULL, ?)", (path, archive, paths.sha256([archive]), address))
+    conn.executemany("INSERT INTO refs VALUES (?, ?)", [(path, it) for it in references])
+    return path
+
+
 def put_objects(conn, count, rng):
     """Rows of texts, each with references to some of those before. Returns their paths."""
     made = []
     for at in range(count):
         contents = rng.randbytes(rng.choice([10, 100, 1000]))
         references = sorted(set(rng.choices(made[-400:], k=rng.randrange(5)))) if made else []
-        digest = paths.sha256([contents])
-        path, archive = paths.path_of("text", digest, f"object-{at}", references), nar.regular_file(contents)
-        address = paths.address("text", digest)
-        conn.execute("INSERT INTO object VALUES (?, ?, ?, NULL, ?)", (path, archive, paths.sha256([archive]), address))
-        conn.executemany("INSERT INTO refs VALUES (?, ?)", [(path, it) for it in references])
-        made.append(path)
+        made.append(put_text(conn, f"object-{at}", contents, references))
     return made
 
 
@@ -200,19 +207,12 @@ class Nix:
     def __init__(self, folder, settings=""):
         self.root = f"{folder}/root"
         os.makedirs(f"{folder}/conf")
-        with open(f"{folder}/conf/nix.conf", "w") as out:
-            out.write(
-                "build-users-group =\nsubstituters =\nexperimental-features = nix-command\nrequire-sigs = false\n"
-                + settings
-            )
+        Path(f"{folder}/conf/nix.conf").write_text("build-users-group =\nsubstituters =\nrequire-sigs = false\n"
+                                                   f"experimental-features = nix-command\n{settings}")
         places = {"NIX_LOG_DIR": "log", "NIX_CONF_DIR": "conf", "XDG_CACHE_HOME": "cache", "HOME": "home"}
-        self.env = {
-            **os.environ,
-            **{name: f"{folder}/{part}" for name, part in places.items()},
-            "NIX_REMOTE": f"local?root={self.root}",
-            # (on a machine with loopback alone Nix would wait one second, and try once)
-            "NIX_CONFIG": "connect-timeout = 60\ndownload-attempts = 5\n",
-        }
+        # (on a machine with loopback alone Nix would wait one second, and try once)
+        more = {"NIX_REMOTE": f"local?root={self.root}", "NIX_CONFIG": "connect-timeout = 60\ndownload-attempts = 5\n"}
+        self.env = {**os.environ, **{name: f"{folder}/{part}" for name, part in places.items()}, **more}
 
     def run(self, *words, given=b""):
         return subprocess.run(words, env=self.env, input=given, capture_output=True)
@@ -231,28 +231,16 @@ class Nix:
         """Texts, each of which refers to the one before; each has a content address."""
         chain = "".join(f'; t{at} = builtins.toFile "{word}{at}" "{at} ${{t{at - 1}}}\\n"' for at in range(1, count))
         names = " ".join(f"t{at}" for at in range(count))
-        return (
-            self(
-                "nix-instantiate",
-                "--eval",
-                "--strict",
-                "--json",
-                "--read-write-mode",
-                "-E",
-                f'let t0 = builtins.toFile "{word}0" "first\\n"{chain}; in [ {names} ]',
-            )
-            .strip('[]\n"')
-            .split('","')
-        )
+        given = f'let t0 = builtins.toFile "{word}0" "first\\n"{chain}; in [ {names} ]'
+        return json.loads(self(*"nix-instantiate --eval --strict --json --read-write-mode -E".split(), given))
 
     def outputs(self, references, sizes, rng):
         """Objects without content addresses, as builds make them: each refers to itself, to the one before and to the
         given paths."""
         made, lines = [], []
         for at, size in enumerate(sizes):
-            path = f"/nix/store/{paths.base32(rng.randbytes(20))}-output{at}"
-            with open(self.root + path, "wb") as out:
-                out.write(rng.randbytes(size))
+            path = some_path(rng, f"output{at}")
+            Path(self.root + path).write_bytes(rng.randbytes(size))
             os.chmod(self.root + path, 0o444)
             archive = self.archive(path)
             refs = sorted({path, *made[-1:], *references})
@@ -264,19 +252,14 @@ class Nix:
     def closure(self, count, seed=1, word="text"):
         """Paths, half of them texts and half of them outputs; the last refers to all others by and by."""
         rng, texts = random.Random(f"closure {seed}"), self.texts(count // 2, word)
-        return [
-            *texts,
-            *self.outputs(texts[-1:], [rng.choice([0, 1, 100, 70_000]) for _ in range(count - len(texts))], rng),
-        ]
+        sizes = [rng.choice([0, 1, 100, 70_000]) for _ in range(count - len(texts))]
+        return texts + self.outputs(texts[-1:], sizes, rng)
 
 
 def curl(*words, given=None):
     """The status and the text of a reply; the status is 0 where none came."""
-    ran = subprocess.run(
-        ["curl", "-s", "--max-time", "330", "-w", "\n%{http_code}", "-H", "expect:", *words],
-        input=given,
-        capture_output=True,
-    )
+    told = ["-s", "--max-time", "330", "-w", "\n%{http_code}", "-H", "expect:"]
+    ran = subprocess.run(["curl", *told, *words], input=given, capture_output=True)
     text, _, status = ran.stdout.rpartition(b"\n")
     return int(status or 0), text
 
