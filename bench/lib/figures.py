@@ -6,6 +6,7 @@ import subprocess
 import sys
 import tempfile
 import time
+from pathlib import Path
 
 from tests.lib import report
 
@@ -93,8 +94,8 @@ def timed(call, *words):
     return time.perf_counter() - start
 
 
-def rounds(call, count=ROUNDS):
-    return [timed(call) for _ in range(count)]
+def rounds(call, *words):
+    return [timed(call, *words) for _ in range(ROUNDS)]
 
 
 class Runs:
@@ -118,15 +119,12 @@ class Runs:
 def command(words, given=None, env=None):
     """Seconds and KiB of a run from the start of the process to its end, which has to be with 0; its input is a
     file."""
-    source = open(given, "rb") if given else subprocess.DEVNULL
-    start = time.perf_counter()
-    ran = subprocess.Popen(words, env=env, stdin=source, stdout=subprocess.DEVNULL, stderr=subprocess.PIPE)
-    _, status, usage = os.wait4(ran.pid, 0)
-    took = time.perf_counter() - start
-    ran.returncode, said = os.waitstatus_to_exitcode(status), ran.stderr.read()
-    ran.stderr.close()
-    if given:
-        source.close()
+    with open(given or os.devnull, "rb") as source:
+        start = time.perf_counter()
+        ran = subprocess.Popen(words, env=env, stdin=source, stdout=subprocess.DEVNULL, stderr=subprocess.PIPE)
+        _, status, usage = os.wait4(ran.pid, 0)
+        took = time.perf_counter() - start
+    ran.returncode, said = os.waitstatus_to_exitcode(status), ran.communicate()[1]
     if ran.returncode:
         sys.exit(f"{' '.join(words)[:200]}: status {ran.returncode}: {said.decode(errors='replace')}")
     return took, usage.ru_maxrss
@@ -146,22 +144,18 @@ def memory_of(words):
     children."""
     code = "import resource, subprocess, sys; subprocess.run(sys.argv[1:], stdout=subprocess.DEVNULL, check=True); "
     code += "print(resource.getrusage(resource.RUSAGE_CHILDREN).ru_maxrss)"
-    return (int(subprocess.run([sys.executable, "-c", code, *words], capture_output=True, text=True, check=True).stdout)
-            / 1024)
+    return int(subprocess.check_output([sys.executable, "-c", code, *words])) / 1024
 
 
-def options(doc):
-    """What each benchmark takes on its command line."""
-    asked = report.parser(doc)
+def add_records(asked):
+    """Adds the option that each benchmark takes."""
     asked.add_argument("--records", metavar="FILE", help="writes the figures, for bench/run")
-    return asked
 
 
 def ended(words):
     """Writes the figures where that is asked for, and ends with 1 where one misses its limit."""
     if words.records:
-        with open(words.records, "w") as out:
-            json.dump(records, out)
+        Path(words.records).write_text(json.dumps(records))
     sys.exit(1 if any(it.get("is_met") is False for it in records) else 0)
 
 
@@ -171,15 +165,13 @@ def program(words):
 
 def main(doc, parts, begin=program, more=lambda asked: None):
     """Runs the parts of a benchmark, or some: functions of what `begin` gives once, of the words and of a folder."""
-    asked = options(doc)
-    asked.add_argument("--program", metavar="FILE", help="the program; else the one that bin/nixkeep proves and builds")
-    asked.add_argument("--quick", action="store_true", help="a tenth of the objects")
-    asked.add_argument("parts", nargs="*", metavar="PART", help=f"{', '.join(parts)}; else all")
-    more(asked)
-    words = asked.parse_args()
-    if unknown := [it for it in words.parts if it not in parts]:
-        asked.error(f"no part {' '.join(unknown)}")
-    words.parts = words.parts or [*parts]
+
+    def also(asked):
+        add_records(asked)
+        asked.add_argument("--quick", action="store_true", help="a tenth of the objects")
+        more(asked)
+
+    words = report.options(doc, also, parts)
     with tempfile.TemporaryDirectory() as words.folder:
         try:
             begun = begin(words)

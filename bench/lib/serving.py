@@ -1,5 +1,5 @@
 """A server over a store or over files, and a client of it on one connection that stays open."""
-import signal
+import functools
 import socket
 import subprocess
 import sys
@@ -19,13 +19,10 @@ class Client:
         self.socket, self.room = connection, memoryview(bytearray(17 * MIB))
 
     @classmethod
-    def of_port(cls, port, started=None):
-        found = connected(port, started) or sys.exit(f"{started.args[0]} doesn't listen")
+    def of_port(cls, port):
+        found = connected(port)
         found.setsockopt(socket.IPPROTO_TCP, socket.TCP_NODELAY, 1)
         return cls(found)
-
-    def close(self):
-        self.socket.close()
 
     def reply(self):
         """The length of the text of the next reply, which has to be 200."""
@@ -52,25 +49,34 @@ class Client:
         return self.ask("GET", target)
 
 
+def processor_of(pid):
+    """The seconds that processors have spent on a process."""
+    return int(Path(f"/proc/{pid}/schedstat").read_text().split()[0]) / 1e9
+
+
 class Serving:
-    """A program that listens on a port meanwhile, and a client of it."""
+    """A program that listens on a port meanwhile, and a client of it where one is asked for."""
 
     def __init__(self, port, *words, folder=None):
         self.port = port
         self.started = subprocess.Popen(words, cwd=folder, stdout=subprocess.DEVNULL, stderr=subprocess.DEVNULL)
-        self.client = Client.of_port(port, self.started)
+        (connected(port, self.started) or sys.exit(f"{words[0]} doesn't listen")).close()
+
+    @functools.cached_property
+    def client(self):
+        return Client.of_port(self.port)
 
     def __enter__(self):
-        return self.client
+        return self
 
     def __exit__(self, *_):
-        self.client.close()
-        self.started.send_signal(signal.SIGTERM)
+        if "client" in vars(self):
+            self.client.socket.close()
+        self.started.terminate()
         self.started.wait()
 
     def processor(self):
-        """The seconds that its processor has spent on it."""
-        return int(Path(f"/proc/{self.started.pid}/schedstat").read_text().split()[0]) / 1e9
+        return processor_of(self.started.pid)
 
     def forget(self):
         """Lets `memory` tell from now on alone, over what it holds now."""
@@ -78,8 +84,8 @@ class Serving:
 
     def memory(self):
         """The most memory in MiB that it held."""
-        with open(f"/proc/{self.started.pid}/status") as file:
-            return int(next(line for line in file if line.startswith("VmHWM")).split()[1]) / 1024
+        status = Path(f"/proc/{self.started.pid}/status").read_text()
+        return int(status.partition("VmHWM:")[2].split()[0]) / 1024
 
 
 class Handed(Serving):
@@ -107,11 +113,7 @@ class Handed(Serving):
 
 
 def served(run, path=None, processor=None):
-    """A server of one connection; or on a processor for many connections, where the first one isn't kept."""
+    """A server of one connection after another, on a processor where one is given."""
     port, store = free_port(), ["--db", path] if path else []
-    words = [run.file, *store, "serve", "--port", str(port)]
-    if processor is None:
-        return Serving(port, *words)
-    serving = Serving(port, *on(processor, *words, "--connections", "1000000"))
-    serving.client.close()
-    return serving
+    words = [run.file, *store, "serve", "--port", str(port), "--connections", "1000000"]
+    return Serving(port, *(words if processor is None else on(processor, *words)))

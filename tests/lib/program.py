@@ -126,10 +126,10 @@ def take_library(crate, room):
         file.extractall(room)
 
 
-def times():
+def times(path=TIMES):
     """What earlier runs measured of each crate: seconds, processor seconds (work), and bytes of memory."""
     try:
-        return json.loads(Path(TIMES).read_text())
+        return json.loads(Path(path).read_text())
     except (OSError, ValueError):
         return {}
 

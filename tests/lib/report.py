@@ -4,6 +4,7 @@ import argparse
 import os
 import random
 import shutil
+import subprocess
 import sys
 import tempfile
 import time
@@ -61,10 +62,17 @@ def tell(text):
     print(text, flush=True)
 
 
+def found(tool):
+    """Where a tool is, if it is installed; or whether a module of Debian's Python is, by the name of its package."""
+    if tool.startswith("python3-"):
+        return subprocess.run(["/usr/bin/python3", "-c", f"import {tool[8:]}"], capture_output=True).returncode == 0
+    return shutil.which(tool) or shutil.which(tool, path="/usr/sbin")
+
+
 def missing(tools):
     """What to print of the tools that aren't installed; None where all are."""
-    found = [it for it in tools if not (shutil.which(it) or shutil.which(it, path="/usr/sbin"))]
-    return f"needs {', '.join(f'{it} (Debian: {PACKAGES.get(it, it)})' for it in found)}" if found else None
+    lacking = [it for it in tools if not found(it)]
+    return f"needs {', '.join(f'{it} (Debian: {PACKAGES.get(it, it)})' for it in lacking)}" if lacking else None
 
 
 def needs(*tools):
@@ -90,13 +98,10 @@ def parser(doc):
     return argparse.ArgumentParser(description=doc, formatter_class=argparse.RawDescriptionHelpFormatter)
 
 
-def options(doc, count=None, more=lambda asked: None, parts=()):
-    """The words of the command line: those that each script of tests/ takes, more, and the parts to run, or all."""
+def options(doc, more=lambda asked: None, parts=()):
+    """The words of the command line: which program is tried, more, and the parts to run, or all."""
     asked = parser(doc)
     asked.add_argument("--program", metavar="FILE", help="the program; else the one that bin/nixkeep proves and builds")
-    asked.add_argument("--seed", metavar="N", type=int, default=today(), help="what chance begins with; else the day")
-    asked.add_argument("--count", metavar="N", type=int, default=count,
-                       help=f"how much is tried ({count or 'all'}, if not given)")
     more(asked)
     if parts:
         asked.add_argument("parts", nargs="*", metavar="PART", help=f"{', '.join(parts)}; else all")
@@ -143,8 +148,14 @@ def script(doc, run, count=None, more=lambda asked: None, parts=(), need=(), ski
     """Runs a script with its words, and among these a folder of its own and what chance gives. It fails where a tool
     that it needs isn't installed, and is skipped without one of the others."""
 
+    def also(asked):
+        asked.add_argument("--seed", metavar="N", type=int, default=today(), help="what chance begins with; else the day")
+        asked.add_argument("--count", metavar="N", type=int, default=count,
+                           help=f"how much is tried ({count or 'all'}, if not given)")
+        more(asked)
+
     def tried():
-        words = options(doc, count, more, parts)
+        words = options(doc, also, parts)
         needs(*need)
         if skips(*skip):
             return 0

@@ -1,6 +1,7 @@
 """Running the scripts of tests/: which there are, what each prints, and how much passed and failed."""
 import os
 import re
+import resource
 import subprocess
 import threading
 import time
@@ -8,6 +9,12 @@ import time
 from tests.lib import program, report
 
 TESTS = f"{program.HERE}/tests"
+
+
+def spent():
+    """The processor seconds of all that has run and ended below this process."""
+    used = resource.getrusage(resource.RUSAGE_CHILDREN)
+    return used.ru_utime + used.ru_stime
 
 
 def scripts(folder, start=""):
