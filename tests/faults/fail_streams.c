@@ -15,8 +15,6 @@ static int is_named(const char *stream) {
   return named && !strcmp(named, stream);
 }
 
-static int passes_by(const char *stream) { return is_over || !is_named(stream); }
-
 /* How many of so many bytes a call may take, or what it returns at once, as -1 less that. */
 static ssize_t allowed(size_t size) {
   const char *fault = getenv("FAULT");
@@ -33,33 +31,20 @@ static ssize_t told(ssize_t count) {
   return count;
 }
 
-ssize_t read(int from, void *to, size_t size) {
-  NEXT(read);
-  if (from != 0 || passes_by("read")) return next(from, to, size);
-  ssize_t most = allowed(size);
-  return most < 0 ? most + 1 : told(next(from, to, most));
-}
+/* A call on a stream: it takes so many bytes, or fewer, or goes wrong. */
+#define TAKES(call, is_meant, at, bytes, size, ...) \
+  NEXT(call); \
+  if (!(is_meant) || is_over || !is_named(#call)) return next(at, bytes, size, ##__VA_ARGS__); \
+  ssize_t most = allowed(size); \
+  return most < 0 ? most + 1 : told(next(at, bytes, most, ##__VA_ARGS__))
 
-ssize_t write(int to, const void *from, size_t size) {
-  NEXT(write);
-  if (to != 1 || passes_by("write")) return next(to, from, size);
-  ssize_t most = allowed(size);
-  return most < 0 ? most + 1 : told(next(to, from, most));
-}
+ssize_t read(int at, void *to, size_t size) { TAKES(read, at == 0, at, to, size); }
 
-ssize_t recv(int from, void *to, size_t size, int how) {
-  NEXT(recv);
-  if (passes_by("recv")) return next(from, to, size, how);
-  ssize_t most = allowed(size);
-  return most < 0 ? most + 1 : told(next(from, to, most, how));
-}
+ssize_t write(int at, const void *from, size_t size) { TAKES(write, at == 1, at, from, size); }
 
-ssize_t send(int to, const void *from, size_t size, int how) {
-  NEXT(send);
-  if (passes_by("send")) return next(to, from, size, how);
-  ssize_t most = allowed(size);
-  return most < 0 ? most + 1 : told(next(to, from, most, how));
-}
+ssize_t recv(int at, void *to, size_t size, int how) { TAKES(recv, 1, at, to, size, how); }
+
+ssize_t send(int at, const void *from, size_t size, int how) { TAKES(send, 1, at, from, size, how); }
 
 int accept4(int at, __SOCKADDR_ARG who, socklen_t *size, int how) {
   NEXT(accept4);
@@ -71,7 +56,7 @@ int accept(int at, __SOCKADDR_ARG who, socklen_t *size) { return accept4(at, who
 /* Only the calls that have a connection send at once. */
 int setsockopt(int at, int level, int name, const void *value, socklen_t size) {
   NEXT(setsockopt);
-  int is_asked = level == IPPROTO_TCP && name == TCP_NODELAY && !passes_by("setsockopt");
+  int is_asked = level == IPPROTO_TCP && name == TCP_NODELAY && !is_over && is_named("setsockopt");
   return is_asked && allowed(0) < 0 ? -1 : next(at, level, name, value, size);
 }
 

@@ -33,17 +33,12 @@ int open(const char *path, int how, ...) {
   return next(path, how, mode);
 }
 
-void *malloc(size_t size) {
-  NEXT(malloc);
-  return refuse() ? 0 : next(size);
-}
+#define ALLOCATES(call, ...) \
+  NEXT(call); \
+  return refuse() ? 0 : next(__VA_ARGS__)
 
-void *realloc(void *old, size_t size) {
-  NEXT(realloc);
-  return refuse() ? 0 : next(old, size);
-}
+void *malloc(size_t size) { ALLOCATES(malloc, size); }
 
-void *aligned_alloc(size_t to, size_t size) {
-  NEXT(aligned_alloc);
-  return refuse() ? 0 : next(to, size);
-}
+void *realloc(void *old, size_t size) { ALLOCATES(realloc, old, size); }
+
+void *aligned_alloc(size_t to, size_t size) { ALLOCATES(aligned_alloc, to, size); }

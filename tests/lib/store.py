@@ -1,11 +1,13 @@
-"""The program on a file, called by one user or another, and what a file of it is with its log."""
+"""The program on a file, called by one user or another, or serving on a port; and what a file of it is with its log."""
 import os
 import resource
 import shutil
 import signal
 import subprocess
+from pathlib import Path
 
 from tests.lib import report
+from tests.lib.http import connected, free_port
 
 
 class Store:
@@ -28,17 +30,50 @@ class Store:
         return self(*words, **more).decode().splitlines()
 
 
+class Server:
+    """The program, serving on a port for so many connections; it is killed where it hasn't ended."""
+
+    def __init__(self, file, *options, connections=1_000_000, port=None, **how):
+        self.port = port or free_port()
+        words = [file, *options, "serve", "--port", str(self.port), "--connections", str(connections)]
+        self.ran = subprocess.Popen(words, **{"stdin": subprocess.DEVNULL, "stderr": subprocess.PIPE, **how})
+
+    def __enter__(self):
+        return self
+
+    def __exit__(self, *_):
+        self.ran.kill()
+        self.ran.communicate()
+
+    def connect(self, timeout=150):
+        """A connection, as soon as it listens."""
+        return connected(self.port, self.ran, timeout) or report.fail("the server doesn't listen")
+
+    def ended(self, within):
+        """Its status, and what it said, once it has ended by itself."""
+        try:
+            said = self.ran.communicate(timeout=within)[1]
+        except subprocess.TimeoutExpired:
+            report.fail(f"the server goes on after {within} seconds")
+        return self.ran.returncode, said
+
+
 def small_files():
     """Called in a child: no file of it grows above 1 MiB, and a write that would fails."""
     signal.signal(signal.SIGXFSZ, signal.SIG_IGN)
     resource.setrlimit(resource.RLIMIT_FSIZE, (1_048_576, 1_048_576))
 
 
-def copy(path, to, ends=("", "-wal")):
+def remove(path):
+    """Removes a file, with its log, where it is there."""
+    for end in ("", "-wal", "-shm"):
+        Path(path + end).unlink(missing_ok=True)
+
+
+def copy(path, to):
     """Makes a file, with its log, one like another."""
-    for end in ends:
+    remove(to)
+    for end in ("", "-wal"):
         if os.path.exists(path + end):
             shutil.copy(path + end, to + end)
-        elif os.path.exists(to + end):
-            os.remove(to + end)
     return to
