@@ -1,8 +1,10 @@
 """Wrong bodies: which of them the gate tries, and what a check's refusal of one is worth."""
+import collections
+import glob
 import re
 from pathlib import Path
 
-from tests.lib import program
+from tests.lib import program, report
 
 SELECTION = "tests/gate/bodies.txt"
 # An error for a name that an edit took away, or for what fell with it: it says nothing of what the body does.
@@ -16,6 +18,14 @@ def selected():
     """The edits that the gate tries: pairs of a crate and a name."""
     lines = Path(f"{program.HERE}/{SELECTION}").read_text().splitlines()
     return [tuple(it) for line in lines if (it := line.partition("#")[0].split())]
+
+
+def having(names=()):
+    """The crates that have further edits; fails where one of these names isn't among them."""
+    found = sorted({path.split("/")[-3] for path in glob.glob(f"{program.HERE}/crates/*/further/*.edit")})
+    if unknown := [it for it in names if it not in found]:
+        report.fail(f"no further edits in crates/: {' '.join(unknown)}")
+    return found
 
 
 def changes(path):
@@ -54,9 +64,9 @@ class Check:
     def __init__(self, crate, output):
         self.crate, self.output = crate, output
         self.said = dict(re.findall(rf"^fn {crate}::(\S+): (.*)", output, re.M))
-        self.errors = {}
+        self.errors = collections.defaultdict(list)
         for folder, text in ERROR.findall(output):
-            self.errors.setdefault(folder, []).append(text)
+            self.errors[folder].append(text)
 
     def errors_of(self, function):
         """The errors in the proofs of a function and of its closures."""

@@ -17,6 +17,7 @@ import tempfile
 import threading
 import time
 from concurrent.futures import FIRST_COMPLETED, ThreadPoolExecutor, wait
+from pathlib import Path
 
 import program
 
@@ -102,18 +103,12 @@ def build(crate, named, room, jobs, runs):
     words = [f"{kit}/bin/rattle", "build", *words_of(crate, named, room, jobs), *to, "-o", made]
     used = call(crate, words, folder, runs)
     if is_program:
-        link(made, runs)
+        words = [f"{kit}/bin/rattle-link", "--target", TARGET, "--toolchain", f"{kit}/toolchain", "-o", program.FILE]
+        call(crate, [*words, made, f"{kit}/c/libos_c.a", f"{kit}/c/liblibc_c.a"], program.HERE, runs)
+        os.remove(made)
     else:
         os.rename(made, f"{room}/{crate}.rlib")
     return used
-
-
-def link(made, runs):
-    kit = program.toolchain()
-    words = ["--target", TARGET, "--toolchain", f"{kit}/toolchain", "-o", program.FILE, made]
-    words += [f"{kit}/c/libos_c.a", f"{kit}/c/liblibc_c.a"]
-    call(program.NAME, [f"{kit}/bin/rattle-link", *words], program.HERE, runs)
-    os.remove(made)
 
 
 def guess(crate, below):
@@ -136,11 +131,11 @@ class Plan:
             work, memory = guess(crate, program.with_below(crate, named)[:-1])
             self.work[crate] = max(0.1, known.get(crate, {}).get("work", work))
             self.memory[crate] = known.get(crate, {}).get("memory", memory)
-        above = {it: [other for other in crates if it in named[other]] for it in crates}
         # The work from the start of a crate to the end of all, on the longest way: crates stand lowest first.
         self.chain = {}
         for crate in reversed(crates):
-            self.chain[crate] = self.work[crate] + max((self.chain[it] for it in above[crate]), default=0)
+            above = [self.chain[it] for it in self.chain if crate in named[it]]
+            self.chain[crate] = self.work[crate] + max(above, default=0)
 
     def needs(self, crate, jobs):
         return self.memory[crate] * (1 + 0.3 * (jobs - 1))
@@ -152,15 +147,10 @@ class Plan:
         return alone + (self.work[crate] - alone) / (0.85 * jobs + 0.15)
 
 
-def lines_of(path):
-    with open(f"{program.HERE}/{path}", "rb") as file:
-        return file.read().count(b"\n")
-
-
 def lines(crate):
     """How many lines of code and of statements and proofs a crate has."""
-    files = program.files_of(crate)
-    return [sum(lines_of(it) for it in files if it.endswith(kind)) for kind in (".rt", ".antt")]
+    texts = [(it, Path(program.HERE, it).read_bytes()) for it in program.files_of(crate)]
+    return [sum(text.count(b"\n") for name, text in texts if name.endswith(kind)) for kind in (".rt", ".antt")]
 
 
 class Shown:
@@ -289,10 +279,7 @@ class Proving:
 
     def start(self, pool):
         """Starts what can start now."""
-        started = set()
-        while next := self.schedule.next():
-            started.add(pool.submit(self.prove, *next))
-        return started
+        return {pool.submit(self.prove, *it) for it in iter(self.schedule.next, None)}
 
     def run(self):
         """Proves all, and returns when what is proved is kept."""
@@ -340,8 +327,7 @@ def stops_cleanly():
         program.say("stopped; what is proved is kept, and the next run goes on from there")
         sys.exit(128 + number)
 
-    is_main = threading.current_thread() is threading.main_thread()
-    old = {it: signal.signal(it, stop) for it in (signal.SIGINT, signal.SIGTERM, signal.SIGHUP)} if is_main else {}
+    old = {it: signal.signal(it, stop) for it in (signal.SIGINT, signal.SIGTERM, signal.SIGHUP)}
     try:
         yield
     finally:

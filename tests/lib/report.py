@@ -1,6 +1,7 @@
 """How a script of these folders is called and how it reports. Each check that passes is counted, the first that fails
 ends the script, and the last line is `N passed, M failed`."""
 import argparse
+import functools
 import os
 import random
 import shutil
@@ -8,6 +9,7 @@ import subprocess
 import sys
 import tempfile
 import time
+from pathlib import Path
 
 from tests.lib import program
 
@@ -25,10 +27,9 @@ def fail(what, kept=None, name="kept"):
     """Ends the script. The bytes, or a copy of the file, that show the fault stay in the system's folder for
     temporary files."""
     if kept is not None:
-        place = os.path.join(tempfile.gettempdir(), f"nixkeep-{name}")
+        place = Path(tempfile.gettempdir(), f"nixkeep-{name}")
         if isinstance(kept, bytes):
-            with open(place, "wb") as out:
-                out.write(kept)
+            place.write_bytes(kept)
         elif os.path.isfile(kept):
             shutil.copy(kept, place)
         what = f"{what}\nsee {place}"
@@ -149,9 +150,9 @@ def script(doc, run, count=None, more=lambda asked: None, parts=(), need=(), ski
     that it needs isn't installed, and is skipped without one of the others."""
 
     def also(asked):
-        asked.add_argument("--seed", metavar="N", type=int, default=today(), help="what chance begins with; else the day")
-        asked.add_argument("--count", metavar="N", type=int, default=count,
-                           help=f"how much is tried ({count or 'all'}, if not given)")
+        number = functools.partial(asked.add_argument, metavar="N", type=int)
+        number("--seed", default=today(), help="what chance begins with; else the day")
+        number("--count", default=count, help=f"how much is tried ({count or 'all'}, if not given)")
         more(asked)
 
     def tried():
