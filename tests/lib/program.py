@@ -59,6 +59,18 @@ def toolchain_line():
     return f"{folder} {seen.st_size} {int(seen.st_mtime)}"
 
 
+def words_of(crate, named, folder_of, jobs):
+    """The words by which rattle reads a crate, with the libraries of this repository in their folders."""
+    kit = toolchain()
+    root = "main" if os.path.isfile(f"{HERE}/crates/{crate}/src/main.rt") else "lib"
+    words = ["--crate-name", crate, f"src/{root}.rt", "--jobs", str(jobs)]
+    for library in dict.fromkeys(["std", *named[crate]]):
+        words += ["--extern", f"{library}={folder_of(library) if library in named else f'{kit}/rlibs'}/{library}.rlib"]
+    for folder in dict.fromkeys([f"{kit}/rlibs", *map(folder_of, with_below(crate, named)[:-1])]):
+        words += ["-L", f"dependency={folder}"]
+    return [*words, "--antt-project", f"{kit}/rattle/logic/antt-project.json", "--logic-built", f"{kit}/logic_built"]
+
+
 def files_of(crate):
     """The paths of the files of a crate that a proof reads, below the top of the repository, in order."""
     found = []

@@ -39,17 +39,6 @@ def processors():
     return len(os.sched_getaffinity(0))
 
 
-def words_of(crate, named, room, jobs):
-    """The words by which rattle reads a crate, with the libraries of this repository in a folder."""
-    kit = program.toolchain()
-    root = "main" if os.path.isfile(f"{program.HERE}/crates/{crate}/src/main.rt") else "lib"
-    words = ["--crate-name", crate, f"src/{root}.rt", "--links", f"{crate}=", "--jobs", str(jobs)]
-    for library in ["std", *named[crate]]:
-        words += ["--extern", f"{library}={room if library in named else f'{kit}/rlibs'}/{library}.rlib"]
-    words += ["-L", f"dependency={kit}/rlibs", "-L", f"dependency={room}"]
-    return [*words, "--antt-project", f"{kit}/rattle/logic/antt-project.json", "--logic-built", f"{kit}/logic_built"]
-
-
 class Runs:
     """The commands that run now, so that all can be ended."""
 
@@ -100,7 +89,8 @@ def build(crate, named, room, jobs, runs):
     made = f"{program.FILE}.o" if is_program else f"{room}/.{crate}.rlib"
     to = ["--toolchain", f"{kit}/toolchain", "--backend", "llvm"] if is_program else ["--statements"]
     os.makedirs(os.path.dirname(made), exist_ok=True)
-    words = [f"{kit}/bin/rattle", "build", *words_of(crate, named, room, jobs), *to, "-o", made]
+    words = ["build", *program.words_of(crate, named, lambda library: room, jobs), "--links", f"{crate}="]
+    words = [f"{kit}/bin/rattle", *words, *to, "-o", made]
     used = call(crate, words, folder, runs)
     if is_program:
         words = [f"{kit}/bin/rattle-link", "--target", TARGET, "--toolchain", f"{kit}/toolchain", "-o", program.FILE]
