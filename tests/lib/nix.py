@@ -1,4 +1,6 @@
 """Real Nix over a throw-away store in a folder, with the usual directory in its paths."""
+import hashlib
+import json
 import os
 import subprocess
 from pathlib import Path
@@ -37,6 +39,17 @@ class Nix:
 
     def lines(self, *words):
         return self(*words).decode().splitlines()
+
+    def value(self, *words):
+        """That of an expression."""
+        return json.loads(self("nix-instantiate", "--eval", "--strict", "--json", *words))
+
+    def register(self, objects):
+        """Makes these valid: paths with their archives, derivers and references."""
+        lines = []
+        for path, nar, deriver, refs in objects:
+            lines += [path, hashlib.sha256(nar).hexdigest(), str(len(nar)), deriver, str(len(refs)), *refs]
+        self("nix-store", "--load-db", given="".join(f"{line}\n" for line in lines).encode())
 
     def place(self, path):
         """Where the file or folder of a path is."""
