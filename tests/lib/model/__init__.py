@@ -1,5 +1,5 @@
 """A model of the whole store, written apart from the program: worlds are dictionaries, and reach is a search.
 
-It says what the program prints for a command line and what its server answers to a stream. `python3 -B -m model`, run
-in the folder above, tests the model itself on known values.
+It says what the program prints for a command line and what its server answers to a stream. `tests/compare/model
+--self-test` tests the model itself on known values.
 """

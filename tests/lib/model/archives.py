@@ -4,7 +4,7 @@ A node is ("regular", is_executable, contents), ("symlink", target) or ("directo
 """
 import sys
 
-from .texts import Refused
+from .texts import refuse
 
 # (reading or writing an archive uses some frames for each node on the way down)
 sys.setrecursionlimit(10_000)
@@ -25,32 +25,25 @@ class Reader:
 
     def string(self):
         start = self.at + 8
-        if start > len(self.data):
-            raise Refused(1)
+        refuse(1, start > len(self.data))
         size = int.from_bytes(self.data[self.at : start], "little")
         end = start + size + -size % 8
-        if end > LIMIT:
-            raise Refused(8)
-        if end > len(self.data):
-            raise Refused(1)
-        if any(self.data[start + size : end]):
-            raise Refused(3)
+        refuse(8, end > LIMIT)
+        refuse(1, end > len(self.data))
+        refuse(3, any(self.data[start + size : end]))
         self.at = end
         return self.data[start : start + size]
 
     def one_of(self, *tags):
         found = self.string()
-        if found not in tags:
-            raise Refused(2)
+        refuse(2, found not in tags)
         return found
 
     def name(self, before):
         """The name of an entry, which is above that of the entry before it."""
         name = self.string()
-        if name in (b"", b".", b"..") or b"/" in name or b"\0" in name:
-            raise Refused(4)
-        if before is not None and name <= before:
-            raise Refused(5)
+        refuse(4, name in (b"", b".", b"..") or b"/" in name or b"\0" in name)
+        refuse(5, before is not None and name <= before)
         return name
 
     def entries(self, depth):
@@ -60,8 +53,7 @@ class Reader:
             self.one_of(b"name")
             name = self.name(found[-1][0] if found else None)
             self.one_of(b"node")
-            if depth == DEPTH:
-                raise Refused(6)
+            refuse(6, depth == DEPTH)
             found.append((name, self.node(depth + 1)))
             self.one_of(b")")
         return found
@@ -94,8 +86,7 @@ def read(data):
     reader = Reader(data)
     reader.one_of(b"nix-archive-1")
     node = reader.node(1)
-    if reader.at < len(data):
-        raise Refused(7)
+    refuse(7, reader.at < len(data))
     return node
 
 

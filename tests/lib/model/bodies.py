@@ -2,15 +2,14 @@
 import re
 
 from .store import request_of
-from .texts import Refused, address_of, base_of, digest_of, is_store_name
+from .texts import Refused, address_of, base_of, digest_of, is_store_name, refuse
 
 LIMIT = 2**64 - 1
 ONE, OPTIONAL, MANY = "one", "optional", "many"
 
 
 def name(_, text):
-    if not is_store_name(text):
-        raise Refused(41)
+    refuse(41, not is_store_name(text))
     return text
 
 
@@ -20,8 +19,7 @@ def path(store_dir, text):
 
 def digest(_, text):
     found = digest_of(text, "sha256:")
-    if found is None:
-        raise Refused(41)
+    refuse(41, found is None)
     return found
 
 
@@ -32,14 +30,12 @@ def address(_, text):
 
 def root(store_dir, text):
     label, space, target = text.partition(" ")
-    if not space:
-        raise Refused(41)
+    refuse(41, not space)
     return label, base_of(store_dir, target)
 
 
 def truth(_, text):
-    if text not in ("true", "false"):
-        raise Refused(41)
+    refuse(41, text not in ("true", "false"))
     return text == "true"
 
 
@@ -51,8 +47,7 @@ def limit_of(text):
 
 def limit(_, text):
     found = limit_of(text)
-    if found is None:
-        raise Refused(41)
+    refuse(41, found is None)
     return found
 
 
@@ -71,10 +66,7 @@ FORMS = {
     "add-text": (ADD, "contents"),
     "add-source": (ADD, "archive"),
     "import": (IMPORT, "archive"),
-    "set-permanent": (PATH, None),
-    "set-user-root": (PATH, None),
-    "set-profile": (PATH, None),
-    "add-temporary": (PATH, None),
+    **dict.fromkeys(["set-permanent", "set-user-root", "set-profile", "add-temporary"], (PATH, None)),
     "replace-runtime": ({"root": (MANY, "pairs", root)}, None),
     "collect": ({**IGNORE, "max-freed": (OPTIONAL, "limit", limit)}, None),
     "delete": ({"path": (MANY, "paths", path), **IGNORE}, None),
@@ -86,23 +78,20 @@ def lines_of(body):
     found, rest = [], body or b"\n"
     while True:
         line, end, rest = rest.partition(b"\n")
-        if not end:
-            raise Refused(41)
+        refuse(41, not end)
         if not line:
             return found, rest
         try:
             key, colon, value = line.decode().partition(": ")
         except UnicodeDecodeError as error:
             raise Refused(41) from error
-        if not colon:
-            raise Refused(41)
+        refuse(41, not colon)
         found.append((key, value))
 
 
 def values_of(store_dir, count, values, read):
     """The value of a field of a request, from all values of its key."""
-    if count == ONE and len(values) != 1 or count == OPTIONAL and len(values) > 1:
-        raise Refused(41)
+    refuse(41, count == ONE and len(values) != 1 or count == OPTIONAL and len(values) > 1)
     found = [read(store_dir, value) for value in values]
     return found if count == MANY else found[0] if found else None
 
@@ -111,8 +100,7 @@ def request(store_dir, kind, body, **fields):
     """The request of this kind with this body; the fields given here come from the target."""
     keys, payload = FORMS.get(kind, ({}, None))
     lines, rest = lines_of(body)
-    if not {key for key, _ in lines} <= keys.keys() or rest and not payload:
-        raise Refused(41)
+    refuse(41, not {key for key, _ in lines} <= keys.keys() or rest and not payload)
     try:
         for key, (count, field, read) in keys.items():
             fields[field] = values_of(store_dir, count, [value for other, value in lines if other == key], read)

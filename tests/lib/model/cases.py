@@ -3,6 +3,7 @@ import difflib
 import re
 import shlex
 
+from ..cases import lines_of
 from . import tables
 from .runs import pieces_of
 from .scenarios import FILE
@@ -42,12 +43,6 @@ def step_text(command, output=b"", errors=b"", status=0):
     lines += ["2> ..."] if errors is None else ["2> " + line for line in lines_of(errors)]
     lines += [f"[{status}]"] * (status != 0)
     return "\n".join("  " + line for line in "\n".join(lines).split("\n")) + "\n"
-
-
-def lines_of(written):
-    lines = written.decode("utf-8", "backslashreplace").split("\n")
-    last = lines.pop()
-    return lines + [last + " (no newline)"] * bool(last)
 
 
 def line_text(line):

@@ -4,32 +4,18 @@ from types import SimpleNamespace
 from . import archives, bodies, policy, server, texts
 from .store import Store, checked_text, few_references, request_of
 from .tables import Database
-from .texts import Refused, base_of, is_store_name
+from .texts import Refused, base_of, is_store_name, refuse
 from .worlds import World
 
 # For each subcommand: its flags, its options with a value, and the least and the greatest number of further words.
 MANY = 100_000
 FORMS = {
-    "who": ((), (), 0, 0),
-    "text-path": ((), (), 1, MANY),
-    "source-path": ((), (), 1, MANY),
-    "ls": ((), (), 0, 0),
-    "add-text": ((), (), 1, MANY),
-    "add-source": ((), (), 1, MANY),
-    "import": ((), (), 0, 0),
-    "runtime": ((), (), 0, 0),
-    "info": ((), (), 1, 1),
-    "cat-nar": ((), (), 1, 1),
-    "why": ((), (), 1, 1),
-    "list": ((), (), 0, 0),
-    "roots": ((), (), 0, 0),
-    "live": ((), (), 0, 0),
-    "dead": ((), (), 0, 0),
-    "report": ((), (), 0, 0),
+    **dict.fromkeys("who ls import runtime list roots live dead report".split(), ((), (), 0, 0)),
+    **dict.fromkeys(["text-path", "source-path", "add-text", "add-source"], ((), (), 1, MANY)),
+    **dict.fromkeys(["info", "cat-nar", "why"], ((), (), 1, 1)),
+    **dict.fromkeys(["profile", "temp"], ((), ("owner",), 2, 3)),
     "root": (("permanent",), (), 2, 2),
     "unroot": (("permanent",), ("owner",), 1, 1),
-    "profile": ((), ("owner",), 2, 3),
-    "temp": ((), ("owner",), 2, 3),
     "gc": (("ignore-liveness",), ("max-freed",), 0, 0),
     "delete": (("ignore-liveness",), (), 1, MANY),
     "serve": ((), ("port", "connections"), 0, 0),
@@ -138,8 +124,7 @@ def temp_request(command, caller, store_dir):
 
 def name_and_references(command, store_dir):
     name, *references = command.values
-    if not is_store_name(name):
-        raise Refused(12)
+    refuse(12, not is_store_name(name))
     return name, [base_of(store_dir, it) for it in references]
 
 

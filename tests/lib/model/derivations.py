@@ -1,7 +1,7 @@
 """Derivation texts (the ATerm form of a .drv file): their outputs, and writing them."""
 import re
 
-from .texts import Refused, is_base, is_store_name
+from .texts import is_base, is_store_name, refuse
 
 # A string: bytes other than quotes and backslashes, or one of five escapes.
 STRING = re.compile(rb'"((?:[^"\\]|\\["\\nrt])*)"', re.S)
@@ -13,14 +13,12 @@ class Text:
         self.data, self.at = data, 0
 
     def skip(self, word):
-        if not self.data.startswith(word, self.at):
-            raise Refused(17)
+        refuse(17, not self.data.startswith(word, self.at))
         self.at += len(word)
 
     def string(self):
         found = STRING.match(self.data, self.at)
-        if not found:
-            raise Refused(17)
+        refuse(17, not found)
         self.at = found.end()
         return re.sub(rb"\\.", lambda it: ESCAPES[it[0]], found[1])
 
@@ -55,8 +53,7 @@ def read(data):
     env = lambda: text.list_of(lambda: text.tuple_of(string, string))
     text.skip(b"Derive")
     found = text.tuple_of(outputs, inputs, strings, string, string, strings, env)[0]
-    if text.at < len(data):
-        raise Refused(17)
+    refuse(17, text.at < len(data))
     return found
 
 
@@ -65,11 +62,9 @@ def outputs(data, store_dir):
     found = [(name.decode("latin-1"), path.decode("latin-1")) for name, path, _, _ in read(data)]
     for name, path in found:
         is_full = path.startswith(store_dir + "/") and is_base(path[len(store_dir) + 1 :])
-        if not is_store_name(name) or path and not is_full:
-            raise Refused(17)
+        refuse(17, not is_store_name(name) or path and not is_full)
     names = [name for name, _ in found]
-    if len(set(names)) < len(names):
-        raise Refused(18)
+    refuse(18, len(set(names)) < len(names))
     return [(name, path[len(store_dir) + 1 :]) for name, path in found if path]
 
 

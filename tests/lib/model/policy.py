@@ -2,7 +2,7 @@
 import tomllib
 from collections import namedtuple
 
-from .texts import Refused, is_plain_name, is_store_dir
+from .texts import Refused, is_plain_name, is_store_dir, refuse
 
 LIMIT = 1_048_576
 Caller = namedtuple("Caller", "name group")
@@ -38,24 +38,20 @@ KEYS = {
 
 def config_of(data):
     """The value of each key, from the text of a configuration."""
-    if len(data) > LIMIT:
-        raise Refused(19, "syntax")
+    refuse(19, len(data) > LIMIT, "syntax")
     try:
         tree = tomllib.loads(data.decode())
     except ValueError as error:
         raise Refused(19, "syntax") from error
-    if not tree.keys() <= KEYS.keys():
-        raise Refused(19, "unknown-key")
+    refuse(19, not tree.keys() <= KEYS.keys(), "unknown-key")
     for key, (_, is_right) in KEYS.items():
-        if key in tree and not is_right(tree[key]):
-            raise Refused(19, key)
+        refuse(19, key in tree and not is_right(tree[key]), key)
     return {key: tree.get(key, default) for key, (default, _) in KEYS.items()}
 
 
 def caller_of(name, group):
     """A caller; name and group are texts or None."""
-    if name is None or not is_plain_name(name) or group is not None and not is_plain_name(group):
-        raise Refused(20)
+    refuse(20, name is None or not is_plain_name(name) or group is not None and not is_plain_name(group))
     return Caller(name, group)
 
 

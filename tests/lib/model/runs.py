@@ -1,14 +1,14 @@
 """Runs a scenario with the program and with the model, and says where they differ."""
 import contextlib
-import fcntl
 import os
 import sqlite3
-import struct
 import subprocess
 import tempfile
-import termios
 import time
+from pathlib import Path
 
+from ..pieces import unread
+from ..tables import put
 from . import tables
 from .scenarios import FILE
 
@@ -19,17 +19,9 @@ ROOM = "/dev/shm" if os.access("/dev/shm", os.W_OK) else None
 def make_file(path, rows):
     """Writes a database file with these rows; None is a file that is no database."""
     if rows is None:
-        with open(path, "wb") as file:
-            file.write(b"not a database\n" * 100)
+        Path(path).write_bytes(b"not a database\n" * 100)
     elif rows:
-        with contextlib.closing(sqlite3.connect(path, isolation_level=None)) as database:
-            database.execute("PRAGMA synchronous = OFF")
-            database.execute("BEGIN")
-            for name, found in rows.items():
-                database.execute(tables.making(name))
-                marks = ", ".join("?" * len(tables.columns_of(name)))
-                database.executemany(f"INSERT INTO {name} VALUES ({marks})", sorted(found, key=repr))
-            database.execute("COMMIT")
+        put(path, rows, "PRAGMA synchronous = OFF;" + "".join(map(tables.making, rows)))
 
 
 def rows_in(path):
@@ -44,10 +36,6 @@ def rows_in(path):
         return {str(error): set()}
 
 
-def is_read(pipe):
-    return struct.unpack("i", fcntl.ioctl(pipe, termios.FIONREAD, bytes(4)))[0] == 0
-
-
 def feed(running, pieces):
     """Gives a running program each piece once it has read all before it."""
     pipe, end = running.stdin, time.monotonic() + SECONDS
@@ -55,7 +43,7 @@ def feed(running, pieces):
         for piece in pieces:
             pipe.write(piece)
             pipe.flush()
-            while not is_read(pipe) and running.poll() is None and time.monotonic() < end:
+            while unread(pipe) and running.poll() is None and time.monotonic() < end:
                 time.sleep(0.0005)
 
 
@@ -103,8 +91,7 @@ def difference(program, scenario):
     machine = scenario.machine()
     with tempfile.TemporaryDirectory(prefix="model-", dir=ROOM) as room:
         for name, text in scenario.configs.items():
-            with open(f"{room}/{name}", "wb") as file:
-                file.write(text)
+            Path(f"{room}/{name}").write_bytes(text)
         make_file(f"{room}/{FILE}", scenario.rows)
         for at, step in enumerate(scenario.steps):
             wanted, came = machine.run(step.words, step.input()), run_step(program, room, step)

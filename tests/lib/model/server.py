@@ -4,7 +4,7 @@ import re
 from . import bodies
 from .policy import caller_of, class_of
 from .store import Reply
-from .texts import Refused, is_base
+from .texts import Refused, is_base, refuse
 
 HEAD, FIELDS, BODY = 16_384, 64, 20_971_520
 TOKEN = rb"[!#$%&'*+\-.^_`|~0-9A-Za-z]+"
@@ -52,11 +52,9 @@ def number_of(text, most):
 def head_of(stream):
     """Method, target, minor version, fields and length of the head at the beginning of a stream."""
     found = MESSAGE.match(stream[:HEAD])
-    if not found:
-        raise Refused(36)
+    refuse(36, not found)
     fields = [(name.lower(), value.strip(b" \t")) for name, value in FIELD.findall(found[4])]
-    if len(fields) > FIELDS:
-        raise Refused(36)
+    refuse(36, len(fields) > FIELDS)
     try:
         target = found[2].decode()
     except UnicodeDecodeError as error:
@@ -71,20 +69,16 @@ def values_of(fields, name):
 def length_of(fields):
     """The length of the body."""
     sizes = values_of(fields, b"content-length")
-    if values_of(fields, b"transfer-encoding") or len(sizes) > 1:
-        raise Refused(37)
-    if sizes and not re.fullmatch(rb"[0-9]+", sizes[0]):
-        raise Refused(37)
+    refuse(37, values_of(fields, b"transfer-encoding") or len(sizes) > 1)
+    refuse(37, sizes and not re.fullmatch(rb"[0-9]+", sizes[0]))
     digits = sizes[0].lstrip(b"0") if sizes else b""
-    if len(digits) > 8 or int(digits or b"0") > BODY:
-        raise Refused(38)
+    refuse(38, len(digits) > 8 or int(digits or b"0") > BODY)
     return int(digits or b"0")
 
 
 def caller_in(fields):
     users, groups = values_of(fields, b"store-user"), values_of(fields, b"store-group")
-    if len(users) != 1 or len(groups) > 1:
-        raise Refused(20)
+    refuse(20, len(users) != 1 or len(groups) > 1)
     text = lambda value: value.decode("latin-1")
     return caller_of(text(users[0]), text(groups[0]) if groups else None)
 
@@ -99,8 +93,7 @@ def route_of(target):
 
 
 def read_parameters(given):
-    if "path" in given and not is_base(given["path"]):
-        raise Refused(14)
+    refuse(14, "path" in given and not is_base(given["path"]))
     if "number" in given:
         given["number"] = number_of(given["number"], 9999)
     if "session" in given:
@@ -152,8 +145,7 @@ def serve(store, stream):
         try:
             method, target, minor, fields, size = head_of(stream)
             end = size + length_of(fields)
-            if end > len(stream):
-                raise Refused(37)
+            refuse(37, end > len(stream))
         except Refused as refused:
             closes = True
             replies.append(reply_bytes(refusal(refused.number), None, False, True))

@@ -7,7 +7,7 @@ from types import SimpleNamespace
 
 from . import archives, derivations, texts, worlds
 from .policy import broken_rule, class_of
-from .texts import Refused, is_label, is_plain_name
+from .texts import Refused, is_label, is_plain_name, refuse
 
 # What came of a request: "done", "denied" or "refused"; the number of a refusal; the whole text.
 Reply = namedtuple("Reply", "outcome number text")
@@ -56,8 +56,7 @@ class Store:
         return "".join(f"{label} {self.full(target)}\n" for label, target in worlds.seen(roots, is_trusted))
 
     def valid(self, base):
-        if base not in self.world.objects:
-            raise Refused(23)
+        refuse(23, base not in self.world.objects)
         return base
 
     def remove(self, bases):
@@ -71,14 +70,12 @@ class Store:
         """The tests that all adds share, from the one of self references on, and the new object."""
         node = archives.read(archive)
         plain = archives.plain_contents(node)
-        if is_addressed and base in references:
-            raise Refused(26)
+        refuse(26, is_addressed and base in references)
         if address is not None:
             texts.verify(address, self.dir, base, references, archive, plain)
         outputs = outputs_of(base, node, self.dir)
         if base not in self.world.objects:
-            if not set(references) <= self.world.objects.keys() | {base}:
-                raise Refused(24)
+            refuse(24, not set(references) <= self.world.objects.keys() | {base})
             self.world.objects[base] = worlds.Object(archive, frozenset(references), deriver, address, outputs)
         return self.full(base) + "\n"
 
@@ -87,25 +84,21 @@ def outputs_of(base, node, store_dir):
     """The recorded outputs of an object by its name and its tree."""
     if not base.endswith(".drv"):
         return []
-    if node[0] != "regular":
-        raise Refused(17)
+    refuse(17, node[0] != "regular")
     return derivations.outputs(node[2], store_dir)
 
 
 def plain_names(*names):
-    if not all(map(is_plain_name, names)):
-        raise Refused(34)
+    refuse(34, not all(map(is_plain_name, names)))
 
 
 def few_references(references):
-    if len(references) > REFERENCES:
-        raise Refused(33)
+    refuse(33, len(references) > REFERENCES)
 
 
 def checked_text(contents):
     """The archive of a text, unless it is too large."""
-    if 112 + len(contents) + -len(contents) % 8 > archives.LIMIT:
-        raise Refused(8)
+    refuse(8, 112 + len(contents) + -len(contents) % 8 > archives.LIMIT)
     return archives.file_archive(contents)
 
 
@@ -128,8 +121,7 @@ def add_source(store, it, _):
 def add_import(store, it, _):
     few_references(it.references)
     archives.read(it.archive)
-    if texts.sha256(it.archive) != it.digest:
-        raise Refused(25)
+    refuse(25, texts.sha256(it.archive) != it.digest)
     return store.add(it.path, it.archive, it.references, it.deriver, it.address, it.address is not None)
 
 
@@ -153,26 +145,6 @@ def info(store, it, _):
 
 def archive_of(store, it, _):
     return store.world.objects[store.valid(it.path)].archive
-
-
-def listing(store, it, _):
-    return archives.listing(archives.read(archive_of(store, it, _)))
-
-
-def all_paths(store, it, _):
-    return store.paths_text(store.world.objects)
-
-
-def live_paths(store, it, _):
-    return store.paths_text(store.world.roots_of(store.config))
-
-
-def dead_paths(store, it, _):
-    return store.paths_text(store.world.dead(store.config))
-
-
-def all_roots(store, it, is_trusted):
-    return store.roots_text(store.world.roots(), is_trusted)
 
 
 def roots_of(store, it, is_trusted):
@@ -200,8 +172,7 @@ def set_user_root(store, it, _):
 
 
 def dropped(roots, key):
-    if key not in roots:
-        raise Refused(27)
+    refuse(27, key not in roots)
     del roots[key]
     return "done\n"
 
@@ -228,8 +199,7 @@ def set_profile(store, it, _):
     number = max(profile.generations, default=0)
     if profile.generations.get(number) != it.path:
         number += 1
-    if number > GENERATIONS:
-        raise Refused(32)
+    refuse(32, number > GENERATIONS)
     profile.generations[number] = it.path
     store.world.profiles[it.owner, it.name] = profile
     return made_current(profile, number)
@@ -237,50 +207,40 @@ def set_profile(store, it, _):
 
 def profile_of(store, it):
     plain_names(it.owner, it.name)
-    if (it.owner, it.name) not in store.world.profiles:
-        raise Refused(28)
+    refuse(28, (it.owner, it.name) not in store.world.profiles)
     return store.world.profiles[it.owner, it.name]
 
 
 def rollback(store, it, _):
     profile = profile_of(store, it)
     older = [number for number in profile.generations if number < profile.current]
-    if not older:
-        raise Refused(31)
+    refuse(31, not older)
     return made_current(profile, max(older))
 
 
 def generation_of(store, it):
     """The profile that is named, which has the number that is named."""
     profile = profile_of(store, it)
-    if it.number not in profile.generations:
-        raise Refused(29)
+    refuse(29, it.number not in profile.generations)
     return profile
-
-
-def switch(store, it, _):
-    return made_current(generation_of(store, it), it.number)
 
 
 def delete_generation(store, it, _):
     profile = generation_of(store, it)
-    if it.number == profile.current:
-        raise Refused(30)
+    refuse(30, it.number == profile.current)
     del profile.generations[it.number]
     return "done\n"
 
 
 def replace_runtime(store, it, _):
-    if not all(is_label(label) for label, _ in it.pairs):
-        raise Refused(35)
+    refuse(35, not all(is_label(label) for label, _ in it.pairs))
     store.world.runtime = {(label, base) for label, base in it.pairs if base in store.world.objects}
     return f"runtime roots {len(store.world.runtime)}\n"
 
 
 def session_of(it):
     plain_names(it.owner)
-    if not 1 <= it.session <= SESSIONS:
-        raise Refused(42)
+    refuse(42, not 1 <= it.session <= SESSIONS)
     return it.session
 
 
@@ -296,39 +256,22 @@ def end_session(store, it, _):
     return f"temporary roots {len(ended)}\n"
 
 
-def collect(store, it, _):
-    return store.remove(store.world.collected(store.config, it.limit))
-
-
 def delete(store, it, _):
     named = {store.valid(base) for base in it.paths}
     return store.remove(store.world.referrers(named, store.world.objects.keys()))
 
 
 REQUESTS = {
-    "add-text": add_text,
-    "add-source": add_source,
-    "import": add_import,
-    "info": info,
-    "archive": archive_of,
-    "listing": listing,
-    "list": all_paths,
-    "live": live_paths,
-    "dead": dead_paths,
-    "roots": all_roots,
-    "roots-of": roots_of,
-    "report": report,
-    "set-permanent": set_permanent,
-    "drop-permanent": drop_permanent,
-    "set-user-root": set_user_root,
-    "drop-user-root": drop_user_root,
-    "set-profile": set_profile,
-    "rollback": rollback,
-    "switch": switch,
-    "delete-generation": delete_generation,
-    "replace-runtime": replace_runtime,
-    "add-temporary": add_temporary,
-    "end-session": end_session,
-    "collect": collect,
-    "delete": delete,
+    "add-text": add_text, "add-source": add_source, "import": add_import, "info": info, "archive": archive_of,
+    "listing": lambda store, it, _: archives.listing(archives.read(archive_of(store, it, _))),
+    "list": lambda store, it, _: store.paths_text(store.world.objects),
+    "live": lambda store, it, _: store.paths_text(store.world.roots_of(store.config)),
+    "dead": lambda store, it, _: store.paths_text(store.world.dead(store.config)),
+    "roots": lambda store, it, is_trusted: store.roots_text(store.world.roots(), is_trusted),
+    "roots-of": roots_of, "report": report, "set-permanent": set_permanent, "drop-permanent": drop_permanent,
+    "set-user-root": set_user_root, "drop-user-root": drop_user_root, "set-profile": set_profile, "rollback": rollback,
+    "switch": lambda store, it, _: made_current(generation_of(store, it), it.number),
+    "delete-generation": delete_generation, "replace-runtime": replace_runtime, "add-temporary": add_temporary,
+    "end-session": end_session, "delete": delete,
+    "collect": lambda store, it, _: store.remove(store.world.collected(store.config, it.limit)),
 }

@@ -1,7 +1,7 @@
 """The rows of a database file: from a world, and back to it where they are sound. There are three schemas."""
 from . import archives, texts
 from .store import GENERATIONS, REFERENCES, SESSIONS, outputs_of
-from .texts import Refused, is_base, is_label, is_plain_name, is_store_dir
+from .texts import Refused, is_base, is_label, is_plain_name, is_store_dir, refuse
 from .worlds import Object, Profile, World
 
 PIECE = 65_536
@@ -64,8 +64,7 @@ def pieces_of(archive):
 
 
 def require(*facts):
-    if not all(facts):
-        raise Refused(21)
+    refuse(21, not all(facts))
 
 
 def schema_of(rows):
@@ -151,14 +150,11 @@ class Database:
     def open(self, store_dir):
         """The world of the file, or 21 or 22."""
         if self.world is None:
-            if self.rows is None:
-                raise Refused(21)
+            refuse(21, self.rows is None)
             world, found = world_of(self.rows) if self.rows else (World(), store_dir)
-            if found != store_dir:
-                raise Refused(22)
+            refuse(22, found != store_dir)
             self.world, self.dir = world, found
-        if self.dir != store_dir:
-            raise Refused(22)
+        refuse(22, self.dir != store_dir)
         return self.world
 
     def final_rows(self):

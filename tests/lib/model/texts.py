@@ -25,6 +25,12 @@ class Refused(Exception):
         return f"refused: {self.number} {REFUSALS[self.number - 1]} {self.word}".rstrip() + "\n"
 
 
+def refuse(number, is_wrong, word=""):
+    """Refuses what is wrong."""
+    if is_wrong:
+        raise Refused(number, word)
+
+
 def base32(data):
     """The bytes as one number, the first counting least, with the most significant digit first."""
     number = int.from_bytes(data, "little")
@@ -33,15 +39,12 @@ def base32(data):
 
 def unbase32(text, size):
     """The bytes that a text spells."""
-    if any(digit not in DIGITS for digit in text):
-        raise Refused(9)
-    if len(text) != (8 * size + 4) // 5:
-        raise Refused(10)
+    refuse(9, any(digit not in DIGITS for digit in text))
+    refuse(10, len(text) != (8 * size + 4) // 5)
     number = 0
     for digit in text:
         number = number * 32 + DIGITS.index(digit)
-    if number >= 256**size:
-        raise Refused(11)
+    refuse(11, number >= 256**size)
     return number.to_bytes(size, "little")
 
 
@@ -79,8 +82,7 @@ def is_base(text):
 def base_of(store_dir, text):
     """The base name of a full path or of a base name."""
     base = text.removeprefix(store_dir + "/")
-    if not is_base(base):
-        raise Refused(14)
+    refuse(14, not is_base(base))
     return base
 
 
@@ -122,5 +124,5 @@ def verify(address, store_dir, base, references, archive, plain):
     """Refuses an object that its content address doesn't fit; plain is the contents of a plain file, else None."""
     kind, digest = address_of(address)
     hashed = plain if kind == "text" else archive
-    if hashed is None or sha256(hashed) != digest or path_of(kind, store_dir, base[33:], references, digest) != base:
-        raise Refused(16)
+    refuse(16, hashed is None or sha256(hashed) != digest)
+    refuse(16, path_of(kind, store_dir, base[33:], references, digest) != base)

@@ -246,3 +246,6 @@ def streams():
     yield Told().ask(stream[:-1] + b"x" + message("PUT /temp/ann/1")).endswith(
         reply("405 Method Not Allowed", "refused: 40 bad-method\n", "allow: POST, DELETE")
     ), True
+
+
+GROUPS = [adds, imports, collections, deletions, runtime, profiles, roots, sessions, limits, files, streams]

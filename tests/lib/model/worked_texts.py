@@ -145,3 +145,6 @@ def heads():
     who = lambda *fields: refused(server.caller_in, [*fields])
     user, group = (b"store-user", b"ann"), (b"store-group", b"users")
     yield [who(user), who(user, group), who(user, user), who(user, group, group), who()], [0, 0, 20, 20, 20]
+
+
+GROUPS = [spellings, names, paths, archive_faults, derivation_texts, classes, configurations, heads]

@@ -1,6 +1,0 @@
-"""Tests the model itself."""
-import sys
-
-from . import worked
-
-sys.exit(worked.main())
