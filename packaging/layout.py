@@ -4,6 +4,7 @@ import hashlib
 import os
 import re
 import sys
+from pathlib import Path
 
 HERE = os.path.dirname(os.path.dirname(os.path.realpath(__file__)))
 sys.path.insert(0, f"{HERE}/tests/lib")
@@ -18,8 +19,7 @@ COMPLETION = {
 
 
 def version():
-    with open(f"{HERE}/VERSION") as file:
-        return file.read().strip()
+    return Path(f"{HERE}/VERSION").read_text().strip()
 
 
 def names_in(folder):
@@ -29,8 +29,7 @@ def names_in(folder):
 
 
 def content(path):
-    with open(path, "rb") as file:
-        return file.read()
+    return Path(path).read_bytes()
 
 
 def sum_of(path, kind="sha256"):

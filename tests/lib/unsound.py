@@ -155,11 +155,10 @@ class Faulty:
         put = lambda owner, session, target: f"INSERT INTO temp_root VALUES ('{owner}', {session}, '{target}');"
         owners = {"nobody": "", "a bad owner": "-ann", "an owner with a blank": "a b", "an owner with a slash": "a/b",
                   "a long owner": "a" * 65}
+        numbers = {"session 0": 0, "a session below 0": -1, "session 4,194,305": 4_194_305,
+                   "a session far above": 2**63 - 1}
         return {
-            "session 0": put("ann", 0, self.low),
-            "a session below 0": put("ann", -1, self.low),
-            "session 4,194,305": put("ann", 4_194_305, self.low),
-            "a session far above": put("ann", 2**63 - 1, self.low),
+            **{what: put("ann", number, self.low) for what, number in numbers.items()},
             "a temporary root without its object": put("ann", 1, self.gone),
             "a temporary root of no path": put("ann", 1, self.malformed),
             **{f"a temporary root of {what}": put(owner, 1, self.low) for what, owner in owners.items()},

@@ -124,11 +124,10 @@ class Handler(BaseHTTPRequestHandler):
         if not user:
             return self.answer(401, b"<html>who are you?</html>", **{"www-authenticate": "Basic"})
         try:
-            connection = http.client.HTTPConnection("127.0.0.1", behind.port, timeout=60)
-            connection.request(self.command, self.path.removeprefix(behind.prefix), body, {"store-user": user})
-            reply = connection.getresponse()
-            text = reply.read()
-            connection.close()
+            with contextlib.closing(http.client.HTTPConnection("127.0.0.1", behind.port, timeout=60)) as connection:
+                connection.request(self.command, self.path.removeprefix(behind.prefix), body, {"store-user": user})
+                reply = connection.getresponse()
+                text = reply.read()
         except OSError:
             return self.answer(502, b"<html>nobody is behind</html>")
         if behind.cut:
@@ -173,17 +172,8 @@ def proxy(port, path=None, certificate=None, **more):
     """
     made = UnixServer(path, Handler) if path else TcpServer(("127.0.0.1", 0), Handler)
     made.daemon_threads = True
-    settings = {
-        "users": {},
-        "tokens": {},
-        "everybody": "ann",
-        "most": 1 << 30,
-        "page": None,
-        "prefix": "",
-        "cut": 0,
-        "hook": None,
-        "port": port,
-    }
+    settings = {"users": {}, "tokens": {}, "everybody": "ann", "most": 1 << 30, "page": None, "prefix": "", "cut": 0,
+                "hook": None, "port": port}
     for key, value in {**settings, **more}.items():
         setattr(made, key, value)
     if certificate:

@@ -18,6 +18,7 @@ HERE = os.path.dirname(os.path.dirname(os.path.dirname(os.path.realpath(__file__
 sys.path.insert(0, f"{HERE}/tools")
 from nixkeep_tools import paths, remote, streams, subcommands
 from nixkeep_tools.command_line import Told
+from tests.lib.http import free_port
 
 OPTIONS = ("db", "config", "user", "group")
 # What nixkeep-remote computes by itself.
@@ -62,11 +63,6 @@ class Ended(Exception):
     def __init__(self, text, status):
         super().__init__(text)
         self.text, self.status = text, status
-
-
-def free_port():
-    with socket.create_server(("127.0.0.1", 0)) as free:
-        return free.getsockname()[1]
 
 
 def sockets(folder):
