@@ -176,7 +176,7 @@ def main(doc, parts, begin=program, more=lambda asked: None):
         try:
             begun = begin(words)
             for part in words.parts:
-                parts[part](begun, words, words.folder)
+                part(begun, words, words.folder)
         except report.Failed as why:
             sys.exit(str(why))
     ended(words)

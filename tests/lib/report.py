@@ -23,11 +23,11 @@ class Failed(Exception):
     """A check that failed, with what to print of it."""
 
 
-def fail(what, kept=None, name="kept"):
+def fail(what, kept=None):
     """Ends the script. The bytes, or a copy of the file, that show the fault stay in the system's folder for
     temporary files."""
     if kept is not None:
-        place = Path(tempfile.gettempdir(), f"nixkeep-{name}")
+        place = Path(tempfile.gettempdir(), "nixkeep-kept")
         if isinstance(kept, bytes):
             place.write_bytes(kept)
         elif os.path.isfile(kept):
@@ -100,17 +100,17 @@ def parser(doc):
 
 
 def options(doc, more=lambda asked: None, parts=()):
-    """The words of the command line: which program is tried, more, and the parts to run, or all."""
-    asked = parser(doc)
+    """The words of the command line: which program is tried, more, and the parts to run, which are functions, or all."""
+    asked, named = parser(doc), {it.__name__.removeprefix("try_"): it for it in parts}
     asked.add_argument("--program", metavar="FILE", help="the program; else the one that bin/nixkeep proves and builds")
     more(asked)
     if parts:
-        asked.add_argument("parts", nargs="*", metavar="PART", help=f"{', '.join(parts)}; else all")
+        asked.add_argument("parts", nargs="*", metavar="PART", help=f"{', '.join(named)}; else all")
     words = asked.parse_args()
     if parts:
-        words.parts = words.parts or [*parts]
-        if not {*parts}.issuperset(words.parts):
-            asked.error(f"the parts are {', '.join(parts)}")
+        if not named.keys() >= {*words.parts}:
+            asked.error(f"the parts are {', '.join(named)}")
+        words.parts = [named[it] for it in words.parts or named]
     return words
 
 

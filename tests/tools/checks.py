@@ -38,15 +38,15 @@ class Checks:
 
 
 def script(doc, parts, skip=(), start=lambda program, folder: program):
-    """Runs the functions of a test, by the names of its parts. Each gets what `start` makes, once, and the checks."""
+    """Runs the parts of a test. Each gets what `start` makes, once, and the checks."""
 
     def run(words):
         check, first = Checks(), start(report.program_file(words), words.folder)
         for part in words.parts:
-            parts[part](first, check)
+            part(first, check)
         return check.failed
 
-    report.script(doc, run, parts=[*parts], skip=skip)
+    report.script(doc, run, parts=parts, skip=skip)
 
 
 def ran(command, given=b"", **more):
