@@ -23,11 +23,20 @@ static int path_of(int fd, char *path) {
   return is_within(path);
 }
 
-/* Whether the process has to stop at this call on an open file. */
+/* Counts a call: whether the process has to stop at it. */
+static int is_due(void) { return ++counts()->calls == number("STOP_AT"); }
+
+/* The same for a call on an open file, if that one counts. */
 static int is_stop(int fd) {
   char path[MOST];
-  return path_of(fd, path) && ++counts()->calls == number("STOP_AT");
+  return path_of(fd, path) && is_due();
 }
+
+/* A call at which the process may stop. */
+#define STOPS(call, is_meant, ...) \
+  NEXT(call); \
+  if (is_meant) _exit(STOPPED); \
+  return next(__VA_ARGS__)
 
 static typeof(pwrite64) *pwrite_of_c(void) {
   NEXT(pwrite64);
@@ -52,19 +61,11 @@ ssize_t write(int fd, const void *from, size_t size) {
   return next(fd, from, size);
 }
 
-int ftruncate64(int fd, off_t size) {
-  NEXT(ftruncate64);
-  if (is_stop(fd)) _exit(STOPPED);
-  return next(fd, size);
-}
+int ftruncate64(int fd, off_t size) { STOPS(ftruncate64, is_stop(fd), fd, size); }
 
 int ftruncate(int fd, off_t size) { return ftruncate64(fd, size); }
 
-int unlink(const char *path) {
-  NEXT(unlink);
-  if (is_within(path) && ++counts()->calls == number("STOP_AT")) _exit(STOPPED);
-  return next(path);
-}
+int unlink(const char *path) { STOPS(unlink, is_within(path) && is_due(), path); }
 
 /* Copies a file as it is synced. */
 static void keep(int fd) {
@@ -89,12 +90,6 @@ static int synced(int fd, int (*next)(int)) {
   return done;
 }
 
-int fsync(int fd) {
-  NEXT(fsync);
-  return synced(fd, next);
-}
+int fsync(int fd) { NEXT(fsync); return synced(fd, next); }
 
-int fdatasync(int fd) {
-  NEXT(fdatasync);
-  return synced(fd, next);
-}
+int fdatasync(int fd) { NEXT(fdatasync); return synced(fd, next); }
