@@ -100,7 +100,7 @@ def parser(doc):
 
 
 def options(doc, more=lambda asked: None, parts=()):
-    """The words of the command line: which program is tried, more, and the parts to run, which are functions, or all."""
+    """The words of the command line: which program is tried, more, and the parts to run, or all: functions."""
     asked, named = parser(doc), {it.__name__.removeprefix("try_"): it for it in parts}
     asked.add_argument("--program", metavar="FILE", help="the program; else the one that bin/nixkeep proves and builds")
     more(asked)
