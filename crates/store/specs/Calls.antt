@@ -25,8 +25,8 @@ module _ {S : Type 0} (g : Ghosts S) where
     pub cause : (w : World) → HasWorld g old.tables w → HasCause g q reply old.tables new.tables
     -- a denial or a refusal leaves the store as it was
     pub still : IsStill reply → new ≡ old
-    -- what is done leaves what other programs have in the database
-    pub others : IsDone reply → LeavesOthers g old.tables new.tables
+    -- whatever is replied, what other programs have in the database is as it was
+    pub others : LeavesOthers g old.tables new.tables
     -- what is done outlives a crash
     pub lasts : IsDone reply → StaysDurable g old.tables new.tables
     -- at any exit a crash leaves what it could leave before, or the tables of the done case, if there is one

@@ -185,12 +185,12 @@ impl<S: Alter> Store<S> {
         // A request whose archive was lost to memory is denied by a rule, or fails for memory ahead of its tests.
         ensures spent { IsTrue (is_spent request)
             → (reply_view result ≡ spent_reply self.old.settings caller.now (request_view request)) × (self.new ≡ self.old) }
-        // A failure is out of memory; or the request touches the disk, and over a clean one a failed change has a reason.
+        // A failure is out of memory; or the request touches the disk, and over a clean one there is a reason.
         ensures cause { (w : World) → HasWorld S.Store self.old.tables w
             → HasCause S.Store (request_view request) (reply_view result) self.old.tables self.new.tables }
         ensures still { IsStill (reply_view result) → self.new ≡ self.old }
-        // What other programs have in the database is as it was.
-        ensures others { IsDone (reply_view result) → LeavesOthers S.Store self.old.tables self.new.tables }
+        // Whatever is replied, a failure too, what other programs have in the database is as it was.
+        ensures others { LeavesOthers S.Store self.old.tables self.new.tables }
         ensures lasts { IsDone (reply_view result) → StaysDurable S.Store self.old.tables self.new.tables }
         // At any exit a crash leaves what it could leave before, or the tables of the done case; where a rule denies the request
         // or a test of it fails there is none.

@@ -1,9 +1,9 @@
 //! What is read of the disk: archives, and their listings.
 
-ghost use Rattle.std.specs.Prelude.{◌≡◌, IfErr, IfOk, string_bytes};
+ghost use Rattle.std.specs.Prelude.{◌≡◌, IfErr, IfOk, IsTrue, string_bytes};
 ghost use Rattle.nar.specs.Outcome.{outcome_of};
 ghost use Rattle.policy.specs.Settings.{Settings};
-ghost use Rattle.model.specs.World.{World};
+ghost use Rattle.model.specs.World.{World, has};
 ghost use Rattle.tables_outline.specs.Outline.{outline_of};
 ghost use Rattle.model.specs.Answers.{listing_at, archive_at};
 ghost use Rattle.model.specs.Tests.{refusal};
@@ -11,6 +11,7 @@ ghost use Rattle.store_types.specs.Tested.{Tested};
 ghost use Rattle.sqlite.specs.State.{HasCleanDisk};
 ghost use Rattle.sqlite.specs.Held.{state};
 ghost use Rattle.policy.specs.Caller.{Caller};
+ghost use Rattle.tables.specs.Frames.{FailsToAsk};
 ghost use Rattle.tables.specs.Kept.{HasWorld};
 ghost use Rattle.store_steps.specs.Meets.{IsMet, OnlyReads};
 ghost use Rattle.model.specs.Request as asked;
@@ -54,6 +55,8 @@ fn read<S: Alter>(tables: &mut Tables<S>, path: &StorePath) -> Result<Pieces, Fa
     ensures reads { OnlyReads S.Store tables.old tables.new }
     ensures archive { HasCleanDisk (state S.Store tables.new.connection) → IfOk result (λ nar. (w : World)
         → HasWorld S.Store tables.old w → nar ≡ archive_at (finite.get w.objects path.now)) }
+    ensures cause { (w : World) → HasWorld S.Store tables.old w → IsTrue (has w path.now)
+        → FailsToAsk S.Store tables.old tables.new result }
 {
     match tables.archive(path) {
         Ok(Some(nar)) => Ok(nar),
@@ -83,6 +86,9 @@ fn read_listing<S: Alter>(
     ensures reads { OnlyReads S.Store tables.old tables.new }
     ensures listing { HasCleanDisk (state S.Store tables.new.connection) → IfOk result (λ text. (w : World)
         → HasWorld S.Store tables.old w → string_bytes text ≡ listing_at (outcome_of (archive_at (finite.get w.objects path.now)))) }
+    // In a sound world it is an archive.
+    ensures cause { (w : World) → HasWorld S.Store tables.old w → IsTrue (has w path.now)
+        → FailsToAsk S.Store tables.old tables.new result }
 {
     match read(tables, path) {
         Ok(nar) => list(alloc, &nar),

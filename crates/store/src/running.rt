@@ -11,6 +11,7 @@ ghost use Rattle.model.specs.Reply as replied;
 ghost use Rattle.model.specs.Step.{Run};
 ghost use Rattle.tables.specs.Kept.{HasWorld};
 ghost use Rattle.store_steps.specs.Disk.{LookAlikeOver, RunOver};
+ghost use Rattle.store_steps.specs.Durability.{LeavesOthers};
 ghost use Rattle.store_types.specs.Spent.{SpentAreAnswered};
 ghost use Rattle.store_types.specs.View.{call_view, reply_view};
 
@@ -56,6 +57,9 @@ impl<S: Alter> Store<S> {
             → AllFailAlike (map reply_view replies.items) others
             → LookAlikeOver (HasCleanDisk (state S.Store self.new.tables.connection))
             self.old.settings (map call_view calls.items) (map reply_view replies.items) others) }
+        // Whatever is replied, what other programs have in the database is as it was.
+        ensures others { (w : World) → HasWorld S.Store self.old.tables w
+            → LeavesOthers S.Store self.old.tables self.new.tables }
         ensures spent { IfOk result (λ replies.
             SpentAreAnswered self.old.settings calls.items (map reply_view replies.items)) }
         ensures failed { OnErr result (self.new ≡ self.old) }

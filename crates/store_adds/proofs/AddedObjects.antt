@@ -1,5 +1,5 @@
 -- An object that is added to tables, or was there already.
-use Rattle.std.proofs.Common.{◌≡◌, ℕ, List, Bool, true, false, None, Result, Ok, Err, refl, sym, ap, subst, ◌∙◌, inl, inr, IsTrue}
+use Rattle.std.proofs.Common.{◌≡◌, ℕ, List, Bool, true, false, None, Result, Ok, Err, refl, sym, ap, subst, ◌∙◌, inl, IsTrue}
 use Rattle.std.specs.Prelude.{if◌then◌else◌}
 use Rattle.std.specs.FinMap as finite
 use Rattle.sqlite_trees.specs.declared.store.Store.{Ghosts}
@@ -22,7 +22,7 @@ use Rattle.model.proofs.SoundAdds.{text_sound}
 use Rattle.store_types.specs.Tested.{Stops}
 use Rattle.model.specs.Effects.{with_object, effect}
 use Rattle.model.specs.Answers.{answer}
-use Rattle.tables.specs.Failures.{Rows}
+use Rattle.tables.specs.Reasons.{Rows}
 use Rattle.tables.specs.Frames.{CommitsChange, FailsToChange}
 use Rattle.tables.specs.Kept.{Kept, HasWorld, LeavesWorld}
 use Rattle.store_types.specs.declared.replies.Answer.{Answer}
@@ -35,7 +35,7 @@ use Rattle.store_adds.specs.Adding.{Adds, IsAdded}
 use Rattle.store_steps.specs.Crashes.{LeavesPassed}
 use Rattle.store_steps.proofs.Outlined.{has_outlined}
 use Rattle.store_steps.proofs.Caused.{write_fails}
-use Rattle.store_steps.proofs.Untouched.{survives_as, survives_still, lasts_still}
+use Rattle.store_steps.proofs.Untouched.{survives_as, survives_still, lasts_still, others_shown, others_still}
 use Rattle.store_steps.proofs.Written.{unwritten, written}
 
 module _ {S : Type 0} (g : Ghosts S) (path : Path) (o : Outlined) (k : Kept S) where
@@ -54,7 +54,7 @@ module _ {S : Type 0} (g : Ghosts S) (path : Path) (o : Outlined) (k : Kept S) w
   added_there nar e = record {
     dir = refl;
     cause = λ q touches puts. tt;
-    others = λ _ _ _. inl refl;
+    others = others_still g k;
     world = λ w t. (refl, subst (λ (v : World). HasWorld g k v) (sym (ap (λ b. if b then w else put nar w) (valid_told true e w t))) t);
     unrefused = λ h. h;
     lasts = λ _. lasts_still g k;
@@ -81,7 +81,7 @@ module _ {S : Type 0} (g : Ghosts S) (path : Path) (o : Outlined) (k : Kept S) w
         world = λ w t. (refl, subst (λ (v : World). HasWorld g new v) (sym (grown w t)) (frame.done w t));
         unrefused = λ h. h;
         cause = λ q touches puts. tt;
-        others = λ _ clean is_open. inr (frame.others clean);
+        others = λ clean is_open. ((frame.was_open clean).0, frame.others clean);
         lasts = λ _ clean. let is_open = (frame.was_open clean).1 in inl (is_open, frame.durable is_open);
         survives = survives_put frame.survives;
       }
@@ -94,7 +94,7 @@ module _ {S : Type 0} (g : Ghosts S) (path : Path) (o : Outlined) (k : Kept S) w
         world = frame.failed;
         unrefused = λ h. h;
         cause = λ q touches puts. write_fails g q k new touches rows (λ t row put. puts) (Placed path) (Err f) cause;
-        others = λ h. absurd h;
+        others = others_shown g k new frame.shown;
         lasts = λ h. absurd h;
         survives = survives_put frame.survives;
       }

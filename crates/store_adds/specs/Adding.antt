@@ -30,7 +30,7 @@ module _ {S : Type 0} (g : Ghosts S) where
     pub unrefused : IsRefused r → ⊥
     -- a failure has its cause, for each request that puts rows
     pub cause : (q : Request) → IsTrue (touches_disk q) → IsTrue (puts_rows q) → HasCause g q (reply_to r) old new
-    pub others : IsAnswered r → LeavesOthers g old new
+    pub others : LeavesOthers g old new
     pub lasts : IsAnswered r → StaysDurable g old new
     pub survives : (w : World) → HasWorld g old w → Survives (state g old.connection) (state g new.connection)
         (λ db. LeavesWorld old.dir (state g old.connection).now db (with_object w a))

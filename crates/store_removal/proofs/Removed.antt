@@ -1,5 +1,5 @@
 -- Objects go, or there are none that do.
-use Rattle.std.proofs.Common.{◌≡◌, ◌<◌, List, [], ◌∷◌, false, not, Result, Ok, length, refl, sym, ap, ◌∙◌, arith, inl}
+use Rattle.std.proofs.Common.{◌≡◌, ◌<◌, List, [], ◌∷◌, false, not, Result, Ok, length, refl, sym, ap, ◌∙◌, arith}
 use Rattle.std.specs.Prelude.{ℕ, ◌==◌}
 use Rattle.std.specs.Cmp.Lexicographic.{nat_list_cmp_total}
 use Rattle.std.specs.FinMap as finite
@@ -24,7 +24,7 @@ use Rattle.store_steps.specs.Causes.{HasCause}
 use Rattle.store_steps.specs.Meets.{IsMet, reply_to}
 use Rattle.store_removal.specs.Removing.{Removes, without}
 use Rattle.store_steps.specs.Writing.{answered}
-use Rattle.store_steps.proofs.Untouched.{survives_still, lasts_still}
+use Rattle.store_steps.proofs.Untouched.{survives_still, lasts_still, others_still}
 use Rattle.store_steps.proofs.Written.{met_by_writing}
 
 -- a list that isn't empty has an item
@@ -46,7 +46,7 @@ module _ {S : Type 0} (g : Ghosts S) (s : Settings) (c : Caller) (q : Request) (
         let r = removes w t.outline in
         (w, (r.passes, λ _. seen ∙ r.answers, sym (ap (λ (m : Objects). record w { objects = m }) (none_gone w.objects)) ∙ ap (without w) (sym none) ∙ r.becomes), t);
     cause = λ w t. tt;
-    others = λ _ _ _. inl refl;
+    others = others_still g k;
     still = λ h. absurd h;
     lasts = λ _. lasts_still g k;
     survives = λ w t. survives_still (state g k.connection) _;

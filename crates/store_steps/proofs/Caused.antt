@@ -14,15 +14,14 @@ use Rattle.policy.specs.Caller.{Caller}
 use Rattle.model.specs.World.{World}
 use Rattle.model.specs.Request.{Request}
 use Rattle.model.specs.Reply.{disk}
-use Rattle.tables.specs.Failures.{Rows, LacksRowid}
-use Rattle.tables.specs.Frames.{FailsToChange}
+use Rattle.tables.specs.Reasons.{Rows, LacksRowid}
+use Rattle.tables.specs.Frames.{FailsToAsk, FailsToChange}
 use Rattle.tables.specs.Kept.{Kept}
 use Rattle.store_types.specs.Meets.{Meets}
 use Rattle.store_types.specs.declared.replies.Answer.{Answer}
 use Rattle.store_types.specs.declared.replies.Stop.{Stop}
 use Rattle.store_types.specs.declared.replies.Stop.TheVariants.{Refused, Failed}
-use Rattle.store_steps.specs.Causes.{HasCause, IsWriteReason, puts_rows, touches_disk}
-use Rattle.store_steps.specs.Disk.{reads_disk}
+use Rattle.store_steps.specs.Causes.{HasCause, IsDiskReason, puts_rows, touches_disk}
 use Rattle.store_steps.specs.Meets.{reply_to}
 use Rattle.store_steps.specs.Writing.{answered}
 
@@ -35,16 +34,14 @@ module _ {S : Type 0} (g : Ghosts S) (q : Request) (old new : Kept S) where
   memory_alone s w c (Err (Failed Size)) next m = let is : Size ≡ Memory = m.0 in let no : ⊥ = cc in absurd no
   memory_alone s w c (Err (Failed Disk)) next m = let is : Disk ≡ Memory = m.0 in let no : ⊥ = cc in absurd no
 
-  -- what is read of the disk may fail for it
-  pub read_fails : IsTrue (touches_disk q) → IsTrue (reads_disk q) → (r : Result Answer Stop) → HasCause g q (reply_to r) old new
-  read_fails touches reads (Ok a) = tt
-  read_fails touches reads (Err (Refused r)) = tt
-  read_fails touches reads (Err (Failed Memory)) = tt
-  read_fails touches reads (Err (Failed Size)) = (touches, λ _. inl reads)
-  read_fails touches reads (Err (Failed Disk)) = (touches, λ _. inl reads)
+  -- what isn't read of the disk has a reason
+  pub read_fails : IsTrue (touches_disk q) → (f : Failure) → FailsToAsk {T = Unit {0}} g old new (Err f) → HasCause g q (reply_to (Err (Failed f))) old new
+  read_fails touches Memory cause = tt
+  read_fails touches Size cause = (touches, λ clean. absurd (cause clean))
+  read_fails touches Disk cause = (touches, λ clean. elim (cause clean) [ inl fault ↦ inl fault | inr more ↦ inr (elim more [ inl limited ↦ inl limited | inr none ↦ absurd none ]) ])
 
   module _ (touches : IsTrue (touches_disk q)) (rows : Rows) (puts : (t : Table) (row : Row) → rows t row → IsTrue (puts_rows q)) where
-    by_disk : (s t : State) → HasDiskCause s t ⊎ (IsSome s.step_limit ⊎ LacksRowid rows s.now) → IsWriteReason q disk s t
+    by_disk : (s t : State) → HasDiskCause s t ⊎ (IsSome s.step_limit ⊎ LacksRowid rows s.now) → IsDiskReason q disk s t
     by_disk s t (inl fault) = inl fault
     by_disk s t (inr (inl limited)) = inr (inl limited)
     by_disk s t (inr (inr x)) = inr (inr (puts x.2 x.3 x.4, (x.0, x.1, x.2, x.5)))
@@ -53,5 +50,5 @@ module _ {S : Type 0} (g : Ghosts S) (q : Request) (old new : Kept S) where
     pub write_fails : (a : Answer) (r : Result (Unit {0}) Failure) → FailsToChange g old new r rows → HasCause g q (reply_to (answered r a)) old new
     write_fails a (Ok u) cause = tt
     write_fails a (Err Memory) cause = tt
-    write_fails a (Err Size) cause = (touches, λ clean. let x = cause clean in inr (puts x.1.2 x.1.3 x.1.4, x.0))
-    write_fails a (Err Disk) cause = (touches, λ clean. inr (by_disk (state g old.connection) (state g new.connection) (cause clean)))
+    write_fails a (Err Size) cause = (touches, λ clean. let x = cause clean in (puts x.1.2 x.1.3 x.1.4, x.0))
+    write_fails a (Err Disk) cause = (touches, λ clean. by_disk (state g old.connection) (state g new.connection) (cause clean))

@@ -2,9 +2,10 @@
 use Rattle.std.proofs.Common.{◌≡◌, Result, Ok, Err, refl, sym, ◌∙◌, inl, inr}
 use Rattle.sqlite_trees.specs.declared.store.Store.{Ghosts}
 use Rattle.sqlite_trees.specs.Tree.{Trees}
-use Rattle.sqlite.specs.State.{State, Survives}
+use Rattle.sqlite.specs.State.{State, HasCleanDisk, Survives}
 use Rattle.sqlite.specs.Held.{state}
 use Rattle.tables_sql.proofs.Transactions.{survives_none}
+use Rattle.tables_sql.specs.Calls.{KeepsShown}
 use Rattle.policy.specs.Settings.{Settings}
 use Rattle.policy.specs.Caller.{Caller}
 use Rattle.model.specs.World.{World}
@@ -12,11 +13,13 @@ use Rattle.tables_outline.specs.Outline.{OutlineValue, outline_of}
 use Rattle.model.specs.Request.{Request}
 use Rattle.model.specs.Tests.{refusal}
 use Rattle.tables.specs.Kept.{Kept}
+use Rattle.tables.proofs.Kept.{clean_before}
+use Rattle.tables.proofs.Transactions.{nothing_changed, others_then}
 use Rattle.store_types.specs.declared.replies.Answer.{Answer}
 use Rattle.store_types.specs.declared.replies.Stop.{Stop}
 use Rattle.store_types.specs.declared.replies.Stop.TheVariants.{Refused, Failed}
 use Rattle.store_types.specs.Tested.{Stops}
-use Rattle.store_steps.specs.Durability.{StaysDurable}
+use Rattle.store_steps.specs.Durability.{LeavesOthers, StaysDurable}
 use Rattle.store_types.specs.Meets.{Meets, Reads}
 use Rattle.store_steps.specs.Meets.{MeetsOver, IsMet}
 use Rattle.store_steps.proofs.Caused.{memory_alone}
@@ -41,6 +44,20 @@ survives_as s t P Q less h = record {
 pub lasts_still : {S : Type 0} (g : Ghosts S) (k : Kept S) → StaysDurable g k k
 lasts_still g k clean = inr (record { told = λ w t. t; same = λ _. refl; durable = λ _ h. h })
 
+pub others_still : {S : Type 0} (g : Ghosts S) (k : Kept S) → LeavesOthers g k k
+others_still g k clean up = (up, nothing_changed (state g k.connection).now (state g k.connection).now refl)
+
+-- what other programs have is as it was where the connection shows what it showed
+pub others_shown : {S : Type 0} (g : Ghosts S) (old new : Kept S) → (HasCleanDisk (state g new.connection) → KeepsShown (state g old.connection) (state g new.connection)) → LeavesOthers g old new
+others_shown g old new shown clean up = let it = shown clean in (it.was_open up, nothing_changed (state g old.connection).now (state g new.connection).now (it.now up))
+
+-- and over two steps
+pub others_both : {S : Type 0} (g : Ghosts S) (a b c : Kept S) (P : Trees → Type 0) → LeavesOthers g a b → Survives (state g b.connection) (state g c.connection) P → LeavesOthers g b c → LeavesOthers g a c
+others_both g a b c P first survives next clean up =
+    let last = next clean up in
+    let before = first (clean_before (state g b.connection) (state g c.connection) P survives clean) last.0 in
+    (before.0, others_then (state g a.connection).now (state g b.connection).now (state g c.connection).now before.1 last.1)
+
 -- an answer that is right is so over any disk
 pub over : (is_clean : Type 0) (s : Settings) (w : World) (c : Caller) (q : Request) (r : Result Answer Stop) (next : World) → Meets s w c q r next → MeetsOver is_clean s w c q r next
 over is_clean s w c q (Ok a) next m = (m.0, λ _. m.1, m.2)
@@ -54,7 +71,7 @@ module _ {S : Type 0} (g : Ghosts S) where
     dir = refl;
     world = λ w t. (w, over _ s w c q r w (h w (t.outline ∙ sym same)), t);
     cause = λ w t. memory_alone g q k k s w c r w (h w (t.outline ∙ sym same));
-    others = λ _ _ _. inl refl;
+    others = others_still g k;
     still = λ _. refl;
     lasts = λ _. lasts_still g k;
     survives = λ w t. survives_still (state g k.connection) _;

@@ -1,5 +1,5 @@
 -- A request that is met by one write of the tables.
-use Rattle.std.proofs.Common.{◌≡◌, ℕ, None, Result, Ok, Err, refl, sym, subst, inl, inr}
+use Rattle.std.proofs.Common.{◌≡◌, ℕ, None, Result, Ok, Err, refl, sym, subst, inl}
 use Rattle.sqlite_trees.specs.declared.store.Store.{Ghosts}
 use Rattle.sqlite.specs.State.{Survives}
 use Rattle.sqlite.specs.Held.{state}
@@ -23,7 +23,7 @@ use Rattle.store_steps.specs.Causes.{HasCause}
 use Rattle.store_steps.specs.Writing.{answered}
 use Rattle.store_steps.specs.Crashes.{LeavesPassed}
 use Rattle.store_steps.specs.Meets.{IsMet, reply_to}
-use Rattle.store_steps.proofs.Untouched.{met_by_reading, reads_stopped, survives_as}
+use Rattle.store_steps.proofs.Untouched.{met_by_reading, others_shown, reads_stopped, survives_as}
 
 module _ {S : Type 0} (g : Ghosts S) (k : Kept S) where
   -- a world that is sound by one name is so by another
@@ -52,7 +52,7 @@ module _ {S : Type 0} (g : Ghosts S) (s : Settings) (c : Caller) (q : Request) (
         dir = frame.dir;
         world = λ w t. (effect s w q, (passes w t.outline, λ _. answers w t.outline, refl), subst (λ (v : World). HasWorld g new v) (becomes w t.outline) (frame.done w t));
         cause = λ w t. cause;
-        others = λ _ clean is_open. inr (frame.others clean);
+        others = λ clean is_open. ((frame.was_open clean).0, frame.others clean);
         still = λ h. absurd h;
         lasts = λ _ clean. let is_open = (frame.was_open clean).1 in inl (is_open, frame.durable is_open);
         survives = left_so frame.survives;
@@ -61,7 +61,7 @@ module _ {S : Type 0} (g : Ghosts S) (s : Settings) (c : Caller) (q : Request) (
         dir = frame.dir;
         world = λ w t. (w, refl, frame.failed w t);
         cause = λ w t. cause;
-        others = λ h. absurd h;
+        others = others_shown g k new frame.shown;
         still = λ h. absurd h;
         lasts = λ h. absurd h;
         survives = left_so frame.survives;
@@ -88,6 +88,7 @@ module _ {S : Type 0} (g : Ghosts S) (k new : Kept S) (F : World → World) wher
     done = frame.done;
     others = frame.others;
     failed = tt;
+    shown = λ _. tt;
     durable = frame.durable;
     was_open = frame.was_open;
     survives = frame.survives;
@@ -99,6 +100,7 @@ module _ {S : Type 0} (g : Ghosts S) (k new : Kept S) (F : World → World) wher
     done = tt;
     others = λ _. tt;
     failed = frame.failed;
+    shown = frame.shown;
     durable = tt;
     was_open = λ _. tt;
     survives = frame.survives;

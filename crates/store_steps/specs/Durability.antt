@@ -19,7 +19,8 @@ module _ {S : Type 0} (g : Ghosts S) where
   abbrev pub StaysDurable : Kept S → Kept S → Type 0
   StaysDurable old new = HasCleanDisk (state g new.connection) → (IsTrue (state g new.connection).is_open × IsDurable (state g new.connection)) ⊎ IsUntouched old new
 
-  -- over a clean disk, while the connection is open, the database is as it was; or what it has of other programs is
+  -- over a clean disk, while the connection is open, which it was before, what the database has of other programs is as it was
   abbrev pub LeavesOthers : Kept S → Kept S → Type 0
-  LeavesOthers old new = HasCleanDisk (state g new.connection) → IsTrue (state g new.connection).is_open
-      → ((state g new.connection).now ≡ (state g old.connection).now) ⊎ KeepsOthers (state g old.connection).now (state g new.connection).now
+  LeavesOthers old new =
+      HasCleanDisk (state g new.connection) → IsTrue (state g new.connection).is_open
+      → IsTrue (state g old.connection).is_open × KeepsOthers (state g old.connection).now (state g new.connection).now

@@ -3,6 +3,7 @@ use Rattle.std.specs.Prelude.{◌≡◌, Some, None, Result, Ok, Err, IsTrue}
 use Rattle.sqlite_trees.specs.declared.store.Store.{Ghosts}
 use Rattle.sqlite.specs.State.{HasCleanDisk, Survives}
 use Rattle.sqlite.specs.Held.{state}
+use Rattle.tables_sql.specs.Calls.{KeepsShown}
 use Rattle.policy.specs.Settings.{Settings}
 use Rattle.policy.specs.Caller.{Caller}
 use Rattle.model.specs.World.{World}
@@ -49,8 +50,8 @@ module _ {S : Type 0} (g : Ghosts S) where
     pub world : (w : World) → HasWorld g old w → (next : World) × MeetsOver (HasCleanDisk (state g new.connection)) s w c q r next × HasWorld g new next
     -- a failure has its cause
     pub cause : (w : World) → HasWorld g old w → HasCause g q (reply_to r) old new
-    -- what is done leaves all else of the database as it was
-    pub others : IsAnswered r → LeavesOthers g old new
+    -- whether it is done or not, what other programs have in the database is as it was
+    pub others : LeavesOthers g old new
     -- a refusal leaves them as they were
     pub still : IsRefused r → new ≡ old
     -- what is done outlives a crash
@@ -63,6 +64,6 @@ module _ {S : Type 0} (g : Ghosts S) where
   pub record OnlyReads (old new : Kept S) : Type 0 where
     pub dir : new.dir ≡ old.dir
     pub told : (w : World) → HasWorld g old w → HasWorld g new w
-    pub same : HasCleanDisk (state g new.connection) → IsTrue (state g new.connection).is_open → (state g new.connection).now ≡ (state g old.connection).now
+    pub shown : HasCleanDisk (state g new.connection) → KeepsShown (state g old.connection) (state g new.connection)
     pub lasts : StaysDurable g old new
     pub survives : Survives (state g old.connection) (state g new.connection) (λ _. ⊥)

@@ -11,6 +11,8 @@ use Rattle.tables_sql.specs.declared.failure.Failure.{Failure}
 use Rattle.tables_sql.specs.declared.failure.Failure.TheVariants.{Memory, Size, Disk}
 use Rattle.tables_sql.specs.Failures.{HasDiskCause, FailsToRead}
 use Rattle.tables_make.specs.Making.{LacksNumbers, LacksNames, FailsToMake}
+use Rattle.tables_make.specs.Migrating.{FailsToMigrate}
+use Rattle.tables_make.proofs.MigratingFailures.{migrating_before}
 use Rattle.tables_open.specs.Opened.{HasUnkeyed, FailsToOpen}
 use Rattle.tables.specs.declared.refusing.Cause.{Cause}
 use Rattle.tables.specs.declared.refusing.Cause.TheVariants.{BadSchema, OtherStoreDir, Failed}
@@ -34,10 +36,10 @@ pub make_cause : (dir : List ℕ) (old new : State) (f : Failure) → HasNone ol
 make_cause dir old new f none h = inr (inl (none, h))
 
 -- a migration, which those of the third schema have none of
-pub migration_cause : (dir : List ℕ) (old new : State) (f : Failure) (schema : Schema) → IsFoundBy schema old.now → schema ≢ V3 → IsCause dir old new (Failed f)
-migration_cause dir old new f V1 found other = inr (inr (inl found.tables))
-migration_cause dir old new f V2 found other = inr (inr (inr found.tables))
-migration_cause dir old new f V3 found other = absurd (other refl)
+pub migration_cause : (dir : List ℕ) (old new : State) (f : Failure) (schema : Schema) → IsFoundBy schema old.now → schema ≢ V3 → FailsToMigrate schema old new f → IsCause dir old new (Failed f)
+migration_cause dir old new f V1 found other h = inr (inr (inl (found.tables, h)))
+migration_cause dir old new f V2 found other h = inr (inr (inr (found.tables, h)))
+migration_cause dir old new f V3 found other h = absurd (other refl)
 
 -- ---- after a step that changed nothing
 
@@ -65,4 +67,5 @@ module _ (a b c : State) (same : IsUnchanged a b) (first : Survives a b (λ _. �
   cause_before dir OtherStoreDir h = subst (λ (x : Database). IsRefusal dir x OtherStoreDir) same.0.now_is h
   cause_before dir (Failed f) (inl h) = inl (open_before f h)
   cause_before dir (Failed f) (inr (inl h)) = inr (inl (subst (λ (x : Database). HasNone x.schema) same.0.now_is h.0, make_before dir f h.1))
-  cause_before dir (Failed f) (inr (inr h)) = inr (inr (subst (λ (x : Database). HasFirst x.schema ⊎ HasSecond x.schema) same.0.now_is h))
+  cause_before dir (Failed f) (inr (inr (inl h))) = inr (inr (inl (subst (λ (x : Database). HasFirst x.schema) same.0.now_is h.0, migrating_before V1 a b c same first f h.1)))
+  cause_before dir (Failed f) (inr (inr (inr h))) = inr (inr (inr (subst (λ (x : Database). HasSecond x.schema) same.0.now_is h.0, migrating_before V2 a b c same first f h.1)))

@@ -8,10 +8,11 @@ use Rattle.tables_schema.specs.Forms.{piece, temp_root}
 use Rattle.tables_schema.specs.Finding.{HasNone, IsFree}
 use Rattle.tables_schema.specs.declared.recognising.Recognised.{Recognised}
 use Rattle.tables_schema.specs.declared.recognising.Recognised.TheVariants.{Nothing, Tables, Other}
-use Rattle.tables_sql.specs.Contents.{contents_of, map_of, numbered_cmp, is_piece, piece_of, kept_cmp, is_kept, kept_of}
+use Rattle.tables_sql.specs.Contents.{contents_of, map_of, kept_cmp, is_kept, kept_of}
 use Rattle.tables_sql.specs.Texts.{AreReadable}
 use Rattle.tables_sql.specs.Calls.{HasFurther, IsStoreDatabase, IsWhole}
 use Rattle.tables_sql.proofs.FurtherTables.{if_any_free}
+use Rattle.tables_make.proofs.Uncut.{no_pieces}
 use Rattle.tables_open.specs.Opened.{IsFound, IsReadyBy}
 use Rattle.tables_schema.specs.declared.schema.Schema.{Schema}
 use Rattle.tables_schema.specs.declared.schema.Schema.TheVariants.{V1, V2, V3}
@@ -21,10 +22,6 @@ use Rattle.tables.specs.Opening.{HasFurtherOf, HasTablesOf, IsFoundBy, IsNoStore
 -- ---- the further tables, as a schema has them
 
 -- a table whose name is free holds nothing
-no_pieces : (db : Database) → IsFree db.schema piece.name → (contents_of db).pieces ≡ finite.empty
-unfolding map_of
-no_pieces db free = ap (map_of numbered_cmp is_piece piece_of) (if_any_free db piece.name free)
-
 no_temporary : (db : Database) → IsFree db.schema temp_root.name → (contents_of db).temp_roots ≡ finite.empty
 unfolding map_of
 no_temporary db free = ap (map_of kept_cmp is_kept kept_of) (if_any_free db temp_root.name free)

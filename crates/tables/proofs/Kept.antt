@@ -13,7 +13,7 @@ use Rattle.model.specs.World.{World}
 use Rattle.model.specs.Sound.{IsSound}
 use Rattle.tables_world.specs.Worlds.{IsSoundContents, world_in}
 use Rattle.tables_outline.specs.Outline.{OutlineValue, outline_of}
-use Rattle.tables.specs.Failures.{Rows, IsReason}
+use Rattle.tables_make.specs.Reasons.{Rows, IsReason}
 use Rattle.tables.specs.Frames.{CommitsRows, CommitsChange, StaysSound}
 use Rattle.tables.specs.Kept.{Kept, AreOutlined, Agrees, HasWorld, IsWritten, LeavesWorld}
 use Rattle.tables.specs.Others.{KeepsOthers}
@@ -165,6 +165,7 @@ module _ {S : Type 0} (g : Ghosts S) where
         done = told_done k now w.view conn outline f F G w.law w.follows w.agrees w.sound _ rows.survives rows.done is;
         others = subst (λ (n : Kept S). HasCleanDisk (state g conn) → KeepsOthers (state g n.connection).now (state g conn).now) w.view rows.others;
         failed = tt;
+        shown = λ _. tt;
         durable = rows.durable;
         was_open = subst (λ (n : Kept S). HasCleanDisk (state g conn) → IsTrue (state g n.connection).is_open × IsTrue (state g conn).is_open) w.view rows.was_open;
         survives = survives_told k now w.view conn outline f F G w.law w.follows w.agrees w.sound rows.survives;
@@ -181,6 +182,7 @@ module _ {S : Type 0} (g : Ghosts S) where
         done = tt;
         others = λ _. tt;
         failed = told_failed k now w.view conn outline w.agrees _ rows.survives rows.failed is;
+        shown = subst (λ (n : Kept S). HasCleanDisk (state g conn) → KeepsShown (state g n.connection) (state g conn)) w.view rows.failed;
         durable = tt;
         was_open = λ _. tt;
         survives = survives_told k now w.view conn outline f F G w.law w.follows w.agrees w.sound rows.survives;

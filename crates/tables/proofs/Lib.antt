@@ -25,7 +25,6 @@ pub mod ProfileRows
 pub mod ProfileWrites
 pub mod PutPairs
 pub mod PutRoots
-pub mod Reasons
 pub mod ReadArchives
 pub mod Removed
 pub mod RemovedObjects

@@ -1,13 +1,19 @@
 -- Tables that were just made.
-use Rattle.std.proofs.Common.{◌≡◌, ℕ, false, List, [], refl, sym, ap, subst, ◌∙◌, IsTrue}
-use Rattle.std.specs.Prelude.{codes}
+use Rattle.std.proofs.Common.{◌≡◌, ◌⊎◌, inl, inr, ℕ, false, List, [], refl, sym, ap, subst, ◌∙◌, IsTrue, arith}
+use Rattle.std.specs.Prelude.{IsSome, codes}
+use Rattle.std.proofs.lemmas.Bool.{and_parts, false≢true, leb-true}
 use Rattle.sqlite_schema.specs.declared.schema.Schema.{Schema}
 use Rattle.sqlite_trees.specs.declared.store.Store.{Ghosts}
+use Rattle.sqlite_trees.specs.declared.memory.MemStore.{MemStore}
 use Rattle.sqlite.specs.State.{State, HasCleanDisk}
-use Rattle.sqlite.specs.Held.{Held, state}
+use Rattle.sqlite.specs.Held.{Held, IsNew, state}
+use Rattle.sqlite.specs.Steps.{IsEmpty, over_memory}
+use Rattle.tables_schema.specs.Forms.{all_tables}
+use Rattle.tables_sql.specs.declared.failure.Failure.{Failure}
+use Rattle.tables_sql.specs.declared.failure.Failure.TheVariants.{Memory, Size, Disk}
 use Rattle.tables_sql.specs.Contents.{Contents}
 use Rattle.tables_schema.specs.Finding.{HasNone, IsFree}
-use Rattle.tables_make.specs.Making.{IsMade, first_contents}
+use Rattle.tables_make.specs.Making.{FailsToMake, IsMade, IsTooLong, LacksNames, LacksNumbers, first_contents}
 use Rattle.paths.specs.Names.{is_store_dir}
 use Rattle.model.specs.World.{no_world}
 use Rattle.tables_schema.specs.declared.schema.Schema.TheVariants.{V3}
@@ -59,3 +65,26 @@ module _ {S : Type 0} (g : Ghosts S) (conn : Held S) (old : State) (dir : List �
       rows = λ clean _. ap world_in (made clean).contents ∙ tells_first dir;
       sound = new_world_sound dir;
     }
+
+-- ---- why none are made in memory
+
+-- numbers and names are left where there is nothing
+no_lack : (s : Schema) → s ≡ no_schema → LacksNumbers s all_tables ⊎ LacksNames s all_tables → ⊥
+no_lack s is h = by (subst (λ (x : Schema). LacksNumbers x all_tables ⊎ LacksNames x all_tables) is h)
+  where
+    by : LacksNumbers no_schema all_tables ⊎ LacksNames no_schema all_tables → ⊥
+    by (inl few) = absurd (omega (arith, few))
+    by (inr used) = absurd (false≢true used)
+
+-- a directory fits into its row
+not_long : (dir : List ℕ) → IsTrue (is_store_dir dir) → IsTooLong dir → ⊥
+not_long dir valid long = absurd (omega (arith, leb-true _ _ (and_parts _ _ (and_parts _ _ valid).0).0, long))
+
+-- it ran out
+pub memory_alone : (conn new : Held MemStore) (dir : List ℕ) → IsTrue (is_store_dir dir) → IsEmpty (state over_memory conn) → IsNew conn → (f : Failure) → FailsToMake dir (state over_memory conn) (state over_memory new) f → f ≡ Memory
+memory_alone conn new dir valid empty fresh Memory h = refl
+memory_alone conn new dir valid empty fresh Size h = absurd (not_long dir valid h.0)
+memory_alone conn new dir valid empty fresh Disk (inl (inl more)) = absurd (omega (arith, more))
+memory_alone conn new dir valid empty fresh Disk (inl (inr shut)) = absurd (false≢true (sym shut ∙ empty.0.is_open))
+memory_alone conn new dir valid empty fresh Disk (inr (inl limit)) = absurd (subst IsSome fresh.unlimited limit)
+memory_alone conn new dir valid empty fresh Disk (inr (inr lacks)) = absurd (no_lack conn.schema empty.2 lacks)

@@ -37,6 +37,7 @@ module _ {S : Type 0} (g : Ghosts S) (old : Kept S) (owned : Pair) (t : Path) (n
     done = on_ok_as r (λ k w told. subst (HasWorld g new) (same_at w told) (k w told)) h.done;
     others = h.others;
     failed = h.failed;
+    shown = h.shown;
     durable = h.durable;
     was_open = h.was_open;
     survives = λ w told. subst (λ (x : World). Survives (state g old.connection) (state g new.connection) (λ db. LeavesWorld old.dir (state g old.connection).now db x)) (same_at w told) (h.survives w told);

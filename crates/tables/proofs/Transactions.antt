@@ -1,17 +1,20 @@
 -- Writes inside a transaction, one after another and in other words.
-use Rattle.std.proofs.Common.{◌≡◌, Result, Ok, Err, subst, sym, ap, ◌∙◌, true, arith, IsTrue}
+use Rattle.std.proofs.Common.{◌≡◌, Result, Ok, Err, refl, false, subst, sym, ap, ◌∙◌, true, arith, IsTrue}
 use Rattle.std.specs.Prelude.{OnOk}
 use Rattle.sqlite_trees.specs.declared.store.Store.{Ghosts}
 use Rattle.sqlite_trees.specs.Tree.{Trees}
+use Rattle.sqlite_trees.proofs.ListLemmas.{all_of}
+use Rattle.sqlite_schema.specs.declared.schema.Schema.{Schema}
+use Rattle.sqlite_schema.specs.declared.schema.Table.{Table}
 use Rattle.sqlite.specs.Effect.{Database}
 use Rattle.sqlite.specs.State.{State, HasCleanDisk, Survives}
 use Rattle.sqlite.specs.Held.{Held, state}
 use Rattle.tables_sql.specs.Contents.{Contents, contents_of}
-use Rattle.tables_schema.specs.Forms.{piece, temp_root}
-use Rattle.tables_sql.specs.Frozen.{SparesUnshown}
+use Rattle.tables_schema.specs.Forms.{piece, temp_root, is_our_name}
+use Rattle.tables_sql.specs.Frozen.{IsFrozen, SparesUnshown}
 use Rattle.tables_sql.specs.Calls.{HasFurther, IsReady, IsUnderWay, IsWhole, IsCommitted, KeepsTheirs, Changes}
 use Rattle.tables_sql.proofs.Frozen.{frozen_of, listed_of}
-use Rattle.tables_sql.proofs.Steps.{changes_by, changes_none}
+use Rattle.tables_sql.proofs.Steps.{changes_by, changes_none, theirs_then}
 use Rattle.tables_sql.proofs.Under.{piece_after, temp_root_after}
 use Rattle.tables.specs.Kept.{IsWritten}
 use Rattle.tables.specs.Others.{KeepsOthers}
@@ -82,3 +85,25 @@ others_kept a b f P survives ready clean it =
     let early : HasCleanDisk a = omega (arith, survives.clean, clean) in
     let sound = (ready early it.was_open).ours.sound in
     record { schema = it.schema; listed = listed_of a.now b.now.trees sound it.unshown; theirs = it.theirs; frozen = frozen_of a.now b.now.trees sound it.unshown }
+
+-- where nothing changed, it is too
+pub nothing_changed : (a b : Database) → b ≡ a → KeepsOthers a b
+nothing_changed a b is = subst (KeepsOthers a) (sym is) (record {
+  schema = refl;
+  listed = refl;
+  theirs = all_of (λ (t : Table). is_our_name t.name ≡ false → a.trees t.tree ≡ a.trees t.tree) (λ t other. refl) a.schema.tables;
+  frozen = record { rows = λ tree it. refl; texts = λ row there foreign. there; version = refl };
+})
+
+-- over two steps too
+pub others_then : (a b c : Database) → KeepsOthers a b → KeepsOthers b c → KeepsOthers a c
+others_then a b c h k = record {
+  schema = k.schema ∙ h.schema;
+  listed = k.listed ∙ h.listed;
+  theirs = theirs_then a b c h.schema h.theirs k.theirs;
+  frozen = record {
+    rows = λ tree is. k.frozen.rows tree (subst (λ (s : Schema). IsFrozen s tree) (sym h.schema) is) ∙ h.frozen.rows tree is;
+    texts = λ row there foreign. k.frozen.texts row (h.frozen.texts row there foreign) foreign;
+    version = k.frozen.version ∙ h.frozen.version;
+  };
+}

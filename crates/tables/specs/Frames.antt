@@ -5,10 +5,11 @@ use Rattle.sqlite.specs.State.{HasCleanDisk, Survives}
 use Rattle.sqlite.specs.Held.{Held, state}
 use Rattle.tables_sql.specs.Contents.{Contents, contents_of}
 use Rattle.tables_sql.specs.declared.failure.Failure.{Failure}
+use Rattle.tables_rows.specs.Frames.{FailsInReads}
 use Rattle.tables_sql.specs.Calls.{IsDurable, IsReady, IsWhole, KeepsShown, LeavesRows}
 use Rattle.model.specs.World.{World}
 use Rattle.model.specs.Sound.{IsSound}
-use Rattle.tables.specs.Failures.{Rows, HasReason}
+use Rattle.tables_make.specs.Reasons.{Rows, HasReason}
 use Rattle.tables.specs.Kept.{Kept, HasWorld, IsWritten, LeavesWorld}
 use Rattle.tables.specs.Others.{KeepsOthers}
 
@@ -47,6 +48,8 @@ module _ {S : Type 0} (g : Ghosts S) where
     pub others : HasCleanDisk (state g new.connection) → OnOk result (KeepsOthers (state g old.connection).now (state g new.connection).now)
     -- a write that fails changes nothing
     pub failed : OnErr result ((w : World) → HasWorld g old w → HasWorld g new w)
+    -- and the connection shows what it showed, tables of other programs included
+    pub shown : HasCleanDisk (state g new.connection) → OnErr result (KeepsShown (state g old.connection) (state g new.connection))
     -- after one that is done, a crash leaves nothing else while the connection is open
     pub durable : OnOk result (IsTrue (state g new.connection).is_open → IsDurable (state g new.connection))
     -- once a fault has shut the connection, no write is done
@@ -55,6 +58,12 @@ module _ {S : Type 0} (g : Ghosts S) where
     pub survives : (w : World) → HasWorld g old w → Survives (state g old.connection) (state g new.connection)
         (λ db. LeavesWorld old.dir (state g old.connection).now db (change w))
 
-  -- why it isn't, by the rows that it puts
+  -- why it isn't made, by the rows that it puts
   abbrev pub FailsToChange : {T : Type 0} → Kept S → Kept S → Result T Failure → Rows → Type 0
   FailsToChange old new result rows = HasReason g old.connection new.connection result rows
+
+  -- ---- a read over tables
+
+  -- why something isn't read of the disk
+  abbrev pub FailsToAsk : {T : Type 0} → Kept S → Kept S → Result T Failure → Type 0
+  FailsToAsk old new result = FailsInReads g old.connection new.connection result

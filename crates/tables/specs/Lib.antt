@@ -1,6 +1,6 @@
+pub use Rattle.tables_make.specs.Reasons
 pub mod Causes
 pub mod Entries
-pub mod Failures
 pub mod Frames
 pub mod InTheWay
 pub mod Kept

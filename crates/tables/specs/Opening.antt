@@ -17,6 +17,7 @@ use Rattle.tables_sql.specs.Frozen.{SparesFrozen}
 use Rattle.tables_sql.specs.Calls.{Remains, HasFurther, KeepsTheirs}
 use Rattle.tables_make.specs.Making.{LeavesMade, FailsToMake, all_created, store_tables_created}
 use Rattle.tables_make.specs.Migrated.{lacking, migrated_contents, LeavesMigrated}
+use Rattle.tables_make.specs.Migrating.{FailsToMigrate}
 use Rattle.tables_sql.specs.declared.failure.Failure.{Failure}
 use Rattle.tables_open.specs.Opened.{FailsToOpen}
 use Rattle.model.specs.World.{no_world}
@@ -132,10 +133,12 @@ pub record IsPresentBy (schema : Schema) (dir : List ℕ) (db : Database) : Type
 abbrev pub IsPresent : List ℕ → Database → Type 0
 IsPresent dir db = (schema : Schema) × IsPresentBy schema dir db
 
--- Why a store isn't opened for a failure: what its tables are or hold can't be read, or rowids are shared or no integers (FailsToOpen); where there are none, they aren't made; or they are those of an earlier schema, which the call may fail to bring to the third.
+-- Why a store isn't opened for a failure: what its tables are or hold can't be read, or rowids are shared or no integers (FailsToOpen); where there are none, they aren't made; or those of an earlier schema aren't brought to the third.
 abbrev pub FailsToAdopt : List ℕ → State → State → Failure → Type 0
 FailsToAdopt dir old new f =
-    FailsToOpen old new f ⊎ ((HasNone old.now.schema × FailsToMake dir old new f) ⊎ (HasFirst old.now.schema ⊎ HasSecond old.now.schema))
+    FailsToOpen old new f
+    ⊎ ((HasNone old.now.schema × FailsToMake dir old new f)
+    ⊎ ((HasFirst old.now.schema × FailsToMigrate V1 old new f) ⊎ (HasSecond old.now.schema × FailsToMigrate V2 old new f)))
 
 -- Why a database isn't opened: the store's tables are there soundly by no schema and for no directory, though some of them are there; or tables of other programs are in their way; or the store of another directory is there.
 abbrev pub IsRefusal : List ℕ → Database → Cause → Type 0

@@ -1,32 +1,19 @@
 -- The rows that each write puts.
 use Rattle.std.specs.Prelude.{◌≡◌, ◌⊎◌, ℕ, ℤ, pos, List, [], ◌∷◌, Option, Some, None}
 use Rattle.std.specs.FinMap as finite
-use Rattle.sqlite_value.specs.declared.value.Value.TheVariants.{Int, Text, Blob}
+use Rattle.sqlite_value.specs.declared.value.Value.TheVariants.{Int, Text}
 use Rattle.sqlite_value.specs.Order.{Row}
 use Rattle.sqlite_schema.specs.declared.schema.Table.{Table}
-use Rattle.sqlite.specs.Values.{or_null}
-use Rattle.tables_schema.specs.Forms.{object, refs, outs, piece, permanent, user_root, profile, generation, runtime, temp_root}
+use Rattle.tables_schema.specs.Forms.{refs, outs, permanent, user_root, profile, generation, runtime, temp_root}
 use Rattle.tables_sql.specs.Contents.{Stored}
 use Rattle.model.specs.World.{Path, Pair, Temporary}
 use Rattle.tables_world.specs.Rows.{address_in}
 use Rattle.tables_world.specs.Pieces.{row_part, further_pieces}
 use Rattle.tables_outline.specs.Outline.{Outlined}
-use Rattle.tables.specs.Failures.{Rows}
+use Rattle.tables_make.specs.Reasons.{Rows, IsRow, RowsOf}
+use Rattle.tables_make.specs.Migrating.{ObjectRow, PieceRow}
 use Rattle.tables.specs.declared.named_roots.RootName.{RootName}
 use Rattle.tables.specs.declared.named_roots.RootName.TheVariants.{Permanent, User}
-
--- this row of this table
-abbrev pub IsRow : Table → Row → Rows
-IsRow table values t row = (t ≡ table) × (row ≡ values)
-
--- none
-abbrev pub NoRow : Rows
-NoRow t row = ⊥
-
--- those of each item of a list
-abbrev pub RowsOf : {X : Type 0} → (X → Rows) → List X → Rows
-RowsOf rows [] t row = ⊥
-RowsOf rows (x ∷ xs) t row = rows x t row ⊎ RowsOf rows xs t row
 
 -- ---- roots
 
@@ -72,14 +59,10 @@ ReferenceRow p target = IsRow refs (Text p ∷ Text target ∷ [])
 abbrev pub OutputRow : Path → List ℕ × Path → Rows
 OutputRow p e = IsRow outs (Text p ∷ Text e.0 ∷ Text e.1 ∷ [])
 
--- a further piece of an archive: its number and its bytes
-abbrev pub PieceRow : Path → ℤ × List ℕ → Rows
-PieceRow p e = IsRow piece (Text p ∷ Int e.0 ∷ Blob e.1 ∷ [])
-
 -- an object, as its rows hold it, with its references, its outputs and the further pieces of its archive
 abbrev pub ObjectRows : Path → Stored → List Path → List (List ℕ × Path) → List (ℤ × List ℕ) → Rows
 ObjectRows p o references outputs pieces t row =
-    IsRow object (Text p ∷ Blob o.nar ∷ Blob o.hash ∷ or_null Text o.deriver ∷ or_null Text o.ca ∷ []) t row
+    ObjectRow p o t row
     ⊎ (RowsOf (ReferenceRow p) references t row ⊎ (RowsOf (OutputRow p) outputs t row ⊎ RowsOf (PieceRow p) pieces t row))
 
 -- the same of an archive and its summary, with a text of the content address

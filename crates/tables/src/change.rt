@@ -7,7 +7,7 @@ ghost use Rattle.sqlite.specs.State.{HasCleanDisk, KeepsCommit, Survives};
 ghost use Rattle.sqlite.specs.Held.{state};
 ghost use Rattle.tables_sql.specs.Contents.{Contents, contents_of};
 ghost use Rattle.tables_sql.specs.Calls.{IsUnderWay, IsWhole, Changes};
-ghost use Rattle.tables.specs.Failures.{HasReason};
+ghost use Rattle.tables_make.specs.Reasons.{HasReason};
 ghost use Rattle.tables.specs.Frames.{MayCommit, CommitsRows};
 
 use sqlite::{Alter, Connection, Transaction};

@@ -7,9 +7,10 @@ ghost use Rattle.tables_schema.specs.Forms.{piece};
 ghost use Rattle.tables_sql.specs.Calls.{IsUnderWay, HasFurther, Changes};
 ghost use Rattle.tables_sql.specs.Contents.{contents_of};
 ghost use Rattle.tables_world.specs.Pieces.{row_part, further_pieces};
-ghost use Rattle.tables.specs.Failures.{HasReason};
+ghost use Rattle.tables_make.specs.Reasons.{HasReason};
 ghost use Rattle.tables.specs.Rewritten.{AreFree, put_pieces};
-ghost use Rattle.tables.specs.RowsPut.{RowsOf, PieceRow};
+ghost use Rattle.tables_make.specs.Reasons.{RowsOf};
+ghost use Rattle.tables_make.specs.Migrating.{PieceRow};
 
 use sqlite::{Alter, Transaction};
 use streams::Pieces;

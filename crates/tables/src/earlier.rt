@@ -8,6 +8,7 @@ ghost use Rattle.tables_sql.specs.Calls.{KeepsShown, IsReady};
 ghost use Rattle.tables_schema.specs.declared.schema.Schema.TheVariants.{V3};
 ghost use Rattle.tables_world.specs.Worlds.{IsSoundBy};
 ghost use Rattle.tables_make.specs.Migrated.{IsMigrated, LeavesMigrated};
+ghost use Rattle.tables_make.specs.Migrating.{FailsToMigrate};
 ghost use Rattle.tables.specs.Opening.{IsFoundBy, AreRead, OpensMigrated, LeavesMigration, IsCause};
 
 use crate::keeping::Tables;
@@ -29,6 +30,8 @@ fn bring<S: Alter>(alloc: Global, conn: &mut Connection<S>, schema: Schema) -> R
     ensures done { HasCleanDisk (state S.Store conn.new) → OnOk result ((dir : List ℕ) → IsSoundBy schema dir (contents_of (state S.Store conn.old).now) → IsMigrated schema dir (state S.Store conn.old) (state S.Store conn.new)) }
     ensures failed { HasCleanDisk (state S.Store conn.new) → OnErr result (KeepsShown (state S.Store conn.old) (state S.Store conn.new)) }
     ensures needed { OnErr result (schema ≢ V3) }
+    ensures cause { HasCleanDisk (state S.Store conn.new)
+        → IfErr result (FailsToMigrate schema (state S.Store conn.old) (state S.Store conn.new)) }
     ensures survives { Survives (state S.Store conn.old) (state S.Store conn.new) (λ db. (dir : List ℕ) → IsSoundBy schema dir (contents_of (state S.Store conn.old).now) → LeavesMigrated schema dir (state S.Store conn.old).now db) }
 {
     match schema {

@@ -10,6 +10,7 @@ ghost use Rattle.tables_outline.specs.View.{profile_view};
 ghost use Rattle.tables_outline.specs.Outline.{outlined};
 ghost use Rattle.tables_listing.specs.View.{root_view};
 ghost use Rattle.tables.specs.Entries.{object_view};
+ghost use Rattle.tables.specs.Frames.{FailsToAsk};
 ghost use Rattle.tables.specs.Kept.{HasWorld};
 
 use crate::keeping::Tables;
@@ -115,6 +116,7 @@ impl<S: Alter> Tables<S> {
             → IsTrue (state S.Store self.old.connection).is_open × IsTrue (state S.Store self.new.connection).is_open) }
         ensures shown { HasCleanDisk (state S.Store self.new.connection)
             → KeepsShown (state S.Store self.old.connection) (state S.Store self.new.connection) }
+        ensures cause { FailsToAsk S.Store self.old self.new result }
         ensures survives { Survives (state S.Store self.old.connection) (state S.Store self.new.connection) (λ _. ⊥) }
     {
         let Some(nar) = self.archive(path)? else {

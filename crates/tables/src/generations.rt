@@ -7,7 +7,8 @@ ghost use Rattle.model.specs.Profiles.{has_generation, number_for, put_at, set_t
 ghost use Rattle.tables_outline.specs.Outline.{profile_of};
 ghost use Rattle.tables.specs.Entries.{with_numbers, with_profile_by};
 ghost use Rattle.tables.specs.Frames.{StaysSound, CommitsChange, FailsToChange};
-ghost use Rattle.tables.specs.RowsPut.{NoRow, ProfileRow, GenerationRows, NumberedRows};
+ghost use Rattle.tables_make.specs.Reasons.{NoRow};
+ghost use Rattle.tables.specs.RowsPut.{ProfileRow, GenerationRows, NumberedRows};
 
 use crate::change;
 use crate::keeping::Tables;

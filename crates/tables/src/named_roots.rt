@@ -2,7 +2,8 @@
 
 ghost use Rattle.tables.specs.Entries.{with_root, without_root};
 ghost use Rattle.tables.specs.Frames.{StaysSound, CommitsChange, FailsToChange};
-ghost use Rattle.tables.specs.RowsPut.{NoRow, RootRow};
+ghost use Rattle.tables_make.specs.Reasons.{NoRow};
+ghost use Rattle.tables.specs.RowsPut.{RootRow};
 
 use crate::keeping::Tables;
 use paths::StorePath;

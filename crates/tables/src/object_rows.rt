@@ -10,8 +10,8 @@ ghost use Rattle.tables_schema.specs.Forms.{piece};
 ghost use Rattle.tables_sql.specs.Calls.{IsUnderWay, HasFurther, Changes};
 ghost use Rattle.tables_sql.specs.Contents.{contents_of};
 ghost use Rattle.tables_world.specs.Pieces.{piece_size};
-ghost use Rattle.tables.specs.Failures.{HasReason};
-ghost use Rattle.tables.specs.RowsPut.{NoRow};
+ghost use Rattle.tables_make.specs.Reasons.{HasReason};
+ghost use Rattle.tables_make.specs.Reasons.{NoRow};
 
 use crate::cutting::PIECE_SIZE;
 use sqlite::{Alter, Transaction};

@@ -7,9 +7,10 @@ ghost use Rattle.sqlite.specs.State.{HasCleanDisk, KeepsCommit, Survives};
 ghost use Rattle.sqlite.specs.Held.{state};
 ghost use Rattle.tables_sql.specs.Calls.{IsUnderWay, Changes};
 ghost use Rattle.tables_sql.specs.Contents.{contents_of};
-ghost use Rattle.tables.specs.Failures.{HasReason};
+ghost use Rattle.tables_make.specs.Reasons.{HasReason};
 ghost use Rattle.tables.specs.Rewritten.{AreFree, put_references, put_outputs};
-ghost use Rattle.tables.specs.RowsPut.{RowsOf, ReferenceRow, OutputRow};
+ghost use Rattle.tables_make.specs.Reasons.{RowsOf};
+ghost use Rattle.tables.specs.RowsPut.{ReferenceRow, OutputRow};
 
 use crate::change::Change;
 use crate::cutting::{first_of, put_pieces};

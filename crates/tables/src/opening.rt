@@ -1,8 +1,9 @@
 //! Tables that are made, and such as are there.
 
-ghost use Rattle.std.specs.Prelude.{◌≡◌, IfOk};
+ghost use Rattle.std.specs.Prelude.{◌≡◌, IfErr, IfOk};
 ghost use Rattle.sqlite.specs.Steps.{over_memory};
 ghost use Rattle.model.specs.World.{no_world};
+ghost use Rattle.tables_sql.specs.declared.failure.Failure.TheVariants.{Memory};
 ghost use Rattle.tables.specs.Kept.{Agrees, HasWorld};
 
 use crate::keeping::Tables;
@@ -45,9 +46,15 @@ impl Tables<MemStore> {
     /// drop(tables.release());
     /// assert!(rt; is_empty);
     /// ```
+    ///
+    /// # Errors
+    ///
+    /// Memory was refused.
     pub fn open_in_memory(alloc: Global, dir: &StoreDir) -> Result<Tables<MemStore>, Failure>
         ensures dir { IfOk result (λ t. t.dir ≡ dir.now) }
         ensures told { IfOk result (λ t. HasWorld over_memory t no_world) }
+        // No disk is asked, and a store directory fits into a row.
+        ensures cause { IfErr result (λ failure. failure ≡ Memory) }
     {
         let kept = dir.clone()?;
         let mut connection = Connection::open_in_memory(alloc)?;

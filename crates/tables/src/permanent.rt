@@ -2,7 +2,7 @@
 
 ghost use Rattle.std.specs.FinMap as finite;
 ghost use Rattle.tables_rows.specs.Frames.{IsInside, StaysInside, Makes};
-ghost use Rattle.tables.specs.Failures.{HasReason};
+ghost use Rattle.tables_make.specs.Reasons.{HasReason};
 ghost use Rattle.tables.specs.RowsPut.{PermanentRow};
 
 use crate::change::Change;
@@ -54,7 +54,7 @@ pub(crate) struct DropPermanent<'a> {
 impl<'a> Change for DropPermanent<'a> {
     ghost use Rattle.std.specs.Prelude.{⊤};
     ghost use Rattle.std.specs.FinMap as finite;
-    ghost use Rattle.tables.specs.RowsPut.{NoRow};
+    ghost use Rattle.tables_make.specs.Reasons.{NoRow};
 
     ghost change = { λ p c. record c { permanent = finite.remove c.permanent p.name.now } };
 

@@ -5,7 +5,7 @@ ghost use Rattle.std.specs.FinMap as finite;
 ghost use Rattle.sqlite.specs.State.{HasCleanDisk, KeepsCommit, Survives};
 ghost use Rattle.sqlite.specs.Held.{state};
 ghost use Rattle.tables_sql.specs.Calls.{IsUnderWay, Changes};
-ghost use Rattle.tables.specs.Failures.{HasReason};
+ghost use Rattle.tables_make.specs.Reasons.{HasReason};
 ghost use Rattle.tables.specs.RowsPut.{ProfileRow};
 
 use crate::change::Change;
@@ -69,7 +69,7 @@ impl<'a> Change for DropGeneration<'a> {
     ghost use Rattle.std.specs.Ordering.{eq_by_cmp, int_cmp};
     ghost use Rattle.std.specs.FinMap as finite;
     ghost use Rattle.paths.specs.Root.{bytes_cmp};
-    ghost use Rattle.tables.specs.RowsPut.{NoRow};
+    ghost use Rattle.tables_make.specs.Reasons.{NoRow};
 
     ghost change = { λ p c. record c { generations = finite.retain_keys c.generations (λ k. not (eq_by_cmp bytes_cmp k.0 p.owner.now && (eq_by_cmp bytes_cmp k.1 p.name.now && eq_by_cmp int_cmp k.2 (pos p.number)))) } };
 

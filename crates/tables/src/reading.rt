@@ -6,12 +6,14 @@ ghost use Rattle.std.specs.FinMap as finite;
 ghost use Rattle.sqlite.specs.State.{HasCleanDisk, Survives, IsUnchanged};
 ghost use Rattle.sqlite.specs.Held.{state};
 ghost use Rattle.tables_schema.specs.Forms.{piece};
+ghost use Rattle.tables_rows.specs.Frames.{FailsInReads};
 ghost use Rattle.tables_sql.specs.Contents.{Stored, contents_of};
 ghost use Rattle.tables_sql.specs.Calls.{IsReady, HasFurther, KeepsShown};
 ghost use Rattle.model.specs.World.{World};
 ghost use Rattle.tables_world.specs.Pieces.{IsCut};
 ghost use Rattle.tables_world.specs.Rows.{archive_in, pieces_in};
 ghost use Rattle.tables_world.specs.Worlds.{rows_of};
+ghost use Rattle.tables.specs.Frames.{FailsToAsk};
 ghost use Rattle.tables.specs.Kept.{HasWorld};
 
 use crate::cutting::PIECE_SIZE;
@@ -56,6 +58,7 @@ pub(crate) fn read_archive<S: Alter>(
     ensures reads { HasCleanDisk (state S.Store conn.new) → IfOk result (λ nar. IsUnchanged (state S.Store conn.old) (state S.Store conn.new)
         × (nar ≡ option_map (archive_in (rows_of (contents_of (state S.Store conn.old).now)) base.now) (finite.get (contents_of (state S.Store conn.old).now).objects base.now))) }
     ensures same { HasCleanDisk (state S.Store conn.new) → KeepsShown (state S.Store conn.old) (state S.Store conn.new) }
+    ensures cause { FailsInReads S.Store conn.old conn.new result }
     ensures survives { Survives (state S.Store conn.old) (state S.Store conn.new) (λ _. ⊥) }
 {
     let found = objects::get(alloc, conn, base)?;
@@ -77,12 +80,17 @@ impl<S: Alter> Tables<S> {
     /// ```rust
     /// assert_eq!(rt; tables.archive(path)?.map(|nar| nar.len()), Some(128));
     /// ```
+    ///
+    /// # Errors
+    ///
+    /// Memory was refused or the disk failed.
     pub fn archive(&mut self, path: &StorePath) -> Result<Option<Pieces>, Failure>
         ensures dir { self.new.dir ≡ self.old.dir }
         ensures found { HasCleanDisk (state S.Store self.new.connection) → IfOk result (λ nar. (w : World) → HasWorld S.Store self.old w → nar ≡ option_map (λ o. o.nar) (finite.get w.objects path.now)) }
         ensures same { (w : World) → HasWorld S.Store self.old w → HasWorld S.Store self.new w }
         ensures was_open { HasCleanDisk (state S.Store self.new.connection) → IfOk result (λ nar. IsTrue (is_some nar) → IsTrue (state S.Store self.old.connection).is_open × IsTrue (state S.Store self.new.connection).is_open) }
         ensures shown { HasCleanDisk (state S.Store self.new.connection) → KeepsShown (state S.Store self.old.connection) (state S.Store self.new.connection) }
+        ensures cause { FailsToAsk S.Store self.old self.new result }
         ensures survives { Survives (state S.Store self.old.connection) (state S.Store self.new.connection) (λ _. ⊥) }
     {
         let Some(object) = self.outline.object(path) else {

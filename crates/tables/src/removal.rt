@@ -8,9 +8,9 @@ ghost use Rattle.live.specs.Graph.{holds};
 ghost use Rattle.tables_schema.specs.Forms.{piece};
 ghost use Rattle.tables_sql.specs.Calls.{IsUnderWay, HasFurther, Changes};
 ghost use Rattle.tables_sql.specs.Contents.{contents_of};
-ghost use Rattle.tables.specs.Failures.{HasReason};
+ghost use Rattle.tables_make.specs.Reasons.{HasReason};
 ghost use Rattle.tables.specs.Frames.{CommitsRows, MayCommit};
-ghost use Rattle.tables.specs.RowsPut.{NoRow};
+ghost use Rattle.tables_make.specs.Reasons.{NoRow};
 ghost use Rattle.tables.specs.Rewritten.{Covers, without_object, without_objects};
 
 use crate::change;

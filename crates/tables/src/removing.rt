@@ -4,7 +4,7 @@ ghost use Rattle.std.specs.Prelude.{not};
 ghost use Rattle.live.specs.Graph.{holds};
 ghost use Rattle.model.specs.Effects.{keeping};
 ghost use Rattle.tables.specs.Frames.{StaysSound, CommitsChange, FailsToChange};
-ghost use Rattle.tables.specs.RowsPut.{NoRow};
+ghost use Rattle.tables_make.specs.Reasons.{NoRow};
 
 use crate::keeping::Tables;
 use crate::removal::{delete_rows, remove_all};

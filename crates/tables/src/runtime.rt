@@ -7,9 +7,10 @@ ghost use Rattle.sqlite.specs.Held.{state};
 ghost use Rattle.tables_sql.specs.Contents.{contents_of};
 ghost use Rattle.tables_sql.specs.Calls.{IsUnderWay, Changes};
 ghost use Rattle.tables_outline.specs.Maps.{labelled_bytes};
-ghost use Rattle.tables.specs.Failures.{HasReason};
+ghost use Rattle.tables_make.specs.Reasons.{HasReason};
 ghost use Rattle.tables.specs.Rewritten.{put_pairs};
-ghost use Rattle.tables.specs.RowsPut.{RowsOf, RuntimeRow};
+ghost use Rattle.tables_make.specs.Reasons.{RowsOf};
+ghost use Rattle.tables.specs.RowsPut.{RuntimeRow};
 
 use crate::change::Change;
 use paths::StorePath;

@@ -6,7 +6,8 @@ ghost use Rattle.std.specs.FinMap as finite;
 ghost use Rattle.model.specs.Effects.{with_temporary};
 ghost use Rattle.tables_outline.specs.Temporary.{of_session, without_session};
 ghost use Rattle.tables.specs.Frames.{StaysSound, CommitsChange, FailsToChange};
-ghost use Rattle.tables.specs.RowsPut.{NoRow, TemporaryRow};
+ghost use Rattle.tables_make.specs.Reasons.{NoRow};
+ghost use Rattle.tables.specs.RowsPut.{TemporaryRow};
 ghost use Rattle.tables.specs.Temporary.{keeps};
 
 use crate::change;

@@ -53,7 +53,7 @@ pub(crate) struct DropUserRoot<'a> {
 impl<'a> Change for DropUserRoot<'a> {
     ghost use Rattle.std.specs.Prelude.{⊤};
     ghost use Rattle.std.specs.FinMap as finite;
-    ghost use Rattle.tables.specs.RowsPut.{NoRow};
+    ghost use Rattle.tables_make.specs.Reasons.{NoRow};
 
     ghost change = { λ p c. record c { user_roots = finite.remove c.user_roots (p.owner.now, p.name.now) } };
 

@@ -19,7 +19,7 @@ use Rattle.tables_make.proofs.FrozenThen.{frozen_before}
 
 module _ (tables : List Table) (named : (s : Schema) → AllByRecursion (λ t. is_our_name t.name ≡ true) (placed s tables)) where
   -- the tables that were made are ours, and theirs keep their rows
-  theirs_grown : (a b : State) → MakesFurther tables a b → KeepsTheirs (grown tables a.now) b.now
+  pub theirs_grown : (a b : State) → MakesFurther tables a b → KeepsTheirs (grown tables a.now) b.now
   theirs_grown a b h =
       subst (AllByRecursion (λ (t : Table). is_our_name t.name ≡ false → b.now.trees t.tree ≡ a.now.trees t.tree)) (sym (tables_after a.now.schema tables))
       (all-append (λ (t : Table). is_our_name t.name ≡ false → b.now.trees t.tree ≡ a.now.trees t.tree) a.now.schema.tables _ h.theirs

@@ -12,9 +12,12 @@ pub mod Made
 pub mod MakingFailures
 pub mod MakingTexts
 pub mod MakingTogether
+pub mod MigratingFailures
 pub mod Pieces
+pub mod Reasons
 pub mod Rewritten
 pub mod SettingFailures
 pub mod Settles
 pub mod Steps
 pub mod Stood
+pub mod Uncut

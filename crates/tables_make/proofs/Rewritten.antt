@@ -52,11 +52,11 @@ same_settings schema dir = finite.same_map texts_total texts_antisymmetric (fini
 
 -- ---- one object
 
-abbrev cut_stored : Stored → Stored
+abbrev pub cut_stored : Stored → Stored
 cut_stored o = record o { nar = row_part o.nar }
 
 -- the piece of an archive in one row that has a number
-abbrev piece_at : ℤ → Option Stored → Option (List ℕ)
+abbrev pub piece_at : ℤ → Option Stored → Option (List ℕ)
 piece_at n None = None
 piece_at n (Some o) = find_entry int_cmp n (further_pieces o.nar)
 
@@ -68,7 +68,7 @@ none_again : (n : ℤ) (g : Option Stored) → piece_at n (option_map cut_stored
 none_again n None = refl
 none_again n (Some o) = ap (find_entry int_cmp n) (none_further o.nar)
 
-one_object : (p q : Path) (c : Contents) → finite.get (cut_object p c).objects q ≡ cond (eq_by_cmp bytes_cmp q p) (option_map cut_stored (finite.get c.objects q)) (finite.get c.objects q)
+pub one_object : (p q : Path) (c : Contents) → finite.get (cut_object p c).objects q ≡ cond (eq_by_cmp bytes_cmp q p) (option_map cut_stored (finite.get c.objects q)) (finite.get c.objects q)
 one_object p q c = by (finite.get c.objects p) refl (eq_by_cmp bytes_cmp q p) refl
   where
     by : (o : Option Stored) → finite.get c.objects p ≡ o → (b : Bool) → eq_by_cmp bytes_cmp q p ≡ b → finite.get (cut_found p o c).objects q ≡ cond b (option_map cut_stored (finite.get c.objects q)) (finite.get c.objects q)
@@ -79,7 +79,7 @@ one_object p q c = by (finite.get c.objects p) refl (eq_by_cmp bytes_cmp q p) re
         ∙ sym (ap (option_map cut_stored) (ap (finite.get c.objects) (tied_is q p t) ∙ is))
     by (Some o) is false t = finite.get-insert texts_total c.objects p (cut_stored o) q ∙ ap (λ b. cond b (Some (cut_stored o)) (finite.get c.objects q)) t
 
-one_piece : (p q : Path) (n : ℤ) (c : Contents) → finite.get (cut_object p c).pieces (q, n) ≡ cond (eq_by_cmp bytes_cmp q p) (option_or (piece_at n (finite.get c.objects q)) (finite.get c.pieces (q, n))) (finite.get c.pieces (q, n))
+pub one_piece : (p q : Path) (n : ℤ) (c : Contents) → finite.get (cut_object p c).pieces (q, n) ≡ cond (eq_by_cmp bytes_cmp q p) (option_or (piece_at n (finite.get c.objects q)) (finite.get c.pieces (q, n))) (finite.get c.pieces (q, n))
 one_piece p q n c = by (finite.get c.objects p) refl (eq_by_cmp bytes_cmp q p) refl
   where
     by : (o : Option Stored) → finite.get c.objects p ≡ o → (b : Bool) → eq_by_cmp bytes_cmp q p ≡ b

@@ -11,3 +11,5 @@ pub mod Cutting
 pub mod Further
 pub mod Making
 pub mod Migrated
+pub mod Migrating
+pub mod Reasons

@@ -1,6 +1,6 @@
 //! Archives, cut: an object's row keeps the first part, and the rest goes into pieces.
 
-ghost use Rattle.std.specs.Prelude.{◌≡◌, ◌<◌, IsTrue, OnOk, OnErr, length, map, string_bytes, Some};
+ghost use Rattle.std.specs.Prelude.{◌≡◌, ◌<◌, ℤ, IsTrue, OnOk, OnErr, length, map, string_bytes, Some, None};
 ghost use Rattle.std.specs.FinMap as finite;
 ghost use Rattle.sqlite.specs.State.{HasCleanDisk, KeepsCommit, Survives};
 ghost use Rattle.sqlite.specs.Held.{state};
@@ -8,8 +8,10 @@ ghost use Rattle.tables_schema.specs.Forms.{piece};
 ghost use Rattle.tables_sql.specs.Contents.{contents_of};
 ghost use Rattle.tables_sql.specs.Calls.{IsUnderWay, Changes, HasFurther};
 ghost use Rattle.tables_sql.specs.Entries.{stored_of};
-ghost use Rattle.tables_world.specs.Pieces.{pieces_by};
+ghost use Rattle.tables_world.specs.Pieces.{piece_size, pieces_by};
 ghost use Rattle.tables_make.specs.Cutting.{put_pieces, cut_row, cut_object, cut_objects};
+ghost use Rattle.tables_make.specs.Migrating.{AllCutRows, CutRows, IsUncut, LongRows, PieceRow};
+ghost use Rattle.tables_make.specs.Reasons.{HasReason, RowsOf};
 
 use sqlite::{Alter, Transaction};
 use std::alloc::Global;
@@ -29,10 +31,13 @@ pub(crate) fn put_pieces<S: Alter>(
     requires under_way { HasCleanDisk (state S.Store tx.old.conn.now) → IsUnderWay (state S.Store tx.old.conn.now) }
     requires is_open { HasCleanDisk (state S.Store tx.old.conn.now) → IsTrue (state S.Store tx.old.conn.now).is_open }
     requires stands { HasCleanDisk (state S.Store tx.old.conn.now) → HasFurther (state S.Store tx.old.conn.now).now piece }
+    requires free { HasCleanDisk (state S.Store tx.old.conn.now) → (n : ℤ) → finite.get (contents_of (state S.Store tx.old.conn.now).now).pieces (base.now, n) ≡ None }
     ensures same_reference { tx.new.conn.ghost_name ≡ tx.old.conn.ghost_name }
     ensures done { HasCleanDisk (state S.Store tx.new.conn.now) → OnOk result (Changes (state S.Store tx.old.conn.now) (state S.Store tx.new.conn.now)
         (λ c. record c { pieces = put_pieces base.now (pieces_by bytes.now 1 bytes.now) c.pieces })) }
     ensures failed { HasCleanDisk (state S.Store tx.new.conn.now) → OnErr result (KeepsCommit (state S.Store tx.old.conn.now) (state S.Store tx.new.conn.now)) }
+    ensures cause { HasReason S.Store tx.old.conn.now tx.new.conn.now result
+        (RowsOf (PieceRow base.now) (pieces_by bytes.now 1 bytes.now)) }
     ensures survives { Survives (state S.Store tx.old.conn.now) (state S.Store tx.new.conn.now) (λ _. ⊥) }
 {
     let mut rest = bytes;
@@ -54,9 +59,13 @@ pub(crate) fn put_cut<S: Alter>(tx: &mut Transaction<'_, S>, object: &Object) ->
     requires is_open { HasCleanDisk (state S.Store tx.old.conn.now) → IsTrue (state S.Store tx.old.conn.now).is_open }
     requires stands { HasCleanDisk (state S.Store tx.old.conn.now) → HasFurther (state S.Store tx.old.conn.now).now piece }
     requires long { 65536 < length object.now.nar.items }
+    requires free { HasCleanDisk (state S.Store tx.old.conn.now) → (n : ℤ)
+        → finite.get (contents_of (state S.Store tx.old.conn.now).now).pieces ((stored_of object.now).0, n) ≡ None }
     ensures same_reference { tx.new.conn.ghost_name ≡ tx.old.conn.ghost_name }
     ensures done { HasCleanDisk (state S.Store tx.new.conn.now) → OnOk result (Changes (state S.Store tx.old.conn.now) (state S.Store tx.new.conn.now) (cut_row (stored_of object.now).0 (stored_of object.now).1)) }
     ensures failed { HasCleanDisk (state S.Store tx.new.conn.now) → OnErr result (KeepsCommit (state S.Store tx.old.conn.now) (state S.Store tx.new.conn.now)) }
+    ensures cause { HasReason S.Store tx.old.conn.now tx.new.conn.now result
+        (CutRows (stored_of object.now).0 (stored_of object.now).1) }
     ensures survives { Survives (state S.Store tx.old.conn.now) (state S.Store tx.new.conn.now) (λ _. ⊥) }
 {
     let base = object.base.as_str();
@@ -75,9 +84,13 @@ pub(crate) fn cut_found<S: Alter>(
     requires is_open { HasCleanDisk (state S.Store tx.old.conn.now) → IsTrue (state S.Store tx.old.conn.now).is_open }
     requires stands { HasCleanDisk (state S.Store tx.old.conn.now) → HasFurther (state S.Store tx.old.conn.now).now piece }
     requires there { HasCleanDisk (state S.Store tx.old.conn.now) → finite.get (contents_of (state S.Store tx.old.conn.now).now).objects (stored_of object.now).0 ≡ Some (stored_of object.now).1 }
+    requires free { HasCleanDisk (state S.Store tx.old.conn.now) → piece_size < length (stored_of object.now).1.nar → (n : ℤ)
+        → finite.get (contents_of (state S.Store tx.old.conn.now).now).pieces ((stored_of object.now).0, n) ≡ None }
     ensures same_reference { tx.new.conn.ghost_name ≡ tx.old.conn.ghost_name }
     ensures done { HasCleanDisk (state S.Store tx.new.conn.now) → OnOk result (Changes (state S.Store tx.old.conn.now) (state S.Store tx.new.conn.now) (cut_object (stored_of object.now).0)) }
     ensures failed { HasCleanDisk (state S.Store tx.new.conn.now) → OnErr result (KeepsCommit (state S.Store tx.old.conn.now) (state S.Store tx.new.conn.now)) }
+    ensures cause { HasReason S.Store tx.old.conn.now tx.new.conn.now result
+        (LongRows (stored_of object.now).0 (stored_of object.now).1) }
     ensures survives { Survives (state S.Store tx.old.conn.now) (state S.Store tx.new.conn.now) (λ _. ⊥) }
 {
     if object.nar.len() > PIECE_SIZE {
@@ -95,9 +108,12 @@ pub(crate) fn cut<S: Alter>(
 ) -> Result<(), Failure>
     requires under_way { HasCleanDisk (state S.Store tx.old.conn.now) → IsUnderWay (state S.Store tx.old.conn.now) }
     requires stands { HasCleanDisk (state S.Store tx.old.conn.now) → IsTrue (state S.Store tx.old.conn.now).is_open → HasFurther (state S.Store tx.old.conn.now).now piece }
+    requires uncut { HasCleanDisk (state S.Store tx.old.conn.now) → IsTrue (state S.Store tx.old.conn.now).is_open → IsUncut (contents_of (state S.Store tx.old.conn.now).now) }
     ensures same_reference { tx.new.conn.ghost_name ≡ tx.old.conn.ghost_name }
     ensures done { HasCleanDisk (state S.Store tx.new.conn.now) → OnOk result (Changes (state S.Store tx.old.conn.now) (state S.Store tx.new.conn.now) (cut_object base.now)) }
     ensures failed { HasCleanDisk (state S.Store tx.new.conn.now) → OnErr result (KeepsCommit (state S.Store tx.old.conn.now) (state S.Store tx.new.conn.now)) }
+    ensures cause { HasReason S.Store tx.old.conn.now tx.new.conn.now result
+        (AllCutRows (contents_of (state S.Store tx.old.conn.now).now)) }
     ensures survives { Survives (state S.Store tx.old.conn.now) (state S.Store tx.new.conn.now) (λ _. ⊥) }
 {
     let found = objects::get_within(alloc, tx, base)?;
@@ -116,9 +132,12 @@ pub(crate) fn cut_all<S: Alter>(
     requires under_way { HasCleanDisk (state S.Store tx.old.conn.now) → IsUnderWay (state S.Store tx.old.conn.now) }
     requires is_open { HasCleanDisk (state S.Store tx.old.conn.now) → IsTrue (state S.Store tx.old.conn.now).is_open }
     requires stands { HasCleanDisk (state S.Store tx.old.conn.now) → HasFurther (state S.Store tx.old.conn.now).now piece }
+    requires uncut { HasCleanDisk (state S.Store tx.old.conn.now) → IsUncut (contents_of (state S.Store tx.old.conn.now).now) }
     ensures same_reference { tx.new.conn.ghost_name ≡ tx.old.conn.ghost_name }
     ensures done { HasCleanDisk (state S.Store tx.new.conn.now) → OnOk result (Changes (state S.Store tx.old.conn.now) (state S.Store tx.new.conn.now) (cut_objects (map string_bytes bases.now))) }
     ensures failed { HasCleanDisk (state S.Store tx.new.conn.now) → OnErr result (KeepsCommit (state S.Store tx.old.conn.now) (state S.Store tx.new.conn.now)) }
+    ensures cause { HasReason S.Store tx.old.conn.now tx.new.conn.now result
+        (AllCutRows (contents_of (state S.Store tx.old.conn.now).now)) }
     ensures survives { Survives (state S.Store tx.old.conn.now) (state S.Store tx.new.conn.now) (λ _. ⊥) }
 {
     'bases: for base in bases {

@@ -1,6 +1,6 @@
 //! A migration from each of the two earlier schemas.
 
-ghost use Rattle.std.specs.Prelude.{◌≡◌, false, List, ℕ, IsTrue, OnOk, OnErr, map, string_bytes};
+ghost use Rattle.std.specs.Prelude.{◌≡◌, false, List, ℕ, IsTrue, IfErr, OnOk, OnErr, map, string_bytes};
 ghost use Rattle.sqlite.specs.State.{HasCleanDisk, KeepsCommit, Survives};
 ghost use Rattle.sqlite.specs.Held.{state};
 ghost use Rattle.tables_schema.specs.Forms.{piece};
@@ -12,6 +12,8 @@ ghost use Rattle.tables_schema.specs.declared.schema.Schema.TheVariants.{V1, V2}
 ghost use Rattle.tables_world.specs.Worlds.{IsSoundBy};
 ghost use Rattle.tables_make.specs.Cutting.{cut_objects, renumbered};
 ghost use Rattle.tables_make.specs.Migrated.{lacking, Grows, IsGrown, IsMigrated, LeavesMigrated};
+ghost use Rattle.tables_make.specs.Migrating.{FailsToMigrate, IsUncut, MigratedRows};
+ghost use Rattle.tables_make.specs.Reasons.{HasReason};
 
 use crate::cutting::cut_all;
 use crate::further;
@@ -31,9 +33,12 @@ fn rewrite<S: Alter>(
     requires under_way { HasCleanDisk (state S.Store tx.old.conn.now) → IsUnderWay (state S.Store tx.old.conn.now) }
     requires is_open { HasCleanDisk (state S.Store tx.old.conn.now) → IsTrue (state S.Store tx.old.conn.now).is_open }
     requires stands { HasCleanDisk (state S.Store tx.old.conn.now) → HasFurther (state S.Store tx.old.conn.now).now piece }
+    requires uncut { HasCleanDisk (state S.Store tx.old.conn.now) → IsUncut (contents_of (state S.Store tx.old.conn.now).now) }
     ensures same_reference { tx.new.conn.ghost_name ≡ tx.old.conn.ghost_name }
     ensures done { HasCleanDisk (state S.Store tx.new.conn.now) → OnOk result (Changes (state S.Store tx.old.conn.now) (state S.Store tx.new.conn.now) (λ c. renumbered (cut_objects (map string_bytes bases.now) c))) }
     ensures failed { HasCleanDisk (state S.Store tx.new.conn.now) → OnErr result (KeepsCommit (state S.Store tx.old.conn.now) (state S.Store tx.new.conn.now)) }
+    ensures cause { HasReason S.Store tx.old.conn.now tx.new.conn.now result
+        (MigratedRows V1 (contents_of (state S.Store tx.old.conn.now).now)) }
     ensures survives { Survives (state S.Store tx.old.conn.now) (state S.Store tx.new.conn.now) (λ _. ⊥) }
 {
     cut_all(alloc, tx, bases)?;
@@ -51,6 +56,8 @@ fn write_first<S: Alter>(
     ensures same_reference { tx.new.conn.ghost_name ≡ tx.old.conn.ghost_name }
     ensures done { HasCleanDisk (state S.Store tx.new.conn.now) → OnOk result (Grows (lacking V1) (renumbered (cut_objects (map string_bytes bases.now) (contents_of (state S.Store tx.old.conn.now).now))) (state S.Store tx.old.conn.now) (state S.Store tx.new.conn.now)) }
     ensures failed { HasCleanDisk (state S.Store tx.new.conn.now) → OnErr result (KeepsCommit (state S.Store tx.old.conn.now) (state S.Store tx.new.conn.now)) }
+    ensures cause { HasCleanDisk (state S.Store tx.new.conn.now)
+        → IfErr result (FailsToMigrate V1 (state S.Store tx.old.conn.now) (state S.Store tx.new.conn.now)) }
     ensures survives { Survives (state S.Store tx.old.conn.now) (state S.Store tx.new.conn.now) (λ _. ⊥) }
 {
     further::make_both(tx)?;
@@ -69,6 +76,8 @@ fn commit_first<S: Alter>(
     ensures alone { conn.new.in_transaction ≡ false }
     ensures done { HasCleanDisk (state S.Store conn.new) → OnOk result (IsGrown (lacking V1) (renumbered (cut_objects (map string_bytes bases.now) (contents_of (state S.Store conn.old).now))) (state S.Store conn.old) (state S.Store conn.new)) }
     ensures failed { HasCleanDisk (state S.Store conn.new) → OnErr result (KeepsShown (state S.Store conn.old) (state S.Store conn.new)) }
+    ensures cause { HasCleanDisk (state S.Store conn.new)
+        → IfErr result (FailsToMigrate V1 (state S.Store conn.old) (state S.Store conn.new)) }
     ensures durable { OnOk result (IsTrue (state S.Store conn.new).is_open → IsDurable (state S.Store conn.new)) }
     ensures survives { Survives (state S.Store conn.old) (state S.Store conn.new) (λ db. Leaves (grown (lacking V1) (state S.Store conn.old).now) db (renumbered (cut_objects (map string_bytes bases.now) (contents_of (state S.Store conn.old).now)))) }
 {
@@ -90,6 +99,8 @@ pub fn from_first<S: Alter>(alloc: Global, conn: &mut Connection<S>) -> Result<(
     ensures alone { conn.new.in_transaction ≡ false }
     ensures done { HasCleanDisk (state S.Store conn.new) → OnOk result ((dir : List ℕ) → IsSoundBy V1 dir (contents_of (state S.Store conn.old).now) → IsMigrated V1 dir (state S.Store conn.old) (state S.Store conn.new)) }
     ensures failed { HasCleanDisk (state S.Store conn.new) → OnErr result (KeepsShown (state S.Store conn.old) (state S.Store conn.new)) }
+    ensures cause { HasCleanDisk (state S.Store conn.new)
+        → IfErr result (FailsToMigrate V1 (state S.Store conn.old) (state S.Store conn.new)) }
     ensures durable { OnOk result (IsTrue (state S.Store conn.new).is_open → IsDurable (state S.Store conn.new)) }
     ensures survives { Survives (state S.Store conn.old) (state S.Store conn.new) (λ db. (dir : List ℕ) → IsSoundBy V1 dir (contents_of (state S.Store conn.old).now) → LeavesMigrated V1 dir (state S.Store conn.old).now db) }
 {
@@ -105,6 +116,8 @@ fn write_second<S: Alter>(tx: &mut Transaction<'_, S>) -> Result<(), Failure>
     ensures same_reference { tx.new.conn.ghost_name ≡ tx.old.conn.ghost_name }
     ensures done { HasCleanDisk (state S.Store tx.new.conn.now) → OnOk result (Grows (lacking V2) (renumbered (contents_of (state S.Store tx.old.conn.now).now)) (state S.Store tx.old.conn.now) (state S.Store tx.new.conn.now)) }
     ensures failed { HasCleanDisk (state S.Store tx.new.conn.now) → OnErr result (KeepsCommit (state S.Store tx.old.conn.now) (state S.Store tx.new.conn.now)) }
+    ensures cause { HasCleanDisk (state S.Store tx.new.conn.now)
+        → IfErr result (FailsToMigrate V2 (state S.Store tx.old.conn.now) (state S.Store tx.new.conn.now)) }
     ensures survives { Survives (state S.Store tx.old.conn.now) (state S.Store tx.new.conn.now) (λ _. ⊥) }
 {
     further::make_temp_root(tx)?;
@@ -125,6 +138,8 @@ pub fn from_second<S: Alter>(conn: &mut Connection<S>) -> Result<(), Failure>
     ensures alone { conn.new.in_transaction ≡ false }
     ensures done { HasCleanDisk (state S.Store conn.new) → OnOk result ((dir : List ℕ) → IsSoundBy V2 dir (contents_of (state S.Store conn.old).now) → IsMigrated V2 dir (state S.Store conn.old) (state S.Store conn.new)) }
     ensures failed { HasCleanDisk (state S.Store conn.new) → OnErr result (KeepsShown (state S.Store conn.old) (state S.Store conn.new)) }
+    ensures cause { HasCleanDisk (state S.Store conn.new)
+        → IfErr result (FailsToMigrate V2 (state S.Store conn.old) (state S.Store conn.new)) }
     ensures durable { OnOk result (IsTrue (state S.Store conn.new).is_open → IsDurable (state S.Store conn.new)) }
     ensures survives { Survives (state S.Store conn.old) (state S.Store conn.new) (λ db. (dir : List ℕ) → IsSoundBy V2 dir (contents_of (state S.Store conn.old).now) → LeavesMigrated V2 dir (state S.Store conn.old).now db) }
 {

@@ -5,6 +5,8 @@ ghost use Rattle.sqlite.specs.State.{HasCleanDisk, KeepsCommit, Survives};
 ghost use Rattle.sqlite.specs.Held.{state};
 ghost use Rattle.tables_sql.specs.Calls.{IsUnderWay, Changes};
 ghost use Rattle.tables_make.specs.Cutting.{renumbered};
+ghost use Rattle.tables_make.specs.Migrating.{SettingRow};
+ghost use Rattle.tables_make.specs.Reasons.{HasReason};
 
 use sqlite::{Alter, Transaction};
 use tables_rows::meta;
@@ -16,6 +18,7 @@ pub(crate) fn renumber<S: Alter>(tx: &mut Transaction<'_, S>) -> Result<(), Fail
     ensures same_reference { tx.new.conn.ghost_name ≡ tx.old.conn.ghost_name }
     ensures done { HasCleanDisk (state S.Store tx.new.conn.now) → OnOk result (Changes (state S.Store tx.old.conn.now) (state S.Store tx.new.conn.now) renumbered) }
     ensures failed { HasCleanDisk (state S.Store tx.new.conn.now) → OnErr result (KeepsCommit (state S.Store tx.old.conn.now) (state S.Store tx.new.conn.now)) }
+    ensures cause { HasReason S.Store tx.old.conn.now tx.new.conn.now result SettingRow }
     ensures survives { Survives (state S.Store tx.old.conn.now) (state S.Store tx.new.conn.now) (λ _. ⊥) }
 {
     meta::delete(tx, "schema")?;

@@ -1,12 +1,14 @@
 -- What a command line does with a store: it asks it something, or serves it.
 use Rattle.std.specs.Prelude.{◌⊎◌, Bool, true, Option, Some, None, option_map}
 use Rattle.clap.specs.Walk.{Text}
+use Rattle.sqlite_trees.specs.declared.memory.MemStore.{MemStore}
 use Rattle.sqlite_trees.specs.declared.store.Store.{Ghosts}
+use Rattle.sqlite.specs.Steps.{over_memory}
 use Rattle.model.specs.World.{World, no_world}
-use Rattle.model.specs.Reply.{Failure as Lack, failed}
+use Rattle.model.specs.Reply.{failed, memory}
 use Rattle.policy.specs.Settings.{Settings}
 use Rattle.policy.specs.Caller.{Caller}
-use Rattle.tables.specs.Kept.{Kept}
+use Rattle.tables.specs.Kept.{Kept, HasWorld}
 use Rattle.report.specs.Outputs.{Console}
 use Rattle.wire.specs.Answers as message
 use Rattle.wire.specs.Worlds.{AnswersFrom}
@@ -50,9 +52,11 @@ DoesIn s w (serves a) console = ServesBy (AnswersFrom s) a console w
 abbrev pub Doing : Type 1
 Doing = Settings → OnStore → Console → Type 0
 
--- in a store in memory there is nothing yet; or there was no store to be had
+-- in a store in memory there is nothing yet, and it is done over tables in memory; or memory ran out before there was a store
 abbrev pub DoesNew : Doing
-DoesNew s d console = DoesIn s no_world d console ⊎ ((f : Lack) × IsPrinted s.store_dir (failed f) console.written)
+DoesNew s d console =
+    (DoesIn s no_world d console × ((t : Kept MemStore) × HasWorld over_memory t no_world × DoesOver over_memory s t d console))
+    ⊎ IsPrinted s.store_dir (failed memory) console.written
 
 -- it is done with the store of the file, if one is named, and else with one in memory
 unfoldable pub DoesWith : Doing → Option Text → Doing

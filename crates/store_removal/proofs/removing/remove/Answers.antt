@@ -4,7 +4,7 @@ use Rattle.store_types.specs.declared.replies.Answer.TheVariants.{Freed}
 use Rattle.store_types.specs.declared.replies.Stop.{Stop}
 use Rattle.store_steps.specs.Meets.{IsMet}
 use Rattle.store_removal.specs.Removing.{without}
-use Rattle.tables.specs.RowsPut.{NoRow}
+use Rattle.tables.specs.Reasons.{NoRow}
 use Rattle.store_steps.proofs.Caused.{write_fails}
 use Rattle.store_steps.proofs.Written.{sound_as}
 use Rattle.store_removal.proofs.Removed.{met_by_none, met_by_removing}

@@ -7,11 +7,11 @@ use Rattle.tables_sql.specs.Calls.{IsWhole, IsCommitted}
 use Rattle.tables_sql.proofs.Scans.{on_ok}
 use Rattle.tables_sql.proofs.Steps.{under_after}
 use Rattle.tables_sql.proofs.Transactions.{survives_all}
-use Rattle.tables.specs.Failures.{HasReason}
+use Rattle.tables_make.specs.Reasons.{HasReason}
 use Rattle.tables.specs.Frames.{CommitsRows}
 use Rattle.tables.specs.Kept.{IsWritten}
 use Rattle.tables.proofs.Begun.{always_done, begun_has, undone}
-use Rattle.tables.proofs.Reasons.{as_reason, begun_reason, commit_reason}
+use Rattle.tables_make.proofs.Reasons.{as_reason, begun_reason, commit_reason}
 use Rattle.tables.proofs.Transactions.{others_kept, written}
 use Rattle.tables.proofs.change.commit.Goals as goal
 

@@ -9,7 +9,8 @@ use Rattle.tables_schema.specs.Forms.{piece}
 use Rattle.tables_sql.specs.Contents.{Contents, contents_of}
 use Rattle.tables_world.specs.Pieces.{further_pieces}
 use Rattle.tables.specs.Rewritten.{AreFree, put_pieces}
-use Rattle.tables.specs.RowsPut.{RowsOf, PieceRow}
+use Rattle.tables_make.specs.Reasons.{RowsOf}
+use Rattle.tables_make.specs.Migrating.{PieceRow}
 use Rattle.tables_sql.proofs.Going.{Goes, goes_first, goes_next, goes_done}
 use Rattle.tables_sql.proofs.Transactions.{survives_none}
 use Rattle.tables.proofs.Cuts.{left_from, all_left, next_left, past_end}
@@ -17,7 +18,7 @@ use Rattle.tables.proofs.Kept.{clean_before}
 use Rattle.tables_sql.proofs.TestFailures.{passed_on, survives_both}
 use Rattle.tables_sql.proofs.Orders.{numbered_total}
 use Rattle.tables.proofs.Free.{free_next}
-use Rattle.tables.proofs.Reasons.{is_none, next_reason, put_reason}
+use Rattle.tables_make.proofs.Reasons.{is_none, next_reason, put_reason}
 use Rattle.tables.proofs.Transactions.{pieces_stand}
 use Rattle.tables.proofs.cutting.put_pieces.Goals as goal
 

@@ -6,7 +6,8 @@ use Rattle.sqlite.specs.Held.{state}
 use Rattle.tables_sql.specs.Contents.{Contents, contents_of}
 use Rattle.tables_world.specs.Pieces.{further_pieces}
 use Rattle.tables.specs.Rewritten.{AreFree, put_pieces}
-use Rattle.tables.specs.RowsPut.{RowsOf, PieceRow}
+use Rattle.tables_make.specs.Reasons.{RowsOf}
+use Rattle.tables_make.specs.Migrating.{PieceRow}
 use Rattle.tables_sql.proofs.Going.{Goes}
 use Rattle.tables.proofs.Cuts.{left_from}
 use Rattle.tables.proofs.cutting.put_pieces.Given as goal

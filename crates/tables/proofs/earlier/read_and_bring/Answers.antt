@@ -3,6 +3,7 @@ use Rattle.sqlite.specs.Held.{state}
 use Rattle.tables_sql.specs.Contents.{contents_of}
 use Rattle.tables_sql.proofs.Steps.{clean_before}
 use Rattle.tables_world.specs.Worlds.{IsSoundBy}
+use Rattle.tables_make.proofs.MigratingFailures.{migrating_before}
 use Rattle.tables.proofs.Brought.{both_migrate, both_leave}
 use Rattle.tables.proofs.Causes.{migration_cause}
 use Rattle.tables.proofs.earlier.read_and_bring.Goals as goal
@@ -39,5 +40,7 @@ returns-in-Err-clause-cause g c clean =
     let a = state g.S.Store c.args.conn.now in
     let b = state g.S.Store c.read_as.new.conn in
     let d = state g.S.Store c.bring.new.conn in
-    let early = clean_before a b _ c.read_as.ensures.survives (clean_before b d _ c.bring.ensures.survives clean) in
+    let read = clean_before b d _ c.bring.ensures.survives clean in
+    let early = clean_before a b _ c.read_as.ensures.survives read in
     migration_cause c.args.dir.now a d c.in-Err.failure c.args.schema (c.requires.found early) c.in-Err.ensures.needed
+    (migrating_before c.args.schema a b d (c.in_ok-taken.ensures.unchanged read) c.read_as.ensures.survives c.in-Err.failure (c.in-Err.ensures.cause clean))

@@ -2,7 +2,7 @@ use Rattle.sqlite.specs.Held.{state}
 use Rattle.tables_sql.specs.Contents.{contents_of}
 use Rattle.tables.proofs.Covered.{keyless, no_outputs}
 use Rattle.tables.proofs.Transactions.{changes_nothing}
-use Rattle.tables.proofs.Reasons.{as_reason, removal_reason}
+use Rattle.tables_make.proofs.Reasons.{as_reason, removal_reason}
 use Rattle.tables.proofs.object_rows.delete_outputs.Goals as goal
 
 -- the object has none, and so there is no row

@@ -15,7 +15,7 @@ use Rattle.tables.proofs.Kept.{clean_before}
 use Rattle.tables.proofs.Lists.{zip_at, no_pairs_left}
 use Rattle.tables_sql.proofs.Transactions.{survives_none}
 use Rattle.tables_sql.proofs.TestFailures.{passed_on, survives_both}
-use Rattle.tables.proofs.Reasons.{is_none, next_reason, of_item, put_reason}
+use Rattle.tables_make.proofs.Reasons.{is_none, next_reason, of_item, put_reason}
 use Rattle.tables.proofs.objects.put_outputs.Goals as goal
 
 pub outputs-init : goal.outputs-init

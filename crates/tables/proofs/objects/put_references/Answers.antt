@@ -14,7 +14,7 @@ use Rattle.tables.proofs.Lists.{left_at}
 use Rattle.tables_sql.proofs.TestFailures.{passed_on, survives_both}
 use Rattle.tables_sql.proofs.Orders.{pair_total}
 use Rattle.tables.proofs.Free.{free_next}
-use Rattle.tables.proofs.Reasons.{is_none, next_reason, of_item, put_reason}
+use Rattle.tables_make.proofs.Reasons.{is_none, next_reason, of_item, put_reason}
 use Rattle.tables.proofs.objects.put_references.Goals as goal
 
 pub targets-init : goal.targets-init

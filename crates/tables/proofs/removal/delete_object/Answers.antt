@@ -11,7 +11,7 @@ use Rattle.tables.proofs.Covered.{references_told, outputs_told, pieces_told, al
 use Rattle.tables.proofs.Failing.{err_kept}
 use Rattle.tables_sql.proofs.TestFailures.{passed_on, survives_both}
 use Rattle.tables.proofs.Transactions.{changes_at, pieces_stand}
-use Rattle.tables.proofs.Reasons.{as_reason, next_reason, removal_reason}
+use Rattle.tables_make.proofs.Reasons.{as_reason, next_reason, removal_reason}
 use Rattle.tables.proofs.removal.delete_object.Goals as goal
 
 pub delete_references-requires-clause-under_way : goal.delete_references-requires-clause-under_way

@@ -11,7 +11,7 @@ use Rattle.tables.proofs.Lists.{left_at, none_left}
 use Rattle.tables.proofs.Removed.{without_none, without_next}
 use Rattle.tables_sql.proofs.TestFailures.{passed_on, survives_both}
 use Rattle.tables.proofs.Transactions.{pieces_stand}
-use Rattle.tables.proofs.Reasons.{next_reason}
+use Rattle.tables_make.proofs.Reasons.{next_reason}
 use Rattle.tables.proofs.removal.delete_objects.Goals as goal
 
 pub paths-init : goal.paths-init

@@ -7,14 +7,15 @@ use Rattle.tables_schema.specs.Forms.{runtime}
 use Rattle.tables_sql.specs.Contents.{Contents, contents_of, Pair, PairSet}
 use Rattle.tables_outline.specs.Maps.{labelled_bytes}
 use Rattle.tables.specs.Rewritten.{AreFree, put_pairs}
-use Rattle.tables.specs.RowsPut.{RowsOf, RuntimeRow}
+use Rattle.tables_make.specs.Reasons.{RowsOf}
+use Rattle.tables.specs.RowsPut.{RuntimeRow}
 use Rattle.tables_sql.proofs.Going.{goes_first, goes_next}
 use Rattle.tables_sql.proofs.Transactions.{survives_none}
 use Rattle.tables.proofs.Kept.{clean_before}
 use Rattle.tables_sql.proofs.TestFailures.{passed_on, survives_both}
 use Rattle.tables_sql.proofs.Orders.{pair_total}
 use Rattle.tables.proofs.Free.{free_next, runtime_free}
-use Rattle.tables.proofs.Reasons.{is_none, next_reason, put_reason}
+use Rattle.tables_make.proofs.Reasons.{is_none, next_reason, put_reason}
 use Rattle.tables.proofs.runtime.put_runtime.Goals as goal
 
 pub roots-init : goal.roots-init

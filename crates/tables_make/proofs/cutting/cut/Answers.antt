@@ -7,10 +7,12 @@ use Rattle.tables_schema.specs.Forms.{piece}
 use Rattle.tables_sql.specs.Contents.{Contents, contents_of}
 use Rattle.tables_sql.specs.Calls.{HasFurther}
 use Rattle.tables_sql.proofs.Steps.{clean_before, under_after}
-use Rattle.tables_sql.proofs.TestFailures.{survives_both}
+use Rattle.tables_sql.proofs.TestFailures.{passed_on, survives_both}
 use Rattle.tables_sql.proofs.Transactions.{done_both, failed_next}
 use Rattle.tables_sql.specs.Entries.{stored_of}
 use Rattle.tables_make.specs.Cutting.{cut_object}
+use Rattle.tables_make.specs.Migrating.{AllCutRows, LongRows}
+use Rattle.tables_make.proofs.Reasons.{as_reason, more_reason, next_reason, removal_reason}
 use Rattle.tables_make.proofs.Steps.{changes_nothing, changes_at, none_cut, found_is, none_is}
 use Rattle.tables_make.proofs.cutting.cut.Goals as goal
 
@@ -67,3 +69,32 @@ returns-in-None-clause-done g c clean =
     let reads = c.in_ok-found.ensures.reads clean in
     changes_at a b (λ x. x) _ (none_cut c.args.base.now (contents_of a.now) (none_is (contents_of a.now).objects c.args.base.now c.in_ok-found.found c.in-None.is reads.1))
     (changes_nothing a b (c.requires.under_way (clean_before a b _ c.get_within.ensures.frame.survives clean)) reads.0)
+
+-- ---- why it isn't done
+
+pub cut_found-requires-clause-free : goal.cut_found-requires-clause-free
+cut_found-requires-clause-free g c clean long n =
+    let a = state g.S.Store c.args.tx.now.conn.now in
+    let b = state g.S.Store c.get_within.new.tx.conn.now in
+    let reads = c.in_ok-found.ensures.reads clean in
+    let there = found_is (contents_of a.now).objects c.args.base.now c.in_ok-found.found c.in-Some.object c.in-Some.is reads.1 in
+    let uncut = c.requires.uncut (clean_before a b _ c.get_within.ensures.frame.survives clean) reads.0.0.was_open in
+    ap (λ (x : Database). finite.get (contents_of x).pieces ((stored_of c.in-Some.object).0, n)) reads.0.0.now_is
+    ∙ uncut (stored_of c.in-Some.object).0 (stored_of c.in-Some.object).1 (ap (finite.get (contents_of a.now).objects) there.0 ∙ there.1) long n
+
+pub returns-in_err-found-clause-cause : goal.returns-in_err-found-clause-cause
+returns-in_err-found-clause-cause g c clean =
+    passed_on c.from_residual.result _ _ c.from_residual.ensures.1 (removal_reason _ (state g.S.Store c.args.tx.now.conn.now) (state g.S.Store c.get_within.new.tx.conn.now) _ (c.in_err-found.ensures.cause clean))
+
+pub returns-in-Some-clause-cause : goal.returns-in-Some-clause-cause
+returns-in-Some-clause-cause g c clean =
+    let a = state g.S.Store c.args.tx.now.conn.now in
+    let b = state g.S.Store c.get_within.new.tx.conn.now in
+    let d = state g.S.Store c.cut_found.new.tx.conn.now in
+    let it = stored_of c.in-Some.object in
+    let early : HasCleanDisk b = clean_before b d _ c.cut_found.ensures.survives clean in
+    let reads = c.in_ok-found.ensures.reads early in
+    let there = found_is (contents_of a.now).objects c.args.base.now c.in_ok-found.found c.in-Some.object c.in-Some.is reads.1 in
+    let nothing = changes_nothing a b (c.requires.under_way (clean_before a b _ c.get_within.ensures.frame.survives early)) reads.0 in
+    as_reason _ _ (λ f h. next_reason _ a b d _ nothing c.get_within.ensures.frame.survives f
+    (more_reason (LongRows it.0 it.1) (AllCutRows (contents_of a.now)) (λ t values put. (it.0, it.1, ap (finite.get (contents_of a.now).objects) there.0 ∙ there.1, put)) b d f h)) c.cut_found.result (c.cut_found.ensures.cause clean)

@@ -1,14 +1,17 @@
-use Rattle.std.proofs.Common.{◌≡◌, ◌+◌, ◌∷◌, drop, length, map, string_bytes, arith, refl, sym, ap, ◌∙◌, List}
+use Rattle.std.proofs.Common.{◌≡◌, ◌+◌, ◌∷◌, drop, length, map, string_bytes, arith, refl, sym, ap, subst, ◌∙◌, List}
 use Rattle.sqlite.specs.Held.{state}
-use Rattle.tables_sql.specs.Contents.{contents_of}
+use Rattle.tables_sql.specs.Contents.{Contents, contents_of}
 use Rattle.tables_sql.proofs.Going.{goes_first, goes_next, goes_done}
 use Rattle.tables_sql.proofs.Steps.{clean_before}
-use Rattle.tables_sql.proofs.TestFailures.{survives_both}
+use Rattle.tables_sql.proofs.TestFailures.{passed_on, survives_both}
 use Rattle.tables_sql.proofs.Transactions.{survives_none}
 use Rattle.tables_sql.proofs.Under.{piece_after}
 use Rattle.model.specs.World.{Path}
 use Rattle.tables_make.specs.Cutting.{cut_object, cut_objects}
+use Rattle.tables_make.specs.Migrating.{AllCutRows, IsUncut}
+use Rattle.tables_make.proofs.Reasons.{more_reason, next_reason}
 use Rattle.tables_make.proofs.Steps.{left_at, none_left}
+use Rattle.tables_make.proofs.Uncut.{rows_before, uncut_next}
 use Rattle.tables_make.proofs.cutting.cut_all.Goals as goal
 
 pub bases-init : goal.bases-init
@@ -18,6 +21,8 @@ bases-init g c =
       same_reference = refl;
       goes = λ clean. goes_first cut_objects (map string_bytes c.args.bases.now) first (c.requires.under_way clean) (c.requires.is_open clean);
       stands = c.requires.stands;
+      uncut = c.requires.uncut;
+      among = λ clean t values h. h;
       survives = survives_none first;
     }
 
@@ -38,6 +43,9 @@ bases-preserved g c =
       same_reference = c.in_ok-cut.ensures.same_reference ∙ c.bases.invariant.same_reference;
       goes = λ clean. goes_next cut_objects (map string_bytes all) first now next left rest _ (c.bases.invariant.goes (clean_before now next _ c.cut.ensures.survives clean)) (c.in_ok-cut.ensures.done clean) same;
       stands = λ clean. piece_after now next _ (c.in_ok-cut.ensures.done clean) (c.bases.invariant.stands (clean_before now next _ c.cut.ensures.survives clean));
+      uncut = λ clean. subst IsUncut (sym (c.in_ok-cut.ensures.done clean).contents) (uncut_next c.as_str.result.now was (c.bases.invariant.uncut (clean_before now next _ c.cut.ensures.survives clean)));
+      among = λ clean t values h. c.bases.invariant.among (clean_before now next _ c.cut.ensures.survives clean) t values
+          (rows_before c.as_str.result.now was t values (subst (λ (x : Contents). AllCutRows x t values) (c.in_ok-cut.ensures.done clean).contents h));
       survives = survives_both first now next c.bases.invariant.survives c.cut.ensures.survives;
     }
 
@@ -50,3 +58,13 @@ returns-clause-done g c = λ clean.
     let none = ap (λ n. map string_bytes (drop n all)) end ∙ ap (map string_bytes) (none_left all) in
     goes_done cut_objects (map string_bytes all) first now (map string_bytes (drop c.bases.base-index all))
     (ap (λ (ps : List Path). cut_objects ps (contents_of now.now)) none) (c.bases.invariant.goes clean)
+
+pub returns-in_err-cut-clause-cause : goal.returns-in_err-cut-clause-cause
+returns-in_err-cut-clause-cause g c clean =
+    let first = state g.S.Store c.args.tx.now.conn.now in
+    let now = state g.S.Store c.bases.tx.conn.now in
+    let next = state g.S.Store c.cut.new.tx.conn.now in
+    let early = clean_before now next _ c.cut.ensures.survives clean in
+    passed_on c.from_residual.result _ _ c.from_residual.ensures.1
+    (next_reason _ first now next _ (c.bases.invariant.goes early).changes c.bases.invariant.survives _
+    (more_reason (AllCutRows (contents_of now.now)) (AllCutRows (contents_of first.now)) (c.bases.invariant.among early) now next _ (c.in_err-cut.ensures.cause clean)))

@@ -1,10 +1,14 @@
 use Rattle.std.proofs.Common.{◌≡◌, drop, map, string_bytes}
+use Rattle.sqlite_value.specs.Order.{Row}
+use Rattle.sqlite_schema.specs.declared.schema.Table.{Table}
 use Rattle.sqlite.specs.State.{HasCleanDisk, Survives}
 use Rattle.sqlite.specs.Held.{state}
 use Rattle.tables_schema.specs.Forms.{piece}
 use Rattle.tables_sql.specs.Calls.{HasFurther}
+use Rattle.tables_sql.specs.Contents.{contents_of}
 use Rattle.tables_sql.proofs.Going.{Goes}
 use Rattle.tables_make.specs.Cutting.{cut_objects}
+use Rattle.tables_make.specs.Migrating.{AllCutRows, IsUncut}
 use Rattle.tables_make.proofs.cutting.cut_all.Given as goal
 
 -- what is left to cut
@@ -13,5 +17,7 @@ invariant-bases g l = record {
   same_reference : l.tx.conn.ghost_name ≡ l.fn.tx.conn.ghost_name;
   goes : HasCleanDisk (state g.S.Store l.tx.conn.now) → Goes cut_objects (map string_bytes l.bases) (state g.S.Store l.fn.tx.conn.now) (state g.S.Store l.tx.conn.now) (map string_bytes (drop l.base-index l.bases));
   stands : HasCleanDisk (state g.S.Store l.tx.conn.now) → HasFurther (state g.S.Store l.tx.conn.now).now piece;
+  uncut : HasCleanDisk (state g.S.Store l.tx.conn.now) → IsUncut (contents_of (state g.S.Store l.tx.conn.now).now);
+  among : HasCleanDisk (state g.S.Store l.tx.conn.now) → (t : Table) (values : Row) → AllCutRows (contents_of (state g.S.Store l.tx.conn.now).now) t values → AllCutRows (contents_of (state g.S.Store l.fn.tx.conn.now).now) t values;
   survives : Survives (state g.S.Store l.fn.tx.conn.now) (state g.S.Store l.tx.conn.now) (λ _. ⊥);
 }

@@ -1,9 +1,13 @@
-use Rattle.std.proofs.Common.{refl, arith, ◌≤◌, length}
+use Rattle.std.proofs.Common.{refl, arith, ◌≤◌, ◌<◌, length}
 use Rattle.sqlite.specs.Held.{state}
 use Rattle.tables_sql.specs.Contents.{contents_of}
 use Rattle.tables_sql.proofs.Steps.{changes_none, clean_before}
 use Rattle.tables_sql.specs.Entries.{stored_of}
+use Rattle.tables_world.specs.Pieces.{piece_size}
+use Rattle.tables_make.specs.Migrating.{CutRows, LongRows}
+use Rattle.tables_make.proofs.Cuts.{size}
 use Rattle.tables_make.proofs.Grown.{on_done}
+use Rattle.tables_make.proofs.Reasons.{as_reason, more_reason}
 use Rattle.tables_make.proofs.Steps.{changes_at, short_cut, long_cut}
 use Rattle.tables_make.proofs.cutting.cut_found.Goals as goal
 
@@ -20,3 +24,14 @@ returns-else-len-gt-PIECE_SIZE-clause-done g c clean =
     let it = stored_of c.args.object.now in
     let short : length it.1.nar ≤ 65536 = omega arith in
     changes_at a a (λ x. x) _ (short_cut it.0 it.1 (contents_of a.now) short (c.requires.there clean)) (changes_none a (c.requires.under_way clean) (c.requires.is_open clean))
+
+pub put_cut-requires-clause-free : goal.put_cut-requires-clause-free
+put_cut-requires-clause-free g c clean n =
+    let long : piece_size < length (stored_of c.args.object.now).1.nar = omega (arith, size) in
+    c.requires.free clean long n
+
+pub returns-then-len-gt-PIECE_SIZE-clause-cause : goal.returns-then-len-gt-PIECE_SIZE-clause-cause
+returns-then-len-gt-PIECE_SIZE-clause-cause g c clean =
+    let it = stored_of c.args.object.now in
+    let long : piece_size < length it.1.nar = omega (arith, size) in
+    as_reason _ _ (more_reason (CutRows it.0 it.1) (LongRows it.0 it.1) (λ t values h. (long, h)) (state g.S.Store c.args.tx.now.conn.now) (state g.S.Store c.put_cut.new.tx.conn.now)) c.put_cut.result (c.put_cut.ensures.cause clean)

@@ -1,17 +1,23 @@
-use Rattle.std.proofs.Common.{◌≡◌, take, drop, string_bytes, sym, ap, ◌∙◌}
+use Rattle.std.proofs.Common.{◌≡◌, take, drop, string_bytes, inl, inr, refl, sym, ap, ap₂, subst, ◌∙◌}
+use Rattle.std.specs.FinMap as finite
 use Rattle.sqlite.specs.Held.{state}
 use Rattle.sqlite.specs.State.{HasCleanDisk}
-use Rattle.tables_sql.specs.Contents.{Contents}
+use Rattle.tables_sql.specs.Contents.{Bytes, Contents, numbered_cmp}
+use Rattle.tables_sql.proofs.Orders.{texts_total, texts_antisymmetric}
 use Rattle.tables_sql.proofs.Steps.{clean_before, under_after}
-use Rattle.tables_sql.proofs.TestFailures.{survives_both}
+use Rattle.tables_sql.proofs.TestFailures.{passed_on, survives_both}
 use Rattle.tables_sql.proofs.Transactions.{done_both, failed_next, steps_both}
 use Rattle.tables_sql.proofs.Under.{piece_after}
 use Rattle.tables_sql.specs.Entries.{stored_of}
-use Rattle.tables_world.specs.Pieces.{piece_size, row_part}
+use Rattle.tables_world.specs.Pieces.{piece_size, row_part, further_pieces}
 use Rattle.tables_make.specs.Cutting.{cut_row}
-use Rattle.tables_make.proofs.Cuts.{size}
+use Rattle.tables_make.specs.Migrating.{CutRows, PieceRow}
+use Rattle.tables_make.specs.Reasons.{RowsOf}
+use Rattle.tables_make.proofs.Cuts.{further, size}
 use Rattle.tables_make.proofs.Failing.{err_kept}
+use Rattle.tables_make.proofs.Reasons.{as_reason, is_none, more_reason, next_reason, put_reason, removal_reason}
 use Rattle.tables_make.proofs.Steps.{written}
+use Rattle.tables_make.proofs.Uncut.{gone, row_is}
 use Rattle.tables_make.proofs.cutting.put_cut.Goals as goal
 
 pub insert-requires : goal.insert-requires
@@ -88,3 +94,49 @@ returns-clause-survives g c =
     let b = state g.S.Store c.delete.new.tx.conn.now in
     let d = state g.S.Store c.insert.new.tx.conn.now in
     survives_both a d (state g.S.Store c.put_pieces.new.tx.conn.now) (survives_both a b d c.delete.ensures.frame.survives c.insert.ensures.frame.survives) c.put_pieces.ensures.survives
+
+-- ---- why it isn't done
+
+-- no piece of it was there, and none is since
+pub put_pieces-requires-clause-free : goal.put_pieces-requires-clause-free
+put_pieces-requires-clause-free g c clean n =
+    let a = state g.S.Store c.args.tx.now.conn.now in
+    let b = state g.S.Store c.delete.new.tx.conn.now in
+    let d = state g.S.Store c.insert.new.tx.conn.now in
+    let early : HasCleanDisk b = clean_before b d _ c.insert.ensures.frame.survives clean in
+    let pieces = ap (λ (x : Contents). x.pieces) (c.in_ok-insert.ensures.done clean).contents ∙ ap (λ (x : Contents). x.pieces) (c.in_ok-delete.ensures.done early).contents in
+    ap₂ (λ (m : finite.FinMap numbered_cmp Bytes) p. finite.get m (p, n)) pieces c.as_str-base.ensures.value ∙ c.requires.free (clean_before a b _ c.delete.ensures.frame.survives early) n
+
+pub returns-in_err-delete-clause-cause : goal.returns-in_err-delete-clause-cause
+returns-in_err-delete-clause-cause g c clean =
+    passed_on c.from_residual.result _ _ c.from_residual.ensures.1 (removal_reason _ (state g.S.Store c.args.tx.now.conn.now) (state g.S.Store c.delete.new.tx.conn.now) _ (c.in_err-delete.ensures.cause clean))
+
+pub returns-in_err-insert-clause-cause : goal.returns-in_err-insert-clause-cause
+returns-in_err-insert-clause-cause g c clean =
+    let a = state g.S.Store c.args.tx.now.conn.now in
+    let b = state g.S.Store c.delete.new.tx.conn.now in
+    let d = state g.S.Store c.insert.new.tx.conn.now in
+    let object = c.args.object.now in
+    let nar = object.nar.items in
+    let first : c.split_at.result.0.now ≡ row_part nar = c.split_at.ensures.front ∙ ap (take 65536) c.deref.ensures.value ∙ ap (λ k. take k nar) (sym size) in
+    let done = c.in_ok-delete.ensures.done (clean_before b d _ c.insert.ensures.frame.survives clean) in
+    passed_on c.from_residual-in_err-insert.result _ _ c.from_residual-in_err-insert.ensures.1
+    (next_reason _ a b d _ done c.delete.ensures.frame.survives _
+    (put_reason (CutRows (stored_of object).0 (stored_of object).1) b d _ _ _
+    (inl (refl, row_is c.as_str-base.ensures.value first c.deref-2.ensures.value object.deriver object.ca))
+    (is_none _ (ap (λ (x : Contents). finite.get x.objects c.as_str-base.result.now) done.contents ∙ gone texts_total texts_antisymmetric _ c.as_str-base.result.now)) _ (c.in_err-insert.ensures.cause clean)))
+
+pub returns-clause-cause : goal.returns-clause-cause
+returns-clause-cause g c clean =
+    let a = state g.S.Store c.args.tx.now.conn.now in
+    let b = state g.S.Store c.delete.new.tx.conn.now in
+    let d = state g.S.Store c.insert.new.tx.conn.now in
+    let e = state g.S.Store c.put_pieces.new.tx.conn.now in
+    let object = c.args.object.now in
+    let nar = object.nar.items in
+    let after = c.split_at.result.1.now in
+    let rest : after ≡ drop piece_size nar = c.split_at.ensures.back ∙ ap (drop 65536) c.deref.ensures.value ∙ ap (λ k. drop k nar) (sym size) in
+    let done = steps_both a b d _ _ c.in_ok-delete.ensures.done c.insert.ensures.frame.survives c.in_ok-insert.ensures.done (clean_before d e _ c.put_pieces.ensures.survives clean) in
+    as_reason _ _ (λ f h. next_reason _ a d e _ done (survives_both a b d c.delete.ensures.frame.survives c.insert.ensures.frame.survives) f
+    (more_reason _ (CutRows (stored_of object).0 (stored_of object).1) (λ t values put. inr (subst (λ p. RowsOf (PieceRow p) (further_pieces nar) t values) c.as_str-base.ensures.value
+    (subst (λ es. RowsOf (PieceRow c.as_str-base.result.now) es t values) (further nar after rest) put))) d e f h)) c.put_pieces.result (c.put_pieces.ensures.cause clean)

@@ -1,16 +1,25 @@
-use Rattle.std.proofs.Common.{◌≡◌, ℕ, ◌+◌, ◌<◌, ◌∷◌, [], length, take, drop, refl, sym, ap, ap₂, ◌∙◌, List}
+use Rattle.std.proofs.Common.{◌≡◌, ℕ, ◌+◌, ◌<◌, ◌∷◌, [], length, take, drop, cond, Some, inl, inr, refl, sym, ap, ap₂, subst, ◌∙◌, arith, List}
 use Rattle.std.specs.Prelude.{ℤ, pos}
+use Rattle.std.specs.FinMap as finite
 use Rattle.std.proofs.lemmas.List.{take_min, drop_min}
+use Rattle.sqlite_value.specs.declared.value.Value.TheVariants.{Int, Text, Blob}
+use Rattle.sqlite_value.specs.Order.{Row}
 use Rattle.sqlite.specs.Held.{state}
+use Rattle.tables_schema.specs.Forms.{piece}
 use Rattle.tables_sql.specs.Contents.{Contents, contents_of}
 use Rattle.tables_sql.proofs.Going.{goes_first, goes_next, goes_done}
+use Rattle.tables_sql.proofs.Orders.{numbered_total}
 use Rattle.tables_sql.proofs.Steps.{clean_before}
-use Rattle.tables_sql.proofs.TestFailures.{survives_both}
+use Rattle.tables_sql.proofs.TestFailures.{passed_on, survives_both}
 use Rattle.tables_sql.proofs.Transactions.{survives_none}
 use Rattle.tables_sql.proofs.Under.{piece_after}
 use Rattle.tables_world.specs.Pieces.{piece_size, pieces_by}
 use Rattle.tables_make.specs.Cutting.{put_pieces}
+use Rattle.tables_make.specs.Migrating.{PieceRow}
+use Rattle.tables_make.specs.Reasons.{RowsOf}
 use Rattle.tables_make.proofs.Cuts.{size, first_piece, no_piece, no_end, at_end}
+use Rattle.tables_make.proofs.Reasons.{is_none, next_reason, put_reason}
+use Rattle.tables_make.proofs.Uncut.{apart}
 use Rattle.tables_make.proofs.cutting.put_pieces.Goals as goal
 
 pub pieces-init : goal.pieces-init
@@ -20,6 +29,8 @@ pieces-init g c =
       same_reference = refl;
       goes = λ clean. goes_first (λ es (x : Contents). record x { pieces = put_pieces c.args.base.now es x.pieces }) (pieces_by c.args.bytes.now 1 c.args.bytes.now) first (c.requires.under_way clean) (c.requires.is_open clean);
       stands = c.requires.stands;
+      free = λ clean k more. c.requires.free clean (pos k);
+      among = λ t values h. h;
       survives = survives_none first;
     }
 
@@ -45,6 +56,13 @@ pieces-preserved g c =
       goes = λ clean. goes_next change (pieces_by c.args.bytes.now 1 c.args.bytes.now) first now next (pieces_by bytes n bytes) (pieces_by after (n + 1) after) _
           (c.pieces.invariant.goes (clean_before now next _ c.insert.ensures.frame.survives clean)) (c.in_ok-insert.ensures.done clean) (ap (λ es. change es was) split);
       stands = λ clean. piece_after now next _ (c.in_ok-insert.ensures.done clean) (c.pieces.invariant.stands (clean_before now next _ c.insert.ensures.frame.survives clean));
+      free = λ clean k more.
+          let early = clean_before now next _ c.insert.ensures.frame.survives clean in
+          ap (λ (x : Contents). finite.get x.pieces (base, pos k)) (c.in_ok-insert.ensures.done clean).contents
+          ∙ finite.get-insert numbered_total was.pieces (base, pos n) front (base, pos k)
+          ∙ ap (λ b. cond b (Some front) (finite.get was.pieces (base, pos k))) (apart base k n more)
+          ∙ c.pieces.invariant.free early k (omega (arith, more));
+      among = λ t values h. c.pieces.invariant.among t values (subst (λ es. RowsOf (PieceRow base) es t values) (sym split) (inr h));
       survives = survives_both first now next c.pieces.invariant.survives c.insert.ensures.frame.survives;
     }
 
@@ -63,3 +81,26 @@ returns-then-is_empty-clause-done g c clean =
 
 pub returns-then-is_empty-clause-survives : goal.returns-then-is_empty-clause-survives
 returns-then-is_empty-clause-survives g c = c.pieces.invariant.survives
+
+-- one of them wasn't put: none was there before it
+pub returns-in_err-insert-clause-cause : goal.returns-in_err-insert-clause-cause
+returns-in_err-insert-clause-cause g c clean =
+    let base = c.args.base.now in
+    let first = state g.S.Store c.args.tx.now.conn.now in
+    let now = state g.S.Store c.pieces.tx.conn.now in
+    let next = state g.S.Store c.insert.new.tx.conn.now in
+    let bytes = c.pieces.rest.now in
+    let n = c.pieces.number in
+    let front = c.split_at.result.0.now in
+    let after = c.split_at.result.1.now in
+    let some : 0 < length bytes = no_end bytes (sym c.is_empty.ensures ∙ c.if-is_empty.false) in
+    let front_is : front ≡ take piece_size bytes = c.split_at.ensures.front ∙ ap (λ k. take k bytes) c.min.ensures ∙ take_min 65536 bytes ∙ ap (λ k. take k bytes) (sym size) in
+    let split : pieces_by bytes n bytes ≡ (pos n, front) ∷ pieces_by (drop piece_size bytes) (n + 1) (drop piece_size bytes) =
+    first_piece bytes n some ∙ ap (λ p. (pos n, p) ∷ pieces_by (drop piece_size bytes) (n + 1) (drop piece_size bytes)) (sym front_is) in
+    let row : Row = Text base ∷ Int (pos n) ∷ Blob front ∷ [] in
+    let early = clean_before now next _ c.insert.ensures.frame.survives clean in
+    passed_on c.from_residual.result _ _ c.from_residual.ensures.1
+    (next_reason _ first now next _ (c.pieces.invariant.goes early).changes c.pieces.invariant.survives _
+    (put_reason (RowsOf (PieceRow base) (pieces_by c.args.bytes.now 1 c.args.bytes.now)) now next piece row _
+    (c.pieces.invariant.among piece row (subst (λ es. RowsOf (PieceRow base) es piece row) (sym split) (inl (refl, refl))))
+    (is_none _ (c.pieces.invariant.free early n (omega arith))) _ (c.in_err-insert.ensures.cause clean)))

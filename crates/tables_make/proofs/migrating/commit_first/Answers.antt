@@ -1,5 +1,5 @@
 use Rattle.std.proofs.Common.{◌≡◌, map, string_bytes, subst, rules}
-use Rattle.std.specs.Prelude.{OnOk, OnErr, IsTrue}
+use Rattle.std.specs.Prelude.{OnOk, OnErr, IfErr, IsTrue}
 use Rattle.sqlite.specs.Effect.{Database}
 use Rattle.sqlite.specs.Held.{state}
 use Rattle.sqlite.specs.State.{HasCleanDisk, Survives}
@@ -7,10 +7,14 @@ use Rattle.tables_schema.specs.Finding.{HasFirst}
 use Rattle.tables_sql.specs.Contents.{Contents, contents_of}
 use Rattle.tables_sql.specs.Calls.{IsDurable, KeepsShown, Leaves}
 use Rattle.tables_sql.proofs.Steps.{clean_before}
+use Rattle.tables_sql.proofs.TestFailures.{passed_on}
 use Rattle.tables_make.specs.Further.{grown}
 use Rattle.tables_schema.specs.declared.schema.Schema.TheVariants.{V1}
 use Rattle.tables_make.specs.Cutting.{cut_objects, renumbered}
 use Rattle.tables_make.specs.Migrated.{lacking, IsGrown}
+use Rattle.tables_make.specs.Migrating.{FailsToMigrate}
+use Rattle.tables_make.proofs.MigratingFailures.{migrating_begun, migrating_commit, migrating_later}
+use Rattle.tables_make.proofs.Reasons.{as_reason}
 use Rattle.tables_make.proofs.Failed.{always_done, on_err, shown_failed}
 use Rattle.tables_make.proofs.Grown.{begun_has, both_named, grown_whole, grows_under, on_done, survives_whole}
 use Rattle.tables_make.proofs.migrating.commit_first.Goals as goal
@@ -57,3 +61,27 @@ pub returns-clause-durable : goal.returns-clause-durable
 returns-clause-durable g c =
     let same : c.commit.new.tx.0 ≡ c.conn-2-1.given.0 = search rules in
     subst (λ h. OnOk c.commit.result (IsTrue (state g.S.Store h).is_open → IsDurable (state g.S.Store h))) same (always_done c.commit.result _ c.commit.ensures.durable)
+
+pub returns-clause-cause : goal.returns-clause-cause
+returns-clause-cause g c =
+    let old = state g.S.Store c.args.conn.now in
+    let start = c.begin-tx.result.conn.now in
+    let mid = state g.S.Store c.write_first.new.tx.conn.now in
+    let new = state g.S.Store c.commit.new.tx.0 in
+    let same : c.commit.new.tx.0 ≡ c.conn-2-1.given.0 = search rules in
+    subst (λ h. HasCleanDisk (state g.S.Store h) → IfErr c.commit.result (FailsToMigrate V1 old (state g.S.Store h))) same (λ clean.
+    let written : HasCleanDisk mid = clean_before mid new _ c.commit.ensures.survives clean in
+    as_reason _ _ (λ f h. migrating_begun g.S.Store c.args.conn.now start V1 new c.begin-tx.ensures.begun f
+    (migrating_commit V1 (state g.S.Store start) mid new _ (c.in_ok-write_first.ensures.done written) c.write_first.ensures.survives f h)) c.commit.result (c.commit.ensures.cause clean))
+
+-- what was written is undone, and that forgets no fault
+pub returns-in_err-write_first-clause-cause : goal.returns-in_err-write_first-clause-cause
+returns-in_err-write_first-clause-cause g c =
+    let start = c.begin-tx.result.conn.now in
+    let mid = state g.S.Store c.write_first.new.tx.conn.now in
+    let new = state g.S.Store c.drop-tx.new.self.0 in
+    let same : c.drop-tx.new.self.0 ≡ c.conn-1.given.0 = search rules in
+    subst (λ h. HasCleanDisk (state g.S.Store h) → IfErr c.from_residual.result (FailsToMigrate V1 (state g.S.Store c.args.conn.now) (state g.S.Store h))) same (λ clean.
+    let written : HasCleanDisk mid = clean_before mid new _ c.drop-tx.ensures.survives clean in
+    passed_on c.from_residual.result _ _ c.from_residual.ensures.1
+    (migrating_begun g.S.Store c.args.conn.now start V1 new c.begin-tx.ensures.begun _ (migrating_later V1 (state g.S.Store start) mid new _ c.drop-tx.ensures.survives _ (c.in_err-write_first.ensures.cause written))))

@@ -8,6 +8,9 @@ use Rattle.tables_schema.specs.Finding.{HasFirst}
 use Rattle.tables_sql.specs.Contents.{Contents, contents_of}
 use Rattle.tables_sql.specs.Calls.{Leaves}
 use Rattle.tables_sql.proofs.Steps.{clean_before}
+use Rattle.tables_sql.proofs.TestFailures.{passed_on}
+use Rattle.tables_make.proofs.MigratingFailures.{keys_fail, migrating_before}
+use Rattle.tables_make.proofs.Reasons.{as_reason}
 use Rattle.tables_make.specs.Further.{grown}
 use Rattle.tables_schema.specs.declared.schema.Schema.TheVariants.{V1}
 use Rattle.tables_world.specs.Worlds.{IsSoundBy}
@@ -59,3 +62,15 @@ returns-clause-survives g c =
     subst (λ (x : Contents). Leaves (grown (lacking V1) a.now) db x) (written a.now b.now (map string_bytes c.deref.result.now) dir reads.0.0.now_is names sound)
     (subst (λ (x : Database). Leaves (grown (lacking V1) x) db (renumbered (cut_objects (map string_bytes c.deref.result.now) (contents_of b.now)))) reads.0.0.now_is l))
     c.keys.ensures.frame.survives c.commit_first.ensures.survives
+
+pub returns-in_err-bases-clause-cause : goal.returns-in_err-bases-clause-cause
+returns-in_err-bases-clause-cause g c clean =
+    passed_on c.from_residual.result _ _ c.from_residual.ensures.1 (keys_fail V1 (state g.S.Store c.args.conn.now) (state g.S.Store c.keys.new.conn) _ (c.in_err-bases.ensures.cause clean))
+
+pub returns-clause-cause : goal.returns-clause-cause
+returns-clause-cause g c clean =
+    let a = state g.S.Store c.args.conn.now in
+    let b = state g.S.Store c.keys.new.conn in
+    let d = state g.S.Store c.commit_first.new.conn in
+    let reads = c.in_ok-bases.ensures.reads (clean_before b d _ c.commit_first.ensures.survives clean) in
+    as_reason _ _ (migrating_before V1 a b d reads.0 c.keys.ensures.frame.survives) c.commit_first.result (c.commit_first.ensures.cause clean)

@@ -1,5 +1,5 @@
 use Rattle.std.proofs.Common.{◌≡◌, List, ℕ, subst, rules}
-use Rattle.std.specs.Prelude.{OnOk, OnErr, IsTrue}
+use Rattle.std.specs.Prelude.{OnOk, OnErr, IfErr, IsTrue}
 use Rattle.sqlite.specs.Effect.{Database}
 use Rattle.sqlite.specs.Held.{state}
 use Rattle.sqlite.specs.State.{HasCleanDisk, Survives}
@@ -15,6 +15,9 @@ use Rattle.tables_schema.specs.declared.schema.Schema.TheVariants.{V2}
 use Rattle.tables_world.specs.Worlds.{IsSoundBy}
 use Rattle.tables_make.specs.Cutting.{renumbered}
 use Rattle.tables_make.specs.Migrated.{lacking, IsMigrated, LeavesMigrated}
+use Rattle.tables_make.specs.Migrating.{FailsToMigrate}
+use Rattle.tables_make.proofs.MigratingFailures.{migrating_begun, migrating_commit}
+use Rattle.tables_make.proofs.Reasons.{as_reason}
 use Rattle.tables_make.proofs.Failed.{always_done, on_err, shown_failed}
 use Rattle.tables_make.proofs.Grown.{begun_has, last_named, grown_as, grown_whole, grows_under, on_done, survives_whole}
 use Rattle.tables_make.proofs.Rewritten.{second_written}
@@ -68,3 +71,15 @@ pub returns-clause-durable : goal.returns-clause-durable
 returns-clause-durable g c =
     let same : c.commit.new.tx.0 ≡ c.conn-2-1.given.0 = search rules in
     subst (λ h. OnOk c.commit.result (IsTrue (state g.S.Store h).is_open → IsDurable (state g.S.Store h))) same (always_done c.commit.result _ c.commit.ensures.durable)
+
+pub returns-clause-cause : goal.returns-clause-cause
+returns-clause-cause g c =
+    let old = state g.S.Store c.args.conn.now in
+    let start = c.begin-tx.result.conn.now in
+    let mid = state g.S.Store c.write_second.new.tx.conn.now in
+    let new = state g.S.Store c.commit.new.tx.0 in
+    let same : c.commit.new.tx.0 ≡ c.conn-2-1.given.0 = search rules in
+    subst (λ h. HasCleanDisk (state g.S.Store h) → IfErr c.commit.result (FailsToMigrate V2 old (state g.S.Store h))) same (λ clean.
+    let written : HasCleanDisk mid = clean_before mid new _ c.commit.ensures.survives clean in
+    as_reason _ _ (λ f h. migrating_begun g.S.Store c.args.conn.now start V2 new c.begin-tx.ensures.begun f
+    (migrating_commit V2 (state g.S.Store start) mid new _ (c.in_ok-write_second.ensures.done written) c.write_second.ensures.survives f h)) c.commit.result (c.commit.ensures.cause clean))

@@ -1,7 +1,12 @@
-use Rattle.std.proofs.Common.{refl}
+use Rattle.std.proofs.Common.{inl, inr, refl}
 use Rattle.sqlite.specs.Held.{state}
-use Rattle.tables_sql.proofs.TestFailures.{survives_both}
+use Rattle.tables_schema.specs.declared.schema.Schema.TheVariants.{V1}
+use Rattle.tables_sql.specs.Contents.{contents_of}
+use Rattle.tables_sql.proofs.Steps.{clean_before}
+use Rattle.tables_sql.proofs.TestFailures.{passed_on, survives_both}
 use Rattle.tables_sql.proofs.Transactions.{done_both, failed_next}
+use Rattle.tables_make.specs.Migrating.{AllCutRows, MigratedRows, SettingRow}
+use Rattle.tables_make.proofs.Reasons.{as_reason, more_reason, next_reason}
 use Rattle.tables_make.proofs.migrating.rewrite.Goals as goal
 
 pub returns-clause-done : goal.returns-clause-done
@@ -17,3 +22,17 @@ returns-clause-failed g c =
 pub returns-clause-survives : goal.returns-clause-survives
 returns-clause-survives g c =
     survives_both (state g.S.Store c.args.tx.now.conn.now) (state g.S.Store c.cut_all.new.tx.conn.now) (state g.S.Store c.renumber.new.tx.conn.now) c.cut_all.ensures.survives c.renumber.ensures.survives
+
+pub returns-in_err-cut_all-clause-cause : goal.returns-in_err-cut_all-clause-cause
+returns-in_err-cut_all-clause-cause g c clean =
+    let rows = contents_of (state g.S.Store c.args.tx.now.conn.now).now in
+    passed_on c.from_residual.result _ _ c.from_residual.ensures.1
+    (more_reason (AllCutRows rows) (MigratedRows V1 rows) (λ t values h. inl h) (state g.S.Store c.args.tx.now.conn.now) (state g.S.Store c.cut_all.new.tx.conn.now) _ (c.in_err-cut_all.ensures.cause clean))
+
+pub returns-clause-cause : goal.returns-clause-cause
+returns-clause-cause g c clean =
+    let a = state g.S.Store c.args.tx.now.conn.now in
+    let b = state g.S.Store c.cut_all.new.tx.conn.now in
+    let d = state g.S.Store c.renumber.new.tx.conn.now in
+    as_reason _ _ (λ f h. next_reason _ a b d _ (c.in_ok-cut_all.ensures.done (clean_before b d _ c.renumber.ensures.survives clean)) c.cut_all.ensures.survives f
+    (more_reason SettingRow (MigratedRows V1 (contents_of a.now)) (λ t values h. inr h) b d f h)) c.renumber.result (c.renumber.ensures.cause clean)

@@ -1,10 +1,14 @@
-use Rattle.std.proofs.Common.{ap, codes}
+use Rattle.std.proofs.Common.{ap, codes, refl, ◌∙◌}
+use Rattle.std.specs.FinMap as finite
 use Rattle.sqlite.specs.Held.{state}
 use Rattle.tables_sql.specs.Contents.{Contents}
 use Rattle.tables_sql.proofs.Orders.{texts_total, texts_antisymmetric}
-use Rattle.tables_sql.proofs.TestFailures.{survives_both}
+use Rattle.tables_sql.proofs.Steps.{clean_before}
+use Rattle.tables_sql.proofs.TestFailures.{passed_on, survives_both}
 use Rattle.tables_sql.proofs.Transactions.{done_both, failed_next}
+use Rattle.tables_make.proofs.Reasons.{as_reason, is_none, next_reason, put_reason, removal_reason}
 use Rattle.tables_make.proofs.Steps.{put_over}
+use Rattle.tables_make.proofs.Uncut.{gone}
 use Rattle.tables_make.proofs.settling.renumber.Goals as goal
 
 pub returns-clause-done : goal.returns-clause-done
@@ -20,3 +24,17 @@ returns-clause-failed g c =
 pub returns-clause-survives : goal.returns-clause-survives
 returns-clause-survives g c =
     survives_both (state g.S.Store c.args.tx.now.conn.now) (state g.S.Store c.delete.new.tx.conn.now) (state g.S.Store c.insert.new.tx.conn.now) c.delete.ensures.frame.survives c.insert.ensures.frame.survives
+
+pub returns-in_err-delete-clause-cause : goal.returns-in_err-delete-clause-cause
+returns-in_err-delete-clause-cause g c clean =
+    passed_on c.from_residual.result _ _ c.from_residual.ensures.1 (removal_reason _ (state g.S.Store c.args.tx.now.conn.now) (state g.S.Store c.delete.new.tx.conn.now) _ (c.in_err-delete.ensures.cause clean))
+
+-- the setting isn't there any more
+pub returns-clause-cause : goal.returns-clause-cause
+returns-clause-cause g c clean =
+    let a = state g.S.Store c.args.tx.now.conn.now in
+    let b = state g.S.Store c.delete.new.tx.conn.now in
+    let d = state g.S.Store c.insert.new.tx.conn.now in
+    let done = c.in_ok-delete.ensures.done (clean_before b d _ c.insert.ensures.frame.survives clean) in
+    as_reason _ _ (λ e h. next_reason _ a b d _ done c.delete.ensures.frame.survives e
+    (put_reason _ b d _ _ _ (refl, refl) (is_none _ (ap (λ (x : Contents). finite.get x.meta (codes "schema")) done.contents ∙ gone texts_total texts_antisymmetric _ (codes "schema"))) e h)) c.insert.result (c.insert.ensures.cause clean)

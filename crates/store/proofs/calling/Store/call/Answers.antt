@@ -1,12 +1,13 @@
-use Rattle.std.proofs.Common.{inl, refl, sym, ap, subst, ◌∙◌}
+use Rattle.std.proofs.Common.{refl, sym, ap, subst, ◌∙◌}
 use Rattle.policy.specs.Class.{class_of}
 use Rattle.policy.specs.Rules.{first_broken}
-use Rattle.model.specs.Reply.{Reply, IsDone}
+use Rattle.model.specs.Reply.{Reply}
 use Rattle.model.specs.Verdict.{operation_of}
 use Rattle.store_types.specs.View.{request_view, reply_view}
 use Rattle.store_steps.specs.Causes.{HasCause}
 use Rattle.store_steps.specs.Meets.{reply_to}
-use Rattle.store.proofs.Replied.{answered_of, cause_forbidden, step_forbidden, step_met, survives_met}
+use Rattle.store_steps.proofs.Untouched.{others_still}
+use Rattle.store.proofs.Replied.{cause_forbidden, step_forbidden, step_met, survives_met}
 use Rattle.store.proofs.Spent.{is_no_deletion, same_view, spent_denied, spent_fails}
 use Rattle.store.proofs.calling.Store.call.Goals as goal
 
@@ -48,7 +49,7 @@ returns-in-None-clause-survives g c =
     survives_met g.S.Store c.args.self.now.settings c.args.caller.now (request_view c.args.request) c.act.result c.args.self.now.tables c.act.new.self.tables c.in-None.ensures.told c.act.ensures.met
 
 pub returns-in-Some-clause-others : goal.returns-in-Some-clause-others
-returns-in-Some-clause-others g c = λ _ _ _. inl refl
+returns-in-Some-clause-others g c = others_still g.S.Store c.args.self.now.tables
 
 pub returns-in-None-clause-others : goal.returns-in-None-clause-others
-returns-in-None-clause-others g c done = c.act.ensures.met.others (answered_of c.act.result (subst IsDone c.reply.ensures done))
+returns-in-None-clause-others g c = c.act.ensures.met.others

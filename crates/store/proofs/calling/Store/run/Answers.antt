@@ -6,6 +6,7 @@ use Rattle.policy.specs.Settings.{Settings}
 use Rattle.model.specs.Reply.{Reply}
 use Rattle.tables.proofs.Kept.{clean_before}
 use Rattle.store_steps.specs.Disk.{StepOver}
+use Rattle.store_steps.proofs.Untouched.{others_both, others_still}
 use Rattle.store_types.specs.View.{call_view, request_view, reply_view}
 use Rattle.store_types.specs.Spent.{spent_reply}
 use Rattle.store.proofs.Alike.{runs_alike}
@@ -20,6 +21,7 @@ loop-asked-init g c =
       settings = refl;
       room = omega (arith, c.in_ok-replies.ensures.len, c.in_ok-replies.ensures.capacity, c.len.ensures, c.args.calls.ok.0, ap length all);
       so_far = λ w t. (w, begun c.args.self.now.settings (map call_view c.args.calls.items) _ w _ _ (ap (map call_view) all) (ap (map reply_view) c.in_ok-replies.ensures.empty), t);
+      others = λ w t. others_still g.S.Store c.args.self.now.tables;
       spent = none_so_far c.args.self.now.settings c.args.calls.items _ _ all (ap (map reply_view) c.in_ok-replies.ensures.empty);
     }
 
@@ -48,6 +50,9 @@ loop-asked-preserved g c =
                 (ap (map call_view) first) m.1 step),
             n.2,
           );
+      others = λ w t.
+          let m = c.loop-asked.invariant.so_far w t in
+          others_both g.S.Store c.args.self.now.tables c.loop-asked.self.tables c.call-reply.new.self.tables _ (c.loop-asked.invariant.others w t) (c.call-reply.ensures.survives m.0 m.2) c.call-reply.ensures.others;
       spent =
           let grown : map reply_view c.push_reserved.new.self.items ≡ told ++ reply ∷ [] = ap (map reply_view) c.push_reserved.ensures.items ∙ map_push reply_view c.loop-asked.replies.items c.call-reply.result in
           subst (λ (rs : List Reply). SpentSoFar s c.args.calls.items c.next.new.self.rest.items rs) (sym grown)
@@ -77,6 +82,9 @@ loop-asked-preserved-in-Some g c =
                 (ap (map call_view) first) m.1 step),
             n.2,
           );
+      others = λ w t.
+          let m = c.loop-asked.invariant.so_far w t in
+          others_both g.S.Store c.args.self.now.tables c.loop-asked.self.tables c.call-reply.new.self.tables _ (c.loop-asked.invariant.others w t) (c.call-reply.ensures.survives m.0 m.2) c.call-reply.ensures.others;
       spent =
           let grown : map reply_view c.push_reserved.new.self.items ≡ told ++ reply ∷ [] = ap (map reply_view) c.push_reserved.ensures.items ∙ map_push reply_view c.loop-asked.replies.items c.call-reply.result in
           subst (λ (rs : List Reply). SpentSoFar s c.args.calls.items c.next.new.self.rest.items rs) (sym grown)

@@ -8,7 +8,7 @@ use Rattle.model.specs.World.{Pair}
 use Rattle.model.specs.Profiles.{without_generation}
 use Rattle.tables_outline.specs.Outline.{with_profile, profile_of, OutlineValue}
 use Rattle.tables.specs.Kept.{Kept}
-use Rattle.tables.specs.RowsPut.{NoRow}
+use Rattle.tables_make.specs.Reasons.{NoRow}
 use Rattle.tables.proofs.ProfileWrites.{profile_write, drop_follows}
 use Rattle.tables.proofs.Kept.{write_agrees, write_commits, write_fails, failure_agrees, failure_seen}
 use Rattle.tables.proofs.keeping.Tables.drop_generation.Goals as goal

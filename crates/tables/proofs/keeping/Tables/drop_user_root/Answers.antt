@@ -2,7 +2,7 @@ use Rattle.std.proofs.Common.{refl, ap, ◌∙◌}
 use Rattle.std.specs.FinMap as finite
 use Rattle.paths.specs.Root.{bytes_cmp, Set}
 use Rattle.model.specs.World.{Path, Pair, pair_cmp}
-use Rattle.tables.specs.RowsPut.{NoRow}
+use Rattle.tables_make.specs.Reasons.{NoRow}
 use Rattle.tables.proofs.Kept.{write_agrees, write_commits, write_fails, failure_agrees, failure_seen}
 use Rattle.tables.proofs.RootChanges.{roots_write}
 use Rattle.tables.proofs.keeping.Tables.drop_user_root.Goals as goal

@@ -5,7 +5,7 @@ use Rattle.std.specs.FinMap as finite
 use Rattle.paths.specs.Root.{bytes_cmp}
 use Rattle.tables_sql.specs.Contents.{Contents}
 use Rattle.tables_outline.specs.Temporary.{without_session}
-use Rattle.tables.specs.RowsPut.{NoRow}
+use Rattle.tables_make.specs.Reasons.{NoRow}
 use Rattle.tables.proofs.Kept.{write_agrees, write_commits, write_fails, failure_agrees, failure_seen}
 use Rattle.tables.proofs.SessionRows.{ended_follows}
 use Rattle.tables.proofs.SessionChanges.{temporary_write}

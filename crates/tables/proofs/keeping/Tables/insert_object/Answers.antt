@@ -11,7 +11,7 @@ use Rattle.tables.specs.Rewritten.{LacksObject, put_object}
 use Rattle.tables.specs.RowsPut.{AddedRows, ObjectRows}
 use Rattle.tables.proofs.Kept.{write_agrees, write_commits, write_fails, failure_agrees, failure_seen, rows_as}
 use Rattle.tables.proofs.AddedObjects.{found_put, object_undone, object_fits, object_rows, object_write, put_is}
-use Rattle.tables.proofs.Reasons.{more_reason}
+use Rattle.tables_make.proofs.Reasons.{more_reason}
 use Rattle.tables.proofs.keeping.Tables.insert_object.Goals as goal
 
 pub unreachable-requires : goal.unreachable-requires

@@ -1,5 +1,5 @@
 use Rattle.std.proofs.Common.{refl}
-use Rattle.tables.specs.RowsPut.{NoRow}
+use Rattle.tables_make.specs.Reasons.{NoRow}
 use Rattle.tables.proofs.Covered.{covered}
 use Rattle.tables.proofs.Kept.{write_agrees, write_commits, write_fails, failure_agrees, failure_seen}
 use Rattle.tables.proofs.RemovedObjects.{removed_write}

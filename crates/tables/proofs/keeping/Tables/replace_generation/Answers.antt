@@ -5,7 +5,7 @@ use Rattle.model.specs.World.{Pair}
 use Rattle.model.specs.Profiles.{has_generation, put_at, switched}
 use Rattle.tables_outline.specs.Maps.{pair_bytes}
 use Rattle.tables_outline.specs.Outline.{profile_of}
-use Rattle.tables.specs.Failures.{HasReason}
+use Rattle.tables_make.specs.Reasons.{HasReason}
 use Rattle.tables.specs.Kept.{Kept}
 use Rattle.tables.specs.Rewritten.{put_generation}
 use Rattle.tables.specs.RowsPut.{GenerationRows}

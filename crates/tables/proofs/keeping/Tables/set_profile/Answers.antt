@@ -7,7 +7,7 @@ use Rattle.tables_outline.specs.Outline.{profile_of}
 use Rattle.tables.specs.Kept.{Kept}
 use Rattle.tables.specs.RowsPut.{ProfileRow, GenerationRows}
 use Rattle.tables.proofs.NumbersLeft.{set_is_switch, set_is_new, there_of}
-use Rattle.tables.proofs.Reasons.{as_reason, more_reason}
+use Rattle.tables_make.proofs.Reasons.{as_reason, more_reason}
 use Rattle.tables.proofs.SetProfiles.{set_sound, set_commits}
 use Rattle.tables.proofs.keeping.Tables.set_profile.Goals as goal
 

@@ -12,10 +12,12 @@ use Rattle.model.specs.World.{Path}
 use Rattle.tables_world.specs.Pieces.{piece_size, row_part, further_pieces}
 use Rattle.tables_world.proofs.Migrating.{rising}
 use Rattle.tables.specs.Rewritten.{AreFree, put_object}
-use Rattle.tables.specs.RowsPut.{RowsOf, ReferenceRow, OutputRow, PieceRow, ObjectRows}
+use Rattle.tables_make.specs.Reasons.{RowsOf}
+use Rattle.tables_make.specs.Migrating.{PieceRow}
+use Rattle.tables.specs.RowsPut.{ReferenceRow, OutputRow, ObjectRows}
 use Rattle.tables.proofs.Free.{outputs_free, pieces_free, references_free}
 use Rattle.tables.proofs.Lists.{zipped, keys_count}
-use Rattle.tables.proofs.Reasons.{as_reason, is_none, more_reason, next_reason, put_open, text_same}
+use Rattle.tables_make.proofs.Reasons.{as_reason, is_none, more_reason, next_reason, put_open, text_same}
 use Rattle.tables_sql.proofs.Transactions.{done_both, failed_next, steps_both}
 use Rattle.tables_sql.proofs.Steps.{under_after}
 use Rattle.tables.proofs.Failing.{err_kept}

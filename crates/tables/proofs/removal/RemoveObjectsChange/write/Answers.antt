@@ -8,7 +8,7 @@ use Rattle.tables.proofs.Covered.{covers_less}
 use Rattle.tables.proofs.Removed.{without_next}
 use Rattle.tables_sql.proofs.TestFailures.{passed_on, survives_both}
 use Rattle.tables.proofs.Transactions.{pieces_stand}
-use Rattle.tables.proofs.Reasons.{as_reason, next_reason}
+use Rattle.tables_make.proofs.Reasons.{as_reason, next_reason}
 use Rattle.tables.proofs.removal.RemoveObjectsChange.write.Goals as goal
 
 pub delete_object-requires-clause-stands : goal.delete_object-requires-clause-stands

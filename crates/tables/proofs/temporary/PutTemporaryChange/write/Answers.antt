@@ -10,7 +10,7 @@ use Rattle.tables_sql.proofs.Steps.{under_after}
 use Rattle.tables_outline.proofs.Puts.{get-gone, put_over}
 use Rattle.tables.proofs.SessionRows.{without_one}
 use Rattle.tables_sql.proofs.TestFailures.{passed_on, survives_both}
-use Rattle.tables.proofs.Reasons.{as_reason, is_none, next_reason, put_reason, removal_reason}
+use Rattle.tables_make.proofs.Reasons.{as_reason, is_none, next_reason, put_reason, removal_reason}
 use Rattle.tables.proofs.Transactions.{temp_roots_stand}
 use Rattle.tables.proofs.temporary.PutTemporaryChange.write.Goals as goal
 

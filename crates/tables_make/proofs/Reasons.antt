@@ -1,5 +1,5 @@
 -- Why a write inside a transaction failed, and the transaction with it.
-use Rattle.std.proofs.Common.{◌≡◌, ◌⊎◌, inl, inr, true, false, ◌∷◌, List, [], ℕ, zero, suc, drop, Result, Ok, Err, Option, Some, None, option_map, String, Global, string_bytes, refl, sym, ap, subst, ◌∙◌, arith, IsTrue}
+use Rattle.std.proofs.Common.{◌≡◌, inl, inr, true, false, ◌∷◌, List, [], ℕ, zero, suc, drop, Result, Ok, Err, Option, Some, None, option_map, String, Global, string_bytes, refl, sym, subst, ◌∙◌, arith, IsTrue}
 use Rattle.std.specs.Prelude.{IfErr, IsSome}
 use Rattle.sqlite_value.specs.declared.value.Value.TheVariants.{Text}
 use Rattle.sqlite_value.specs.Order.{Row}
@@ -19,8 +19,7 @@ use Rattle.tables_sql.specs.Failures.{FailsFor, FailsToInsert, FailsToCommit}
 use Rattle.tables_sql.specs.declared.failure.Failure.{Failure}
 use Rattle.tables_sql.specs.declared.failure.Failure.TheVariants.{Memory, Size, Disk}
 use Rattle.tables_sql.proofs.Steps.{theirs_then}
-use Rattle.tables.specs.Failures.{Rows, IsWithin, IsReason}
-use Rattle.tables.specs.RowsPut.{RowsOf}
+use Rattle.tables_make.specs.Reasons.{Rows, RowsOf, IsWithin, IsReason}
 
 -- ---- one call
 
@@ -58,7 +57,7 @@ more_reason rows more into a b Disk (inr (inr it)) = inr (inr (it.0, it.1, it.2,
 
 -- ---- after others
 
-within_then : (a b c : Database) → IsWithin a b → IsWithin b c → IsWithin a c
+pub within_then : (a b c : Database) → IsWithin a b → IsWithin b c → IsWithin a c
 within_then a b c h k = record { schema = k.schema ∙ h.schema; theirs = theirs_then a b c h.schema h.theirs k.theirs }
 
 changed_within : {a b : State} {f : Contents → Contents} → Changes a b f → IsWithin a.now b.now

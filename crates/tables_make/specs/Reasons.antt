@@ -1,5 +1,5 @@
--- Why a change isn't made, by the rows that it puts.
-use Rattle.std.specs.Prelude.{⊤, ◌≡◌, ◌⊎◌, Result, IsSome, IsTrue, IfErr}
+-- Why rows aren't put into the store's tables.
+use Rattle.std.specs.Prelude.{⊤, ◌≡◌, ◌⊎◌, List, [], ◌∷◌, Result, IsSome, IsTrue, IfErr}
 use Rattle.sqlite_value.specs.Order.{Row}
 use Rattle.sqlite_schema.specs.declared.schema.Table.{Table}
 use Rattle.sqlite_trees.specs.declared.store.Store.{Ghosts}
@@ -14,6 +14,19 @@ use Rattle.tables_sql.specs.declared.failure.Failure.TheVariants.{Memory, Size, 
 -- some rows of the store's tables: of which table, and with which values after the rowid
 abbrev pub Rows : Type 1
 Rows = Table → Row → Type 0
+
+-- this row of this table
+abbrev pub IsRow : Table → Row → Rows
+IsRow table values t row = (t ≡ table) × (row ≡ values)
+
+-- none
+abbrev pub NoRow : Rows
+NoRow t row = ⊥
+
+-- those of each item of a list
+abbrev pub RowsOf : {X : Type 0} → (X → Rows) → List X → Rows
+RowsOf rows [] t row = ⊥
+RowsOf rows (x ∷ xs) t row = rows x t row ⊎ RowsOf rows xs t row
 
 -- a database that a transaction over the first one may show: the schema and the tables of other programs are as they were
 pub record IsWithin (old db : Database) : Type 0 where

@@ -1,0 +1,111 @@
+-- Why a migration failed, one step after another.
+use Rattle.std.proofs.Common.{◌≡◌, ◌⊎◌, inl, inr, List, true, false, Result, Ok, Err, refl, sym, ap, subst, ◌∙◌, arith, IsTrue}
+use Rattle.std.specs.Prelude.{IsSome}
+use Rattle.std.specs.List.{AllByRecursion}
+use Rattle.sqlite_schema.specs.declared.schema.Schema.{Schema as Shown}
+use Rattle.sqlite_schema.specs.declared.schema.Table.{Table}
+use Rattle.sqlite_trees.specs.declared.store.Store.{Ghosts}
+use Rattle.sqlite_trees.specs.Tree.{Trees}
+use Rattle.sqlite.specs.Effect.{Database}
+use Rattle.sqlite.specs.State.{State, IsUnchanged, Survives}
+use Rattle.sqlite.specs.Held.{Held, state}
+use Rattle.tables_schema.specs.Forms.{is_our_name}
+use Rattle.tables_schema.specs.declared.schema.Schema.{Schema}
+use Rattle.tables_sql.specs.Contents.{Contents, contents_of}
+use Rattle.tables_sql.specs.Failures.{HasDiskCause, FailsFor, FailsToCommit}
+use Rattle.tables_sql.specs.declared.failure.Failure.{Failure}
+use Rattle.tables_sql.specs.declared.failure.Failure.TheVariants.{Memory, Size, Disk}
+use Rattle.tables_make.specs.Further.{MakesFurther, grown}
+use Rattle.tables_make.specs.Making.{FailsToMakeThese, LacksNames, LacksNumbers, placed}
+use Rattle.tables_make.specs.Migrated.{Grows, lacking}
+use Rattle.tables_make.specs.Migrating.{FailsToMigrate, MigratedRows, with_lacking}
+use Rattle.tables_make.specs.Reasons.{IsReason, IsWithin, LacksRowid, Rows}
+use Rattle.tables_make.proofs.Growing.{theirs_grown}
+use Rattle.tables_make.proofs.Reasons.{within_then}
+
+-- the tables that a schema lacks are ours
+abbrev AreOurs : Schema → Type 0
+AreOurs from = (s : Shown) → AllByRecursion (λ t. is_our_name t.name ≡ true) (placed s (lacking from))
+
+-- ---- rows that weren't put next to the tables that were made
+
+module _ (from : Schema) (ours : AreOurs from) (a b c : State) (made : MakesFurther (lacking from) a b) (before : Survives a b (λ _. ⊥)) where
+  grown_within : IsWithin (grown (lacking from) a.now) b.now
+  grown_within = record { schema = made.schema; theirs = theirs_grown (lacking from) ours a b made }
+
+  reason_before : (rows : Rows) (f : Failure) → IsReason rows b c f → IsReason rows (with_lacking from a) c f
+  reason_before rows Memory h = tt
+  reason_before rows Size h = let it = h.1 in (made.was_open, (it.0, within_then (grown (lacking from) a.now) b.now it.0 grown_within it.1, it.2, it.3, it.4, it.5))
+  reason_before rows Disk (inl (inl more)) = inl (inl (omega (arith, more, before.counts)))
+  reason_before rows Disk (inl (inr shut)) = absurd (let no = sym made.is_open ∙ shut in cc)
+  reason_before rows Disk (inr (inl limit)) = inr (inl (subst IsSome before.limit limit))
+  reason_before rows Disk (inr (inr it)) = inr (inr (it.0, within_then (grown (lacking from) a.now) b.now it.0 grown_within it.1, it.2, it.3, it.4, it.5))
+
+  pub rows_fail : (f : Failure) → IsReason (MigratedRows from (contents_of b.now)) b c f → FailsToMigrate from a c f
+  rows_fail f h = inr (subst (λ (x : Contents). IsReason (MigratedRows from x) (with_lacking from a) c f) made.contents (reason_before (MigratedRows from (contents_of b.now)) f h))
+
+-- ---- the transaction
+
+module _ (from : Schema) (a b c : State) where
+  -- what came after it, as a rollback, forgets no fault
+  pub migrating_later : (P : Trees → Type 0) → Survives b c P → (f : Failure) → FailsToMigrate from a b f → FailsToMigrate from a c f
+  migrating_later P after Memory h = inl tt
+  migrating_later P after Size (inl h) = inl h
+  migrating_later P after Size (inr h) = inr h
+  migrating_later P after Disk (inl (inl (inl more))) = inl (inl (inl (omega (arith, more, after.counts))))
+  migrating_later P after Disk (inl (inl (inr shut))) = inl (inl (inr shut))
+  migrating_later P after Disk (inl (inr h)) = inl (inr h)
+  migrating_later P after Disk (inr (inl (inl more))) = inr (inl (inl (omega (arith, more, after.counts))))
+  migrating_later P after Disk (inr (inl (inr shut))) = inr (inl (inr shut))
+  migrating_later P after Disk (inr (inr h)) = inr (inr h)
+
+  -- a commit that failed after all was written
+  pub migrating_commit : (contents : Contents) → Grows (lacking from) contents a b → Survives a b (λ _. ⊥) → (f : Failure) → FailsToCommit b c f → FailsToMigrate from a c f
+  migrating_commit contents grew before Memory h = inl tt
+  migrating_commit contents grew before Size h = absurd h
+  migrating_commit contents grew before Disk (inl more, undone) = inl (inl (inl (omega (arith, more, before.counts))))
+  migrating_commit contents grew before Disk (inr shut, undone) = absurd (let no = sym grew.is_open ∙ shut in cc)
+
+-- seen from before the transaction was begun
+pub migrating_begun : {S : Type 0} (g : Ghosts S) (conn start : Held S) (from : Schema) (b : State) → start ≡ record conn { in_transaction = true } → (f : Failure) → FailsToMigrate from (state g start) b f → FailsToMigrate from (state g conn) b f
+migrating_begun {S} g conn start from b is f h = same f (subst (λ (s : Held S). FailsToMigrate from (state g s) b f) is h)
+  where
+    same : (f : Failure) → FailsToMigrate from (state g (record conn { in_transaction = true })) b f → FailsToMigrate from (state g conn) b f
+    same Memory h = inl tt
+    same Size h = h
+    same Disk h = h
+
+-- ---- a read before it
+
+-- the read failed
+pub keys_fail : (from : Schema) (a b : State) (f : Failure) → FailsFor a b f → FailsToMigrate from a b f
+keys_fail from a b Memory h = inl tt
+keys_fail from a b Size h = absurd h.0
+keys_fail from a b Disk (inl h) = inl (inl h.0)
+keys_fail from a b Disk (inr h) = inr (inr (inl h.0))
+
+-- it was done, and changed nothing
+module _ (from : Schema) (a b c : State) (same : IsUnchanged a b) (first : Survives a b (λ _. ⊥)) where
+  disk_before : HasDiskCause b c → HasDiskCause a c
+  disk_before (inl more) = inl (omega (arith, more, first.counts))
+  disk_before (inr shut) = absurd (let no = sym same.0.is_open ∙ shut in cc)
+
+  abbrev Lacks : Database → Type 0
+  Lacks db = LacksNumbers db.schema (lacking from) ⊎ LacksNames db.schema (lacking from)
+
+  abbrev Large : Database → Type 0
+  Large db = IsReason (MigratedRows from (contents_of db)) (with_lacking from (record a { now = db })) c Size
+
+  abbrev Full : Database → Type 0
+  Full db = LacksRowid (MigratedRows from (contents_of db)) (grown (lacking from) db)
+
+  pub migrating_before : (f : Failure) → FailsToMigrate from b c f → FailsToMigrate from a c f
+  migrating_before Memory h = inl tt
+  migrating_before Size (inl h) = absurd h.0
+  migrating_before Size (inr h) = inr (same.0.was_open, (subst Large same.0.now_is (same.0.was_open, h.1)).1)
+  migrating_before Disk (inl (inl cause)) = inl (inl (disk_before cause))
+  migrating_before Disk (inl (inr (inl none))) = absurd none
+  migrating_before Disk (inl (inr (inr lacks))) = inl (inr (inr (subst Lacks same.0.now_is lacks)))
+  migrating_before Disk (inr (inl cause)) = inr (inl (disk_before cause))
+  migrating_before Disk (inr (inr (inl limit))) = inr (inr (inl (subst IsSome first.limit limit)))
+  migrating_before Disk (inr (inr (inr full))) = inr (inr (inr (subst Full same.0.now_is full)))

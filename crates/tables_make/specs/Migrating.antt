@@ -1,0 +1,64 @@
+-- The rows that a migration puts, and why it fails.
+use Rattle.std.specs.Prelude.{◌≡◌, ◌⊎◌, ◌<◌, ℕ, ℤ, List, [], ◌∷◌, length, Some, None, codes}
+use Rattle.std.specs.FinMap as finite
+use Rattle.sqlite_value.specs.declared.value.Value.TheVariants.{Int, Text, Blob}
+use Rattle.sqlite.specs.Values.{or_null}
+use Rattle.sqlite.specs.State.{State}
+use Rattle.tables_schema.specs.Forms.{meta, object, piece}
+use Rattle.tables_schema.specs.declared.schema.Schema.{Schema}
+use Rattle.tables_schema.specs.declared.schema.Schema.TheVariants.{V1, V3}
+use Rattle.tables_schema.specs.Schemas.{schema_text}
+use Rattle.tables_sql.specs.Contents.{Stored, Contents, contents_of}
+use Rattle.tables_sql.specs.declared.failure.Failure.{Failure}
+use Rattle.model.specs.World.{Path}
+use Rattle.tables_world.specs.Pieces.{piece_size, row_part, further_pieces}
+use Rattle.tables_make.specs.Reasons.{Rows, IsRow, RowsOf, IsReason}
+use Rattle.tables_make.specs.Making.{FailsToMakeThese}
+use Rattle.tables_make.specs.Further.{grown}
+use Rattle.tables_make.specs.Migrated.{lacking}
+
+-- ---- rows
+
+-- an object's own
+abbrev pub ObjectRow : Path → Stored → Rows
+ObjectRow p o = IsRow object (Text p ∷ Blob o.nar ∷ Blob o.hash ∷ or_null Text o.deriver ∷ or_null Text o.ca ∷ [])
+
+-- a further piece of an archive: its number and its bytes
+abbrev pub PieceRow : Path → ℤ × List ℕ → Rows
+PieceRow p e = IsRow piece (Text p ∷ Int e.0 ∷ Blob e.1 ∷ [])
+
+-- the setting that says the third schema
+abbrev pub SettingRow : Rows
+SettingRow = IsRow meta (Text (codes "schema") ∷ Text (schema_text V3) ∷ [])
+
+-- an object with the first part of its archive, and the pieces of the rest
+abbrev pub CutRows : Path → Stored → Rows
+CutRows p o t row = ObjectRow p (record o { nar = row_part o.nar }) t row ⊎ RowsOf (PieceRow p) (further_pieces o.nar) t row
+
+-- the same, if the archive is longer than a row takes
+abbrev pub LongRows : Path → Stored → Rows
+LongRows p o t row = (piece_size < length o.nar) × CutRows p o t row
+
+-- the same of one of the objects
+abbrev pub AllCutRows : Contents → Rows
+AllCutRows c t row = (p : Path) × (o : Stored) × (finite.get c.objects p ≡ Some o) × LongRows p o t row
+
+-- what a migration puts: the setting, and from the first schema the objects whose archives are cut
+abbrev pub MigratedRows : Schema → Contents → Rows
+MigratedRows V1 c t row = AllCutRows c t row ⊎ SettingRow t row
+MigratedRows _ c t row = SettingRow t row
+
+-- no archive that is longer than a row takes was cut yet
+abbrev pub IsUncut : Contents → Type 0
+IsUncut c = (p : Path) (o : Stored) → finite.get c.objects p ≡ Some o → piece_size < length o.nar → (n : ℤ) → finite.get c.pieces (p, n) ≡ None
+
+-- ---- why it fails
+
+-- the same connection with the tables that a schema lacks
+abbrev pub with_lacking : Schema → State → State
+with_lacking from s = record s { now = grown (lacking from) s.now }
+
+-- Why the tables of a schema aren't brought to the third: those that it lacks aren't made, or next to them the rows aren't put.
+abbrev pub FailsToMigrate : Schema → State → State → Failure → Type 0
+FailsToMigrate from old new f =
+    FailsToMakeThese (lacking from) ⊥ ⊥ old new f ⊎ IsReason (MigratedRows from (contents_of old.now)) (with_lacking from old) new f
