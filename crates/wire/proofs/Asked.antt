@@ -18,11 +18,10 @@ use Rattle.wire.specs.Courses.{Course, replies, calls, refuses, admits, admissio
 use Rattle.wire.specs.Answers.{Answers}
 
 -- the course of a message whose head was admitted
-pub admitted : (s : Settings) (h : RequestHead) (c : Caller) (kind : Kind) (dir target body : List ℕ) (course : Course) → admission_of s h ≡ admits c kind
-    → dir ≡ s.store_dir → target ≡ h.target → Reads dir c kind target body course → HasCourse s h body course
-admitted s h c kind dir target body course is d t reads =
-    let here = subst (λ v. Reads v c kind target body course) d reads in
-    subst (λ it. Follows s.store_dir h.target body it course) (sym is) (subst (λ v. Reads s.store_dir c kind v body course) t here)
+pub admitted : (s : Settings) (h : RequestHead) (c : Caller) (kind : Kind) (dir body : List ℕ) (course : Course) → admission_of s h ≡ admits c kind
+    → dir ≡ s.store_dir → Reads dir c kind h.target body course → HasCourse s h body course
+admitted s h c kind dir body course is d reads =
+    subst (λ it. Follows s.store_dir h.target body it course) (sym is) (subst (λ v. Reads v c kind h.target body course) d reads)
 
 module _ {S : Type 0} (g : Ghosts S) (old : StoreView S) (h : RequestHead) where
   -- one whose head is refused is answered so, whatever its body is

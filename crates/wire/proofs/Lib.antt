@@ -1,4 +1,5 @@
 pub mod Along
 pub mod Asked
+pub mod Chosen
 pub mod Held
 pub mod Seen

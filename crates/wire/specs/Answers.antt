@@ -5,14 +5,15 @@ use Rattle.httparse.specs.Grammar.{RequestHead}
 use Rattle.model.specs.Reply.{Reply}
 use Rattle.store.specs.View.{StoreView}
 use Rattle.store.specs.Calls.{Calls}
+use Rattle.wire_requests.specs.Parameters.{AreParameters}
 use Rattle.wire_server.specs.Responses.{Replied}
 use Rattle.wire.specs.Replies.{response_to}
 use Rattle.wire.specs.Courses.{Course, replies, calls, HasCourse, admits, admission_of}
 use Rattle.wire.specs.declared.admission.Endpoint.{Endpoint}
 
--- the head of a message admits this caller and this kind
+-- the head of a message admits this caller and this kind, with the parameters of its target
 abbrev pub Admits : {S : Type 0} → StoreView S → RequestHead → Endpoint → Type 0
-Admits st h endpoint = admission_of st.settings h ≡ admits endpoint.caller endpoint.kind
+Admits st h endpoint = (admission_of st.settings h ≡ admits endpoint.caller endpoint.kind) × AreParameters endpoint.kind h.target endpoint.parameters
 
 module _ {S : Type 0} (g : Ghosts S) where
   -- the reply at once, and the store stays; or the store takes a step, and the response is that to its reply

@@ -1,5 +1,5 @@
 -- What becomes of a message before the store is asked, in the order of the tests.
-use Rattle.std.specs.Prelude.{◌≡◌, ◌⊎◌, ℕ, true, false, List, Option, Some, None}
+use Rattle.std.specs.Prelude.{◌≡◌, ◌⊎◌, ℕ, true, false, List, Option, Some, None, ⊤}
 use Rattle.httparse.specs.Grammar.{RequestHead}
 use Rattle.wire_messages.specs.Fields.{fields_of}
 use Rattle.wire_messages.specs.Callers.{caller_in}
@@ -10,6 +10,7 @@ use Rattle.policy.specs.Operation.{plain}
 use Rattle.policy.specs.Rules.{first_broken}
 use Rattle.policy.specs.declared.kinds.Rule.{Rule}
 use Rattle.wire_requests.specs.Methods.{kind_of, allowed}
+use Rattle.wire_requests.specs.Parameters.{AreParameters}
 use Rattle.wire_requests.specs.Table.{requests_of}
 use Rattle.wire_requests.specs.declared.kind.Kind.{Kind}
 use Rattle.wire_requests.specs.declared.requests.Requests.{Requests}
@@ -81,4 +82,9 @@ HasCourse s h body course = Follows s.store_dir h.target body (admission_of s h)
 
 abbrev pub admission_view : code.Admission → Admission
 admission_view (codes.Refused r) = refuses (replied r)
-admission_view (codes.Admitted c kind) = admits c kind
+admission_view (codes.Admitted it) = admits it.caller it.kind
+
+-- what is admitted has the parameters of the target
+abbrev pub HasParameters : List ℕ → code.Admission → Type 0
+HasParameters target (codes.Refused r) = ⊤
+HasParameters target (codes.Admitted it) = AreParameters it.kind target it.parameters

@@ -1,13 +1,14 @@
 //! The tests of the head of a message, in their order.
-ghost use Rattle.std.specs.Prelude.{◌≡◌, IfOk, Some, option_map};
+ghost use Rattle.std.specs.Prelude.{◌≡◌, ℕ, List, IfOk, Some, option_map};
 ghost use Rattle.httparse.specs.Grammar.{RequestHead};
 ghost use Rattle.wire_messages.specs.Heads.{Holds};
 ghost use Rattle.wire_requests.specs.Methods.{kind_of};
+ghost use Rattle.wire_requests.specs.Parameters.{AreParametersOf};
 ghost use Rattle.wire_requests.specs.Table.{requests_of};
 ghost use Rattle.wire_server.specs.Responses.{refused};
-ghost use Rattle.wire.specs.Courses.{refuses, denied, by_method, by_route, by_caller, admission_of, admission_view};
+ghost use Rattle.wire.specs.Courses.{refuses, denied, by_method, by_route, by_caller, admission_of, admission_view, HasParameters};
 
-use crate::admission::Admission;
+use crate::admission::{Admission, Endpoint};
 use crate::parts::{method_of, target_of};
 use http::StatusCode;
 use paths::StoreDir;
@@ -15,7 +16,7 @@ use policy::{Caller, CallerError, Config, Op, Rule, class, decide, store_dir};
 use report::{Refusal, denial_line};
 use std::alloc::{AllocError, Global};
 use wire_messages::{Head, read_caller};
-use wire_requests::{Requests, Routes};
+use wire_requests::{Found, Routes};
 use wire_server::Response;
 
 /// A refusal, with the methods of the route where it refuses another.
@@ -24,14 +25,16 @@ fn refuse(
     refusal: Refusal,
     allow: Option<&'static str>,
 ) -> Result<Admission, AllocError>
-    ensures { IfOk result (λ it. admission_view it ≡ refuses (refused refusal (option_map (λ methods. methods.now) allow.entry))) }
+    ensures decides { IfOk result (λ it. admission_view it ≡ refuses (refused refusal (option_map (λ methods. methods.now) allow.entry))) }
+    ensures parameters { (target : List ℕ) → IfOk result (HasParameters target) }
 {
     Ok(Admission::Refused(Response::refused(alloc, refusal, allow)?))
 }
 
 /// A caller whom a rule forbids to connect.
 fn deny(alloc: Global, dir: &StoreDir, rule: Rule) -> Result<Admission, AllocError>
-    ensures { IfOk result (λ it. admission_view it ≡ refuses (denied dir.now rule)) }
+    ensures decides { IfOk result (λ it. admission_view it ≡ refuses (denied dir.now rule)) }
+    ensures parameters { (target : List ℕ) → IfOk result (HasParameters target) }
 {
     let line = denial_line(alloc, dir, rule, None)?;
     let response = Response::plain(alloc, StatusCode::FORBIDDEN, line.as_str())?;
@@ -42,14 +45,23 @@ fn deny(alloc: Global, dir: &StoreDir, rule: Rule) -> Result<Admission, AllocErr
 fn on_method(
     alloc: Global,
     caller: Caller,
-    route: Requests,
+    found: Found,
     method: &[u8],
 ) -> Result<Admission, AllocError>
-    ensures { IfOk result (λ it. admission_view it ≡ by_method caller route (kind_of route method.now)) }
+    ensures decides { IfOk result (λ it. admission_view it ≡ by_method caller found.requests (kind_of found.requests method.now)) }
+    ensures parameters { (target : List ℕ) → AreParametersOf found.requests target found.parameters → IfOk result (HasParameters target) }
 {
-    match route.kind(alloc, method) {
-        Some(kind) => Ok(Admission::Admitted(caller, kind)),
-        None => refuse(alloc, Refusal::BadMethod, Some(route.allow())),
+    let Found {
+        requests,
+        parameters,
+    } = found;
+    match requests.kind(alloc, method) {
+        Some(kind) => Ok(Admission::Admitted(Endpoint {
+            caller,
+            kind,
+            parameters,
+        })),
+        None => refuse(alloc, Refusal::BadMethod, Some(requests.allow())),
     }
 }
 
@@ -61,10 +73,11 @@ fn on_route(
     method: &[u8],
     target: &str,
 ) -> Result<Admission, AllocError>
-    ensures { IfOk result (λ it. admission_view it ≡ by_route caller method.now (requests_of target.now)) }
+    ensures decides { IfOk result (λ it. admission_view it ≡ by_route caller method.now (requests_of target.now)) }
+    ensures parameters { IfOk result (HasParameters target.now) }
 {
-    match routes.find(target) {
-        Some(route) => on_method(alloc, caller, route, method),
+    match routes.find(alloc, target)? {
+        Some(found) => on_method(alloc, caller, found, method),
         None => refuse(alloc, Refusal::NoRoute, None),
     }
 }
@@ -78,7 +91,8 @@ fn on_caller(
     method: &[u8],
     target: &str,
 ) -> Result<Admission, AllocError>
-    ensures { IfOk result (λ it. admission_view it ≡ by_caller config.now method.now target.now (Some caller)) }
+    ensures decides { IfOk result (λ it. admission_view it ≡ by_caller config.now method.now target.now (Some caller)) }
+    ensures parameters { IfOk result (HasParameters target.now) }
 {
     match decide(class(config, &caller), &caller, &Op::Plain) {
         Some(rule) => deny(alloc, store_dir(config), rule),
@@ -99,7 +113,8 @@ pub(crate) fn admit(
     head: &Head,
 ) -> Result<Admission, AllocError>
     requires { (h : RequestHead) × Holds held.now head.now h }
-    ensures { (h : RequestHead) → Holds held.now head.now h → IfOk result (λ it. admission_view it ≡ admission_of config.now h) }
+    ensures decides { (h : RequestHead) → Holds held.now head.now h → IfOk result (λ it. admission_view it ≡ admission_of config.now h) }
+    ensures parameters { (h : RequestHead) → Holds held.now head.now h → IfOk result (HasParameters h.target) }
 {
     match read_caller(alloc, held, head) {
         Ok(caller) => {

@@ -4,7 +4,6 @@ ghost use Rattle.wire.specs.Answers.{Answers, Admits};
 
 use crate::admission::{Admission, Endpoint};
 use crate::admitting::admit;
-use crate::parts::target_of;
 use crate::replies::respond;
 use policy::store_dir;
 use report::Refusal;
@@ -60,9 +59,9 @@ impl<S: Alter> Responder<Store<S>> for Server {
         size: usize,
     ) -> Result<Begun<Endpoint, Body>, AllocError> {
         match admit(self.alloc, &self.routes, store.config(), held, head)? {
-            Admission::Admitted(caller, kind) => {
-                let body = body_for(self.alloc, kind, size);
-                Ok(Begun::Accepted(Endpoint { caller, kind }, body))
+            Admission::Admitted(endpoint) => {
+                let body = body_for(self.alloc, endpoint.kind, size);
+                Ok(Begun::Accepted(endpoint, body))
             }
             Admission::Refused(response) => Ok(Begun::Refused(response)),
         }
@@ -71,15 +70,18 @@ impl<S: Alter> Responder<Store<S>> for Server {
     fn answer(
         &self,
         store: &mut Store<S>,
-        held: &[u8],
-        head: &Head,
+        _held: &[u8],
+        _head: &Head,
         endpoint: Endpoint,
         body: Body,
     ) -> Result<Response, AllocError> {
-        let Endpoint { caller, kind } = endpoint;
-        let target = target_of(held, head);
+        let Endpoint {
+            caller,
+            kind,
+            parameters,
+        } = endpoint;
         let dir = store_dir(store.config());
-        match read_request(self.alloc, dir, kind, target, body) {
+        match read_request(self.alloc, dir, kind, parameters, body) {
             Ok(request) => {
                 let reply = store.call(&caller, request);
                 respond(self.alloc, store_dir(store.config()), reply)

@@ -1,5 +1,5 @@
 -- Requests that a target says whole.
-use Rattle.std.proofs.Common.{◌≡◌, ℕ, List, true, false, Some, Result, Ok, Err, refl}
+use Rattle.std.proofs.Common.{◌≡◌, ℕ, List, true, false, Some, Result, Ok, Err, refl, sym, subst}
 use Rattle.model.specs.Request as asked
 use Rattle.wire_requests.specs.declared.kind.Kind.{Kind}
 use Rattle.wire_requests.specs.declared.kind.Kind.TheVariants as kinds
@@ -8,7 +8,14 @@ use Rattle.wire_requests.specs.declared.error.AskError.TheVariants.{BadPath, Bad
 use Rattle.store_types.specs.declared.requests.Request.{Request}
 use Rattle.store_types.specs.View.{request_view}
 use Rattle.wire_requests.specs.Asks.{is_blank, by_target, Asks, has_bad_path}
+use Rattle.wire_requests.specs.Parameters.{AreParameters}
 use Rattle.wire_requests.specs.Reads.{Reads, ReadsTarget}
+use Rattle.wire_requests.specs.declared.parameters.Parameters.{Parameters}
+
+-- what is read by the parameters of a kind, where the kind is known
+pub of_kind : (dir target body : List ℕ) (p : Parameters) (r : Result Request AskError) {kind known : Kind} → kind ≡ known → AreParameters kind target p
+    → (AreParameters known target p → Reads dir known target body r) → Reads dir kind target body r
+of_kind dir target body p r is are reads = subst (λ k. Reads dir k target body r) (sym is) (reads (subst (λ k. AreParameters k target p) is are))
 
 -- a kind that asks what its target says
 by_shape : (dir : List ℕ) (kind : Kind) (target body : List ℕ) (r : Result Request AskError)

@@ -24,7 +24,7 @@ module _ {K : Type 0} (p : List ℕ) where
       ap (λ v. nearest_from p (cond v (nearer (None, 0) (common_len p t) k) (None, 0)) rest) (free t k (inl refl))
       ∙ nearest_none rest (λ t' k' has. free t' k' (inr has))
 
-free_row : (p : List ℕ) (table : List (List ℕ × Requests)) (row : List ℕ × Requests) → list_all (λ other. not (conflicts p other.0)) table ≡ true → Has row table
+free_row : (p : List ℕ) (table : RowsOf (RouteOf Requests)) (row : List ℕ × RouteOf Requests) → list_all (λ other. not (conflicts p other.0)) table ≡ true → Has row table
     → conflicts p row.0 ≡ false
 free_row p [] row e has = absurd has
 free_row p (other ∷ table) row e (inl is) =
@@ -34,11 +34,11 @@ free_row p (other ∷ table) row e (inr has) = free_row p table row (and_last (n
 some_none : {A : Type 0} (x : A) (o : Option A) → o ≡ None → o ≡ Some x → ⊥
 some_none x o none some = let both : None ≡ Some x = sym none ∙ some in cc
 
-pub only_memory : (p : Result Scan InsertError) (requests : Requests) (old new : RowsOf (RouteOf Requests)) (table : List (List ℕ × Requests)) (e : InsertError)
+pub only_memory : (p : Result Scan InsertError) (requests : Requests) (old new table : RowsOf (RouteOf Requests)) (e : InsertError)
     → AreRows old table → can_add p table ≡ true → InsertsRead p requests old new (Err e) → e ≡ OutOfMemory
 only_memory (Err f) requests old new table e rows can is = let h : false ≡ true = can in cc
 only_memory (Ok s) requests old new table e rows can is =
-    by e is.1 (nearest_none s.pattern old (λ t k has. free_row s.pattern table (t, k.value) can (rows.each t k has)))
+    by e is.1 (nearest_none s.pattern old (λ t k has. free_row s.pattern table (t, k) can (rows.each (t, k) has)))
   where
     by : (f : InsertError) → Refused s.pattern old f → nearest s.pattern old ≡ None → f ≡ OutOfMemory
     by (Conflict with) (n, is, text) none = absurd (some_none n (nearest s.pattern old) none is)
@@ -48,7 +48,7 @@ only_memory (Ok s) requests old new table e rows can is =
     by InvalidCatchAll refused none = absurd refused
 
 -- each route can be added after those before it
-pub can_at : (table : List (List ℕ × Requests)) (rows : List (Bor (List ℕ) × Requests)) (i : ℕ) (d : Bor (List ℕ) × Requests) → can_add_all table (map text_of rows) ≡ true → i < length rows
+pub can_at : (table : RowsOf (RouteOf Requests)) (rows : List (Bor (List ℕ) × Requests)) (i : ℕ) (d : Bor (List ℕ) × Requests) → can_add_all table (map text_of rows) ≡ true → i < length rows
     → can_add (parse_route (get_or rows i d).0.now) (table ++ map row_of (map text_of (take i rows))) ≡ true
 can_at table [] i d e below = absurd (omega (arith, below))
 can_at table (row ∷ rows) zero d e below =

@@ -1,6 +1,8 @@
 -- A target fits one pattern of the table at most.
-use Rattle.std.proofs.Common.{◌≡◌, ℕ, List, [], ◌∷◌, Some, None, Bool, true, false, cond, ◌==◌, ◌&&◌, ◌||◌, not, inl, inr, refl, sym, ap, ◌∙◌, arith}
+use Rattle.std.proofs.Common.{◌≡◌, ℕ, List, [], ◌∷◌, Some, None, Bool, true, false, cond, ◌==◌, ◌&&◌, ◌||◌, not, inl, inr, refl, sym, ap, subst, ◌∙◌, arith}
 use Rattle.std.specs.List.{list_all}
+use Rattle.std.specs.Prelude.{map}
+use Rattle.matchit.proofs.OnLiterals.{matchit_on_literals}
 use Rattle.std.proofs.lemmas.Bool.Decides.{nat_tests}
 use Rattle.matchit.specs.Rows.{RowsOf}
 use Rattle.matchit.specs.Router.{RouteOf}
@@ -8,7 +10,7 @@ use Rattle.matchit.specs.Seek.{first}
 use Rattle.wire_requests.specs.declared.requests.Requests.{Requests}
 use Rattle.wire_requests.specs.Patterns.{fits, behind, is_plain}
 use Rattle.wire_requests.specs.Table.{routes, table, first_fit, requests_of}
-use Rattle.wire_requests.specs.Rows.{Has, AreRows}
+use Rattle.wire_requests.specs.Rows.{Has, AreRows, rows}
 use Rattle.wire_requests.proofs.Texts.{AllBytes, and_first, and_last, not_true}
 use Rattle.wire_requests.proofs.Seeking.{AllPlain, found_fits, missing_fits_none}
 
@@ -89,19 +91,45 @@ table_apart : all_apart table ≡ true
 unfolding routes table
 table_apart = refl
 
-table_plain : list_all (λ row. is_plain row.0) table ≡ true
-unfolding routes table
-table_plain = refl
+-- ---- the rows of a router
 
-module _ (rs : RowsOf (RouteOf Requests)) (rows : AreRows rs table) (text : List ℕ) where
+abbrev requests_in : List ℕ × RouteOf Requests → List ℕ × Requests
+requests_in row = (row.0, row.1.value)
+
+rows_table : map requests_in rows ≡ table
+unfolding routes table rows matchit_on_literals
+rows_table = refl
+
+rows_plain : list_all (λ row. is_plain row.0) rows ≡ true
+unfolding routes rows matchit_on_literals
+rows_plain = refl
+
+has_map : {A B : Type 0} (f : A → B) (x : A) (xs : List A) → Has x xs → Has (f x) (map f xs)
+has_map f x [] has = absurd has
+has_map f x (y ∷ xs) (inl e) = inl (ap f e)
+has_map f x (y ∷ xs) (inr h) = inr (has_map f x xs h)
+
+map_has : {A B : Type 0} (f : A → B) (z : B) (xs : List A) → Has z (map f xs) → (x : A) × Has x xs × (f x ≡ z)
+map_has f z [] has = absurd has
+map_has f z (y ∷ xs) (inl e) = (y, inl refl, e)
+map_has f z (y ∷ xs) (inr h) = let found = map_has f z xs h in (found.0, inr found.1, found.2)
+
+module _ (rs : RowsOf (RouteOf Requests)) (are : AreRows rs rows) (text : List ℕ) where
   plain : AllPlain rs
-  plain t r has = all_has (λ row. is_plain row.0) (t, r.value) table table_plain (rows.each t r has)
+  plain t r has = all_has (λ row. is_plain row.0) (t, r) rows rows_plain (are.each (t, r) has)
 
-  -- what the router finds is the requests of the target
+  -- what the router finds is a row that the target fits
+  pub found_row : AllBytes text → (r : RouteOf Requests) → first rs text ≡ Some r → (t : List ℕ) × Has (t, r) rows × (fits t text ≡ true)
+  found_row bytes r e = let found = found_fits rs text plain bytes r e in (found.0, are.each (found.0, r) found.1, found.2)
+
+  -- it has the requests of the target
   pub found_requests : AllBytes text → (r : RouteOf Requests) → first rs text ≡ Some r → requests_of text ≡ Some r.value
   found_requests bytes r e =
-      let found = found_fits rs text plain bytes r e in
-      first_is text table found.0 r.value table_apart (rows.each found.0 r found.1) found.2
+      let found = found_row bytes r e in
+      let there = subst (λ rows. Has (found.0, r.value) rows) rows_table (has_map requests_in (found.0, r) rows found.1) in
+      first_is text table found.0 r.value table_apart there found.2
 
   pub missing_requests : first rs text ≡ None → requests_of text ≡ None
-  missing_requests e = none_first text table (λ t requests has f. let row = rows.all t requests has in missing_fits_none rs text plain e t row.0 row.1 f)
+  missing_requests e = none_first text table (λ t requests has f.
+      let row = map_has requests_in (t, requests) rows (subst (λ rows. Has (t, requests) rows) (sym rows_table) has) in
+      missing_fits_none rs text plain e row.0.0 row.0.1 (are.all row.0 row.1) (ap (λ v. fits v.0 text) row.2 ∙ f))

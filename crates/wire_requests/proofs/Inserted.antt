@@ -9,7 +9,7 @@ use Rattle.matchit.specs.Router.{RouteOf, InsertsRead, route_from}
 use Rattle.matchit.specs.declared.error.InsertError.{InsertError}
 use Rattle.matchit.specs.declared.error.InsertError.TheVariants.{OutOfMemory}
 use Rattle.wire_requests.specs.declared.requests.Requests.{Requests}
-use Rattle.wire_requests.specs.Rows.{Has, AreRows, pattern_of}
+use Rattle.wire_requests.specs.Rows.{Has, AreRows, read_row}
 
 module _ {K : Type 0} where
   placed_has : (r x : List ℕ × K) (rs : RowsOf K) → Has x (placed r rs) → (r ≡ x) ⊎ Has x rs
@@ -50,29 +50,29 @@ module _ {A : Type 0} where
   has_last x y (z ∷ xs) (inr e) = inr (has_last x y xs (inr e))
 
 pub no_rows : AreRows [] []
-no_rows = record { each = λ t r has. has; all = λ t requests has. absurd has }
+no_rows = record { each = λ row has. has; all = λ row has. has }
 
 ok_no_error : (u : Unit {0}) (e : InsertError) → Ok u ≡ Err e → ⊥
 ok_no_error u e h = cc
 
 -- one more route of the table
-pub one_row : (p : Result Scan InsertError) (requests : Requests) (old new : RowsOf (RouteOf Requests)) (table : List (List ℕ × Requests)) (u : Unit {0})
-    → InsertsRead p requests old new (Ok u) → AreRows old table → AreRows new (table ++ (pattern_of p, requests) ∷ [])
+pub one_row : (p : Result Scan InsertError) (requests : Requests) (old new table : RowsOf (RouteOf Requests)) (u : Unit {0})
+    → InsertsRead p requests old new (Ok u) → AreRows old table → AreRows new (table ++ read_row p requests ∷ [])
 one_row (Err e) requests old new table u (same, inl h) rows = absurd (ok_no_error u e h)
 one_row (Err e) requests old new table u (same, inr h) rows = absurd (ok_no_error u OutOfMemory h)
 one_row (Ok s) requests old new table u (free, is) rows =
     let r : List ℕ × RouteOf Requests = (s.pattern, route_from s requests) in
-    let rows' : AreRows (placed r old) (table ++ (s.pattern, requests) ∷ []) = record {
-      each = λ t q has. elim (placed_has r (t, q) old has) [
-        | inl e ↦ has_last (t, q.value) (s.pattern, requests) table (inr (λ i. ((e i).0, (e i).1.value)))
-        | inr h ↦ has_last (t, q.value) (s.pattern, requests) table (inl (rows.each t q h))
+    let rows' : AreRows (placed r old) (table ++ r ∷ []) = record {
+      each = λ row has. elim (placed_has r row old has) [
+        | inl e ↦ has_last row r table (inr e)
+        | inr h ↦ has_last row r table (inl (rows.each row h))
       ];
-      all = λ t q has. elim (last_has (t, q) (s.pattern, requests) table has) [
-        | inl h ↦ let row = rows.all t q h in (row.0, has_placed r (t, row.0) old (inr row.1), row.2)
-        | inr e ↦ (route_from s requests, has_placed r (t, route_from s requests) old (inl (λ i. ((e i).0, route_from s requests))), ap (λ x. x.1) e)
+      all = λ row has. elim (last_has row r table has) [
+        | inl h ↦ has_placed r row old (inr (rows.all row h))
+        | inr e ↦ has_placed r row old (inl e)
       ];
     } in
-    subst (λ x. AreRows x (table ++ (s.pattern, requests) ∷ [])) (sym is) rows'
+    subst (λ x. AreRows x (table ++ r ∷ [])) (sym is) rows'
 
 -- one more row, read
 pub map_more : {X Y : Type 0} (g : X → Y) (xs : List X) (i : ℕ) (d : X) → i < length xs

@@ -1,11 +1,15 @@
 pub mod Bare
 pub mod Conflicts
+pub mod Copied
 pub mod Fits
+pub mod Fronts
 pub mod Inserted
 pub mod Parting
 pub mod Payloads
+pub mod Placed
 pub mod Seeking
 pub mod Steps
 pub mod Suffixes
 pub mod Texts
+pub mod Walking
 pub mod Words

@@ -1,6 +1,7 @@
 pub mod Asks
 pub mod Kept
 pub mod Methods
+pub mod Parameters
 pub mod Parts
 pub mod Patterns
 pub mod Reads

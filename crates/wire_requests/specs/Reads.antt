@@ -7,6 +7,8 @@ use Rattle.wire_requests.specs.declared.error.AskError.{AskError}
 use Rattle.wire_requests.specs.declared.error.AskError.TheVariants.{BadPath, BadBodyHead, Memory}
 use Rattle.store_types.specs.declared.requests.Request.{Request}
 use Rattle.store_types.specs.View.{request_view}
+use Rattle.wire_requests.specs.Parameters.{AreParameters}
+use Rattle.wire_requests.specs.declared.parameters.Parameters.{Parameters}
 use Rattle.wire_requests.specs.Asks.{is_blank, by_target, Asks, has_bad_path}
 
 -- why a message asks nothing: a path in the target is tested before the body
@@ -19,6 +21,10 @@ AsksNothing dir kind target body Memory = ⊤
 abbrev pub Reads : List ℕ → Kind → List ℕ → List ℕ → Result Request AskError → Type 0
 Reads dir kind target body (Ok q) = Asks dir kind target body (request_view q)
 Reads dir kind target body (Err e) = AsksNothing dir kind target body e
+
+-- what is read by the parameters of a kind: that of each target that has them
+abbrev pub ReadsBy : List ℕ → Kind → Parameters → List ℕ → Result Request AskError → Type 0
+ReadsBy dir kind parameters body result = (target : List ℕ) → AreParameters kind target parameters → Reads dir kind target body result
 
 -- ---- inside the crate
 

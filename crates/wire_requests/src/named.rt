@@ -1,10 +1,9 @@
 //! Requests that name something in the target, and a path in the body.
 ghost use Rattle.wire_requests.specs.declared.kind.Kind.TheVariants as kinds;
-ghost use Rattle.wire_requests.specs.Reads.{Reads};
+ghost use Rattle.wire_requests.specs.Reads.{ReadsBy};
 
 use crate::error::AskError;
-use crate::parts::part;
-use crate::targets::two_parts;
+use crate::parameters::Parameters;
 use paths::StoreDir;
 use paths::numbers::session;
 use std::alloc::Global;
@@ -15,16 +14,16 @@ use wire_bodies::{BodyError, path_body};
 pub(crate) fn set_permanent(
     alloc: Global,
     dir: &StoreDir,
-    target: &str,
+    parameters: Parameters,
     body: &[u8],
 ) -> Result<Request, AskError>
-    ensures { Reads dir.now kinds.SetPermanent target.now body.now result }
+    ensures { ReadsBy dir.now kinds.SetPermanent parameters body.now result }
 {
     match path_body(alloc, dir, body) {
-        Ok(path) => match String::from_str(alloc, part(target, 3)) {
-            Ok(name) => Ok(Request::SetPermanent { name, path }),
-            Err(_) => Err(AskError::Memory),
-        },
+        Ok(path) => Ok(Request::SetPermanent {
+            name: parameters.name,
+            path,
+        }),
         Err(BodyError::BadBodyHead) => Err(AskError::BadBodyHead),
         Err(BodyError::Memory) => Err(AskError::Memory),
     }
@@ -34,20 +33,17 @@ pub(crate) fn set_permanent(
 pub(crate) fn set_user_root(
     alloc: Global,
     dir: &StoreDir,
-    target: &str,
+    parameters: Parameters,
     body: &[u8],
 ) -> Result<Request, AskError>
-    ensures { Reads dir.now kinds.SetUserRoot target.now body.now result }
+    ensures { ReadsBy dir.now kinds.SetUserRoot parameters body.now result }
 {
     match path_body(alloc, dir, body) {
-        Ok(path) => match two_parts(alloc, target, 3) {
-            Ok((owner, name)) => Ok(Request::SetUserRoot {
-                user: owner,
-                name,
-                path,
-            }),
-            Err(_) => Err(AskError::Memory),
-        },
+        Ok(path) => Ok(Request::SetUserRoot {
+            user: parameters.user,
+            name: parameters.name,
+            path,
+        }),
         Err(BodyError::BadBodyHead) => Err(AskError::BadBodyHead),
         Err(BodyError::Memory) => Err(AskError::Memory),
     }
@@ -57,20 +53,17 @@ pub(crate) fn set_user_root(
 pub(crate) fn set_profile(
     alloc: Global,
     dir: &StoreDir,
-    target: &str,
+    parameters: Parameters,
     body: &[u8],
 ) -> Result<Request, AskError>
-    ensures { Reads dir.now kinds.SetProfile target.now body.now result }
+    ensures { ReadsBy dir.now kinds.SetProfile parameters body.now result }
 {
     match path_body(alloc, dir, body) {
-        Ok(path) => match two_parts(alloc, target, 2) {
-            Ok((owner, name)) => Ok(Request::SetProfile {
-                user: owner,
-                profile: name,
-                path,
-            }),
-            Err(_) => Err(AskError::Memory),
-        },
+        Ok(path) => Ok(Request::SetProfile {
+            user: parameters.user,
+            profile: parameters.name,
+            path,
+        }),
         Err(BodyError::BadBodyHead) => Err(AskError::BadBodyHead),
         Err(BodyError::Memory) => Err(AskError::Memory),
     }
@@ -80,20 +73,17 @@ pub(crate) fn set_profile(
 pub(crate) fn add_temp(
     alloc: Global,
     dir: &StoreDir,
-    target: &str,
+    parameters: Parameters,
     body: &[u8],
 ) -> Result<Request, AskError>
-    ensures { Reads dir.now kinds.AddTemp target.now body.now result }
+    ensures { ReadsBy dir.now kinds.AddTemp parameters body.now result }
 {
     match path_body(alloc, dir, body) {
-        Ok(path) => match String::from_str(alloc, part(target, 2)) {
-            Ok(owner) => Ok(Request::AddTemp {
-                owner,
-                session: session(part(target, 3)),
-                path,
-            }),
-            Err(_) => Err(AskError::Memory),
-        },
+        Ok(path) => Ok(Request::AddTemp {
+            session: session(parameters.session.as_str()),
+            owner: parameters.user,
+            path,
+        }),
         Err(BodyError::BadBodyHead) => Err(AskError::BadBodyHead),
         Err(BodyError::Memory) => Err(AskError::Memory),
     }

@@ -1,21 +1,20 @@
 //! Requests about a path in the target.
-ghost use Rattle.std.specs.Prelude.{List, ℕ};
+ghost use Rattle.std.specs.Prelude.{List, ℕ, string_bytes};
 ghost use Rattle.wire_requests.specs.declared.kind.Kind.TheVariants as kinds;
-ghost use Rattle.wire_requests.specs.Parts as parts;
-ghost use Rattle.wire_requests.specs.Reads.{Reads, ReadsPath};
+ghost use Rattle.wire_requests.specs.Reads.{ReadsBy, ReadsPath};
 
 use crate::error::AskError;
-use crate::parts::part;
+use crate::parameters::Parameters;
 use paths::{StorePath, StorePathError};
 use std::alloc::Global;
 use store_types::Request;
 use wire_bodies::is_blank;
 
-/// The path that a target names after its second slash, where nothing is wanted of the body.
-fn path_alone(alloc: Global, target: &str, body: &[u8]) -> Result<StorePath, AskError>
-    ensures { ReadsPath (parts.part 2 target.now) body.now result }
+/// The path that a base name in the target names, where nothing is wanted of the body.
+fn path_alone(alloc: Global, parameters: &Parameters, body: &[u8]) -> Result<StorePath, AskError>
+    ensures { ReadsPath (string_bytes parameters.now.path) body.now result }
 {
-    match StorePath::from_base(alloc, part(target, 2)) {
+    match StorePath::from_base(alloc, parameters.path.as_str()) {
         Ok(path) => {
             if is_blank(body) {
                 Ok(path)
@@ -29,10 +28,10 @@ fn path_alone(alloc: Global, target: &str, body: &[u8]) -> Result<StorePath, Ask
 }
 
 /// The record of an object.
-pub(crate) fn info(alloc: Global, target: &str, body: &[u8]) -> Result<Request, AskError>
-    ensures { (dir : List ℕ) → Reads dir kinds.Info target.now body.now result }
+pub(crate) fn info(alloc: Global, parameters: &Parameters, body: &[u8]) -> Result<Request, AskError>
+    ensures { (dir : List ℕ) → ReadsBy dir kinds.Info parameters.now body.now result }
 {
-    match path_alone(alloc, target, body) {
+    match path_alone(alloc, parameters, body) {
         Ok(path) => Ok(Request::Info(path)),
         Err(AskError::BadPath) => Err(AskError::BadPath),
         Err(AskError::BadBodyHead) => Err(AskError::BadBodyHead),
@@ -41,10 +40,14 @@ pub(crate) fn info(alloc: Global, target: &str, body: &[u8]) -> Result<Request, 
 }
 
 /// The archive of a path.
-pub(crate) fn archive(alloc: Global, target: &str, body: &[u8]) -> Result<Request, AskError>
-    ensures { (dir : List ℕ) → Reads dir kinds.Nar target.now body.now result }
+pub(crate) fn archive(
+    alloc: Global,
+    parameters: &Parameters,
+    body: &[u8],
+) -> Result<Request, AskError>
+    ensures { (dir : List ℕ) → ReadsBy dir kinds.Nar parameters.now body.now result }
 {
-    match path_alone(alloc, target, body) {
+    match path_alone(alloc, parameters, body) {
         Ok(path) => Ok(Request::Nar(path)),
         Err(AskError::BadPath) => Err(AskError::BadPath),
         Err(AskError::BadBodyHead) => Err(AskError::BadBodyHead),
@@ -53,10 +56,14 @@ pub(crate) fn archive(alloc: Global, target: &str, body: &[u8]) -> Result<Reques
 }
 
 /// The listing of a path.
-pub(crate) fn listing(alloc: Global, target: &str, body: &[u8]) -> Result<Request, AskError>
-    ensures { (dir : List ℕ) → Reads dir kinds.Ls target.now body.now result }
+pub(crate) fn listing(
+    alloc: Global,
+    parameters: &Parameters,
+    body: &[u8],
+) -> Result<Request, AskError>
+    ensures { (dir : List ℕ) → ReadsBy dir kinds.Ls parameters.now body.now result }
 {
-    match path_alone(alloc, target, body) {
+    match path_alone(alloc, parameters, body) {
         Ok(path) => Ok(Request::Ls(path)),
         Err(AskError::BadPath) => Err(AskError::BadPath),
         Err(AskError::BadBodyHead) => Err(AskError::BadBodyHead),
@@ -65,10 +72,14 @@ pub(crate) fn listing(alloc: Global, target: &str, body: &[u8]) -> Result<Reques
 }
 
 /// The roots that reach it.
-pub(crate) fn roots_of(alloc: Global, target: &str, body: &[u8]) -> Result<Request, AskError>
-    ensures { (dir : List ℕ) → Reads dir kinds.RootsOf target.now body.now result }
+pub(crate) fn roots_of(
+    alloc: Global,
+    parameters: &Parameters,
+    body: &[u8],
+) -> Result<Request, AskError>
+    ensures { (dir : List ℕ) → ReadsBy dir kinds.RootsOf parameters.now body.now result }
 {
-    match path_alone(alloc, target, body) {
+    match path_alone(alloc, parameters, body) {
         Ok(path) => Ok(Request::RootsOf(path)),
         Err(AskError::BadPath) => Err(AskError::BadPath),
         Err(AskError::BadBodyHead) => Err(AskError::BadBodyHead),

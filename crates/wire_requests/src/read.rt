@@ -1,13 +1,14 @@
 //! The request of a message.
 ghost use Rattle.std.specs.Prelude.{◌≡◌};
 ghost use Rattle.wire_requests.specs.declared.kind.Kind.TheVariants as kinds;
-ghost use Rattle.wire_requests.specs.Reads.{Reads};
+ghost use Rattle.wire_requests.specs.Reads.{ReadsBy};
 
 use crate::adds::{add_source, add_text, import};
 use crate::body::Body;
 use crate::error::AskError;
 use crate::kind::Kind;
 use crate::named::{add_temp, set_permanent, set_profile, set_user_root};
+use crate::parameters::Parameters;
 use crate::questions::{archive, info, listing, roots_of};
 use crate::sweeps::{collect, delete, replace_runtime};
 use crate::targets::bare;
@@ -20,28 +21,29 @@ fn read_whole(
     alloc: Global,
     dir: &StoreDir,
     kind: Kind,
-    target: &str,
+    parameters: Parameters,
     body: &[u8],
 ) -> Result<Request, AskError>
-    ensures { (kind ≡ kinds.AddText → ⊥) → (kind ≡ kinds.AddSource → ⊥) → (kind ≡ kinds.Import → ⊥) → Reads dir.now kind target.now body.now result }
+    ensures { (kind ≡ kinds.AddText → ⊥) → (kind ≡ kinds.AddSource → ⊥) → (kind ≡ kinds.Import → ⊥)
+        → ReadsBy dir.now kind parameters body.now result }
 {
     match kind {
-        Kind::Info => info(alloc, target, body),
-        Kind::Nar => archive(alloc, target, body),
-        Kind::Ls => listing(alloc, target, body),
-        Kind::RootsOf => roots_of(alloc, target, body),
-        Kind::SetPermanent => set_permanent(alloc, dir, target, body),
-        Kind::SetUserRoot => set_user_root(alloc, dir, target, body),
-        Kind::SetProfile => set_profile(alloc, dir, target, body),
-        Kind::AddTemp => add_temp(alloc, dir, target, body),
+        Kind::Info => info(alloc, &parameters, body),
+        Kind::Nar => archive(alloc, &parameters, body),
+        Kind::Ls => listing(alloc, &parameters, body),
+        Kind::RootsOf => roots_of(alloc, &parameters, body),
+        Kind::SetPermanent => set_permanent(alloc, dir, parameters, body),
+        Kind::SetUserRoot => set_user_root(alloc, dir, parameters, body),
+        Kind::SetProfile => set_profile(alloc, dir, parameters, body),
+        Kind::AddTemp => add_temp(alloc, dir, parameters, body),
         Kind::ReplaceRuntime => replace_runtime(alloc, dir, body),
         Kind::Collect => collect(alloc, body),
         Kind::Delete => delete(alloc, dir, body),
-        _ => bare(alloc, kind, target, body),
+        _ => bare(kind, parameters, body),
     }
 }
 
-/// What a message asks: by the kind that its route and its method stand for, its whole target and its whole body. A text's contents
+/// What a message asks: by the kind that its route and its method stand for, the parameters of its target and its whole body. A text's contents
 /// stay in the buffer of the body, and an archive passes from the body into the request without a copy where the body keeps it apart.
 ///
 /// # Errors
@@ -52,17 +54,17 @@ pub fn read_request(
     alloc: Global,
     dir: &StoreDir,
     kind: Kind,
-    target: &str,
+    parameters: Parameters,
     body: Body,
 ) -> Result<Request, AskError>
-    ensures { Reads dir.now kind target.now body result }
+    ensures { ReadsBy dir.now kind parameters body result }
 {
     match kind {
         Kind::AddText => add_text(alloc, dir, body),
         Kind::AddSource => add_source(alloc, dir, body),
         Kind::Import => import(alloc, dir, body),
         _ => match body.into_bytes(alloc) {
-            Ok(body) => read_whole(alloc, dir, kind, target, &body),
+            Ok(body) => read_whole(alloc, dir, kind, parameters, &body),
             Err(_) => Err(AskError::Memory),
         },
     }

@@ -1,11 +1,15 @@
 //! The table of routes, and the router that is made of it.
-ghost use Rattle.std.specs.Prelude.{◌≡◌, ℕ, List, [], true, IfOk, OnOk, map};
+ghost use Rattle.std.specs.Prelude.{◌≡◌, [], true, IfOk, IfSome, OnOk, map, option_map};
 ghost use Rattle.matchit.specs.Route.{parse_route};
+ghost use Rattle.matchit.specs.Router.{RouteOf};
+ghost use Rattle.matchit.specs.Rows.{RowsOf};
 ghost use Rattle.wire_requests.specs.declared.requests.Requests.{Requests as RequestsOf};
-ghost use Rattle.wire_requests.specs.Rows.{AreRows, AddsRow, can_add, can_add_all, row_of, text_of};
-ghost use Rattle.wire_requests.specs.Table.{routes, table, requests_of};
+ghost use Rattle.wire_requests.specs.Parameters.{AreParametersOf};
+ghost use Rattle.wire_requests.specs.Rows.{AreRows, AddsRow, can_add, can_add_all, row_of, rows as all_rows, text_of};
+ghost use Rattle.wire_requests.specs.Table.{routes, requests_of};
 
 use crate::kind::Kind;
+use crate::parameters::Parameters;
 use crate::requests::Requests;
 use matchit::{InsertError, Router};
 use std::alloc::{AllocError, Global};
@@ -68,7 +72,8 @@ fn no_conflict(fault: InsertError) -> AllocError
 
 /// Adds a route that reads well and conflicts with none: only memory may be refused.
 fn add(router: &mut Router<Requests>, route: &str, requests: Requests) -> Result<(), AllocError>
-    requires { (rows : List (List ℕ × RequestsOf)) × AreRows router.old rows × (can_add (parse_route route.now) rows ≡ true) }
+    requires { (rows : RowsOf (RouteOf RequestsOf)) × AreRows router.old rows
+        × (can_add (parse_route route.now) rows ≡ true) }
     ensures { OnOk result (AddsRow route.now requests router.old router.new) }
 {
     match router.insert(route, requests) {
@@ -91,19 +96,39 @@ fn router_of(alloc: Global, rows: &[(&str, Requests)]) -> Result<Router<Requests
 
 /// A router with each route of the table.
 fn make_router(alloc: Global) -> Result<Router<Requests>, AllocError>
-    ensures { IfOk result (λ router. AreRows router table) }
+    ensures { IfOk result (λ router. AreRows router all_rows) }
 {
     router_of(alloc, rows())
 }
 
-/// The requests of the route that a whole target names.
-fn find_requests(router: &Router<Requests>, target: &str) -> Option<Requests>
-    requires { AreRows router.now table }
-    ensures { result ≡ requests_of target.now }
+/// What a target names: the requests of its route, and what it has in place of the parameters.
+#[derive(Drop)]
+pub struct Found {
+    pub requests: Requests,
+    pub parameters: Parameters,
+}
+
+/// The route that a whole target names.
+fn find_route(
+    alloc: Global,
+    router: &Router<Requests>,
+    target: &str,
+) -> Result<Option<Found>, AllocError>
+    requires { AreRows router.now all_rows }
+    ensures requests { IfOk result (λ found. option_map (λ f. f.requests) found ≡ requests_of target.now) }
+    ensures parameters { IfOk result (λ found. IfSome found (λ f.
+        AreParametersOf f.requests target.now f.parameters)) }
 {
     match router.at(target) {
-        Ok(found) => Some(*found.value),
-        Err(_) => None,
+        Ok(found) => {
+            let requests = *found.value;
+            let parameters = Parameters::of(alloc, &found.params)?;
+            Ok(Some(Found {
+                requests,
+                parameters,
+            }))
+        }
+        Err(_) => Ok(None),
     }
 }
 
@@ -116,15 +141,14 @@ pub struct Routes {
 impl Model for Routes {
     ghost use Rattle.matchit.specs.Rows.{RowsOf};
     ghost use Rattle.matchit.specs.Router.{RouteOf};
-    ghost use Rattle.wire_requests.specs.Rows.{AreRows};
-    ghost use Rattle.wire_requests.specs.Table.{table};
+    ghost use Rattle.wire_requests.specs.Rows.{AreRows, rows as all_rows};
     ghost use Rattle.wire_requests.specs.declared.requests.Requests.{Requests as RequestsOf};
 
     ghost Value = { RowsOf (RouteOf RequestsOf) };
 
     ghost view = { λ r. r.router };
 
-    ghost invariant = { λ r. AreRows r.router table };
+    ghost invariant = { λ r. AreRows r.router all_rows };
 }
 
 impl Routes {
@@ -135,10 +159,16 @@ impl Routes {
         })
     }
 
-    /// The requests of the route that a whole target names: none where no pattern fits it.
-    pub fn find(&self, target: &str) -> Option<Requests>
-        ensures { result ≡ requests_of target.now }
+    /// The route that a whole target names, and its parameters: none where no pattern fits it.
+    ///
+    /// # Errors
+    ///
+    /// Memory was refused for the parameters.
+    pub fn find(&self, alloc: Global, target: &str) -> Result<Option<Found>, AllocError>
+        ensures requests { IfOk result (λ found. option_map (λ f. f.requests) found ≡ requests_of target.now) }
+        ensures parameters { IfOk result (λ found. IfSome found (λ f.
+            AreParametersOf f.requests target.now f.parameters)) }
     {
-        find_requests(&self.router, target)
+        find_route(alloc, &self.router, target)
     }
 }

@@ -1,16 +1,16 @@
 use Rattle.std.proofs.Common.{◌≡◌, ◌∙◌, IfOk, [], true, refl, ap, sym, subst}
 use Rattle.std.specs.Prelude.{map}
 use Rattle.matchit.proofs.OnLiterals.{matchit_on_literals}
-use Rattle.wire_requests.specs.Rows.{AreRows, can_add_all, row_of}
-use Rattle.wire_requests.specs.Table.{routes, table}
+use Rattle.wire_requests.specs.Rows.{AreRows, can_add_all, row_of, rows}
+use Rattle.wire_requests.specs.Table.{routes}
 use Rattle.wire_requests.proofs.router.make_router.Goals as goal
 
 can_all : can_add_all [] routes ≡ true
 unfolding routes matchit_on_literals
 can_all = refl
 
-same : map row_of routes ≡ table
-unfolding routes table matchit_on_literals
+same : map row_of routes ≡ rows
+unfolding rows
 same = refl
 
 pub router_of-requires : goal.router_of-requires

@@ -13,8 +13,8 @@ returns-in-Ok g c = λ h is admits.
     let s = c.args.store.now.settings in
     let dir = c.store_dir-dir.ensures ∙ ap (λ v. v.store_dir) c.config.ensures in
     let q = request_view c.in-Ok.request in
-    let takes = admitted s h c.args.endpoint.caller c.args.endpoint.kind c.store_dir-dir.result.now c.target_of-target.result.now c.args.body (calls c.args.endpoint.caller q)
-    admits dir (c.target_of-target.ensures ∙ is.places.path) (inl (q, c.in-Ok.ensures, refl)) in
+    let takes = admitted s h c.args.endpoint.caller c.args.endpoint.kind c.store_dir-dir.result.now c.args.body (calls c.args.endpoint.caller q)
+    admits.0 dir (inl (q, c.in-Ok.ensures h.target admits.1, refl)) in
     let step : Calls g.S.Store c.args.endpoint.caller q (reply_view c.call-reply.result) c.args.store.now c.call-reply.new.self = record {
       settings = c.call-reply.ensures.settings;
       step = c.call-reply.ensures.step;
@@ -31,15 +31,15 @@ returns-in-Ok g c = λ h is admits.
 pub returns-in-Err-BadPath : goal.returns-in-Err-BadPath
 returns-in-Err-BadPath g c = λ h is admits.
     let dir = c.store_dir-dir.ensures ∙ ap (λ v. v.store_dir) c.config.ensures in
-    let bad = rw c.in-Err-BadPath.field-0-is at c.in-Err-BadPath.ensures in
-    let takes = admitted c.args.store.now.settings h c.args.endpoint.caller c.args.endpoint.kind c.store_dir-dir.result.now c.target_of-target.result.now c.args.body
-    (replies (refused BadStorePath None)) admits dir (c.target_of-target.ensures ∙ is.places.path) (inr (inl (bad, refl))) in
+    let bad = rw c.in-Err-BadPath.field-0-is at c.in-Err-BadPath.ensures h.target admits.1 in
+    let takes = admitted c.args.store.now.settings h c.args.endpoint.caller c.args.endpoint.kind c.store_dir-dir.result.now c.args.body
+    (replies (refused BadStorePath None)) admits.0 dir (inr (inl (bad, refl))) in
     replied_at_once g.S.Store c.args.store.now h c.args.body (refused BadStorePath None) c.refused.result takes c.refused.ensures
 
 pub returns-in-Err-BadBodyHead : goal.returns-in-Err-BadBodyHead
 returns-in-Err-BadBodyHead g c = λ h is admits.
     let dir = c.store_dir-dir.ensures ∙ ap (λ v. v.store_dir) c.config.ensures in
-    let bad = rw c.in-Err-BadBodyHead.field-0-is at c.in-Err-BadBodyHead.ensures in
-    let takes = admitted c.args.store.now.settings h c.args.endpoint.caller c.args.endpoint.kind c.store_dir-dir.result.now c.target_of-target.result.now c.args.body
-    (replies (refused BadBodyHead None)) admits dir (c.target_of-target.ensures ∙ is.places.path) (inr (inr (bad.0, bad.1, refl))) in
+    let bad = rw c.in-Err-BadBodyHead.field-0-is at c.in-Err-BadBodyHead.ensures h.target admits.1 in
+    let takes = admitted c.args.store.now.settings h c.args.endpoint.caller c.args.endpoint.kind c.store_dir-dir.result.now c.args.body
+    (replies (refused BadBodyHead None)) admits.0 dir (inr (inr (bad.0, bad.1, refl))) in
     replied_at_once g.S.Store c.args.store.now h c.args.body (refused BadBodyHead None) c.refused-in-Err-BadBodyHead.result takes c.refused-in-Err-BadBodyHead.ensures

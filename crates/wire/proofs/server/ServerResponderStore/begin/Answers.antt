@@ -6,12 +6,14 @@ use Rattle.wire.proofs.server.ServerResponderStore.begin.Goals as goal
 
 pub returns-in-Admitted : goal.returns-in-Admitted
 returns-in-Admitted g c = λ h is.
-    let head = rw c.in-Admitted.is at c.in_ok-caller.ensures in
-    let it = subst (λ s. admits c.in-Admitted.caller c.in-Admitted.kind ≡ admission_of s h) c.config.ensures (head h is) in
-    (sym it, c.body_for-body.ensures)
+    let endpoint = c.in-Admitted.endpoint in
+    let head = rw c.in-Admitted.is at c.in_ok-endpoint.ensures.decides in
+    let has = rw c.in-Admitted.is at c.in_ok-endpoint.ensures.parameters in
+    let it = subst (λ s. admits endpoint.caller endpoint.kind ≡ admission_of s h) c.config.ensures (head h is) in
+    ((sym it, has h is), c.body_for-body.ensures)
 
 pub returns-in-Refused : goal.returns-in-Refused
 returns-in-Refused g c = λ h is.
-    let head = rw c.in-Refused.is at c.in_ok-caller.ensures in
+    let head = rw c.in-Refused.is at c.in_ok-endpoint.ensures.decides in
     let it = subst (λ s. refuses (replied c.in-Refused.response) ≡ admission_of s h) c.config.ensures (head h is) in
     refused_by_head g.S.Store c.args.store.now h (replied c.in-Refused.response) it

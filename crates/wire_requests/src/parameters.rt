@@ -1,0 +1,44 @@
+//! The parameters of a target, by their names.
+ghost use Rattle.std.specs.Prelude.{◌≡◌, [], IfOk, string_bytes, unwrap_or};
+ghost use Rattle.matchit.specs.Params.{AllText, named};
+ghost use Rattle.wire_requests.specs.Parameters.{AreNamed, pairs_of};
+
+use matchit::Params;
+use std::alloc::{AllocError, Global};
+
+/// What a target has in place of each parameter of its route. One that the route doesn't have is empty.
+#[derive(Drop)]
+pub struct Parameters {
+    pub(crate) path: String,
+    pub(crate) user: String,
+    pub(crate) name: String,
+    pub(crate) number: String,
+    pub(crate) session: String,
+}
+
+/// A copy of what the target has in place of the parameter of a name.
+fn copy(alloc: Global, params: &Params, name: &str) -> Result<String, AllocError>
+    requires { AllText (pairs_of params.now) }
+    ensures { IfOk result (λ text. string_bytes text ≡ unwrap_or (named name.now (pairs_of params.now)) []) }
+{
+    match params.get(name) {
+        Some(text) => String::from_str(alloc, text),
+        None => String::from_str(alloc, ""),
+    }
+}
+
+impl Parameters {
+    /// Copies of all, which don't borrow the target.
+    pub(crate) fn of(alloc: Global, params: &Params) -> Result<Parameters, AllocError>
+        requires { AllText (pairs_of params.now) }
+        ensures { IfOk result (AreNamed (pairs_of params.now)) }
+    {
+        Ok(Parameters {
+            path: copy(alloc, params, "path")?,
+            user: copy(alloc, params, "user")?,
+            name: copy(alloc, params, "name")?,
+            number: copy(alloc, params, "n")?,
+            session: copy(alloc, params, "s")?,
+        })
+    }
+}
