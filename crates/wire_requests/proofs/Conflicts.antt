@@ -1,5 +1,5 @@
 -- A route that conflicts with none of a router's is refused only for memory.
-use Rattle.std.proofs.Common.{◌≡◌, ℕ, List, [], ◌∷◌, ◌++◌, Some, None, Option, Result, Ok, Err, Bool, true, false, cond, not, ◌&&◌, ◌+◌, ◌<◌, zero, suc, length, take, get_or, inl, inr, refl, sym, ap, ◌∙◌, arith, append_assoc, append-nil, subst}
+use Rattle.std.proofs.Common.{◌≡◌, ℕ, List, [], ◌∷◌, ◌++◌, Some, None, Option, Result, Ok, Err, true, false, cond, not, ◌+◌, ◌<◌, zero, suc, length, take, get_or, inl, inr, refl, sym, ap, ◌∙◌, arith, append_assoc, append-nil, subst}
 use Rattle.std.specs.Borrow.{Bor}
 use Rattle.std.specs.Prelude.{map}
 use Rattle.std.proofs.lemmas.List.{map-append}

@@ -10,7 +10,7 @@ use Rattle.matchit.proofs.OnLiterals.{matchit_on_literals}
 use Rattle.matchit.specs.Params.{walk, part_of, AllText}
 use Rattle.matchit.specs.Router.{RouteOf}
 use Rattle.wire_requests.specs.Parts.{part}
-use Rattle.wire_requests.specs.Patterns.{fits, taken, is_plain}
+use Rattle.wire_requests.specs.Patterns.{fits, is_plain}
 use Rattle.wire_requests.specs.Parameters.{AreNamed, AreParametersOf}
 use Rattle.wire_requests.specs.Rows.{Has, rows}
 use Rattle.wire_requests.specs.Table.{routes}

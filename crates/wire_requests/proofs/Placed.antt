@@ -1,8 +1,8 @@
 -- What a pattern's parameters stand for are whole parts of the text, by their numbers.
-use Rattle.std.proofs.Common.{◌≡◌, ℕ, zero, suc, ◌+◌, ◌<◌, ◌≤◌, List, [], ◌∷◌, ◌++◌, length, drop, take, get_or, Bool, true, false, cond, ◌==◌, ◌&&◌, ◌||◌, not, refl, sym, ap, ◌∙◌, arith, subst}
+use Rattle.std.proofs.Common.{◌≡◌, ℕ, suc, ◌+◌, List, [], ◌∷◌, drop, Bool, true, false, cond, ◌==◌, ◌&&◌, not, refl, sym, ap, ◌∙◌, arith}
 use Rattle.std.proofs.lemmas.Bool.Decides.{nat_tests}
 use Rattle.std.specs.Prelude.{map}
-use Rattle.wire_requests.specs.Parts.{is_slash, part, after_slashes}
+use Rattle.wire_requests.specs.Parts.{part, after_slashes}
 use Rattle.wire_requests.specs.Patterns.{fits, taken, front, behind}
 use Rattle.wire_requests.proofs.Texts.{and_first, and_last, not_true}
 use Rattle.wire_requests.proofs.Fronts.{before_is_front, after_is_behind, behind_behind}

@@ -1,12 +1,12 @@
 -- `matchit` walks over a path that a pattern fits, and takes what the pattern's parameters stand for.
-use Rattle.std.proofs.Common.{◌≡◌, ℕ, zero, suc, ◌+◌, ◌-◌, ◌<◌, ◌≤◌, List, [], ◌∷◌, ◌++◌, length, drop, take, get_or, Bool, true, false, cond, ◌==◌, ◌&&◌, ◌||◌, not, refl, sym, ap, ◌∙◌, arith, subst, ltb}
+use Rattle.std.proofs.Common.{◌≡◌, ℕ, suc, ◌+◌, ◌-◌, ◌<◌, List, [], ◌∷◌, length, drop, take, get_or, Bool, true, false, cond, ◌==◌, ◌&&◌, ◌||◌, not, refl, sym, ap, ◌∙◌, arith, ltb}
 use Rattle.std.proofs.lemmas.Bool.{lt-ltb, le-ltb, le-leb}
 use Rattle.std.proofs.lemmas.Bool.Decides.{nat_tests}
-use Rattle.std.proofs.lemmas.List.{drop-drop, length-drop, get_or-drop, drop_all, length-append, take_all}
+use Rattle.std.proofs.lemmas.List.{drop-drop, length-drop, get_or-drop, length-append, take_all}
 use Rattle.std.proofs.Math.Nat.{min-eq_left}
 use Rattle.std.specs.Prelude.{nat_le, leb}
 use Rattle.matchit.specs.Params.{walk, wild_from, wild_stop, part_of, next_at, after_token}
-use Rattle.matchit.specs.Seek.{segment, has_slash}
+use Rattle.matchit.specs.Seek.{segment}
 use Rattle.wire_requests.specs.Patterns.{fits, taken, front, behind, is_at_end, is_plain}
 use Rattle.wire_requests.proofs.Texts.{and_first, and_last, not_true}
 use Rattle.wire_requests.proofs.Fronts.{front_behind, take_front, drop_front, segment_front, some_slash, nothing_left}

@@ -1,4 +1,4 @@
-use Rattle.std.proofs.Common.{◌≡◌, ◌∙◌, IfOk, [], true, refl, ap, sym, subst}
+use Rattle.std.proofs.Common.{◌≡◌, ◌∙◌, IfOk, [], true, refl, ap, subst}
 use Rattle.std.specs.Prelude.{map}
 use Rattle.matchit.proofs.OnLiterals.{matchit_on_literals}
 use Rattle.wire_requests.specs.Rows.{AreRows, can_add_all, row_of, rows}
