@@ -1,5 +1,5 @@
 //! The text of each answer.
-ghost use Rattle.std.specs.Prelude.{◌≡◌, ◌++◌, IfOk, OnOk, codes, decimal, length, string_bytes};
+ghost use Rattle.std.specs.Prelude.{◌≡◌, ◌++◌, IfOk, string_bytes};
 ghost use Rattle.report.specs.Replies as spec;
 ghost use Rattle.model.specs.Reply.{freed};
 ghost use Rattle.report.specs.Narinfo as records;
@@ -9,7 +9,6 @@ ghost use Rattle.store_types.specs.View.{answer_view, info_view, usage_view};
 use crate::line_pieces::{paths_pieces, roots_pieces};
 use paths::{StoreDir, StorePath};
 use std::alloc::{AllocError, Global};
-use std::fmt::Write;
 use store_types::{Answer, Info, Usage};
 use streams::{Pieces, in_pieces};
 
@@ -37,18 +36,19 @@ fn usage_text(alloc: Global, live: Usage, dead: Usage, total: Usage) -> Result<S
     crate::usage::usage_text(alloc, live, dead, (total.paths, total.bytes))
 }
 
-/// The paths that were deleted, a line each, their number and their bytes.
-fn freed_text(
+/// The paths that were deleted, a line each, their number and their bytes, in pieces.
+fn freed_pieces(
     alloc: Global,
     dir: &StoreDir,
     gone: &[StorePath],
     bytes: u128,
-) -> Result<String, AllocError>
-    ensures { IfOk result (λ text. string_bytes text ≡ spec.answer_text dir.now (freed gone.now bytes)) }
+) -> Result<Pieces, AllocError>
+    ensures { IfOk result (λ text. text ≡ spec.answer_text dir.now (freed gone.now bytes)) }
 {
-    let mut text = crate::lists::paths_text(alloc, dir, gone)?;
+    let mut text = paths_pieces(alloc, dir, gone)?;
     let count = gone.len();
-    write!(text, "freed {count} paths {bytes} bytes\n")?;
+    let sum = format!(in alloc; "freed {count} paths {bytes} bytes\n")?;
+    text.push(sum.as_str().as_bytes())?;
     Ok(text)
 }
 
@@ -62,6 +62,7 @@ pub(crate) fn answer_bytes(
 {
     let text = match answer {
         Answer::Archive(nar) => return nar.joined(),
+        Answer::Freed(paths, bytes) => return freed_pieces(alloc, dir, paths, *bytes)?.joined(),
         Answer::Listing(text) => String::from_str(alloc, text.as_str())?,
         Answer::Path(path) => crate::lists::path_line(alloc, dir, path)?,
         Answer::Record(info) => record_text(alloc, dir, info)?,
@@ -71,13 +72,21 @@ pub(crate) fn answer_bytes(
         Answer::Generation(number) => format!(in alloc; "generation {number}\n")?,
         Answer::RuntimeCount(count) => format!(in alloc; "runtime roots {count}\n")?,
         Answer::TemporaryCount(count) => format!(in alloc; "temporary roots {count}\n")?,
-        Answer::Freed(paths, bytes) => freed_text(alloc, dir, paths, *bytes)?,
         Answer::Usage(live, dead, total) => usage_text(alloc, *live, *dead, *total)?,
     };
     Ok(text.into_bytes())
 }
 
-/// The text of an answer in pieces, as a writer or a body has it. An archive isn't copied, and a listing of paths or roots isn't held
+/// The text of an archive's listing in pieces. It isn't copied where it fits one, and is copied once otherwise.
+fn listing_pieces(alloc: Global, text: String) -> Result<Pieces, AllocError>
+    ensures { IfOk result (λ pieces. pieces ≡ string_bytes text) }
+{
+    let mut pieces = Pieces::new(alloc);
+    pieces.append(text.into_bytes())?;
+    Ok(pieces)
+}
+
+/// The text of an answer in pieces, as a writer or a body has it. An archive isn't copied, and lines of paths or roots aren't held
 /// twice.
 ///
 /// ```rust
@@ -97,8 +106,10 @@ pub fn answer_text(alloc: Global, dir: &StoreDir, answer: Answer) -> Result<Piec
 {
     match answer {
         Answer::Archive(nar) => Ok(nar),
+        Answer::Listing(text) => listing_pieces(alloc, text),
         Answer::Paths(paths) => paths_pieces(alloc, dir, &paths),
         Answer::Roots(roots) => roots_pieces(alloc, dir, &roots),
+        Answer::Freed(paths, bytes) => freed_pieces(alloc, dir, &paths, bytes),
         answer => in_pieces(alloc, &answer_bytes(alloc, dir, &answer)?),
     }
 }
