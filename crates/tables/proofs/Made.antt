@@ -1,6 +1,6 @@
 -- Tables that were just made.
 use Rattle.std.proofs.Common.{◌≡◌, ◌⊎◌, inl, inr, ℕ, false, List, [], refl, sym, ap, subst, ◌∙◌, IsTrue, arith}
-use Rattle.std.specs.Prelude.{IsSome, codes}
+use Rattle.std.specs.Prelude.{IsSome, codes, length}
 use Rattle.std.proofs.lemmas.Bool.{and_parts, false≢true, leb-true}
 use Rattle.sqlite_schema.specs.declared.schema.Schema.{Schema}
 use Rattle.sqlite_trees.specs.declared.store.Store.{Ghosts}
@@ -78,7 +78,7 @@ no_lack s is h = by (subst (λ (x : Schema). LacksNumbers x all_tables ⊎ Lacks
 
 -- a directory fits into its row
 not_long : (dir : List ℕ) → IsTrue (is_store_dir dir) → IsTooLong dir → ⊥
-not_long dir valid long = absurd (omega (arith, leb-true _ _ (and_parts _ _ (and_parts _ _ valid).0).0, long))
+not_long dir valid long = absurd (omega (arith, leb-true (length dir) 200 (and_parts _ _ (and_parts _ _ valid).0).0, long))
 
 -- it ran out
 pub memory_alone : (conn new : Held MemStore) (dir : List ℕ) → IsTrue (is_store_dir dir) → IsEmpty (state over_memory conn) → IsNew conn → (f : Failure) → FailsToMake dir (state over_memory conn) (state over_memory new) f → f ≡ Memory
