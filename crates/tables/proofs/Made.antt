@@ -86,5 +86,5 @@ memory_alone conn new dir valid empty fresh Memory h = refl
 memory_alone conn new dir valid empty fresh Size h = absurd (not_long dir valid h.0)
 memory_alone conn new dir valid empty fresh Disk (inl (inl more)) = absurd (omega (arith, more))
 memory_alone conn new dir valid empty fresh Disk (inl (inr shut)) = absurd (false≢true (sym shut ∙ empty.0.is_open))
-memory_alone conn new dir valid empty fresh Disk (inr (inl limit)) = absurd (subst IsSome fresh.unlimited limit)
+memory_alone conn new dir valid empty fresh Disk (inr (inl limit)) = absurd (false≢true (subst IsSome fresh.unlimited limit))
 memory_alone conn new dir valid empty fresh Disk (inr (inr lacks)) = absurd (no_lack conn.schema empty.2 lacks)
