@@ -32,5 +32,5 @@ pub returns-in_err-make-clause-cause : goal.returns-in_err-make-clause-cause
 returns-in_err-make-clause-cause c =
     let valid : IsTrue (is_store_dir c.as_str.result.now) = ap is_store_dir c.as_str.ensures.value ∙ c.as_str.ensures.valid in
     let why = memory_alone c.in_ok-connection.connection c.make.new.conn c.as_str.result.now valid c.in_ok-connection.ensures.empty c.in_ok-connection.ensures.fresh
-        c.in_err-make.field-0.0 (c.in_err-make.ensures.cause (memory_is_clean c.make.new.conn)) in
+    c.in_err-make.field-0.0 (c.in_err-make.ensures.cause (memory_is_clean c.make.new.conn)) in
     passed_on c.from_residual-in_err-make.result c.in_err-make.field-0.0 (λ failure. failure ≡ Memory) c.from_residual-in_err-make.ensures.1 why
