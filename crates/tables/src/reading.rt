@@ -48,16 +48,20 @@ pub(crate) fn read_archive<S: Alter>(
     size: usize,
 ) -> Result<Option<Pieces>, Failure>
     requires alone { conn.old.in_transaction ≡ false }
-    requires ready { HasCleanDisk (state S.Store conn.old) → IsTrue (state S.Store conn.old).is_open → IsReady (state S.Store conn.old) }
-    requires stands { HasCleanDisk (state S.Store conn.old) → IsTrue (state S.Store conn.old).is_open → HasFurther (state S.Store conn.old).now piece }
+    requires ready { HasCleanDisk (state S.Store conn.old) → IsTrue (state S.Store conn.old).is_open
+        → IsReady (state S.Store conn.old) }
+    requires stands { HasCleanDisk (state S.Store conn.old) → IsTrue (state S.Store conn.old).is_open
+        → HasFurther (state S.Store conn.old).now piece }
     requires cut { HasCleanDisk (state S.Store conn.old) → IsTrue (state S.Store conn.old).is_open
         → (o : Stored) → finite.get (contents_of (state S.Store conn.old).now).objects base.now ≡ Some o → IsCut o.nar (finite.entries (pieces_in (rows_of (contents_of (state S.Store conn.old).now)) base.now)) }
     requires size { HasCleanDisk (state S.Store conn.old) → IsTrue (state S.Store conn.old).is_open
         → (o : Stored) → finite.get (contents_of (state S.Store conn.old).now).objects base.now ≡ Some o → length (archive_in (rows_of (contents_of (state S.Store conn.old).now)) base.now o) ≡ size }
     ensures alone { conn.new.in_transaction ≡ false }
-    ensures reads { HasCleanDisk (state S.Store conn.new) → IfOk result (λ nar. IsUnchanged (state S.Store conn.old) (state S.Store conn.new)
+    ensures reads { HasCleanDisk (state S.Store conn.new)
+        → IfOk result (λ nar. IsUnchanged (state S.Store conn.old) (state S.Store conn.new)
         × (nar ≡ option_map (archive_in (rows_of (contents_of (state S.Store conn.old).now)) base.now) (finite.get (contents_of (state S.Store conn.old).now).objects base.now))) }
-    ensures same { HasCleanDisk (state S.Store conn.new) → KeepsShown (state S.Store conn.old) (state S.Store conn.new) }
+    ensures same { HasCleanDisk (state S.Store conn.new)
+        → KeepsShown (state S.Store conn.old) (state S.Store conn.new) }
     ensures cause { FailsInReads S.Store conn.old conn.new result }
     ensures survives { Survives (state S.Store conn.old) (state S.Store conn.new) (λ _. ⊥) }
 {
@@ -86,10 +90,13 @@ impl<S: Alter> Tables<S> {
     /// Memory was refused or the disk failed.
     pub fn archive(&mut self, path: &StorePath) -> Result<Option<Pieces>, Failure>
         ensures dir { self.new.dir ≡ self.old.dir }
-        ensures found { HasCleanDisk (state S.Store self.new.connection) → IfOk result (λ nar. (w : World) → HasWorld S.Store self.old w → nar ≡ option_map (λ o. o.nar) (finite.get w.objects path.now)) }
+        ensures found { HasCleanDisk (state S.Store self.new.connection) → IfOk result (λ nar. (w : World)
+            → HasWorld S.Store self.old w → nar ≡ option_map (λ o. o.nar) (finite.get w.objects path.now)) }
         ensures same { (w : World) → HasWorld S.Store self.old w → HasWorld S.Store self.new w }
-        ensures was_open { HasCleanDisk (state S.Store self.new.connection) → IfOk result (λ nar. IsTrue (is_some nar) → IsTrue (state S.Store self.old.connection).is_open × IsTrue (state S.Store self.new.connection).is_open) }
-        ensures shown { HasCleanDisk (state S.Store self.new.connection) → KeepsShown (state S.Store self.old.connection) (state S.Store self.new.connection) }
+        ensures was_open { HasCleanDisk (state S.Store self.new.connection) → IfOk result (λ nar. IsTrue (is_some nar)
+            → IsTrue (state S.Store self.old.connection).is_open × IsTrue (state S.Store self.new.connection).is_open) }
+        ensures shown { HasCleanDisk (state S.Store self.new.connection)
+            → KeepsShown (state S.Store self.old.connection) (state S.Store self.new.connection) }
         ensures cause { FailsToAsk S.Store self.old self.new result }
         ensures survives { Survives (state S.Store self.old.connection) (state S.Store self.new.connection) (λ _. ⊥) }
     {
