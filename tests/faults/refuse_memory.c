@@ -1,19 +1,20 @@
 /* Refuses the allocation REFUSE of a run: of all, or of those after the first byte of standard input was asked for
-   (REFUSE_FROM_INPUT), or after a file was opened (REFUSE_FROM_FILE). */
+   (REFUSE_FROM_INPUT), or after a file was opened (REFUSE_FROM_FILE). With REFUSE_BLOCKS each one of so many bytes or more. */
 #include "preload.h"
 #include <stdarg.h>
 #include <string.h>
 
 static int asked, waits;
-static unsigned long refused;
+static unsigned long refused, block;
 
-static int refuse(void) {
+static int refuse(size_t size) {
   if (!asked) {
     asked = 1;
     refused = number("REFUSE");
+    block = number("REFUSE_BLOCKS");
     waits = getenv("REFUSE_FROM_INPUT") || getenv("REFUSE_FROM_FILE");
   }
-  return !waits && ++counts()->calls == refused;
+  return !waits && (++counts()->calls == refused || (block && size >= block));
 }
 
 ssize_t read(int from, void *to, size_t size) {
@@ -35,7 +36,7 @@ int open(const char *path, int how, ...) {
 
 #define ALLOCATES(call, ...) \
   NEXT(call); \
-  return refuse() ? 0 : next(__VA_ARGS__)
+  return refuse(size) ? 0 : next(__VA_ARGS__)
 
 void *malloc(size_t size) { ALLOCATES(malloc, size); }
 

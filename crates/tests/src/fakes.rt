@@ -1,6 +1,8 @@
-//! Readers and writers that move few bytes a call, and fail at one of them.
+//! Readers and writers that move few bytes a call, and fail at one of them. And who keeps bodies, and is refused memory.
+use std::alloc::AllocError;
 use std::io;
 use std::io::{ErrorKind, Read, Write};
+use wire_messages::Keeper;
 
 /// A reader that gives at most `most` bytes a call, and has this fault once `calls` are used up.
 #[derive(Drop)]
@@ -50,5 +52,25 @@ impl Write for Narrow {
 
     fn flush(&mut self) -> io::Result<()> {
         Ok(())
+    }
+}
+
+/// What keeps a body, and is refused memory for more than `room` bytes.
+#[derive(Drop)]
+pub struct Tight {
+    pub held: Vec<u8>,
+    pub room: usize,
+}
+
+impl Keeper for Tight {
+    ghost kept = { λ it. it.held.items };
+
+    ghost may_be = { λ it all. Unit {0} };
+
+    fn keep(&mut self, piece: &[u8]) -> Result<(), AllocError> {
+        if piece.len() > self.room.saturating_sub(self.held.len()) {
+            return Err(AllocError);
+        }
+        self.held.extend_from_slice(piece)
     }
 }

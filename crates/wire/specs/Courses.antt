@@ -6,7 +6,7 @@ use Rattle.wire_messages.specs.Callers.{caller_in}
 use Rattle.policy.specs.Settings.{Settings}
 use Rattle.policy.specs.Caller.{Caller}
 use Rattle.policy.specs.Class.{class_of}
-use Rattle.policy.specs.Operation.{plain}
+use Rattle.policy.specs.Operation.{Operation, plain}
 use Rattle.policy.specs.Rules.{first_broken}
 use Rattle.policy.specs.declared.kinds.Rule.{Rule}
 use Rattle.wire_requests.specs.Methods.{kind_of, allowed}
@@ -21,6 +21,8 @@ use Rattle.report.specs.Stops.{denial_text}
 use Rattle.model.specs.declared.refusal.Refusal.TheVariants.{BadStorePath, BadCaller, NoRoute, BadMethod, BadBodyHead}
 use Rattle.wire_server.specs.Responses as responses
 use Rattle.wire_server.specs.Responses.{Replied, replied, refused}
+use Rattle.wire.specs.Replies.{response_to}
+use Rattle.wire.specs.Lost.{AsksOfRules, lost_reply}
 use Rattle.wire.specs.declared.admission.Admission as code
 use Rattle.wire.specs.declared.admission.Admission.TheVariants as codes
 
@@ -70,13 +72,19 @@ Reads dir c kind target body course =
     ⊎ (((has_bad_path kind target ≡ true) × (course ≡ replies (refused BadStorePath None)))
     ⊎ ((has_bad_path kind target ≡ false) × ((q : Request) → Asks dir kind target body q → ⊥) × (course ≡ replies (refused BadBodyHead None))))
 
-abbrev pub Follows : List ℕ → List ℕ → List ℕ → Admission → Course → Type 0
-Follows dir target body (refuses it) course = course ≡ replies it
-Follows dir target body (admits c kind) course = Reads dir c kind target body course
+-- Memory was refused for the body: what is asked isn't known, and the store isn't asked.
+abbrev pub Loses : Settings → Caller → Kind → List ℕ → List ℕ → Course → Type 0
+Loses s c kind target body course =
+    (op : Operation) × AsksOfRules s.store_dir kind target body op × (course ≡ replies (response_to s.store_dir (lost_reply s c op)))
 
--- the course that a message takes: first what its head decides, then the path in its target and its body
+abbrev pub Follows : Settings → List ℕ → List ℕ → Admission → Course → Type 0
+Follows s target body (refuses it) course = course ≡ replies it
+Follows s target body (admits c kind) course = Reads s.store_dir c kind target body course ⊎ Loses s c kind target body course
+
+-- The course that a message takes: first what its head decides; then, if memory is there for its body, the path in its target and its
+-- body.
 abbrev pub HasCourse : Settings → RequestHead → List ℕ → Course → Type 0
-HasCourse s h body course = Follows s.store_dir h.target body (admission_of s h) course
+HasCourse s h body course = Follows s h.target body (admission_of s h) course
 
 -- ---- what the code's values stand for
 

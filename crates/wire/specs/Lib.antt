@@ -1,5 +1,6 @@
 pub mod Answers
 pub mod Courses
 pub mod Ends
+pub mod Lost
 pub mod Replies
 pub mod Worlds

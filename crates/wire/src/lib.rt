@@ -3,8 +3,10 @@
 
 mod admission;
 mod admitting;
+mod arriving;
 mod failures;
 mod listening;
+mod lost;
 mod parts;
 mod port;
 mod replies;

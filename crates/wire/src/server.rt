@@ -4,6 +4,9 @@ ghost use Rattle.wire.specs.Answers.{Answers, Admits};
 
 use crate::admission::{Admission, Endpoint};
 use crate::admitting::admit;
+use crate::arriving::Arriving;
+use crate::lost::{operation_at, operation_left, respond_lost};
+use crate::parts::target_of;
 use crate::replies::respond;
 use policy::store_dir;
 use report::Refusal;
@@ -45,7 +48,7 @@ fn body_for(alloc: Global, kind: Kind, size: usize) -> Body
 impl<S: Alter> Responder<Store<S>> for Server {
     type Course = Endpoint;
 
-    type Body = Body;
+    type Body = Arriving;
 
     ghost answers = { Answers S.Store };
 
@@ -57,11 +60,11 @@ impl<S: Alter> Responder<Store<S>> for Server {
         held: &[u8],
         head: &Head,
         size: usize,
-    ) -> Result<Begun<Endpoint, Body>, AllocError> {
+    ) -> Result<Begun<Endpoint, Arriving>, AllocError> {
         match admit(self.alloc, &self.routes, store.config(), held, head)? {
             Admission::Admitted(endpoint) => {
                 let body = body_for(self.alloc, endpoint.kind, size);
-                Ok(Begun::Accepted(endpoint, body))
+                Ok(Begun::Accepted(endpoint, Arriving { body }))
             }
             Admission::Refused(response) => Ok(Begun::Refused(response)),
         }
@@ -70,18 +73,19 @@ impl<S: Alter> Responder<Store<S>> for Server {
     fn answer(
         &self,
         store: &mut Store<S>,
-        _held: &[u8],
-        _head: &Head,
+        held: &[u8],
+        head: &Head,
         endpoint: Endpoint,
-        body: Body,
+        body: Arriving,
     ) -> Result<Response, AllocError> {
         let Endpoint {
             caller,
             kind,
             parameters,
         } = endpoint;
+        let target = target_of(held, head);
         let dir = store_dir(store.config());
-        match read_request(self.alloc, dir, kind, parameters, body) {
+        match read_request(self.alloc, dir, kind, parameters, body.body) {
             Ok(request) => {
                 let reply = store.call(&caller, request);
                 respond(self.alloc, store_dir(store.config()), reply)
@@ -90,7 +94,26 @@ impl<S: Alter> Responder<Store<S>> for Server {
             Err(AskError::BadBodyHead) => {
                 Response::refused(self.alloc, Refusal::BadBodyHead, None)
             }
-            Err(AskError::Memory) => Err(AllocError),
+            Err(AskError::Memory) => {
+                let op = operation_at(kind, target);
+                respond_lost(self.alloc, store.config(), &caller, &op)
+            }
+        }
+    }
+
+    fn answer_lost(
+        &self,
+        store: &Store<S>,
+        held: &[u8],
+        head: &Head,
+        endpoint: Endpoint,
+        body: Arriving,
+    ) -> Result<Response, AllocError> {
+        let target = target_of(held, head);
+        let dir = store_dir(store.config());
+        match operation_left(self.alloc, dir, endpoint.kind, target, &body.body) {
+            Some(op) => respond_lost(self.alloc, store.config(), &endpoint.caller, &op),
+            None => Response::refused(self.alloc, Refusal::BadBodyHead, None),
         }
     }
 }

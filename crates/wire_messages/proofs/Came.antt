@@ -1,9 +1,13 @@
 -- A body of which a part is held, and whose rest was read.
-use Rattle.std.proofs.Common.{◌≡◌, ℕ, ◌+◌, ◌-◌, ◌≤◌, ◌<◌, List, [], ◌++◌, length, take, drop, Option, Result, Ok, Bool, true, false, min, sym, ap, ◌∙◌, arith, append_assoc, append-nil, length-append, length-drop, refl}
+use Rattle.std.proofs.Common.{◌≡◌, ℕ, ◌+◌, ◌-◌, ◌≤◌, ◌<◌, List, [], ◌++◌, length, take, drop, Option, Result, Ok, Bool, true, false, min, sym, ap, ◌∙◌, arith, append_assoc, append-nil, length-append, length-drop, refl, subst}
 use Rattle.std.proofs.lemmas.List.{take_all, take-append-le, drop_all, drop-append-le, nil_from_length}
 use Rattle.std.proofs.lemmas.Bool.Decides.{nat_tests}
+use Rattle.std.proofs.KnownBytes.{Consumes-trans}
+use Rattle.std.specs.Io.KnownBytes.{Consumes}
 use Rattle.std.specs.Prelude.{nat_le}
-use Rattle.wire_messages.specs.Bodies.{ReadsBody, ReadsRest}
+use Rattle.wire_messages.specs.Bodies.{ReadsBody, ReadsRest, KeepsBody, KeepsRest, has_come}
+use Rattle.wire_messages.specs.declared.keeping.Fate.{Fate}
+use Rattle.wire_messages.specs.declared.keeping.Fate.TheVariants.{Kept}
 use Rattle.wire_messages.specs.declared.error.ReceiveError.{ReceiveError}
 
 -- what is held of a body of this size, and its rest
@@ -56,3 +60,46 @@ module _ (old new : Option (List ℕ)) (held : List ℕ) (len size left : ℕ) (
       last ∙ ap (λ t. t ++ read) first ∙ append_assoc taken (take n (drop len held)) read
       ∙ ap (λ t. taken ++ t) (whole_body (drop len held) read size n at count)
       ∙ ap (λ t. taken ++ take size t) (sym (drop-append-le len held read fits))
+
+-- ---- a body that is kept, or was to be
+
+module _ (old new : Option (List ℕ)) (held : List ℕ) (len size left : ℕ) (fits : len ≤ length held) (is : left ≡ size - (length held - len))
+    (n : ℕ) (at : n ≡ min size (length (drop len held))) (kept mid kept' : List ℕ) (may_be : List ℕ → Type 0) (result : Result Fate ReceiveError)
+    (first : mid ≡ kept ++ take n (drop len held)) where
+  -- the rest was kept as it came, or memory was refused for it
+  pub body_kept : KeepsRest old new left mid kept' may_be result → KeepsBody old new held len size kept kept' may_be result
+  body_kept rest =
+      let all = body_taken old new held len size left rest.read (has_come result) fits is rest.came n kept mid in
+      record {
+        came = body_came old new held len size left rest.read (has_come result) fits is rest.came;
+        kept_all = λ e. all kept' (ap has_come e) at first (rest.kept_all e);
+        lost = λ e. subst may_be (all (mid ++ rest.read) (ap has_come e) at first refl) (rest.lost e);
+      }
+
+  -- memory was refused for what is held of it
+  pub body_lost : (rest : (read : List ℕ) × ReadsRest old new left read (has_come result)) → (result ≡ Ok Kept → ⊥) → ((more : List ℕ) → may_be (mid ++ more))
+      → KeepsBody old new held len size kept kept' may_be result
+  body_lost rest none told =
+      let all = body_taken old new held len size left rest.0 (has_come result) fits is rest.1 n kept mid in
+      record {
+        came = body_came old new held len size left rest.0 (has_come result) fits is rest.1;
+        kept_all = λ e. absurd (none e);
+        lost = λ e. subst may_be (all (mid ++ rest.0) (ap has_come e) at first refl) (told rest.0);
+      }
+
+-- the rest of a body that was kept so far, when memory is refused for a piece of it
+pub lost_rest : (old mid new end : Option (List ℕ)) (size left n : ℕ) (bs read more kept now kept' : List ℕ) (may_be : List ℕ → Type 0) (result : Result Fate ReceiveError)
+    → Consumes old mid bs → length bs + left ≡ size → now ≡ kept ++ bs → Consumes mid new read → length read ≡ n → n ≤ left
+    → ReadsRest new end (left - n) more (has_come result) → (result ≡ Ok Kept → ⊥) → ((t : List ℕ) → may_be ((now ++ read) ++ t)) → KeepsRest old end size kept kept' may_be result
+lost_rest old mid new end size left n bs read more kept now kept' may_be result before sum is next count fits rest none told =
+    let all : length (bs ++ (read ++ more)) ≡ length bs + (n + length more) = omega (arith, length-append bs (read ++ more), length-append read more, count) in
+    record {
+      read = bs ++ (read ++ more);
+      came = record {
+        consumed = Consumes-trans old mid end bs (read ++ more) before (Consumes-trans mid new end read more next rest.consumed);
+        whole = λ e. omega (arith, rest.whole e, all, sum, fits);
+        short = λ e. ((rest.short e).0, omega (arith, (rest.short e).1, all, sum, fits));
+      };
+      kept_all = λ e. absurd (none e);
+      lost = λ e. subst may_be (append_assoc now read more ∙ ap (λ t. t ++ (read ++ more)) is ∙ append_assoc kept bs (read ++ more)) (told more);
+    }

@@ -1,7 +1,11 @@
 -- What one read of a body leaves.
-use Rattle.std.specs.Prelude.{◌≡◌, ℕ, ◌+◌, ◌<◌, ◌≤◌, List, ◌++◌, length, take, drop, Option, Result, Ok, Bool, true, false}
+use Rattle.std.specs.Prelude.{◌≡◌, ℕ, ◌+◌, ◌<◌, ◌≤◌, List, [], ◌++◌, length, take, drop, Option, Result, Ok, Err, Bool, true, false}
 use Rattle.std.specs.Io.KnownBytes.{Consumes, IsAtEnd}
 use Rattle.wire_messages.specs.declared.error.ReceiveError.{ReceiveError}
+use Rattle.wire_messages.specs.declared.keeping.Fate.{Fate}
+use Rattle.wire_messages.specs.declared.keeping.Fate.TheVariants.{Kept, Lost, Short}
+use Rattle.wire_messages.specs.declared.keeping.Piece.{Piece}
+use Rattle.wire_messages.specs.declared.keeping.Piece.TheVariants as pieces
 
 -- These bytes were read, of a number that is missing of a body: all of them; or the input ended before.
 pub record ReadsRest (old new : Option (List ℕ)) (left : ℕ) (read : List ℕ) (result : Result Bool ReceiveError) : Type 0 where
@@ -17,7 +21,38 @@ pub record ReadsBody (old new : Option (List ℕ)) (held : List ℕ) (len size :
   pub whole : result ≡ Ok true → (len + size ≤ length (held ++ read)) × (drop (len + size) (held ++ read) ≡ drop (len + size) held)
   pub short : result ≡ Ok false → IsAtEnd new × (length (held ++ read) < len + size)
 
--- It was passed on as it came.
-pub record PassesOn (old new : Option (List ℕ)) (held : List ℕ) (len size : ℕ) (taken taken' : List ℕ) (result : Result Bool ReceiveError) : Type 0 where
-  pub came : ReadsBody old new held len size result
-  pub accepted : result ≡ Ok true → taken' ≡ taken ++ take size (drop len (held ++ came.read))
+-- ---- bodies that are kept, or for which memory was refused
+
+-- whether a body came whole
+abbrev pub has_come : Result Fate ReceiveError → Result Bool ReceiveError
+has_come (Ok Kept) = Ok true
+has_come (Ok Lost) = Ok true
+has_come (Ok Short) = Ok false
+has_come (Err e) = Err e
+
+-- It was kept as it came; or memory was refused for it, and it may be that body by all that is still known.
+pub record KeepsBody (old new : Option (List ℕ)) (held : List ℕ) (len size : ℕ) (kept kept' : List ℕ) (may_be : List ℕ → Type 0) (result : Result Fate ReceiveError) : Type 0 where
+  pub came : ReadsBody old new held len size (has_come result)
+  pub kept_all : result ≡ Ok Kept → kept' ≡ kept ++ take size (drop len (held ++ came.read))
+  pub lost : result ≡ Ok Lost → may_be (kept ++ take size (drop len (held ++ came.read)))
+
+-- ---- inside the crate
+
+-- the same of the bytes that are missing
+pub record KeepsRest (old new : Option (List ℕ)) (left : ℕ) (kept kept' : List ℕ) (may_be : List ℕ → Type 0) (result : Result Fate ReceiveError) : Type 0 where
+  pub read : List ℕ
+  pub came : ReadsRest old new left read (has_come result)
+  pub kept_all : result ≡ Ok Kept → kept' ≡ kept ++ read
+  pub lost : result ≡ Ok Lost → may_be (kept ++ read)
+
+-- some of the bytes were read, no more than there was room for
+abbrev pub ReadsSome : ℕ → Option (List ℕ) → Option (List ℕ) → ℕ → List ℕ → Type 0
+ReadsSome room old new n read = Consumes old new read × (length read ≡ n) × (0 < n) × (n ≤ room)
+
+-- what one read brought
+abbrev pub KeepsOn : ℕ → Option (List ℕ) → Option (List ℕ) → List ℕ → List ℕ → (List ℕ → Type 0) → Piece → Type 0
+KeepsOn room old new kept kept' may_be (pieces.Kept n) = (read : List ℕ) × ReadsSome room old new n read × (kept' ≡ kept ++ read)
+KeepsOn room old new kept kept' may_be (pieces.Lost n) =
+    (read : List ℕ) × ReadsSome room old new n read × ((more : List ℕ) → may_be ((kept ++ read) ++ more))
+KeepsOn room old new kept kept' may_be pieces.End = Consumes old new [] × IsAtEnd new × (kept' ≡ kept)
+KeepsOn room old new kept kept' may_be pieces.Failed = Consumes old new []

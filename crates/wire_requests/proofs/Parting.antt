@@ -1,7 +1,7 @@
 -- Bodies whose payload is kept apart.
-use Rattle.std.proofs.Common.{◌≡◌, ℕ, List, [], ◌∷◌, ◌++◌, length, refl, sym, ap, ◌∙◌, arith, append_assoc, append-nil}
-use Rattle.std.proofs.lemmas.List.{append_cancel_left}
-use Rattle.std.specs.Prelude.{Option, Some, None, IsSome, true, false}
+use Rattle.std.proofs.Common.{◌≡◌, ◌⊎◌, ◌<◌, ℕ, List, [], ◌∷◌, ◌++◌, length, refl, sym, ap, ◌∙◌, arith, append_assoc, append-nil, length-append, subst, inl, inr}
+use Rattle.std.proofs.lemmas.List.{append_cancel_left, nil_from_length}
+use Rattle.std.specs.Prelude.{Option, Some, None, IsSome, Result, Ok, Err, OnErr, true, false}
 use Rattle.intake.specs.Arriving.{appended, bytes_in}
 use Rattle.wire_bodies.specs.Bodies.{IsNamedBody, IsImportBody}
 use Rattle.wire_bodies.specs.declared.heads.NamedHead.{NamedHead}
@@ -9,6 +9,7 @@ use Rattle.wire_bodies.specs.declared.import.ImportHead.{ImportHead}
 use Rattle.wire_bodies.specs.Prefix.{place_after, prefix_from, rest_from, prefix_of, rest_of}
 use Rattle.wire_bodies.specs.declared.prefix.Place.{Place}
 use Rattle.wire_bodies.specs.declared.prefix.Place.TheVariants.{BeginsLine, WithinLine, AfterPrefix}
+use Rattle.wire_requests.specs.Left.{IsLeftOf}
 use Rattle.wire_bodies.proofs.Fronts.{front_append, rest_append, front_again, rest_front, both, of_front, from_front}
 
 -- a place from which nothing more belongs to the front
@@ -84,10 +85,67 @@ pub more_bytes : (front piece next rest : List ℕ) (archive after : Option (Lis
 more_bytes front piece next rest archive after whole is rest_is has some =
     text_more front piece next rest archive after is rest_is has some ∙ all_more front (bytes_in archive) piece whole
 
+-- nothing of a piece is behind the front
+lines_more : (front piece next rest archive : List ℕ) → next ≡ prefix_of (front ++ piece) → rest ≡ rest_of (front ++ piece) → length rest ≡ 0
+    → next ++ archive ≡ prefix_of (front ++ piece) ++ (archive ++ rest_of (front ++ piece))
+lines_more front piece next rest archive is rest_is none =
+    let gone : rest_of (front ++ piece) ≡ [] = sym rest_is ∙ nil_from_length rest none in
+    ap (λ t. t ++ archive) is ∙ ap (λ t. prefix_of (front ++ piece) ++ t) (sym (append-nil archive) ∙ ap (λ t. archive ++ t) (sym gone))
+
+pub lines_parted : (front piece next rest archive : List ℕ) → prefix_of (front ++ archive) ≡ front → next ≡ prefix_of (front ++ piece) → rest ≡ rest_of (front ++ piece)
+    → length rest ≡ 0 → prefix_of (next ++ archive) ≡ next
+lines_parted front piece next rest archive whole is rest_is none =
+    ap prefix_of (lines_more front piece next rest archive is rest_is none) ∙ still_parted front archive piece whole ∙ sym is
+
+pub lines_bytes : (front piece next rest archive : List ℕ) → prefix_of (front ++ archive) ≡ front → next ≡ prefix_of (front ++ piece) → rest ≡ rest_of (front ++ piece)
+    → length rest ≡ 0 → next ++ archive ≡ (front ++ archive) ++ piece
+lines_bytes front piece next rest archive whole is rest_is none =
+    lines_more front piece next rest archive is rest_is none ∙ all_more front archive piece whole
+
 -- the front has taken its part, and the archive is spent
 pub spent_parted : (text next : List ℕ) (after : Option (List ℕ)) → next ≡ prefix_of text → after ≡ None → prefix_of (next ++ bytes_in after) ≡ next
 spent_parted text next after is spent =
     ap (λ t. prefix_of (next ++ bytes_in t)) spent ∙ ap prefix_of (append-nil next ∙ is) ∙ front_again BeginsLine text ∙ sym is
+
+-- ---- what is left where memory was refused
+
+-- a front that something follows stays that of whatever begins with both
+closed_lines : (front archive more : List ℕ) → 0 < length archive → prefix_of (front ++ archive) ≡ front → prefix_of ((front ++ archive) ++ more) ≡ front
+closed_lines front [] more some is = absurd (omega (arith, some))
+closed_lines front (b ∷ archive) more some is =
+    ap prefix_of (append_assoc front (b ∷ archive) more)
+    ∙ closed_front front (b ∷ archive ++ more) (front_whole front (b ∷ archive) is) (closed front b archive is)
+
+-- the lines of a body of which a piece behind them was refused
+pub left_lines : (front archive piece more : List ℕ) → prefix_of (front ++ archive) ≡ front → 0 < length (rest_of (front ++ piece))
+    → prefix_of (((front ++ archive) ++ piece) ++ more) ≡ prefix_of (front ++ piece)
+left_lines front archive piece more is some =
+    let rest = rest_of (front ++ piece) in
+    let behind : 0 < length (archive ++ rest) = omega (arith, some, length-append archive rest) in
+    ap (λ t. prefix_of (t ++ more)) (sym (all_more front archive piece is))
+    ∙ closed_lines (prefix_of (front ++ piece)) (archive ++ rest) more behind (still_parted front archive piece is)
+
+-- the lines of a body of which a piece was refused that reaches behind them
+pub refused_lines : (all front piece next rest more : List ℕ) (archive after : Option (List ℕ)) → front ++ bytes_in archive ≡ all → prefix_of (front ++ bytes_in archive) ≡ front
+    → next ≡ prefix_of (front ++ piece) → rest ≡ rest_of (front ++ piece) → 0 < length rest → after ≡ None → IsLeftOf (next ++ bytes_in after) ((all ++ piece) ++ more)
+refused_lines all front piece next rest more archive after view whole is rest_is some spent =
+    inr (
+    ap (λ t. prefix_of ((t ++ piece) ++ more)) (sym view)
+    ∙ left_lines front (bytes_in archive) piece more whole (subst (λ t. 0 < length t) rest_is some)
+    ∙ sym is ∙ sym (append-nil next) ∙ ap (λ t. next ++ bytes_in t) (sym spent)
+    )
+
+-- what is true is true where there is an error
+pub on_err : {A E : Type 0} (P : Type 0) (r : Result A E) → P → OnErr r P
+on_err P (Ok x) p = tt
+on_err P (Err e) p = p
+
+-- lines that are read of what is left are those of the body
+pub read_of_left : (lines left body : List ℕ) → (lines ≡ []) ⊎ (lines ≡ prefix_of left) → 0 < length lines → IsLeftOf left body → lines ≡ prefix_of body
+read_of_left lines left body (inl none) some is = absurd (let h : 0 < length {A = ℕ} [] = subst (λ t. 0 < length t) none some in omega (arith, h))
+read_of_left lines left body (inr read) some (inl none) =
+    absurd (let h : 0 < length {A = ℕ} [] = subst (λ t. 0 < length t) (read ∙ ap prefix_of none) some in omega (arith, h))
+read_of_left lines left body (inr read) some (inr is) = read ∙ ap prefix_of (sym is) ∙ front_again BeginsLine body
 
 -- ---- what a front says
 

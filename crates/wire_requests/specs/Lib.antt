@@ -1,5 +1,6 @@
 pub mod Asks
 pub mod Kept
+pub mod Left
 pub mod Methods
 pub mod Parameters
 pub mod Parts

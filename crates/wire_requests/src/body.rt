@@ -1,6 +1,8 @@
 //! The body of a message, as it comes.
-ghost use Rattle.std.specs.Prelude.{◌≡◌, [], IfOk};
+ghost use Rattle.std.specs.Prelude.{◌≡◌, ◌⊎◌, ◌++◌, List, ℕ, [], IfOk, OnOk, OnErr};
+ghost use Rattle.wire_bodies.specs.Prefix.{prefix_of};
 ghost use Rattle.wire_requests.specs.Asks as spec;
+ghost use Rattle.wire_requests.specs.Left.{IsLeftOf};
 
 use crate::held::Held;
 use crate::kind::Kind;
@@ -63,6 +65,31 @@ impl Body {
         }
     }
 
+    /// Takes the next piece.
+    ///
+    /// # Errors
+    ///
+    /// Memory was refused. Of a body whose payload is an archive the lines before it stay, if they are all there; else no byte is kept.
+    pub fn push(&mut self, piece: &[u8]) -> Result<(), AllocError>
+        ensures ok { OnOk result (self.new ≡ self.old ++ piece.now) }
+        ensures err { OnErr result ((more : List ℕ) → IsLeftOf self.new ((self.old ++ piece.now) ++ more)) }
+    {
+        match &mut self.kept {
+            Kept::Whole(held) => held.push(piece),
+            Kept::Parted(parted) => parted.push(piece),
+        }
+    }
+
+    /// The lines of a body whose payload is an archive, up to and with the first empty one; none of another body.
+    pub(crate) fn lines(&self) -> &[u8]
+        ensures { (result.now ≡ []) ⊎ (result.now ≡ prefix_of self.now) }
+    {
+        match &self.kept {
+            Kept::Whole(_) => &[],
+            Kept::Parted(parted) => parted.front(),
+        }
+    }
+
     /// All bytes in one buffer.
     pub(crate) fn into_bytes(self, alloc: Global) -> Result<Vec<u8>, AllocError>
         ensures { IfOk result (λ bytes. bytes.items ≡ self) }
@@ -92,9 +119,6 @@ impl Sink for Body {
     ghost taken = { λ body. body };
 
     fn take(&mut self, piece: &[u8]) -> Result<(), AllocError> {
-        match &mut self.kept {
-            Kept::Whole(held) => held.push(piece),
-            Kept::Parted(parted) => parted.push(piece),
-        }
+        self.push(piece)
     }
 }

@@ -1,5 +1,5 @@
 //! A body in one buffer, as it comes.
-ghost use Rattle.std.specs.Prelude.{◌≡◌, ◌++◌, [], OnOk};
+ghost use Rattle.std.specs.Prelude.{◌≡◌, ◌++◌, [], OnOk, OnErr};
 
 use std::alloc::{AllocError, Global};
 use std::marker::Model;
@@ -31,13 +31,25 @@ impl Held {
         }
     }
 
-    /// Takes the next piece.
-    pub(crate) fn push(&mut self, piece: &[u8]) -> Result<(), AllocError>
+    /// Appends the next piece, where there is memory for it.
+    fn append(&mut self, piece: &[u8]) -> Result<(), AllocError>
         ensures { OnOk result (self.new ≡ self.old ++ piece.now) }
     {
         let missing = self.size.saturating_sub(self.bytes.len());
         self.bytes.reserve_exact(missing.max(piece.len()))?;
         self.bytes.extend_from_slice(piece)
+    }
+
+    /// Takes the next piece. Where memory is refused no byte is kept.
+    pub(crate) fn push(&mut self, piece: &[u8]) -> Result<(), AllocError>
+        ensures ok { OnOk result (self.new ≡ self.old ++ piece.now) }
+        ensures err { OnErr result (self.new ≡ []) }
+    {
+        let appended = self.append(piece);
+        if appended.is_err() {
+            self.bytes.clear();
+        }
+        appended
     }
 
     /// What has come.

@@ -1,7 +1,8 @@
 //! A body whose payload is an archive, as it comes.
-ghost use Rattle.std.specs.Prelude.{◌≡◌, ◌++◌, [], IfOk, OnOk};
+ghost use Rattle.std.specs.Prelude.{◌≡◌, ◌++◌, List, ℕ, [], IfOk, OnOk, OnErr};
 ghost use Rattle.wire_bodies.specs.Prefix.{prefix_of, rest_of};
 ghost use Rattle.intake.specs.Arriving.{bytes_in};
+ghost use Rattle.wire_requests.specs.Left.{IsLeftOf};
 
 use intake::Intake;
 use std::alloc::{AllocError, Global};
@@ -12,6 +13,7 @@ use wire_bodies::Prefix;
 /// The lines of a body, and the archive after them, which is checked and hashed as it comes. Contracts see all bytes.
 #[derive(Drop)]
 pub(crate) struct Parted {
+    alloc: Global,
     front: Prefix,
     archive: Intake,
     has_begun: bool,
@@ -21,6 +23,7 @@ impl Model for Parted {
     ghost use Rattle.std.specs.Prelude.{◌≡◌, ◌++◌, List, ℕ};
     ghost use Rattle.wire_bodies.specs.Prefix.{prefix_of};
     ghost use Rattle.intake.specs.Arriving.{bytes_in};
+    ghost use Rattle.wire_requests.specs.Left.{IsLeftOf};
 
     ghost Value = { List ℕ };
 
@@ -58,17 +61,25 @@ impl Parted {
         ensures { result ≡ [] }
     {
         Parted {
+            alloc,
             front: Prefix::new(alloc),
             archive: Intake::new(alloc),
             has_begun: false,
         }
     }
 
-    /// Takes the next piece.
+    /// Takes the next piece. Where memory is refused for the archive its lines stay, and where it is refused for these no byte is kept.
     pub(crate) fn push(&mut self, piece: &[u8]) -> Result<(), AllocError>
-        ensures { OnOk result (self.new ≡ self.old ++ piece.now) }
+        ensures ok { OnOk result (self.new ≡ self.old ++ piece.now) }
+        ensures err { OnErr result ((more : List ℕ) → IsLeftOf self.new ((self.old ++ piece.now) ++ more)) }
     {
-        let rest = self.front.take(piece)?;
+        let Ok(rest) = self.front.take(piece) else {
+            *self = Parted::new(self.alloc);
+            return Err(AllocError);
+        };
+        if rest.is_empty() {
+            return Ok(());
+        }
         self.has_begun = begin(self.has_begun, self.front.bytes(), rest, &mut self.archive);
         self.archive.push(rest)?;
         Ok(())

@@ -1,8 +1,8 @@
 -- A message of which the head is held, as its body comes and as it is answered.
-use Rattle.std.proofs.Common.{◌≡◌, ℕ, ◌+◌, ◌<◌, ◌≤◌, List, [], ◌++◌, min, length, drop, Bool, true, false, ◌==◌, refl, Option, Err, sym, ap, ◌∙◌, arith, subst, inl, inr, length-append}
+use Rattle.std.proofs.Common.{◌≡◌, ℕ, ◌+◌, ◌<◌, ◌≤◌, List, [], ◌++◌, min, length, drop, Bool, true, false, ◌==◌, refl, Option, Result, Ok, Err, sym, ap, ◌∙◌, arith, subst, inl, inr, length-append}
 use Rattle.std.proofs.lemmas.List.{drop_all}
 use Rattle.std.proofs.lemmas.Bool.Decides.{nat_tests}
-use Rattle.std.specs.Prelude.{IfSome}
+use Rattle.std.specs.Prelude.{IfOk, IfSome}
 use Rattle.std.specs.Io.KnownBytes.{IsAtEnd}
 use Rattle.std.specs.declared.alloc.AllocError.{AllocError}
 use Rattle.httparse.specs.Grammar.{RequestHead}
@@ -15,8 +15,8 @@ use Rattle.wire_messages.specs.Division.{closes}
 use Rattle.wire_messages.proofs.Longer.{holds-append}
 use Rattle.wire_messages.proofs.Reading.{at_end_all, ends_inside}
 use Rattle.wire_server.specs.Responses.{Replied, replied}
-use Rattle.wire_server.specs.declared.begun.Begun.{Begun}
-use Rattle.wire_server.specs.declared.begun.Begun.TheVariants.{Accepted, Refused}
+use Rattle.wire_server.specs.declared.response.Response.{Response}
+use Rattle.wire_server.specs.declared.ready.Ready.{Ready}
 use Rattle.wire_server.specs.declared.error.WireError.{WireError}
 use Rattle.wire_server.specs.declared.receiving.Halt.TheVariants.{Failed}
 use Rattle.wire_server.specs.declared.exchange.Exchange.{Exchange}
@@ -24,9 +24,13 @@ use Rattle.wire_server.specs.Answers.{body_in, Answered, IsReady}
 use Rattle.wire_server.specs.Arrivals.{Whole, Brings, broken_of}
 use Rattle.wire_server.specs.Exchanges.{IsAnswered, IsLost}
 
--- what a sink has taken that had taken nothing
-pub taken_all : (before after body : List ℕ) → before ≡ [] → after ≡ before ++ body → after ≡ body
-taken_all before after body none all = all ∙ ap (λ t. t ++ body) none
+-- what was kept where nothing had been
+pub kept_all : (before after body : List ℕ) → before ≡ [] → after ≡ before ++ body → after ≡ body
+kept_all before after body none all = all ∙ ap (λ t. t ++ body) none
+
+-- what is known of a body of which nothing had been kept
+pub of_nothing : (may_be : List ℕ → Type 0) (before body : List ℕ) → before ≡ [] → may_be (before ++ body) → may_be body
+of_nothing may_be before body none is = subst (λ t. may_be (t ++ body)) none is
 
 -- ---- a body that comes
 
@@ -41,25 +45,25 @@ module _ (held read : List ℕ) (head : Head) (size : ℕ) (is : HoldsHead held 
       (more, at_end_all (λ t. IsFault t BadLength) all rest fault end)
 
   -- it came whole
-  module _ {S C B : Type 0} (answers : S → RequestHead → List ℕ → Replied → S → Type 0) (decides : S → RequestHead → C → Type 0) (taken : B → List ℕ) (s : S) where
-    pub whole_arrives : (begun : Begun C B) → head.spans.len + size ≤ length (held ++ read)
-        → IsReady answers decides taken s is.0 (body_in (held ++ read) head size) begun
-        → drop (head.spans.len + size) (held ++ read) ≡ drop (head.spans.len + size) held → Whole answers decides taken s (held ++ read) held head size begun
-    whole_arrives begun whole ready rest = record {
+  module _ {S C B : Type 0} (answers : S → RequestHead → List ℕ → Replied → S → Type 0) (decides : S → RequestHead → C → Type 0) (kept : B → List ℕ) (may_be : B → List ℕ → Type 0) (s : S) where
+    pub whole_arrives : (ready : Ready C B) → head.spans.len + size ≤ length (held ++ read)
+        → IsReady answers decides kept may_be s is.0 (body_in (held ++ read) head size) ready
+        → drop (head.spans.len + size) (held ++ read) ≡ drop (head.spans.len + size) held → Whole answers decides kept may_be s (held ++ read) held head size ready
+    whole_arrives ready whole is_ready rest = record {
       h = is.0;
       message = record { holds = holds-append held read head is.0 is.1; states = is.2; whole = whole };
       holds = is.1;
-      ready = ready;
+      answerable = is_ready;
       rest = sym rest;
     }
 
-module _ {S C B : Type 0} (answers : S → RequestHead → List ℕ → Replied → S → Type 0) (decides : S → RequestHead → C → Type 0) (taken : B → List ℕ) (s : S) where
+module _ {S C B : Type 0} (answers : S → RequestHead → List ℕ → Replied → S → Type 0) (decides : S → RequestHead → C → Type 0) (kept : B → List ℕ) (may_be : B → List ℕ → Type 0) (s : S) where
   -- nothing came
   pub brings_broken : (all held : List ℕ) (rest : Option (List ℕ)) (fault : ReceiveError) (e : WireError) → e ≡ broken_of fault
-      → Brings answers decides taken s all held rest (Err (Failed e))
-  brings_broken all held rest fault e is = subst (λ v. Brings answers decides taken s all held rest (Err (Failed v))) (sym is) (by fault)
+      → Brings answers decides kept may_be s all held rest (Err (Failed e))
+  brings_broken all held rest fault e is = subst (λ v. Brings answers decides kept may_be s all held rest (Err (Failed v))) (sym is) (by fault)
     where
-      by : (f : ReceiveError) → Brings answers decides taken s all held rest (Err (Failed (broken_of f)))
+      by : (f : ReceiveError) → Brings answers decides kept may_be s all held rest (Err (Failed (broken_of f)))
       by received.Read = tt
       by received.Silent = tt
       by received.Memory = tt
@@ -74,8 +78,8 @@ drop_saturated n m bytes is fits = by (m == n) refl
 
 -- ---- a message that came whole
 
-module _ {S C B : Type 0} (answers : S → RequestHead → List ℕ → Replied → S → Type 0) (decides : S → RequestHead → C → Type 0) (taken : B → List ℕ)
-    (s : S) (all held : List ℕ) (head : Head) (size : ℕ) (begun : Begun C B) (is : Whole answers decides taken s all held head size begun) (new : S) where
+module _ {S C B : Type 0} (answers : S → RequestHead → List ℕ → Replied → S → Type 0) (decides : S → RequestHead → C → Type 0) (kept : B → List ℕ) (may_be : B → List ℕ → Type 0)
+    (s : S) (all held : List ℕ) (head : Head) (size : ℕ) (ready : Ready C B) (is : Whole answers decides kept may_be s all held head size ready) (new : S) where
   -- the response that came
   pub answered_whole : (held' : List ℕ) (x : Exchange) → answers s is.h (body_in all head size) (replied x.response) new → x.close ≡ closes is.h
       → held' ≡ drop (head.spans.len + size) held → IsAnswered answers all held' s x new
@@ -85,3 +89,9 @@ module _ {S C B : Type 0} (answers : S → RequestHead → List ℕ → Replied 
   pub lost_whole : (e : AllocError) → Answered answers s is.h (body_in all head size) (Err e) new → IsLost answers all s new
   lost_whole e (inl none) = inl none
   lost_whole e (inr (r, a)) = inr (r, record { head = head; size = size; h = is.h; holds = is.message; answered = a })
+
+-- a response that leaves the state, or none
+pub answered_still : {S : Type 0} (answers : S → RequestHead → List ℕ → Replied → S → Type 0) (s : S) (h : RequestHead) (body : List ℕ) (r : Result Response AllocError)
+    → IfOk r (λ x. answers s h body (replied x) s) → Answered answers s h body r s
+answered_still answers s h body (Ok x) is = is
+answered_still answers s h body (Err e) is = inl refl

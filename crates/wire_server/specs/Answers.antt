@@ -5,6 +5,8 @@ use Rattle.httparse.specs.Grammar.{RequestHead}
 use Rattle.wire_messages.specs.declared.head.Head.{Head}
 use Rattle.wire_server.specs.declared.begun.Begun.{Begun}
 use Rattle.wire_server.specs.declared.begun.Begun.TheVariants.{Accepted, Refused}
+use Rattle.wire_server.specs.declared.ready.Ready.{Ready}
+use Rattle.wire_server.specs.declared.ready.Ready.TheVariants as ready
 use Rattle.wire_server.specs.declared.response.Response.{Response}
 use Rattle.wire_server.specs.Responses.{Replied, replied}
 
@@ -17,14 +19,15 @@ abbrev pub Answered : {S : Type 0} → (S → RequestHead → List ℕ → Repli
 Answered answers old h body (Ok response) new = answers old h body (replied response) new
 Answered answers old h body (Err e) new = (new ≡ old) ⊎ ((r : Replied) × answers old h body r new)
 
-module _ {S C B : Type 0} (answers : S → RequestHead → List ℕ → Replied → S → Type 0) (decides : S → RequestHead → C → Type 0) (taken : B → List ℕ) where
-  -- A head decides this from a state: a course, and nothing of the body was taken yet; or the response, whatever the body is, which
+module _ {S C B : Type 0} (answers : S → RequestHead → List ℕ → Replied → S → Type 0) (decides : S → RequestHead → C → Type 0) (kept : B → List ℕ) where
+  -- A head decides this from a state: a course, and nothing of the body was kept yet; or the response, whatever the body is, which
   -- leaves the state as it is.
   abbrev pub IsBegun : S → RequestHead → Begun C B → Type 0
-  IsBegun s h (Accepted course sink) = decides s h course × (taken sink ≡ [])
-  IsBegun s h (Refused response) = (body : List ℕ) → answers s h body (replied response) s
+  IsBegun s h (Accepted course body) = decides s h course × (kept body ≡ [])
+  IsBegun s h (Refused response) = (all : List ℕ) → answers s h all (replied response) s
 
-  -- the same once the body has come
-  abbrev pub IsReady : S → RequestHead → List ℕ → Begun C B → Type 0
-  IsReady s h body (Accepted course sink) = decides s h course × (taken sink ≡ body)
-  IsReady s h body (Refused response) = answers s h body (replied response) s
+  -- The same once the body has come: it was kept; or memory was refused for it, and it may be that body by all that is still known.
+  abbrev pub IsReady : (B → List ℕ → Type 0) → S → RequestHead → List ℕ → Ready C B → Type 0
+  IsReady may_be s h all (ready.Kept course body) = decides s h course × (kept body ≡ all)
+  IsReady may_be s h all (ready.Lost course body) = decides s h course × may_be body all
+  IsReady may_be s h all (ready.Refused response) = answers s h all (replied response) s

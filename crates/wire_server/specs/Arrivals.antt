@@ -9,7 +9,7 @@ use Rattle.wire_messages.specs.Heads.{Holds}
 use Rattle.wire_messages.specs.Messages.{HoldsMessage, IsFault}
 use Rattle.wire_server.specs.Responses.{Replied}
 use Rattle.wire_server.specs.Answers.{body_in, IsReady}
-use Rattle.wire_server.specs.declared.begun.Begun.{Begun}
+use Rattle.wire_server.specs.declared.ready.Ready.{Ready}
 use Rattle.wire_server.specs.declared.error.WireError.{WireError}
 use Rattle.wire_server.specs.declared.error.WireError.TheVariants.{Read, Write, Memory}
 use Rattle.wire_server.specs.declared.receiving.Halt.{Halt}
@@ -23,20 +23,20 @@ broken_of received.Read = Read
 broken_of received.Silent = Read
 broken_of received.Memory = Memory
 
-module _ {S C B : Type 0} (answers : S → RequestHead → List ℕ → Replied → S → Type 0) (decides : S → RequestHead → C → Type 0) (taken : B → List ℕ) (s : S) where
-  -- All the bytes begin with a message, whose whole body came, and this is ready to be answered. Its head is held, and what follows
+module _ {S C B : Type 0} (answers : S → RequestHead → List ℕ → Replied → S → Type 0) (decides : S → RequestHead → C → Type 0) (kept : B → List ℕ) (may_be : B → List ℕ → Type 0) (s : S) where
+  -- All the bytes begin with a message, whose whole body came, and which is answered in this way. Its head is held, and what follows
   -- the message.
-  pub record Whole (all held : List ℕ) (head : Head) (size : ℕ) (begun : Begun C B) : Type 0 where
+  pub record Whole (all held : List ℕ) (head : Head) (size : ℕ) (ready : Ready C B) : Type 0 where
     pub h : RequestHead
     pub message : HoldsMessage all head size h
     pub holds : Holds held head h
-    pub ready : IsReady answers decides taken s h (body_in all head size) begun
+    pub answerable : IsReady answers decides kept may_be s h (body_in all head size) ready
     pub rest : drop (head.spans.len + size) held ≡ drop (head.spans.len + size) all
 
   -- what all the bytes are that were held and read: nothing, at the end of the input; a message; or no message, whatever follows
   abbrev pub Arrived : List ℕ → List ℕ → Option (List ℕ) → Next C B → Type 0
   Arrived all held rest End = (all ≡ []) × IsAtEnd rest
-  Arrived all held rest (Message head size begun) = Whole all held head size begun
+  Arrived all held rest (Message head size ready) = Whole all held head size ready
   Arrived all held rest (Faulty fault) = (0 < length all) × IfSome rest (λ more. IsFault (all ++ more) fault)
 
   -- at an error the writer has no part in it; a silent reader leaves nothing held

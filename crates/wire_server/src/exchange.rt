@@ -6,9 +6,9 @@ ghost use Rattle.wire_server.specs.Answers.{Answered, IsReady};
 ghost use Rattle.wire_server.specs.Arrivals.{Arrived, Whole};
 ghost use Rattle.wire_server.specs.Exchanges.{Comes, IsRefusal, Responds};
 
-use crate::begun::Begun;
 use crate::buffer::drain_prefix;
 use crate::faults::refuse;
+use crate::ready::Ready;
 use crate::receiving::Next;
 use crate::responder::Responder;
 use crate::response::Response;
@@ -38,15 +38,16 @@ fn respond<T, A: Responder<T>>(
     state: &mut T,
     held: &[u8],
     head: &Head,
-    begun: Begun<A::Course, A::Body>,
+    ready: Ready<A::Course, A::Body>,
 ) -> Result<Response, AllocError>
-    requires { (h : RequestHead) × (body : List ℕ) × Holds held.now head.now h × IsReady A.answers A.decides A.Body.taken state.old h body begun }
-    ensures { (h : RequestHead) (body : List ℕ) → Holds held.now head.now h → IsReady A.answers A.decides A.Body.taken state.old h body begun
+    requires { (h : RequestHead) × (body : List ℕ) × Holds held.now head.now h × IsReady A.answers A.decides A.Body.kept A.Body.may_be state.old h body ready }
+    ensures { (h : RequestHead) (body : List ℕ) → Holds held.now head.now h → IsReady A.answers A.decides A.Body.kept A.Body.may_be state.old h body ready
         → Answered A.answers state.old h body result state.new }
 {
-    match begun {
-        Begun::Accepted(course, body) => responder.answer(state, held, head, course, body),
-        Begun::Refused(response) => Ok(response),
+    match ready {
+        Ready::Kept(course, body) => responder.answer(state, held, head, course, body),
+        Ready::Lost(course, body) => responder.answer_lost(state, held, head, course, body),
+        Ready::Refused(response) => Ok(response),
     }
 }
 
@@ -57,14 +58,14 @@ fn answer_message<T, A: Responder<T>>(
     buffer: &mut Vec<u8>,
     head: &Head,
     size: usize,
-    begun: Begun<A::Course, A::Body>,
+    ready: Ready<A::Course, A::Body>,
 ) -> Result<Exchange, AllocError>
-    requires { (all : List ℕ) × Whole A.answers A.decides A.Body.taken state.old all buffer.old.items head.now size begun }
-    ensures { (all : List ℕ) → Whole A.answers A.decides A.Body.taken state.old all buffer.old.items head.now size begun
+    requires { (all : List ℕ) × Whole A.answers A.decides A.Body.kept A.Body.may_be state.old all buffer.old.items head.now size ready }
+    ensures { (all : List ℕ) → Whole A.answers A.decides A.Body.kept A.Body.may_be state.old all buffer.old.items head.now size ready
         → Responds A.answers all buffer.new.items state.old state.new result }
 {
     let close = closes(buffer, head);
-    let response = match respond(responder, state, buffer, head, begun) {
+    let response = match respond(responder, state, buffer, head, ready) {
         Ok(response) => response,
         Err(fault) => return Err(fault),
     };
@@ -84,14 +85,14 @@ pub(crate) fn answer_next<T, A: Responder<T>>(
     buffer: &mut Vec<u8>,
     next: Next<A::Course, A::Body>,
 ) -> Result<Option<Exchange>, AllocError>
-    requires { (all : List ℕ) × (rest : Option (List ℕ)) × Arrived A.answers A.decides A.Body.taken state.old all buffer.old.items rest next }
-    ensures { (all : List ℕ) (rest : Option (List ℕ)) → Arrived A.answers A.decides A.Body.taken state.old all buffer.old.items rest next
+    requires { (all : List ℕ) × (rest : Option (List ℕ)) × Arrived A.answers A.decides A.Body.kept A.Body.may_be state.old all buffer.old.items rest next }
+    ensures { (all : List ℕ) (rest : Option (List ℕ)) → Arrived A.answers A.decides A.Body.kept A.Body.may_be state.old all buffer.old.items rest next
         → Comes A.answers all buffer.new.items rest state.old state.new result }
 {
     match next {
         Next::End => Ok(None),
-        Next::Message(head, size, begun) => {
-            match answer_message(responder, state, buffer, &head, size, begun) {
+        Next::Message(head, size, ready) => {
+            match answer_message(responder, state, buffer, &head, size, ready) {
                 Ok(exchange) => Ok(Some(exchange)),
                 Err(fault) => Err(fault),
             }

@@ -11,6 +11,7 @@ mod faults;
 mod listener;
 mod peer;
 mod port;
+mod ready;
 mod receiving;
 mod reply_head;
 mod responder;

@@ -1,21 +1,27 @@
 //! The next message of a connection, as it comes.
-ghost use Rattle.std.specs.Prelude.{◌≡◌, ◌<◌, length};
+ghost use Rattle.std.specs.Prelude.{◌≡◌, ◌<◌, IfErr, length};
+ghost use Rattle.httparse.specs.Grammar.{RequestHead};
+ghost use Rattle.wire_messages.specs.Heads.{Holds};
 ghost use Rattle.wire_messages.specs.Messages.{HoldsHead};
+ghost use Rattle.wire_server.specs.Answers.{IsBegun};
 ghost use Rattle.wire_server.specs.Arrivals.{Arrives, broken_of};
 
 use crate::begun::Begun;
 use crate::error::WireError;
+use crate::ready::Ready;
 use crate::responder::Responder;
 use std::io::Read;
-use wire_messages::{Fault, Head, ReceiveError, Received, pass_body, receive_body, receive_head};
+use wire_messages::{
+    Fate, Fault, Head, ReceiveError, Received, pass_body, receive_body, receive_head,
+};
 
 /// What a connection brings next.
 #[derive(Drop)]
 pub(crate) enum Next<C, B> {
     /// The input is at its end.
     End,
-    /// A head, the length of the body after it, and what the head decided. The whole body came: it was taken, or isn't kept.
-    Message(Head, usize, Begun<C, B>),
+    /// A head, the length of the body after it, which came whole, and how the message is answered.
+    Message(Head, usize, Ready<C, B>),
     /// The input begins with no message.
     Faulty(Fault),
 }
@@ -38,7 +44,40 @@ fn broken(fault: ReceiveError) -> WireError
     }
 }
 
-/// Receives the body of a message whose head is held. One that isn't wanted is read all the same, and not kept.
+/// Receives the body of a message whose head is held, by what the head decided. One that isn't wanted is read all the same, and not
+/// kept; and so is the rest of one for which memory is refused, which ends no connection.
+fn receive_rest<R: Read, T, A: Responder<T>>(
+    input: &mut R,
+    held: &[u8],
+    state: &T,
+    head: Head,
+    size: usize,
+    begun: Begun<A::Course, A::Body>,
+) -> Result<Next<A::Course, A::Body>, Halt>
+    requires some { 0 < length held.now }
+    requires head { HoldsHead held.now head size }
+    requires begun { (h : RequestHead) → Holds held.now head h → IsBegun A.answers A.decides A.Body.kept state.now h begun }
+    ensures came { Arrives A.answers A.decides A.Body.kept A.Body.may_be state.now (R.remaining input.old) (R.remaining input.new) held.now held.now result }
+    ensures fault { IfErr result (λ halt. halt ≡ Halt.Failed WireError.Read) }
+{
+    match begun {
+        Begun::Accepted(course, mut body) => {
+            match receive_body(input, held, &head, size, &mut body) {
+                Ok(Fate::Kept) => Ok(Next::Message(head, size, Ready::Kept(course, body))),
+                Ok(Fate::Lost) => Ok(Next::Message(head, size, Ready::Lost(course, body))),
+                Ok(Fate::Short) => Ok(Next::Faulty(Fault::BadLength)),
+                Err(fault) => Err(Halt::Failed(broken(fault))),
+            }
+        }
+        Begun::Refused(response) => match pass_body(input, held, &head, size) {
+            Ok(true) => Ok(Next::Message(head, size, Ready::Refused(response))),
+            Ok(false) => Ok(Next::Faulty(Fault::BadLength)),
+            Err(fault) => Err(Halt::Failed(broken(fault))),
+        },
+    }
+}
+
+/// Receives the body of a message whose head is held.
 fn receive_message<R: Read, T, A: Responder<T>>(
     input: &mut R,
     held: &[u8],
@@ -49,21 +88,10 @@ fn receive_message<R: Read, T, A: Responder<T>>(
 ) -> Result<Next<A::Course, A::Body>, Halt>
     requires some { 0 < length held.now }
     requires head { HoldsHead held.now head size }
-    ensures { Arrives A.answers A.decides A.Body.taken state.now (R.remaining input.old) (R.remaining input.new) held.now held.now result }
+    ensures { Arrives A.answers A.decides A.Body.kept A.Body.may_be state.now (R.remaining input.old) (R.remaining input.new) held.now held.now result }
 {
     match responder.begin(state, held, &head, size) {
-        Ok(Begun::Accepted(course, mut body)) => {
-            match receive_body(input, held, &head, size, &mut body) {
-                Ok(true) => Ok(Next::Message(head, size, Begun::Accepted(course, body))),
-                Ok(false) => Ok(Next::Faulty(Fault::BadLength)),
-                Err(fault) => Err(Halt::Failed(broken(fault))),
-            }
-        }
-        Ok(Begun::Refused(response)) => match pass_body(input, held, &head, size) {
-            Ok(true) => Ok(Next::Message(head, size, Begun::Refused(response))),
-            Ok(false) => Ok(Next::Faulty(Fault::BadLength)),
-            Err(fault) => Err(Halt::Failed(broken(fault))),
-        },
+        Ok(begun) => receive_rest::<R, T, A>(input, held, state, head, size, begun),
         Err(_) => Err(Halt::Failed(WireError::Memory)),
     }
 }
@@ -72,7 +100,8 @@ fn receive_message<R: Read, T, A: Responder<T>>(
 ///
 /// # Errors
 ///
-/// `Failed` with `Read` where the reader failed, and with `Memory`; `Silent` where the reader gave up waiting before a message.
+/// `Failed` with `Read` where the reader failed, and with `Memory` where it was refused for a head or for what the head decides;
+/// `Silent` where the reader gave up waiting before a message.
 pub(crate) fn receive_next<R: Read, T, A: Responder<T>>(
     input: &mut R,
     window: &mut [u8],
@@ -81,7 +110,7 @@ pub(crate) fn receive_next<R: Read, T, A: Responder<T>>(
     state: &T,
 ) -> Result<Next<A::Course, A::Body>, Halt>
     requires { 0 < length window.old }
-    ensures { Arrives A.answers A.decides A.Body.taken state.now (R.remaining input.old) (R.remaining input.new) buffer.old.items buffer.new.items result }
+    ensures { Arrives A.answers A.decides A.Body.kept A.Body.may_be state.now (R.remaining input.old) (R.remaining input.new) buffer.old.items buffer.new.items result }
 {
     match receive_head(input, window, buffer) {
         Ok(Received::Message(head, size)) => {

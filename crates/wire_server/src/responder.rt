@@ -2,22 +2,21 @@
 ghost use Rattle.std.specs.Prelude.{ℕ, List, IfOk};
 ghost use Rattle.httparse.specs.Grammar.{RequestHead};
 ghost use Rattle.wire_messages.specs.Heads.{Holds};
-ghost use Rattle.wire_server.specs.Responses.{Replied};
+ghost use Rattle.wire_server.specs.Responses.{Replied, replied};
 ghost use Rattle.wire_server.specs.Answers.{Answered, IsBegun};
 
 use crate::begun::Begun;
 use crate::response::Response;
 use std::alloc::AllocError;
-use streams::Sink;
-use wire_messages::Head;
+use wire_messages::{Head, Keeper};
 
 /// Answers messages, one after another, from a state that it changes.
 pub trait Responder<T> {
     /// How a message is answered once its body has come, as its head decides.
     type Course: Drop;
 
-    /// What takes a body as it arrives.
-    type Body: Sink + Drop;
+    /// What keeps a body as it arrives.
+    type Body: Keeper + Drop;
 
     /// What a head and a body may be answered with from a state, and the state afterwards.
     ghost answers: { T → RequestHead → List ℕ → Replied → T → Type 0 };
@@ -39,7 +38,7 @@ pub trait Responder<T> {
     ) -> Result<Begun<Self::Course, Self::Body>, AllocError>
         requires { (h : RequestHead) × Holds held.now head.now h }
         ensures { (h : RequestHead) → Holds held.now head.now h
-            → IfOk result (IsBegun answers decides Self.Body.taken state.now h) };
+            → IfOk result (IsBegun answers decides Self.Body.kept state.now h) };
 
     /// The response to a message, of which the head is held and the whole body has come. Where memory is refused the message was not
     /// answered, or it was and its response is lost.
@@ -53,5 +52,19 @@ pub trait Responder<T> {
     ) -> Result<Response, AllocError>
         requires { (h : RequestHead) × Holds held.now head.now h × decides state.old h course }
         ensures { (h : RequestHead) → Holds held.now head.now h → decides state.old h course
-            → Answered answers state.old h (Self.Body.taken body) result state.new };
+            → Answered answers state.old h (Self.Body.kept body) result state.new };
+
+    /// The response to a message, of which the head is held, and whose whole body has come and was refused memory. The state stays.
+    /// Where memory is refused again there is none.
+    fn answer_lost(
+        &self,
+        state: &T,
+        held: &[u8],
+        head: &Head,
+        course: Self::Course,
+        body: Self::Body,
+    ) -> Result<Response, AllocError>
+        requires { (h : RequestHead) × Holds held.now head.now h × decides state.now h course }
+        ensures { (h : RequestHead) (whole : List ℕ) → Holds held.now head.now h → decides state.now h course → Self.Body.may_be body whole
+            → IfOk result (λ r. answers state.now h whole (replied r) state.now) };
 }

@@ -1,9 +1,9 @@
 //! Readers and writers that move one byte a call and fail, or are interrupted, at each call in turn.
-use crate::fakes::{Drip, Narrow};
+use crate::fakes::{Drip, Narrow, Tight};
 use std::alloc::Global;
 use std::io::ErrorKind;
-use streams::{Held, ReadError, read_at_most, send_bytes};
-use wire_messages::{ReceiveError, Received, receive_body, receive_head};
+use streams::{ReadError, read_at_most, send_bytes};
+use wire_messages::{Fate, ReceiveError, Received, receive_body, receive_head};
 
 const BYTES: &[u8] = b"mycontent\n";
 
@@ -51,16 +51,23 @@ fn writers_that_fail(rt: HostRuntime) {
     }
 }
 
-/// Whether a reader gives one whole message.
-fn gives_message(alloc: Global, input: &mut Drip) -> Result<bool, ReceiveError> {
+/// What becomes of the body of the message that a reader gives, if it gives one. There is room for some bytes of it.
+fn gives_message(
+    alloc: Global,
+    input: &mut Drip,
+    room: usize,
+) -> Result<Option<Fate>, ReceiveError> {
     let mut window = [0; 512];
     let mut buffer = Vec::new(alloc);
     match receive_head(input, &mut window, &mut buffer) {
         Ok(Received::Message(head, size)) => {
-            let mut body = Held::new(alloc, size);
-            receive_body(input, &buffer, &head, size, &mut body)
+            let mut body = Tight {
+                held: Vec::new(alloc),
+                room,
+            };
+            Ok(Some(receive_body(input, &buffer, &head, size, &mut body)?))
         }
-        Ok(_) => Ok(false),
+        Ok(_) => Ok(None),
         Err(fault) => Err(fault),
     }
 }
@@ -76,8 +83,27 @@ fn messages_of_readers_that_fail(rt: HostRuntime) {
                 calls,
                 fault,
             };
-            let found = gives_message(rt.alloc(), &mut input);
+            let found = gives_message(rt.alloc(), &mut input, 10);
             assert!(rt; matches!(&found, Err(ReceiveError::Read)), "{calls}");
         }
+    }
+}
+
+// The rest of a body that finds no memory is read, and nothing beyond it.
+#[test]
+fn bodies_without_memory(rt: HostRuntime) {
+    let next = b"GET / HTTP/1.1\r\n\r\n";
+    let messages = b"POST / HTTP/1.1\r\ncontent-length: 10\r\n\r\n0123456789GET / HTTP/1.1\r\n\r\n";
+    for room in 0..11usize {
+        let mut input = Drip {
+            rest: messages,
+            most: 1,
+            calls: 1000,
+            fault: ErrorKind::Other,
+        };
+        let found = gives_message(rt.alloc(), &mut input, room);
+        let wanted = if room == 10 { Fate::Kept } else { Fate::Lost };
+        assert_eq!(rt; found, Ok(Some(wanted)), "{room}");
+        assert!(rt; input.rest == next, "{room}");
     }
 }

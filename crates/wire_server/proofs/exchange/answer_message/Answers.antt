@@ -7,19 +7,19 @@ use Rattle.wire_server.proofs.exchange.answer_message.Goals as goal
 pub respond-requires : goal.respond-requires
 respond-requires g c =
     let is = c.requires.1 in
-    (is.h, body_in c.requires.0 c.args.head.now c.args.size, rw c.deref-2.ensures.value is.holds, is.ready)
+    (is.h, body_in c.requires.0 c.args.head.now c.args.size, rw c.deref-2.ensures.value is.holds, is.answerable)
 
 pub returns-in-Err : goal.returns-in-Err
 returns-in-Err g c = λ all is.
     let answer = rw c.deref-2.ensures.value at c.in-Err.ensures in
-    lost_whole g.A.Responder.answers g.A.Responder.decides g.A.Body.Sink.taken c.args.state.now all c.args.buffer.now.items c.args.head.now c.args.size c.args.begun is c.respond.new.state c.in-Err.fault
-    (answer is.h (body_in all c.args.head.now c.args.size) is.holds is.ready)
+    lost_whole g.A.Responder.answers g.A.Responder.decides g.A.Body.Keeper.kept g.A.Body.Keeper.may_be c.args.state.now all c.args.buffer.now.items c.args.head.now c.args.size c.args.ready is c.respond.new.state c.in-Err.fault
+    (answer is.h (body_in all c.args.head.now c.args.size) is.holds is.answerable)
 
 pub returns : goal.returns
 returns g c = λ all is.
     let fits : length c.args.buffer.now.items < 18446744073709551616 = search rules in
     let answer = rw c.deref-2.ensures.value at c.in-Ok.ensures in
     let closes = (rw c.deref.ensures.value at c.closes-close.ensures) ∙ closes_at c.args.buffer.now.items c.args.head.now is.h is.holds in
-    answered_whole g.A.Responder.answers g.A.Responder.decides g.A.Body.Sink.taken c.args.state.now all c.args.buffer.now.items c.args.head.now c.args.size c.args.begun is c.respond.new.state
-    c.drain_prefix.new.buffer.items (record { response = c.in-Ok.response; close = c.closes-close.result }) (answer is.h (body_in all c.args.head.now c.args.size) is.holds is.ready) closes
+    answered_whole g.A.Responder.answers g.A.Responder.decides g.A.Body.Keeper.kept g.A.Body.Keeper.may_be c.args.state.now all c.args.buffer.now.items c.args.head.now c.args.size c.args.ready is c.respond.new.state
+    c.drain_prefix.new.buffer.items (record { response = c.in-Ok.response; close = c.closes-close.result }) (answer is.h (body_in all c.args.head.now c.args.size) is.holds is.answerable) closes
     (c.drain_prefix.ensures ∙ drop_saturated (c.args.head.now.spans.len + c.args.size) c.saturating_add.result c.args.buffer.now.items c.saturating_add.ensures fits)

@@ -11,7 +11,7 @@ returns-in-Ok-Message g c =
     let all = ap (λ t. t ++ next.0) head.0.2 ∙ append_assoc c.args.buffer.now.items head.0.0 next.0 in (
       head.0.0 ++ next.0,
       Consumes-trans _ _ _ head.0.0 next.0 head.0.1 next.1,
-      subst (λ t. Brings g.A.Responder.answers g.A.Responder.decides g.A.Body.Sink.taken c.args.state.now t c.receive_head.new.buffer.items (g.R.Read.remaining c.receive_message.new.input) c.receive_message.result) all next.2,
+      subst (λ t. Brings g.A.Responder.answers g.A.Responder.decides g.A.Body.Keeper.kept g.A.Body.Keeper.may_be c.args.state.now t c.receive_head.new.buffer.items (g.R.Read.remaining c.receive_message.new.input) c.receive_message.result) all next.2,
     )
 
 pub returns-in-Err-Silent : goal.returns-in-Err-Silent
@@ -22,4 +22,4 @@ returns-in-Err-Silent g c =
 pub returns-in-Err : goal.returns-in-Err
 returns-in-Err g c =
     let got = c.in-Err.ensures in
-    (got.0.0, got.0.1, brings_broken g.A.Responder.answers g.A.Responder.decides g.A.Body.Sink.taken c.args.state.now (c.args.buffer.now.items ++ got.0.0) c.receive_head.new.buffer.items (g.R.Read.remaining c.receive_head.new.input) c.in-Err.fault c.broken.result c.broken.ensures)
+    (got.0.0, got.0.1, brings_broken g.A.Responder.answers g.A.Responder.decides g.A.Body.Keeper.kept g.A.Body.Keeper.may_be c.args.state.now (c.args.buffer.now.items ++ got.0.0) c.receive_head.new.buffer.items (g.R.Read.remaining c.receive_head.new.input) c.in-Err.fault c.broken.result c.broken.ensures)

@@ -14,7 +14,7 @@ pub returns-in-Err-Failed : goal.returns-in-Err-Failed
 returns-in-Err-Failed g c =
     let broken = rw c.in-Err-Failed.field-0-is at c.in-Err-Failed.ensures in
     subst (λ e. Stops g.A.Responder.answers (g.R.Read.remaining c.args.input.now) (g.W.Write.contents c.args.output.now) (g.W.Write.contents c.messages.output) c.args.state.now c.messages.state e)
-    (sym c.in-Err-Failed.fault-is) (turn_broken g.A.Responder.answers (g.R.Read.remaining c.args.input.now) (g.W.Write.contents c.args.output.now) c.args.state.now (g.R.Read.remaining c.messages.input) (g.R.Read.remaining c.receive_next.new.input) (g.W.Write.contents c.messages.output) c.messages.buffer.items c.receive_next.new.buffer.items c.messages.state c.messages.state c.messages.count c.messages.invariant g.A.Responder.decides g.A.Body.Sink.taken c.in-Err-Failed.fault broken)
+    (sym c.in-Err-Failed.fault-is) (turn_broken g.A.Responder.answers (g.R.Read.remaining c.args.input.now) (g.W.Write.contents c.args.output.now) c.args.state.now (g.R.Read.remaining c.messages.input) (g.R.Read.remaining c.receive_next.new.input) (g.W.Write.contents c.messages.output) c.messages.buffer.items c.receive_next.new.buffer.items c.messages.state c.messages.state c.messages.count c.messages.invariant g.A.Responder.decides g.A.Body.Keeper.kept g.A.Body.Keeper.may_be c.in-Err-Failed.fault broken)
 
 pub returns-in-Err-Silent : goal.returns-in-Err-Silent
 returns-in-Err-Silent g c =

@@ -1,25 +1,43 @@
-use Rattle.std.proofs.Common.{◌≡◌, ◌++◌, IsSome, subst, ap, ◌∙◌}
-use Rattle.intake.specs.Arriving.{appended}
-use Rattle.wire_requests.proofs.Parting.{more_parted, more_bytes, spent_parted}
+use Rattle.std.proofs.Common.{rules, ◌≡◌, ◌<◌, ◌++◌, ℕ, List, length, IsSome, subst, ap, ◌∙◌}
+use Rattle.intake.specs.Arriving.{appended, bytes_in}
+use Rattle.wire_requests.specs.Left.{IsLeftOf}
+use Rattle.wire_requests.proofs.Parting.{more_parted, more_bytes, lines_parted, lines_bytes, refused_lines, on_err}
 use Rattle.wire_requests.proofs.parted.Parted.push.Goals as goal
 
-pub invariant_of-self-in_err-push : goal.invariant_of-self-in_err-push
-invariant_of-self-in_err-push c =
-    spent_parted (c.self.inside.front ++ c.args.piece.now) c.take.new.self c.push.new.self c.in_ok-rest.ensures.front c.in_err-push.ensures.err
+pub invariant_of-self-then-is_empty : goal.invariant_of-self-then-is_empty
+invariant_of-self-then-is_empty c =
+    let rest = c.in-Ok.rest.now in
+    let none : length rest ≡ 0 = search rules in
+    lines_parted c.self.inside.front c.args.piece.now c.take.new.self rest (bytes_in c.self.inside.archive) c.self.invariant c.in-Ok.ensures.front c.in-Ok.ensures.rest none
+
+pub returns-then-is_empty-clause-ok : goal.returns-then-is_empty-clause-ok
+returns-then-is_empty-clause-ok c =
+    let rest = c.in-Ok.rest.now in
+    let none : length rest ≡ 0 = search rules in
+    lines_bytes c.self.inside.front c.args.piece.now c.take.new.self rest (bytes_in c.self.inside.archive) c.self.invariant c.in-Ok.ensures.front c.in-Ok.ensures.rest none
+    ∙ ap (λ t. t ++ c.args.piece.now) c.self.view_is
+
+pub returns-in_err-push-clause-err : goal.returns-in_err-push-clause-err
+returns-in_err-push-clause-err c =
+    let rest = c.in-Ok.rest.now in
+    let some : 0 < length rest = search rules in
+    on_err ((more : List ℕ) → IsLeftOf (c.take.new.self ++ bytes_in c.push.new.self) ((c.args.self.now ++ c.args.piece.now) ++ more)) c.from_residual.result (λ more.
+    refused_lines c.args.self.now c.self.inside.front c.args.piece.now c.take.new.self rest more c.self.inside.archive c.push.new.self
+    c.self.view_is c.self.invariant c.in-Ok.ensures.front c.in-Ok.ensures.rest some c.in_err-push.ensures.err)
 
 pub invariant_of-self-2 : goal.invariant_of-self-2
 invariant_of-self-2 c =
     let old = c.self.inside in
-    let rest = c.in_ok-rest.rest.now in
+    let rest = c.in-Ok.rest.now in
     let sent = subst (λ i. (c.push.new.self ≡ appended i rest) × IsSome i) c.begin-self-inside.ensures c.in_ok-push.ensures.ok in
     more_parted old.front c.args.piece.now c.take.new.self rest old.archive c.push.new.self
-    c.self.invariant c.in_ok-rest.ensures.front c.in_ok-rest.ensures.rest sent.0 sent.1
+    c.self.invariant c.in-Ok.ensures.front c.in-Ok.ensures.rest sent.0 sent.1
 
-pub returns : goal.returns
-returns c =
+pub returns-clause-ok : goal.returns-clause-ok
+returns-clause-ok c =
     let old = c.self.inside in
-    let rest = c.in_ok-rest.rest.now in
+    let rest = c.in-Ok.rest.now in
     let sent = subst (λ i. (c.push.new.self ≡ appended i rest) × IsSome i) c.begin-self-inside.ensures c.in_ok-push.ensures.ok in
     more_bytes old.front c.args.piece.now c.take.new.self rest old.archive c.push.new.self
-    c.self.invariant c.in_ok-rest.ensures.front c.in_ok-rest.ensures.rest sent.0 sent.1
+    c.self.invariant c.in-Ok.ensures.front c.in-Ok.ensures.rest sent.0 sent.1
     ∙ ap (λ t. t ++ c.args.piece.now) c.self.view_is

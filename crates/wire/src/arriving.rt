@@ -1,0 +1,22 @@
+//! Bodies on their way in.
+ghost use Rattle.wire_requests.specs.Left.{IsLeftOf};
+
+use std::alloc::AllocError;
+use wire_messages::Keeper;
+use wire_requests::Body;
+
+/// The body of a message, as it comes.
+#[derive(Drop)]
+pub(crate) struct Arriving {
+    pub body: Body,
+}
+
+impl Keeper for Arriving {
+    ghost kept = { λ it. it.body };
+
+    ghost may_be = { λ it all. IsLeftOf it.body all };
+
+    fn keep(&mut self, piece: &[u8]) -> Result<(), AllocError> {
+        self.body.push(piece)
+    }
+}

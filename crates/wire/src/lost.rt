@@ -1,0 +1,90 @@
+//! Messages for whose body memory was refused.
+ghost use Rattle.std.specs.Prelude.{◌≡◌, IfOk, IfSome, List, ℕ, None};
+ghost use Rattle.policy.specs.Operation.{operation_of};
+ghost use Rattle.store_types.specs.View.{reply_view};
+ghost use Rattle.wire_server.specs.Responses.{replied};
+ghost use Rattle.wire_requests.specs.Left.{IsLeftOf};
+ghost use Rattle.wire_requests.specs.Reads.{AsksNothing};
+ghost use Rattle.wire_requests.specs.declared.error.AskError.TheVariants.{BadBodyHead};
+ghost use Rattle.wire.specs.Lost as spec;
+ghost use Rattle.wire.specs.Replies.{response_to};
+
+use crate::replies::respond;
+use paths::StoreDir;
+use policy::{Caller, Config, Op, class, decide, store_dir};
+use std::alloc::{AllocError, Global};
+use store_types::{Failed, Reply};
+use wire_requests::{AskError, Body, Kind, left_address, part};
+use wire_server::Response;
+
+/// What the rules ask of a request, as far as its kind and its target tell.
+pub(crate) fn operation_at<'t>(kind: Kind, target: &'t str) -> Op<'t>
+    ensures { operation_of result ≡ spec.operation_at kind target.now }
+{
+    match kind {
+        Kind::Import => Op::Import { has_address: true },
+        Kind::SetPermanent => Op::SetPermanent,
+        Kind::DropPermanent => Op::DropPermanent,
+        Kind::SetUserRoot => Op::SetUserRoot(part(target, 3)),
+        Kind::DropUserRoot => Op::DropUserRoot(part(target, 3)),
+        Kind::SetProfile => Op::SetProfile(part(target, 2)),
+        Kind::Rollback => Op::Rollback(part(target, 2)),
+        Kind::Switch => Op::Switch(part(target, 2)),
+        Kind::DeleteGeneration => Op::DeleteGeneration(part(target, 2)),
+        Kind::AddTemp => Op::AddTemporary(part(target, 2)),
+        Kind::EndSession => Op::EndSession(part(target, 2)),
+        Kind::ReplaceRuntime => Op::ReplaceRuntime,
+        Kind::Collect => Op::Collect {
+            ignores_liveness: false,
+        },
+        Kind::Delete => Op::Delete {
+            ignores_liveness: false,
+        },
+        Kind::AddText | Kind::AddSource | Kind::Info | Kind::Nar | Kind::Ls => Op::Plain,
+        Kind::RootsOf | Kind::List | Kind::ListRoots | Kind::Live => Op::Plain,
+        Kind::Dead | Kind::Report => Op::Plain,
+    }
+}
+
+/// The same by the lines too that are left of the body. Nothing where these are there and ask nothing.
+pub(crate) fn operation_left<'t>(
+    alloc: Global,
+    dir: &StoreDir,
+    kind: Kind,
+    target: &'t str,
+    body: &Body,
+) -> Option<Op<'t>>
+    ensures some { IfSome result (λ op. (all : List ℕ) → IsLeftOf body.now all → spec.AsksOfRules dir.now kind target.now all (operation_of op)) }
+    ensures none { result ≡ None → (all : List ℕ) → IsLeftOf body.now all → AsksNothing dir.now kind target.now all BadBodyHead }
+{
+    let Kind::Import = kind else {
+        return Some(operation_at(kind, target));
+    };
+    match left_address(alloc, dir, body) {
+        Ok(Some(has_address)) => Some(Op::Import { has_address }),
+        Err(AskError::BadBodyHead) => None,
+        _ => Some(operation_at(kind, target)),
+    }
+}
+
+/// The reply to what is lost: the first rule that is known to forbid it, or out of memory.
+fn lost_reply(config: &Config, caller: &Caller, op: &Op<'_>) -> Reply
+    ensures { reply_view result ≡ spec.lost_reply config.now caller.now (operation_of op.now) }
+{
+    match decide(class(config, caller), caller, op) {
+        Some(rule) => Reply::Denied(rule, None),
+        None => Reply::Failed(Failed::Memory),
+    }
+}
+
+/// The response to a message for whose body memory was refused, by what the rules ask.
+pub(crate) fn respond_lost(
+    alloc: Global,
+    config: &Config,
+    caller: &Caller,
+    op: &Op<'_>,
+) -> Result<Response, AllocError>
+    ensures { IfOk result (λ r. replied r ≡ response_to config.now.store_dir (spec.lost_reply config.now caller.now (operation_of op.now))) }
+{
+    respond(alloc, store_dir(config), lost_reply(config, caller, op))
+}

@@ -1,0 +1,18 @@
+//! What keeps bodies.
+ghost use Rattle.std.specs.Prelude.{◌≡◌, ◌++◌, ℕ, List, OnOk, OnErr};
+
+use std::alloc::AllocError;
+
+/// Keeps the body of a message as it comes, and may be refused memory for it.
+pub trait Keeper {
+    /// All bytes that were kept.
+    ghost kept: { Self → List ℕ };
+
+    /// A body, for which memory was refused, may be that, by all that is still known of it.
+    ghost may_be: { Self → List ℕ → Type 0 };
+
+    /// Keeps one more piece, or says that memory was refused. Then the body may be whatever begins with all that came.
+    fn keep(&mut self, piece: &[u8]) -> Result<(), AllocError>
+        ensures kept { OnOk result (kept self.new ≡ kept self.old ++ piece.now) }
+        ensures lost { OnErr result ((more : List ℕ) → may_be self.new ((kept self.old ++ piece.now) ++ more)) };
+}

@@ -1,0 +1,127 @@
+//! Bodies that are kept as they come. Where memory is refused for one, the rest of it is read all the same.
+ghost use Rattle.std.specs.Prelude.{◌≡◌, ◌≤◌, ◌<◌, ◌++◌, ℕ, List, Ok, IfErr, length};
+ghost use Rattle.wire_messages.specs.Bodies.{KeepsBody, KeepsOn, KeepsRest, ReadsRest, has_come};
+
+use crate::body::{PIECE, pass_rest};
+use crate::error::ReceiveError;
+use crate::head::Head;
+use crate::keeper::Keeper;
+use std::io::Read;
+
+/// What became of a body.
+#[derive(Clone, Copy, Debug, PartialEq, Eq)]
+pub enum Fate {
+    /// All of it, and it was kept.
+    Kept,
+    /// All of it, and memory was refused for it.
+    Lost,
+    /// The input ended inside it.
+    Short,
+}
+
+/// What one read brought.
+#[derive(Clone, Copy)]
+pub(crate) enum Piece {
+    /// So many bytes, which were kept.
+    Kept(usize),
+    /// So many bytes, for which memory was refused.
+    Lost(usize),
+    /// Nothing: the input was at its end.
+    End,
+    /// Nothing: the reader failed.
+    Failed,
+}
+
+/// One read into a window, whose bytes are kept.
+fn keep_next<R: Read, K: Keeper>(input: &mut R, window: &mut [u8], body: &mut K) -> Piece
+    requires { 0 < length window.old }
+    ensures { KeepsOn (length window.old) (R.remaining input.old) (R.remaining input.new) (K.kept body.old) (K.kept body.new) (K.may_be body.new) result }
+{
+    let count = match input.read(window) {
+        Ok(count) => count,
+        Err(_) => return Piece::Failed,
+    };
+    if count == 0 {
+        return Piece::End;
+    }
+    match body.keep(&window[..count]) {
+        Ok(()) => Piece::Kept(count),
+        Err(_) => Piece::Lost(count),
+    }
+}
+
+/// Reads the bytes that are missing of a body for which memory was refused.
+fn pass_lost<R: Read>(input: &mut R, left: usize) -> Result<Fate, ReceiveError>
+    ensures came { (read : List ℕ) × ReadsRest (R.remaining input.old) (R.remaining input.new) left read (has_come result) }
+    ensures kept { result ≡ Ok Fate.Kept → ⊥ }
+    ensures fault { IfErr result (λ e. e ≡ ReceiveError.Read) }
+{
+    match pass_rest(input, left) {
+        Ok(true) => Ok(Fate::Lost),
+        Ok(false) => Ok(Fate::Short),
+        Err(fault) => Err(fault),
+    }
+}
+
+/// Keeps a number of bytes as they come.
+fn keep_out<R: Read, K: Keeper>(
+    input: &mut R,
+    size: usize,
+    body: &mut K,
+) -> Result<Fate, ReceiveError>
+    ensures came { KeepsRest (R.remaining input.old) (R.remaining input.new) size (K.kept body.old) (K.kept body.new) (K.may_be body.new) result }
+    ensures fault { IfErr result (λ e. e ≡ ReceiveError.Read) }
+{
+    let mut window = [0; PIECE];
+    let mut left = size;
+    'reads: while left > 0 {
+        let room = left.min(PIECE);
+        match keep_next(input, &mut window[..room], body) {
+            Piece::Kept(count) => left -= count,
+            Piece::Lost(count) => return pass_lost(input, left - count),
+            Piece::End => return Ok(Fate::Short),
+            Piece::Failed => return Err(ReceiveError::Read),
+        }
+    }
+    Ok(Fate::Kept)
+}
+
+/// Keeps the bytes that are missing of a body, as they come. Where none is missing nothing is read, and no window is made.
+fn keep_rest<R: Read, K: Keeper>(
+    input: &mut R,
+    left: usize,
+    body: &mut K,
+) -> Result<Fate, ReceiveError>
+    ensures came { KeepsRest (R.remaining input.old) (R.remaining input.new) left (K.kept body.old) (K.kept body.new) (K.may_be body.new) result }
+    ensures fault { IfErr result (λ e. e ≡ ReceiveError.Read) }
+{
+    if left == 0 {
+        return Ok(Fate::Kept);
+    }
+    keep_out(input, left, body)
+}
+
+/// Keeps the body, of a given length, that follows a head: what of it is held, and the rest as it arrives. Where memory is refused for
+/// it, what follows is read all the same and let go. What became of it. Nothing is read beyond it.
+///
+/// # Errors
+///
+/// `Read` where the reader failed.
+pub fn receive_body<R: Read, K: Keeper>(
+    input: &mut R,
+    held: &[u8],
+    head: &Head,
+    size: usize,
+    body: &mut K,
+) -> Result<Fate, ReceiveError>
+    requires { head.now.spans.len ≤ length held.now }
+    ensures came { KeepsBody (R.remaining input.old) (R.remaining input.new) held.now head.now.spans.len size (K.kept body.old) (K.kept body.new) (K.may_be body.new) result }
+    ensures fault { IfErr result (λ e. e ≡ ReceiveError.Read) }
+{
+    let behind = &held[head.spans.len..];
+    let (first, _) = behind.split_at(size.min(behind.len()));
+    match body.keep(first) {
+        Ok(()) => keep_rest(input, size - first.len(), body),
+        Err(_) => pass_lost(input, size - first.len()),
+    }
+}

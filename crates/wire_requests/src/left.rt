@@ -1,0 +1,34 @@
+//! What is still known of a body for which memory was refused.
+ghost use Rattle.std.specs.Prelude.{◌≡◌, Err, IfOk, IfSome, List, ℕ, is_some};
+ghost use Rattle.wire_bodies.specs.Bodies.{IsImportBody};
+ghost use Rattle.wire_bodies.specs.Prefix.{rest_of};
+ghost use Rattle.wire_bodies.specs.declared.import.ImportHead.{ImportHead as ImportOf};
+ghost use Rattle.wire_requests.specs.Left.{IsLeftOf};
+
+use crate::body::Body;
+use crate::error::AskError;
+use paths::StoreDir;
+use std::alloc::Global;
+use wire_bodies::BodyError;
+
+/// Whether an import is of an object with a content address, by the lines that are left of its body. Nothing where none is left.
+///
+/// # Errors
+///
+/// `BadBodyHead` where lines are left and no import begins with them, and `Memory`.
+pub fn left_address(alloc: Global, dir: &StoreDir, body: &Body) -> Result<Option<bool>, AskError>
+    ensures ok { IfOk result (λ told. IfSome told (λ has. (all : List ℕ) → IsLeftOf body.now all
+        → (head : ImportOf) × IsImportBody dir.now all head (rest_of all) × (is_some head.ca ≡ has))) }
+    ensures bad { result ≡ Err AskError.BadBodyHead → (all : List ℕ) → IsLeftOf body.now all
+        → (head : ImportOf) (nar : List ℕ) → IsImportBody dir.now all head nar → ⊥ }
+{
+    let lines = body.lines();
+    if lines.is_empty() {
+        return Ok(None);
+    }
+    match wire_bodies::import_body(alloc, dir, lines) {
+        Ok((head, _)) => Ok(Some(head.ca.is_some())),
+        Err(BodyError::BadBodyHead) => Err(AskError::BadBodyHead),
+        Err(BodyError::Memory) => Err(AskError::Memory),
+    }
+}
