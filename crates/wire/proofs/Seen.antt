@@ -8,6 +8,7 @@ use Rattle.sqlite.specs.Held.{Held, state}
 use Rattle.policy.specs.Settings.{Settings}
 use Rattle.model.specs.World.{World}
 use Rattle.tables.specs.Kept.{HasWorld}
+use Rattle.tables.proofs.Kept.{clean_before}
 use Rattle.store.specs.View.{StoreView}
 use Rattle.store.proofs.Clean.{step_clean}
 use Rattle.wire_server.specs.Responses.{Replied}
@@ -15,95 +16,134 @@ use Rattle.wire.specs.Courses.{Course, replies, calls, HasCourse}
 use Rattle.wire.specs.Answers.{Answers, Ends}
 use Rattle.wire_server.specs.declared.error.WireError.{WireError}
 use Rattle.wire_server.specs.Serves.{Served}
+use Rattle.wire_server.specs.ServesAll.{ServesOn}
 use Rattle.wire_server.specs.Sessions.{result_of}
 use Rattle.wire_server.proofs.Seen.{served_seen, serves_on_seen}
-use Rattle.wire.specs.Worlds.{AnswersFrom, AnswersSome}
-use Rattle.wire.specs.Ends.{ServesStreams, ServesPort, ServesOver}
+use Rattle.wire.specs.Worlds.{AnswersFrom, AnswersSome, LeadsWorlds}
+use Rattle.wire.specs.Ends.{EndsStreams, EndsPort, ServesStreams, ServesPort, ServesOver, ServedByWorlds, ServesByWorlds}
 
 module _ {S : Type 0} (g : Ghosts S) where
   -- tables that tell a world, under these settings
   abbrev pub IsAt : Settings → StoreView S → World → Type 0
   IsAt s st w = HasWorld g st.tables w × (st.settings ≡ s)
 
-  step_from : ((held : Held S) → HasCleanDisk (state g held)) → (old new : StoreView S) (w : World) (h : RequestHead) (body : List ℕ) (r : Replied) (course : Course) → HasWorld g old.tables w
-      → HasCourse old.settings h body course → Ends g course old r new → (next : World) × IsAt old.settings new next × AnswersFrom old.settings w h body r next
-  step_from clean old new w h body r (replies it) told takes (is, stays) =
-      (w, (subst (λ st. HasWorld g st.tables w) (sym stays) told, ap (λ st. st.settings) stays), (replies it, takes, (is, refl)))
-  step_from clean old new w h body r (calls c q) told takes (reply, is, said) =
-      let one = is.step w told in
-      let step = step_clean (HasCleanDisk (state g new.tables.connection)) old.settings w c q reply one.0 (λ _. clean new.tables.connection) one.1 in
-      (one.0, (one.2, is.settings), (calls c q, takes, (reply, step, said)))
+  abbrev pub IsClean : StoreView S → Type 0
+  IsClean st = HasCleanDisk (state g st.tables.connection)
 
-  answer_from : ((held : Held S) → HasCleanDisk (state g held)) → (s : Settings) (old : StoreView S) (w : World) (h : RequestHead) (body : List ℕ) (r : Replied) (new : StoreView S) → IsAt s old w → Answers g old h body r new
-      → (next : World) × IsAt s new next × AnswersFrom s w h body r next
-  answer_from clean s old w h body r new (told, same) (course, takes, ends) =
-      subst (λ t. (next : World) × IsAt t new next × AnswersFrom t w h body r next) same (step_from clean old new w h body r course told takes ends)
+  step_from : (old new : StoreView S) (w : World) (h : RequestHead) (body : List ℕ) (r : Replied) (course : Course) → HasWorld g old.tables w
+      → HasCourse old.settings h body course → Ends g course old r new → (next : World) × IsAt old.settings new next × (IsClean new → IsClean old × AnswersFrom old.settings w h body r next)
+  step_from old new w h body r (replies it) told takes (is, stays) =
+      (w, (subst (λ st. HasWorld g st.tables w) (sym stays) told, ap (λ st. st.settings) stays), λ clean. (subst IsClean stays clean, (replies it, takes, (is, refl))))
+  step_from old new w h body r (calls c q) told takes (reply, is, said) =
+      let one = is.step w told in (
+        one.0,
+        (one.2, is.settings),
+        λ clean.
+            let step = step_clean (IsClean new) old.settings w c q reply one.0 (λ _. clean) one.1 in
+            (clean_before _ _ _ (is.survives w told) clean, (calls c q, takes, (reply, step, said))),
+      )
+
+  answer_from : (s : Settings) (old : StoreView S) (w : World) (h : RequestHead) (body : List ℕ) (r : Replied) (new : StoreView S) → IsAt s old w → Answers g old h body r new
+      → (next : World) × IsAt s new next × (IsClean new → IsClean old × AnswersFrom s w h body r next)
+  answer_from s old w h body r new (told, same) (course, takes, ends) =
+      subst (λ t. (next : World) × IsAt t new next × (IsClean new → IsClean old × AnswersFrom t w h body r next)) same (step_from old new w h body r course told takes ends)
 
   -- no more than the settings
   abbrev pub IsUnder : Settings → StoreView S → Unit {0} → Type 0
   IsUnder s st none = st.settings ≡ s
 
+  -- of any store
+  abbrev pub IsAny : StoreView S → Type 0
+  IsAny st = Unit {0}
+
   step_some : (old new : StoreView S) (h : RequestHead) (body : List ℕ) (r : Replied) (course : Course)
-      → HasCourse old.settings h body course → Ends g course old r new → (next : Unit {0}) × IsUnder old.settings new next × AnswersSome old.settings tt h body r next
-  step_some old new h body r (replies it) takes (is, stays) = (tt, ap (λ st. st.settings) stays, (replies it, takes, is))
-  step_some old new h body r (calls c q) takes (reply, is, said) = (tt, is.settings, (calls c q, takes, (reply, said)))
+      → HasCourse old.settings h body course → Ends g course old r new → (next : Unit {0}) × IsUnder old.settings new next × (IsAny new → IsAny old × AnswersSome old.settings tt h body r next)
+  step_some old new h body r (replies it) takes (is, stays) = (tt, ap (λ st. st.settings) stays, λ _. (tt, (replies it, takes, is)))
+  step_some old new h body r (calls c q) takes (reply, is, said) = (tt, is.settings, λ _. (tt, (calls c q, takes, (reply, said))))
 
   answer_some : (s : Settings) (old : StoreView S) (none : Unit {0}) (h : RequestHead) (body : List ℕ) (r : Replied) (new : StoreView S) → IsUnder s old none
-      → Answers g old h body r new → (next : Unit {0}) × IsUnder s new next × AnswersSome s none h body r next
+      → Answers g old h body r new → (next : Unit {0}) × IsUnder s new next × (IsAny new → IsAny old × AnswersSome s none h body r next)
   answer_some s old none h body r new same (course, takes, ends) =
-      subst (λ t. (next : Unit {0}) × IsUnder t new next × AnswersSome t tt h body r next) same (step_some old new h body r course takes ends)
+      subst (λ t. (next : Unit {0}) × IsUnder t new next × (IsAny new → IsAny old × AnswersSome t tt h body r next)) same (step_some old new h body r course takes ends)
+
+  module _ (old new : StoreView S) (known out out' : Option (List ℕ)) (result : Result ℕ WireError) (served : Served (Answers g) known out out' old new result) where
+    pub served_from : LeadsWorlds g old new (λ w next. Served (AnswersFrom old.settings) known out out' w next result)
+    served_from w told =
+        let more = served_seen (Answers g) (AnswersFrom old.settings) (IsAt old.settings) IsClean (answer_from old.settings) known out out' old w new result (told, refl) served in
+        (more.0, more.1.0, λ clean. (more.2 clean).1)
+
+    pub served_some : Served (AnswersSome old.settings) known out out' tt tt result
+    served_some =
+        let more = served_seen (Answers g) (AnswersSome old.settings) (IsUnder old.settings) IsAny (answer_some old.settings) known out out' old tt new result refl served in
+        (more.2 tt).1
+
+    pub served_settings : new.settings ≡ old.settings
+    served_settings = (served_seen (Answers g) (AnswersSome old.settings) (IsUnder old.settings) IsAny (answer_some old.settings) known out out' old tt new result refl served).1
+
+  module _ (old new : StoreView S) (n : ℕ) (err err' : Option (List ℕ)) (result : Result ℕ Error) (served : ServesOn (Answers g) n None None None None err err' old new result) where
+    serves_from : LeadsWorlds g old new (λ w next. ServesOn (AnswersFrom old.settings) n None None None None err err' w next result)
+    serves_from w told =
+        let more = serves_on_seen (Answers g) (AnswersFrom old.settings) (IsAt old.settings) IsClean (answer_from old.settings) None None None None err err' old w new (told, refl) n result served in
+        (more.0, more.1.0, λ clean. (more.2 clean).1)
+
+    serves_some : (new.settings ≡ old.settings) × ServesOn (AnswersSome old.settings) n None None None None err err' tt tt result
+    serves_some =
+        let more = serves_on_seen (Answers g) (AnswersSome old.settings) (IsUnder old.settings) IsAny (answer_some old.settings) None None None None err err' old tt new refl n result served in
+        (more.1, (more.2 tt).1)
+
+  -- over connections that come one after another the settings stay
+  pub over_settings : (old new : StoreView S) (n : ℕ) (err err' : Option (List ℕ)) (result : Result ℕ Error) → ServesOver (Answers g) n err err' old new result → new.settings ≡ old.settings
+  over_settings old new n err err' result (inl served) = (serves_some old new n err err' result served).0
+  over_settings old new n err err' result (inr (fault, same, kept)) = ap (λ st. st.settings) same
+
+  pub over_from : (old new : StoreView S) (n : ℕ) (err err' : Option (List ℕ)) (result : Result ℕ Error) → ServesOver (Answers g) n err err' old new result
+      → LeadsWorlds g old new (λ w next. ServesOver (AnswersFrom old.settings) n err err' w next result)
+  over_from old new n err err' result (inl served) w told =
+      let more = serves_from old new n err err' result served w told in
+      (more.0, more.1, λ clean. inl (more.2 clean))
+  over_from old new n err err' result (inr (fault, same, kept)) w told = (w, subst (λ st. HasWorld g st.tables w) (sym same) told, λ clean. inr (fault, refl, kept))
 
   module _ (old : StoreView S) (known out out' err err' : Option (List ℕ)) (status : ℕ) (served : ServesStreams (Answers g) known out out' err err' old status) where
+    pub streams_steps : EndsStreams (ServedByWorlds g known out out') out out' err err' old status
+    streams_steps = elim served [
+      | inl lacks ↦ inl lacks
+      | inr (end, new, is, says, ends) ↦ inr (end, new, (is, served_from old new known out out' (result_of end) is), says, ends)
+    ]
+
     pub streams_from : ((held : Held S) → HasCleanDisk (state g held)) → (w : World) → HasWorld g old.tables w → ServesStreams (AnswersFrom old.settings) known out out' err err' w status
     streams_from clean w told = elim served [
       | inl lacks ↦ inl lacks
       | inr (end, new, is, says, ends) ↦
-          let more = served_seen (Answers g) (AnswersFrom old.settings) (IsAt old.settings) (answer_from clean old.settings) known out out' old w new (result_of end) (told, refl) is in
-          inr (end, more.0, more.2, says, ends)
+          let more = served_from old new known out out' (result_of end) is w told in
+          inr (end, more.0, more.2 (clean new.tables.connection), says, ends)
     ]
 
     pub streams_some : ServesStreams (AnswersSome old.settings) known out out' err err' tt status
     streams_some = elim served [
       | inl lacks ↦ inl lacks
-      | inr (end, new, is, says, ends) ↦
-          let more = served_seen (Answers g) (AnswersSome old.settings) (IsUnder old.settings) (answer_some old.settings) known out out' old tt new (result_of end) refl is in
-          inr (end, more.0, more.2, says, ends)
+      | inr (end, new, is, says, ends) ↦ inr (end, tt, served_some old new known out out' (result_of end) is, says, ends)
     ]
 
-  module _ (old new : StoreView S) (known out out' : Option (List ℕ)) (result : Result ℕ WireError) (served : Served (Answers g) known out out' old new result) where
-    pub served_from : ((held : Held S) → HasCleanDisk (state g held)) → (w : World) → HasWorld g old.tables w
-        → (next : World) × HasWorld g new.tables next × Served (AnswersFrom old.settings) known out out' w next result
-    served_from clean w told =
-        let more = served_seen (Answers g) (AnswersFrom old.settings) (IsAt old.settings) (answer_from clean old.settings) known out out' old w new result (told, refl) served in
-        (more.0, more.1.0, more.2)
-
-    pub served_some : Served (AnswersSome old.settings) known out out' tt tt result
-    served_some = (served_seen (Answers g) (AnswersSome old.settings) (IsUnder old.settings) (answer_some old.settings) known out out' old tt new result refl served).2
-
-    pub served_settings : new.settings ≡ old.settings
-    served_settings = (served_seen (Answers g) (AnswersSome old.settings) (IsUnder old.settings) (answer_some old.settings) known out out' old tt new result refl served).1
-
-  -- the settings stay over connections that come one after another
-  pub over_settings : (old new : StoreView S) (n : ℕ) (err err' : Option (List ℕ)) (result : Result ℕ Error) → ServesOver (Answers g) n err err' old new result → new.settings ≡ old.settings
-  over_settings old new n err err' result (inl served) =
-      (serves_on_seen (Answers g) (AnswersSome old.settings) (IsUnder old.settings) (answer_some old.settings) None None None None err err' old tt new refl n result served).1
-  over_settings old new n err err' result (inr (fault, same, kept)) = ap (λ st. st.settings) same
-
   module _ (old : StoreView S) (n : ℕ) (err err' : Option (List ℕ)) (status : ℕ) (served : ServesPort (Answers g) n err err' old status) where
+    pub port_steps : EndsPort (ServesByWorlds g n err) err err' old status
+    port_steps = elim served [
+      | inl lacks ↦ inl lacks
+      | inr (inl taken) ↦ inr (inl taken)
+      | inr (inr (new, result, said, is, ends)) ↦ inr (inr (new, result, said, (is, serves_from old new n err said result is), ends))
+    ]
+
     pub port_from : ((held : Held S) → HasCleanDisk (state g held)) → (w : World) → HasWorld g old.tables w → ServesPort (AnswersFrom old.settings) n err err' w status
     port_from clean w told = elim served [
       | inl lacks ↦ inl lacks
       | inr (inl taken) ↦ inr (inl taken)
-      | inr (inr (new, (result, said, is, ends))) ↦
-          let more = serves_on_seen (Answers g) (AnswersFrom old.settings) (IsAt old.settings) (answer_from clean old.settings) None None None None err said old w new (told, refl) n result is in
-          inr (inr (more.0, (result, said, more.2, ends)))
+      | inr (inr (new, result, said, is, ends)) ↦
+          let more = serves_from old new n err said result is w told in
+          inr (inr (more.0, result, said, more.2 (clean new.tables.connection), ends))
     ]
 
     pub port_some : ServesPort (AnswersSome old.settings) n err err' tt status
     port_some = elim served [
       | inl lacks ↦ inl lacks
       | inr (inl taken) ↦ inr (inl taken)
-      | inr (inr (new, (result, said, is, ends))) ↦
-          let more = serves_on_seen (Answers g) (AnswersSome old.settings) (IsUnder old.settings) (answer_some old.settings) None None None None err said old tt new refl n result is in
-          inr (inr (more.0, (result, said, more.2, ends)))
+      | inr (inr (new, result, said, is, ends)) ↦ inr (inr (tt, result, said, (serves_some old new n err said result is).1, ends))
     ]

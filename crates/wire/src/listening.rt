@@ -2,6 +2,7 @@
 ghost use Rattle.std.specs.Prelude.{◌≡◌};
 ghost use Rattle.wire.specs.Answers.{Answers};
 ghost use Rattle.wire.specs.Ends.{ServesOver};
+ghost use Rattle.wire.specs.Worlds.{AnswersFrom, LeadsWorlds};
 
 use crate::server::Server;
 use sqlite::Alter;
@@ -43,6 +44,9 @@ pub fn serve_on<C: Clock, S: Alter, E: Write>(
 ) -> io::Result<u32>
     ensures served { ServesOver (Answers S.Store) connections (E.contents errors.old) (E.contents errors.new) store.old store.new result }
     ensures settings { store.new.settings ≡ store.old.settings }
+    // Over a disk that is clean afterwards, each reply is that of a step.
+    ensures worlds { LeadsWorlds S.Store store.old store.new (λ w next.
+        ServesOver (AnswersFrom store.old.settings) connections (E.contents errors.old) (E.contents errors.new) w next result) }
 {
     match Server::new(alloc) {
         Ok(server) => {

@@ -7,7 +7,7 @@ ghost use Rattle.tables.specs.Kept.{HasWorld};
 ghost use Rattle.wire.specs.Answers.{Answers};
 ghost use Rattle.report.specs.Outputs.{Prints, change_of};
 ghost use Rattle.wire.specs.Worlds.{AnswersFrom, AnswersSome};
-ghost use Rattle.wire.specs.Ends.{ServesListener, ServesPort};
+ghost use Rattle.wire.specs.Ends.{EndsPort, ServesByWorlds, ServesListener, ServesPort};
 
 use crate::failures::{FAILED, NO_INPUT, NO_MEMORY, say};
 use crate::server::Server;
@@ -120,6 +120,9 @@ pub fn serve_port<
     requires { tables.dir ≡ config.store_dir }
     ensures served { ServesPort (Answers S.Store) connections (E.contents errors.old) (E.contents errors.new) (record { tables = tables; settings = config }) result }
     ensures worlds { ((h : Held S) → HasCleanDisk (state S.Store h)) → (w : World) → HasWorld S.Store tables w → ServesPort (AnswersFrom config) connections (E.contents errors.old) (E.contents errors.new) w result }
+    // Over a disk that is clean afterwards, each reply is that of a step.
+    ensures steps { EndsPort (ServesByWorlds S.Store connections (E.contents errors.old)) (E.contents errors.old) (E.contents errors.new)
+        (record { tables = tables; settings = config }) result }
     ensures replies { ServesPort (AnswersSome config) connections (E.contents errors.old) (E.contents errors.new) tt result }
 {
     serve(net, alloc, port, connections, config, tables, errors)

@@ -1,12 +1,8 @@
 //! A store that is lent, served on one connection.
 ghost use Rattle.std.specs.Prelude.{◌≡◌};
-ghost use Rattle.sqlite.specs.State.{HasCleanDisk};
-ghost use Rattle.sqlite.specs.Held.{Held, state};
-ghost use Rattle.model.specs.World.{World};
-ghost use Rattle.tables.specs.Kept.{HasWorld};
 ghost use Rattle.wire_server.specs.Serves.{Served};
 ghost use Rattle.wire.specs.Answers.{Answers};
-ghost use Rattle.wire.specs.Worlds.{AnswersFrom, AnswersSome};
+ghost use Rattle.wire.specs.Worlds.{AnswersFrom, AnswersSome, LeadsWorlds};
 
 use crate::server::Server;
 use sqlite::Alter;
@@ -40,9 +36,9 @@ pub fn serve<S: Alter, R: Read, W: Write>(
 ) -> Result<Count, WireError>
     ensures served { Served (Answers S.Store) (R.remaining input.old) (W.contents output.old) (W.contents output.new) store.old store.new result }
     ensures settings { store.new.settings ≡ store.old.settings }
-    ensures worlds { ((h : Held S) → HasCleanDisk (state S.Store h)) → (w : World) → HasWorld S.Store store.old.tables w
-        → (next : World) × HasWorld S.Store store.new.tables next
-        × Served (AnswersFrom store.old.settings) (R.remaining input.old) (W.contents output.old) (W.contents output.new) w next result }
+    // Over a disk that is clean afterwards, each reply is that of a step.
+    ensures worlds { LeadsWorlds S.Store store.old store.new (λ w next.
+        Served (AnswersFrom store.old.settings) (R.remaining input.old) (W.contents output.old) (W.contents output.new) w next result) }
     ensures replies { Served (AnswersSome store.old.settings) (R.remaining input.old) (W.contents output.old) (W.contents output.new) tt tt result }
 {
     match Server::new(alloc) {

@@ -8,7 +8,7 @@ ghost use Rattle.tables.specs.Kept.{HasWorld};
 ghost use Rattle.wire.specs.Answers.{Answers};
 ghost use Rattle.wire_server.specs.Sessions.{failure};
 ghost use Rattle.wire.specs.Worlds.{AnswersFrom, AnswersSome};
-ghost use Rattle.wire.specs.Ends.{ServesStreams};
+ghost use Rattle.wire.specs.Ends.{EndsStreams, ServedByWorlds, ServesStreams};
 
 use crate::failures::{FAILED, NO_MEMORY, say};
 use crate::server::Server;
@@ -83,6 +83,9 @@ pub fn serve_streams<S: Alter + Drop, R: Read, W: Write, E: Write>(
     ensures served { ServesStreams (Answers S.Store) (R.remaining input.old) (W.contents output.old) (W.contents output.new) (E.contents errors.old) (E.contents errors.new) (record { tables = tables; settings = config }) result }
     ensures worlds { ((h : Held S) → HasCleanDisk (state S.Store h)) → (w : World) → HasWorld S.Store tables w
         → ServesStreams (AnswersFrom config) (R.remaining input.old) (W.contents output.old) (W.contents output.new) (E.contents errors.old) (E.contents errors.new) w result }
+    // Over a disk that is clean afterwards, each reply is that of a step.
+    ensures steps { EndsStreams (ServedByWorlds S.Store (R.remaining input.old) (W.contents output.old) (W.contents output.new))
+        (W.contents output.old) (W.contents output.new) (E.contents errors.old) (E.contents errors.new) (record { tables = tables; settings = config }) result }
     ensures replies { ServesStreams (AnswersSome config) (R.remaining input.old) (W.contents output.old) (W.contents output.new) (E.contents errors.old) (E.contents errors.new) tt result }
 {
     serve(alloc, config, tables, input, output, errors)

@@ -13,95 +13,114 @@ use Rattle.wire_server.specs.Sessions.{result_of}
 use Rattle.wire_server.specs.ServesAll as server
 use Rattle.wire_server.specs.ServesAll.{Session, Follow, ServesOn}
 
--- each answer leads from what shows the old state to something that shows the new one
-module _ {S W : Type 0} (answers : S → RequestHead → List ℕ → Replied → S → Type 0) (seen : W → RequestHead → List ℕ → Replied → W → Type 0) (Shows : S → W → Type 0)
-    (step : (s : S) (w : W) (h : RequestHead) (body : List ℕ) (r : Replied) (new : S) → Shows s w → answers s h body r new → (w' : W) × Shows new w' × seen w h body r w') where
+-- Each answer leads from what shows the old state to something that shows the new one. What is seen of it is told where the new state is good, and then
+-- the old one was.
+module _ {S W : Type 0} (answers : S → RequestHead → List ℕ → Replied → S → Type 0) (seen : W → RequestHead → List ℕ → Replied → W → Type 0) (Shows : S → W → Type 0) (Good : S → Type 0)
+    (step : (s : S) (w : W) (h : RequestHead) (body : List ℕ) (r : Replied) (new : S) → Shows s w → answers s h body r new → (w' : W) × Shows new w' × (Good new → Good s × seen w h body r w')) where
+  -- something shows the new state; and where that is good, the old one was, and this is seen
+  abbrev Sees : S → S → (W → Type 0) → Type 0
+  Sees old new by = (w' : W) × Shows new w' × (Good new → Good old × by w')
+
   replies_seen : (old : S) (w : W) (items : List Item) (replies : List (List ℕ)) (new : S) → Shows old w → Replies answers old items replies new
-      → (w' : W) × Shows new w' × Replies seen w items replies w'
-  replies_seen old w [] [] new shows same = (w, subst (λ s. Shows s w) (sym same) shows, refl)
+      → Sees old new (λ w'. Replies seen w items replies w')
+  replies_seen old w [] [] new shows same = (w, subst (λ s. Shows s w) (sym same) shows, λ good. (subst Good same good, refl))
   replies_seen old w [] (reply ∷ replies) new shows none = absurd none
   replies_seen old w (message h body ∷ items) [] new shows none = absurd none
   replies_seen old w (faulty fault ∷ items) [] new shows none = absurd none
   replies_seen old w (message h body ∷ items) (reply ∷ replies) new shows (mid, r, answered, is, rest) =
       let one = step old w h body r mid shows answered in
       let more = replies_seen mid one.0 items replies new one.1 rest in
-      (more.0, more.1, (one.0, r, one.2, is, more.2))
+      (more.0, more.1, λ good. let after = more.2 good in let first = one.2 after.0 in (first.0, (one.0, r, first.1, is, after.1)))
   replies_seen old w (faulty fault ∷ items) (reply ∷ replies) new shows (is, rest) =
       let more = replies_seen old w items replies new shows rest in
-      (more.0, more.1, (is, more.2))
+      (more.0, more.1, λ good. let after = more.2 good in (after.0, (is, after.1)))
 
   -- one connection
   pub served_seen : (input output output' : Option (List ℕ)) (old : S) (w : W) (new : S) (result : Result ℕ WireError) → Shows old w
-      → Served answers input output output' old new result → (w' : W) × Shows new w' × Served seen input output output' w w' result
+      → Served answers input output output' old new result → Sees old new (λ w'. Served seen input output output' w w' result)
   served_seen input output output' old w new (Ok n) shows served =
       let more = replies_seen old w served.items served.replies new shows served.answered in (
         more.0,
         more.1,
-        record {
-          items = served.items;
-          replies = served.replies;
-          counted = served.counted;
-          front = served.front;
-          whole = served.whole;
-          answered = more.2;
-          written = served.written;
-        },
+        λ good.
+            let after = more.2 good in (
+              after.0,
+              record {
+                items = served.items;
+                replies = served.replies;
+                counted = served.counted;
+                front = served.front;
+                whole = served.whole;
+                answered = after.1;
+                written = served.written;
+              },
+            ),
       )
   served_seen input output output' old w new (Err fault) shows stopped =
       let more = replies_seen old w stopped.items stopped.replies new shows stopped.answered in (
         more.0,
         more.1,
-        record {
-          items = stopped.items;
-          replies = stopped.replies;
-          bytes = stopped.bytes;
-          front = stopped.front;
-          answered = more.2;
-          written = stopped.written;
-          appended = stopped.appended;
-        },
+        λ good.
+            let after = more.2 good in (
+              after.0,
+              record {
+                items = stopped.items;
+                replies = stopped.replies;
+                bytes = stopped.bytes;
+                front = stopped.front;
+                answered = after.1;
+                written = stopped.written;
+                appended = stopped.appended;
+              },
+            ),
       )
 
   rests_seen : (input output output' : Option (List ℕ)) (old : S) (w : W) (new : S) (count : ℕ) → Shows old w
-      → Rests answers input output output' old new count → (w' : W) × Shows new w' × Rests seen input output output' w w' count
+      → Rests answers input output output' old new count → Sees old new (λ w'. Rests seen input output output' w w' count)
   rests_seen input output output' old w new count shows rests =
       let more = replies_seen old w rests.items rests.replies new shows rests.answered in (
         more.0,
         more.1,
-        record {
-          items = rests.items;
-          replies = rests.replies;
-          counted = rests.counted;
-          front = rests.front;
-          answered = more.2;
-          written = rests.written;
-        },
+        λ good.
+            let after = more.2 good in (
+              after.0,
+              record {
+                items = rests.items;
+                replies = rests.replies;
+                counted = rests.counted;
+                front = rests.front;
+                answered = after.1;
+                written = rests.written;
+              },
+            ),
       )
 
   closes_seen : (input output output' : Option (List ℕ)) (old : S) (w : W) (new : S) (close : Close) → Shows old w
-      → Closes answers input output output' old new close → (w' : W) × Shows new w' × Closes seen input output output' w w' close
+      → Closes answers input output output' old new close → Sees old new (λ w'. Closes seen input output output' w w' close)
   closes_seen input output output' old w new (Ended end) shows served = served_seen input output output' old w new (result_of end) shows served
   closes_seen input output output' old w new (Idle count) shows rests = rests_seen input output output' old w new count shows rests
 
   -- connections one after another
   follow_seen : (old : S) (w : W) (err err' : Option (List ℕ)) (sessions : List Session) (new : S) → Shows old w → Follow answers old err sessions new err'
-      → (w' : W) × Shows new w' × Follow seen w err sessions w' err'
-  follow_seen old w err err' [] new shows (same, kept) = (w, subst (λ s. Shows s w) (sym same) shows, (refl, kept))
+      → Sees old new (λ w'. Follow seen w err sessions w' err')
+  follow_seen old w err err' [] new shows (same, kept) = (w, subst (λ s. Shows s w) (sym same) shows, λ good. (subst Good same good, (refl, kept)))
   follow_seen old w err err' (session ∷ sessions) new shows (fresh, mid, said, is, served, says, rest) =
       let one = closes_seen session.input fresh session.output old w mid session.close shows served in
       let more = follow_seen mid one.0 said err' sessions new one.1 rest in
-      (more.0, more.1, (fresh, one.0, said, is, one.2, says, more.2))
+      (more.0, more.1, λ good. let after = more.2 good in let first = one.2 after.0 in (first.0, (fresh, one.0, said, is, first.1, says, after.1)))
 
   module _ (waiting waiting' closed closed' : Option (List (List ℕ))) (err err' : Option (List ℕ)) (old : S) (w : W) (new : S) (shows : Shows old w) where
     sessions_seen : (sessions : List Session) → server.Serves answers waiting waiting' closed closed' err err' old new sessions
-        → (w' : W) × Shows new w' × server.Serves seen waiting waiting' closed closed' err err' w w' sessions
+        → Sees old new (λ w'. server.Serves seen waiting waiting' closed closed' err err' w w' sessions)
     sessions_seen sessions served =
         let more = follow_seen old w err err' sessions new shows served.followed in
-        (more.0, more.1, record { taken = served.taken; left = served.left; followed = more.2 })
+        (more.0, more.1, λ good. let after = more.2 good in (after.0, record { taken = served.taken; left = served.left; followed = after.1 }))
 
     pub serves_on_seen : (n : ℕ) (result : Result ℕ Error) → ServesOn answers n waiting waiting' closed closed' err err' old new result
-        → (w' : W) × Shows new w' × ServesOn seen n waiting waiting' closed closed' err err' w w' result
+        → Sees old new (λ w'. ServesOn seen n waiting waiting' closed closed' err err' w w' result)
     serves_on_seen n (Ok count) (sessions, served, all, counted) =
-        let more = sessions_seen sessions served in (more.0, more.1, (sessions, more.2, all, counted))
+        let more = sessions_seen sessions served in
+        (more.0, more.1, λ good. let after = more.2 good in (after.0, (sessions, after.1, all, counted)))
     serves_on_seen n (Err fault) (sessions, served, fewer) =
-        let more = sessions_seen sessions served in (more.0, more.1, (sessions, more.2, fewer))
+        let more = sessions_seen sessions served in
+        (more.0, more.1, λ good. let after = more.2 good in (after.0, (sessions, after.1, fewer)))

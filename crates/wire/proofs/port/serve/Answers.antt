@@ -7,11 +7,9 @@ pub returns-in-Ok : goal.returns-in-Ok
 returns-in-Ok g c = elim c.listen-status.ensures [
   | inl taken ↦ inr (inl taken)
   | inr served ↦
-      inr (inr (
-        c.listen-status.new.state,
-        subst (λ s. ServesListener (Answers g.S.Store) c.args.connections None None None None (g.E.Write.contents c.args.errors.now)
-            (g.E.Write.contents c.listen-status.new.errors) s c.listen-status.new.state c.listen-status.result) c.new-store.ensures served,
-      ))
+      let it = subst (λ s. ServesListener (Answers g.S.Store) c.args.connections None None None None (g.E.Write.contents c.args.errors.now)
+      (g.E.Write.contents c.listen-status.new.errors) s c.listen-status.new.state c.listen-status.result) c.new-store.ensures served in
+      inr (inr (c.listen-status.new.state, it.0, it.1, it.2, it.3))
 ]
 
 pub returns-in-Err : goal.returns-in-Err
