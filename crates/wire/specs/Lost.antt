@@ -17,7 +17,7 @@ use Rattle.wire_requests.specs.Table.{at_user_root, at_profile, at_rollback, at_
 use Rattle.wire_requests.specs.declared.kind.Kind.{Kind}
 use Rattle.wire_requests.specs.declared.kind.Kind.TheVariants as kinds
 
--- What the rules ask of a request, as far as its kind and its target tell: an import counts as one of an object with a content address,
+-- What the rules ask of a request, as far as its kind and its target say: an import counts as one of an object with a content address,
 -- and no flag to ignore liveness is set.
 abbrev pub operation_at : Kind → List ℕ → Operation
 operation_at kinds.Import target = operations.import_object true

@@ -25,7 +25,8 @@ fn refuse(
     refusal: Refusal,
     allow: Option<&'static str>,
 ) -> Result<Admission, AllocError>
-    ensures decides { IfOk result (λ it. admission_view it ≡ refuses (refused refusal (option_map (λ methods. methods.now) allow.entry))) }
+    ensures decides { IfOk result (λ it. admission_view it ≡ refuses (refused refusal (option_map (λ methods.
+        methods.now) allow.entry))) }
     ensures parameters { (target : List ℕ) → IfOk result (HasParameters target) }
 {
     Ok(Admission::Refused(Response::refused(alloc, refusal, allow)?))
@@ -48,8 +49,10 @@ fn on_method(
     found: Found,
     method: &[u8],
 ) -> Result<Admission, AllocError>
-    ensures decides { IfOk result (λ it. admission_view it ≡ by_method caller found.requests (kind_of found.requests method.now)) }
-    ensures parameters { (target : List ℕ) → AreParametersOf found.requests target found.parameters → IfOk result (HasParameters target) }
+    ensures decides { IfOk result (λ it. admission_view it ≡ by_method caller found.requests (kind_of found.requests
+        method.now)) }
+    ensures parameters { (target : List ℕ) → AreParametersOf found.requests target found.parameters
+        → IfOk result (HasParameters target) }
 {
     let Found {
         requests,
@@ -113,7 +116,8 @@ pub(crate) fn admit(
     head: &Head,
 ) -> Result<Admission, AllocError>
     requires { (h : RequestHead) × Holds held.now head.now h }
-    ensures decides { (h : RequestHead) → Holds held.now head.now h → IfOk result (λ it. admission_view it ≡ admission_of config.now h) }
+    ensures decides { (h : RequestHead) → Holds held.now head.now h
+        → IfOk result (λ it. admission_view it ≡ admission_of config.now h) }
     ensures parameters { (h : RequestHead) → Holds held.now head.now h → IfOk result (HasParameters h.target) }
 {
     match read_caller(alloc, held, head) {

@@ -13,7 +13,8 @@ pub(crate) const NO_INPUT: Failure = Failure::Input;
 
 /// Gives the line of a failure to a writer, whether or not it takes it, and answers the exit status.
 pub(crate) fn say<E: Write>(failure: Failure, errors: &mut E) -> u8
-    ensures { Prints (failure_line failure) 1 (record { writer = change_of E.contents errors.old errors.new; status = result }) }
+    ensures { Prints (failure_line failure) 1
+        (record { writer = change_of E.contents errors.old errors.new; status = result }) }
 {
     print(failure.line(), FAILED, errors)
 }

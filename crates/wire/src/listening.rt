@@ -42,7 +42,8 @@ pub fn serve_on<C: Clock, S: Alter, E: Write>(
     store: &mut Store<S>,
     errors: &mut E,
 ) -> io::Result<u32>
-    ensures served { ServesOver (Answers S.Store) connections (E.contents errors.old) (E.contents errors.new) store.old store.new result }
+    ensures served { ServesOver (Answers S.Store) connections (E.contents errors.old) (E.contents errors.new) store.old
+        store.new result }
     ensures settings { store.new.settings ≡ store.old.settings }
     // Over a disk that is clean afterwards, each reply is that of a step.
     ensures worlds { LeadsWorlds S.Store store.old store.new (λ w next.

@@ -17,7 +17,7 @@ use store_types::{Failed, Reply};
 use wire_requests::{AskError, Body, Kind, left_address, part};
 use wire_server::Response;
 
-/// What the rules ask of a request, as far as its kind and its target tell.
+/// What the rules ask of a request, as far as its kind and its target say.
 pub(crate) fn operation_at<'t>(kind: Kind, target: &'t str) -> Op<'t>
     ensures { operation_of result ≡ spec.operation_at kind target.now }
 {
@@ -54,8 +54,10 @@ pub(crate) fn operation_left<'t>(
     target: &'t str,
     body: &Body,
 ) -> Option<Op<'t>>
-    ensures some { IfSome result (λ op. (all : List ℕ) → IsLeftOf body.now all → spec.AsksOfRules dir.now kind target.now all (operation_of op)) }
-    ensures none { result ≡ None → (all : List ℕ) → IsLeftOf body.now all → AsksNothing dir.now kind target.now all BadBodyHead }
+    ensures some { IfSome result (λ op. (all : List ℕ) → IsLeftOf body.now all
+        → spec.AsksOfRules dir.now kind target.now all (operation_of op)) }
+    ensures none { result ≡ None → (all : List ℕ) → IsLeftOf body.now all
+        → AsksNothing dir.now kind target.now all BadBodyHead }
 {
     let Kind::Import = kind else {
         return Some(operation_at(kind, target));
@@ -84,7 +86,8 @@ pub(crate) fn respond_lost(
     caller: &Caller,
     op: &Op<'_>,
 ) -> Result<Response, AllocError>
-    ensures { IfOk result (λ r. replied r ≡ response_to config.now.store_dir (spec.lost_reply config.now caller.now (operation_of op.now))) }
+    ensures { IfOk result (λ r. replied r
+        ≡ response_to config.now.store_dir (spec.lost_reply config.now caller.now (operation_of op.now))) }
 {
     respond(alloc, store_dir(config), lost_reply(config, caller, op))
 }

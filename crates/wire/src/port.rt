@@ -30,7 +30,9 @@ fn serve_listener<L: Listener, E: Write, T, A: Responder<T>>(
     responder: &A,
     state: &mut T,
 ) -> u8
-    ensures { ServesListener A.answers connections (L.waiting listener.old) (L.waiting listener.new) (L.closed listener.old) (L.closed listener.new) (E.contents errors.old) (E.contents errors.new) state.old state.new result }
+    ensures { ServesListener A.answers connections (L.waiting listener.old) (L.waiting listener.new)
+        (L.closed listener.old) (L.closed listener.new) (E.contents errors.old) (E.contents errors.new) state.old
+        state.new result }
 {
     match wire_server::serve_on(alloc, listener, connections, errors, responder, state) {
         Ok(0) => 0,
@@ -49,7 +51,8 @@ fn listen<N: Net<Listener = TcpListener, Stream = TcpStream> + Clock, E: Write, 
     responder: &A,
     state: &mut T,
 ) -> u8
-    ensures { Prints (codes "failed: input\n") 1 (record { writer = change_of E.contents errors.old errors.new; status = result })
+    ensures { Prints (codes "failed: input\n") 1
+        (record { writer = change_of E.contents errors.old errors.new; status = result })
         ⊎ ServesListener A.answers connections None None None None (E.contents errors.old) (E.contents errors.new) state.old state.new result }
 {
     match TcpListener::bind(net, (Ipv4Addr::LOCALHOST, port)) {
@@ -72,7 +75,8 @@ fn serve<N: Net<Listener = TcpListener, Stream = TcpStream> + Clock, S: Alter + 
     errors: &mut E,
 ) -> u8
     requires { tables.dir ≡ config.store_dir }
-    ensures { ServesPort (Answers S.Store) connections (E.contents errors.old) (E.contents errors.new) (record { tables = tables; settings = config }) result }
+    ensures { ServesPort (Answers S.Store) connections (E.contents errors.old) (E.contents errors.new)
+        (record { tables = tables; settings = config }) result }
 {
     match Server::new(alloc) {
         Ok(server) => {
@@ -118,12 +122,16 @@ pub fn serve_port<
     errors: &mut E,
 ) -> u8
     requires { tables.dir ≡ config.store_dir }
-    ensures served { ServesPort (Answers S.Store) connections (E.contents errors.old) (E.contents errors.new) (record { tables = tables; settings = config }) result }
-    ensures worlds { ((h : Held S) → HasCleanDisk (state S.Store h)) → (w : World) → HasWorld S.Store tables w → ServesPort (AnswersFrom config) connections (E.contents errors.old) (E.contents errors.new) w result }
-    // Over a disk that is clean afterwards, each reply is that of a step.
-    ensures steps { EndsPort (ServesByWorlds S.Store connections (E.contents errors.old)) (E.contents errors.old) (E.contents errors.new)
+    ensures served { ServesPort (Answers S.Store) connections (E.contents errors.old) (E.contents errors.new)
         (record { tables = tables; settings = config }) result }
-    ensures replies { ServesPort (AnswersSome config) connections (E.contents errors.old) (E.contents errors.new) tt result }
+    ensures worlds { ((h : Held S) → HasCleanDisk (state S.Store h)) → (w : World) → HasWorld S.Store tables w
+        → ServesPort (AnswersFrom config) connections (E.contents errors.old) (E.contents errors.new) w result }
+    // Over a disk that is clean afterwards, each reply is that of a step.
+    ensures steps { EndsPort (ServesByWorlds S.Store connections (E.contents errors.old)) (E.contents errors.old)
+        (E.contents errors.new)
+        (record { tables = tables; settings = config }) result }
+    ensures replies { ServesPort (AnswersSome config) connections (E.contents errors.old) (E.contents errors.new) tt
+        result }
 {
     serve(net, alloc, port, connections, config, tables, errors)
 }

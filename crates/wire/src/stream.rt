@@ -40,7 +40,8 @@ fn serve<S: Alter + Drop, R: Read, W: Write, E: Write>(
     errors: &mut E,
 ) -> u8
     requires { tables.dir ≡ config.store_dir }
-    ensures { ServesStreams (Answers S.Store) (R.remaining input.old) (W.contents output.old) (W.contents output.new) (E.contents errors.old) (E.contents errors.new) (record { tables = tables; settings = config }) result }
+    ensures { ServesStreams (Answers S.Store) (R.remaining input.old) (W.contents output.old) (W.contents output.new)
+        (E.contents errors.old) (E.contents errors.new) (record { tables = tables; settings = config }) result }
 {
     match Server::new(alloc) {
         Ok(server) => {
@@ -80,13 +81,17 @@ pub fn serve_streams<S: Alter + Drop, R: Read, W: Write, E: Write>(
     errors: &mut E,
 ) -> u8
     requires { tables.dir ≡ config.store_dir }
-    ensures served { ServesStreams (Answers S.Store) (R.remaining input.old) (W.contents output.old) (W.contents output.new) (E.contents errors.old) (E.contents errors.new) (record { tables = tables; settings = config }) result }
+    ensures served { ServesStreams (Answers S.Store) (R.remaining input.old) (W.contents output.old)
+        (W.contents output.new) (E.contents errors.old) (E.contents errors.new)
+        (record { tables = tables; settings = config }) result }
     ensures worlds { ((h : Held S) → HasCleanDisk (state S.Store h)) → (w : World) → HasWorld S.Store tables w
         → ServesStreams (AnswersFrom config) (R.remaining input.old) (W.contents output.old) (W.contents output.new) (E.contents errors.old) (E.contents errors.new) w result }
     // Over a disk that is clean afterwards, each reply is that of a step.
-    ensures steps { EndsStreams (ServedByWorlds S.Store (R.remaining input.old) (W.contents output.old) (W.contents output.new))
+    ensures steps { EndsStreams (ServedByWorlds S.Store (R.remaining input.old) (W.contents output.old)
+        (W.contents output.new))
         (W.contents output.old) (W.contents output.new) (E.contents errors.old) (E.contents errors.new) (record { tables = tables; settings = config }) result }
-    ensures replies { ServesStreams (AnswersSome config) (R.remaining input.old) (W.contents output.old) (W.contents output.new) (E.contents errors.old) (E.contents errors.new) tt result }
+    ensures replies { ServesStreams (AnswersSome config) (R.remaining input.old) (W.contents output.old)
+        (W.contents output.new) (E.contents errors.old) (E.contents errors.new) tt result }
 {
     serve(alloc, config, tables, input, output, errors)
 }

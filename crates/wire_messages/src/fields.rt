@@ -82,7 +82,8 @@ pub fn length_of_body(buf: &[u8], head: &Head) -> Result<usize, Fault>
 /// Whether a field of this name has this value, both without regard to ASCII case.
 fn has_value(buf: &[u8], head: &Head, name: &[u8], value: &[u8]) -> bool
     requires { IsRequestWithin buf.now head.now.fields head.now.spans }
-    ensures { result ≡ list_any (λ v. str_eq_ignore_ascii_case v value.now) (values name.now (fields_at buf.now head.now)) }
+    ensures { result ≡ list_any (λ v. str_eq_ignore_ascii_case v value.now)
+        (values name.now (fields_at buf.now head.now)) }
 {
     let mut found = false;
     for field in &head.fields[..head.spans.headers] {
@@ -96,7 +97,8 @@ fn has_value(buf: &[u8], head: &Head, name: &[u8], value: &[u8]) -> bool
 /// Whether the connection is closed after a message.
 pub fn closes(buf: &[u8], head: &Head) -> bool
     requires { IsRequestWithin buf.now head.now.fields head.now.spans }
-    ensures { result ≡ ((head.now.spans.version == 0) || list_any (λ v. str_eq_ignore_ascii_case v (codes "close")) (values (codes "connection") (fields_at buf.now head.now))) }
+    ensures { result ≡ ((head.now.spans.version == 0) || list_any (λ v. str_eq_ignore_ascii_case v (codes "close"))
+        (values (codes "connection") (fields_at buf.now head.now))) }
 {
     head.spans.version == 0 || has_value(buf, head, b"connection", b"close")
 }

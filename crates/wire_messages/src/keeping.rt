@@ -22,9 +22,9 @@ pub enum Fate {
 /// What one read brought.
 #[derive(Clone, Copy)]
 pub(crate) enum Piece {
-    /// So many bytes, which were kept.
+    /// The count of bytes, which were kept.
     Kept(usize),
-    /// So many bytes, for which memory was refused.
+    /// The count of bytes, for which memory was refused.
     Lost(usize),
     /// Nothing: the input was at its end.
     End,
@@ -35,7 +35,8 @@ pub(crate) enum Piece {
 /// One read into a window, whose bytes are kept.
 fn keep_next<R: Read, K: Keeper>(input: &mut R, window: &mut [u8], body: &mut K) -> Piece
     requires { 0 < length window.old }
-    ensures { KeepsOn (length window.old) (R.remaining input.old) (R.remaining input.new) (K.kept body.old) (K.kept body.new) (K.may_be body.new) result }
+    ensures { KeepsOn (length window.old) (R.remaining input.old) (R.remaining input.new) (K.kept body.old)
+        (K.kept body.new) (K.may_be body.new) result }
 {
     let count = match input.read(window) {
         Ok(count) => count,
@@ -52,7 +53,8 @@ fn keep_next<R: Read, K: Keeper>(input: &mut R, window: &mut [u8], body: &mut K)
 
 /// Reads the bytes that are missing of a body for which memory was refused.
 fn pass_lost<R: Read>(input: &mut R, left: usize) -> Result<Fate, ReceiveError>
-    ensures came { (read : List ℕ) × ReadsRest (R.remaining input.old) (R.remaining input.new) left read (has_come result) }
+    ensures came { (read : List ℕ) × ReadsRest (R.remaining input.old) (R.remaining input.new) left read
+        (has_come result) }
     ensures kept { result ≡ Ok Fate.Kept → ⊥ }
     ensures fault { IfErr result (λ e. e ≡ ReceiveError.Read) }
 {
@@ -69,7 +71,8 @@ fn keep_out<R: Read, K: Keeper>(
     size: usize,
     body: &mut K,
 ) -> Result<Fate, ReceiveError>
-    ensures came { KeepsRest (R.remaining input.old) (R.remaining input.new) size (K.kept body.old) (K.kept body.new) (K.may_be body.new) result }
+    ensures came { KeepsRest (R.remaining input.old) (R.remaining input.new) size (K.kept body.old) (K.kept body.new)
+        (K.may_be body.new) result }
     ensures fault { IfErr result (λ e. e ≡ ReceiveError.Read) }
 {
     let mut window = [0; PIECE];
@@ -92,7 +95,8 @@ fn keep_rest<R: Read, K: Keeper>(
     left: usize,
     body: &mut K,
 ) -> Result<Fate, ReceiveError>
-    ensures came { KeepsRest (R.remaining input.old) (R.remaining input.new) left (K.kept body.old) (K.kept body.new) (K.may_be body.new) result }
+    ensures came { KeepsRest (R.remaining input.old) (R.remaining input.new) left (K.kept body.old) (K.kept body.new)
+        (K.may_be body.new) result }
     ensures fault { IfErr result (λ e. e ≡ ReceiveError.Read) }
 {
     if left == 0 {
@@ -115,7 +119,8 @@ pub fn receive_body<R: Read, K: Keeper>(
     body: &mut K,
 ) -> Result<Fate, ReceiveError>
     requires { head.now.spans.len ≤ length held.now }
-    ensures came { KeepsBody (R.remaining input.old) (R.remaining input.new) held.now head.now.spans.len size (K.kept body.old) (K.kept body.new) (K.may_be body.new) result }
+    ensures came { KeepsBody (R.remaining input.old) (R.remaining input.new) held.now head.now.spans.len size
+        (K.kept body.old) (K.kept body.new) (K.may_be body.new) result }
     ensures fault { IfErr result (λ e. e ≡ ReceiveError.Read) }
 {
     let behind = &held[head.spans.len..];

@@ -126,7 +126,8 @@ pub fn receive_head<R: Read>(
     buffer: &mut Vec<u8>,
 ) -> Result<Received, ReceiveError>
     requires { 0 < length window.old }
-    ensures { Receives Announces (R.remaining input.old) (R.remaining input.new) buffer.old.items buffer.new.items result }
+    ensures { Receives Announces (R.remaining input.old) (R.remaining input.new) buffer.old.items buffer.new.items
+        result }
 {
     let head = match receive_start(input, window, buffer) {
         Ok(Start::Begun(head)) => head,

@@ -36,7 +36,8 @@ fn without_prefix(mut bytes: Vec<u8>, n: usize) -> Vec<u8>
 fn text_prefix(alloc: Global, dir: &StoreDir, body: &[u8]) -> Result<(NamedHead, usize), BodyError>
     ensures within { IfOk result (λ add. add.1 ≤ length body.now) }
     ensures ok { IfOk result (λ add. IsNamedBody dir.now body.now add.0 (drop add.1 body.now)) }
-    ensures bad { result ≡ Err BodyError.BadBodyHead → (head : NamedOf) (contents : List ℕ) → IsNamedBody dir.now body.now head contents → ⊥ }
+    ensures bad { result ≡ Err BodyError.BadBodyHead → (head : NamedOf) (contents : List ℕ)
+        → IsNamedBody dir.now body.now head contents → ⊥ }
 {
     match named_body(alloc, dir, body) {
         Ok((head, contents)) => Ok((head, body.len().saturating_sub(contents.len()))),
@@ -76,7 +77,8 @@ pub(crate) fn add_text(alloc: Global, dir: &StoreDir, body: Body) -> Result<Requ
 /// The add that a body is, read of its lines before the payload.
 fn named_prefix(alloc: Global, dir: &StoreDir, body: &Parted) -> Result<NamedHead, BodyError>
     ensures ok { IfOk result (λ head. IsNamedBody dir.now body.now head (rest_of body.now)) }
-    ensures bad { result ≡ Err BodyError.BadBodyHead → (head : NamedOf) (nar : List ℕ) → IsNamedBody dir.now body.now head nar → ⊥ }
+    ensures bad { result ≡ Err BodyError.BadBodyHead → (head : NamedOf) (nar : List ℕ)
+        → IsNamedBody dir.now body.now head nar → ⊥ }
 {
     match named_body(alloc, dir, body.front()) {
         Ok((head, _)) => Ok(head),
@@ -88,7 +90,8 @@ fn named_prefix(alloc: Global, dir: &StoreDir, body: &Parted) -> Result<NamedHea
 /// The import that a body is, read of its lines before the archive.
 fn import_prefix(alloc: Global, dir: &StoreDir, body: &Parted) -> Result<ImportHead, BodyError>
     ensures ok { IfOk result (λ head. IsImportBody dir.now body.now head (rest_of body.now)) }
-    ensures bad { result ≡ Err BodyError.BadBodyHead → (head : ImportOf) (nar : List ℕ) → IsImportBody dir.now body.now head nar → ⊥ }
+    ensures bad { result ≡ Err BodyError.BadBodyHead → (head : ImportOf) (nar : List ℕ)
+        → IsImportBody dir.now body.now head nar → ⊥ }
 {
     match wire_bodies::import_body(alloc, dir, body.front()) {
         Ok((head, _)) => Ok(head),
@@ -145,8 +148,10 @@ fn imported(head: ImportHead, nar: Intake) -> Request
 ///
 /// `BadBodyHead` exactly where the body is no import, and `Memory`.
 pub fn read_import(alloc: Global, dir: &StoreDir, body: Body) -> Result<Request, BodyError>
-    ensures ok { IfOk result (λ q. (head : ImportOf) × (nar : List ℕ) × IsImportBody dir.now body head nar × (request_view q ≡ import_object (given.imported head nar))) }
-    ensures bad { result ≡ Err BodyError.BadBodyHead → (head : ImportOf) (nar : List ℕ) → IsImportBody dir.now body head nar → ⊥ }
+    ensures ok { IfOk result (λ q. (head : ImportOf) × (nar : List ℕ) × IsImportBody dir.now body head nar
+        × (request_view q ≡ import_object (given.imported head nar))) }
+    ensures bad { result ≡ Err BodyError.BadBodyHead → (head : ImportOf) (nar : List ℕ) → IsImportBody dir.now body
+        head nar → ⊥ }
 {
     let Ok(body) = body.into_parted(alloc) else {
         return Err(BodyError::Memory);
@@ -175,8 +180,10 @@ pub fn read_import(alloc: Global, dir: &StoreDir, body: Body) -> Result<Request,
 ///
 /// `BadBodyHead` exactly where the body is no import, and `Memory`.
 pub fn import_body(alloc: Global, dir: &StoreDir, body: &[u8]) -> Result<Request, BodyError>
-    ensures ok { IfOk result (λ q. (head : ImportOf) × (nar : List ℕ) × IsImportBody dir.now body.now head nar × (request_view q ≡ import_object (given.imported head nar))) }
-    ensures bad { result ≡ Err BodyError.BadBodyHead → (head : ImportOf) (nar : List ℕ) → IsImportBody dir.now body.now head nar → ⊥ }
+    ensures ok { IfOk result (λ q. (head : ImportOf) × (nar : List ℕ) × IsImportBody dir.now body.now head nar
+        × (request_view q ≡ import_object (given.imported head nar))) }
+    ensures bad { result ≡ Err BodyError.BadBodyHead → (head : ImportOf) (nar : List ℕ) → IsImportBody dir.now
+        body.now head nar → ⊥ }
 {
     let mut parted = Body::parted(alloc);
     match parted.take(body) {

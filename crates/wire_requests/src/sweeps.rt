@@ -31,8 +31,10 @@ use wire_bodies::{BodyError, DeleteHead, collect_body, delete_body};
 ///
 /// `BadBodyHead` exactly where the body isn't such roots, and `Memory`.
 pub fn runtime_body(alloc: Global, dir: &StoreDir, body: &[u8]) -> Result<Request, BodyError>
-    ensures ok { IfOk result (λ q. (named : List Pair) × Says (IsRuntime dir.now) body.now named × (request_view q ≡ asked named)) }
-    ensures bad { result ≡ Err BodyError.BadBodyHead → (named : List Pair) → Says (IsRuntime dir.now) body.now named → ⊥ }
+    ensures ok { IfOk result (λ q. (named : List Pair) × Says (IsRuntime dir.now) body.now named
+        × (request_view q ≡ asked named)) }
+    ensures bad { result ≡ Err BodyError.BadBodyHead → (named : List Pair) → Says (IsRuntime dir.now) body.now named
+        → ⊥ }
 {
     match wire_bodies::runtime_body(alloc, dir, body) {
         Ok(roots) => Ok(Request::ReplaceRuntime(roots)),

@@ -22,7 +22,8 @@ pub fn serve_on<L: Listener, E: Write, T, A: Responder<T>>(
     responder: &A,
     state: &mut T,
 ) -> io::Result<u32>
-    ensures { ServesOn A.answers connections (L.waiting listener.old) (L.waiting listener.new) (L.closed listener.old) (L.closed listener.new) (E.contents errors.old) (E.contents errors.new) state.old state.new result }
+    ensures { ServesOn A.answers connections (L.waiting listener.old) (L.waiting listener.new) (L.closed listener.old)
+        (L.closed listener.new) (E.contents errors.old) (E.contents errors.new) state.old state.new result }
 {
     let mut failed = 0;
     'connections: for _ in 0..connections {

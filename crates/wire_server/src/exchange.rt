@@ -40,8 +40,10 @@ fn respond<T, A: Responder<T>>(
     head: &Head,
     ready: Ready<A::Course, A::Body>,
 ) -> Result<Response, AllocError>
-    requires { (h : RequestHead) × (body : List ℕ) × Holds held.now head.now h × IsReady A.answers A.decides A.Body.kept A.Body.may_be state.old h body ready }
-    ensures { (h : RequestHead) (body : List ℕ) → Holds held.now head.now h → IsReady A.answers A.decides A.Body.kept A.Body.may_be state.old h body ready
+    requires { (h : RequestHead) × (body : List ℕ) × Holds held.now head.now h
+        × IsReady A.answers A.decides A.Body.kept A.Body.may_be state.old h body ready }
+    ensures { (h : RequestHead) (body : List ℕ) → Holds held.now head.now h
+        → IsReady A.answers A.decides A.Body.kept A.Body.may_be state.old h body ready
         → Answered A.answers state.old h body result state.new }
 {
     match ready {
@@ -60,8 +62,10 @@ fn answer_message<T, A: Responder<T>>(
     size: usize,
     ready: Ready<A::Course, A::Body>,
 ) -> Result<Exchange, AllocError>
-    requires { (all : List ℕ) × Whole A.answers A.decides A.Body.kept A.Body.may_be state.old all buffer.old.items head.now size ready }
-    ensures { (all : List ℕ) → Whole A.answers A.decides A.Body.kept A.Body.may_be state.old all buffer.old.items head.now size ready
+    requires { (all : List ℕ) × Whole A.answers A.decides A.Body.kept A.Body.may_be state.old all buffer.old.items
+        head.now size ready }
+    ensures { (all : List ℕ) → Whole A.answers A.decides A.Body.kept A.Body.may_be state.old all buffer.old.items
+        head.now size ready
         → Responds A.answers all buffer.new.items state.old state.new result }
 {
     let close = closes(buffer, head);
@@ -85,8 +89,10 @@ pub(crate) fn answer_next<T, A: Responder<T>>(
     buffer: &mut Vec<u8>,
     next: Next<A::Course, A::Body>,
 ) -> Result<Option<Exchange>, AllocError>
-    requires { (all : List ℕ) × (rest : Option (List ℕ)) × Arrived A.answers A.decides A.Body.kept A.Body.may_be state.old all buffer.old.items rest next }
-    ensures { (all : List ℕ) (rest : Option (List ℕ)) → Arrived A.answers A.decides A.Body.kept A.Body.may_be state.old all buffer.old.items rest next
+    requires { (all : List ℕ) × (rest : Option (List ℕ))
+        × Arrived A.answers A.decides A.Body.kept A.Body.may_be state.old all buffer.old.items rest next }
+    ensures { (all : List ℕ) (rest : Option (List ℕ))
+        → Arrived A.answers A.decides A.Body.kept A.Body.may_be state.old all buffer.old.items rest next
         → Comes A.answers all buffer.new.items rest state.old state.new result }
 {
     match next {

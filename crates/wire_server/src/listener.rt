@@ -21,7 +21,8 @@ pub trait Listener {
 
     /// The connection of the next peer, on which nothing was read or written yet.
     fn accept(&mut self) -> io::Result<(Self::Input, Self::Output)>
-        ensures taken { IfOk result (λ c. AcceptsPeers (waiting self.old) (waiting self.new) (Self.Input.remaining c.0 ∷ [])) }
+        ensures taken { IfOk result (λ c. AcceptsPeers (waiting self.old) (waiting self.new)
+            (Self.Input.remaining c.0 ∷ [])) }
         ensures none { OnErr result (AcceptsPeers (waiting self.old) (waiting self.new) []) }
         ensures fresh { IfOk result (λ c. IsFresh (Self.Output.contents c.1)) }
         ensures left { ClosesPeers (closed self.old) (closed self.new) [] };

@@ -56,8 +56,10 @@ fn receive_rest<R: Read, T, A: Responder<T>>(
 ) -> Result<Next<A::Course, A::Body>, Halt>
     requires some { 0 < length held.now }
     requires head { HoldsHead held.now head size }
-    requires begun { (h : RequestHead) → Holds held.now head h → IsBegun A.answers A.decides A.Body.kept state.now h begun }
-    ensures came { Arrives A.answers A.decides A.Body.kept A.Body.may_be state.now (R.remaining input.old) (R.remaining input.new) held.now held.now result }
+    requires begun { (h : RequestHead) → Holds held.now head h
+        → IsBegun A.answers A.decides A.Body.kept state.now h begun }
+    ensures came { Arrives A.answers A.decides A.Body.kept A.Body.may_be state.now (R.remaining input.old)
+        (R.remaining input.new) held.now held.now result }
     ensures fault { IfErr result (λ halt. halt ≡ Halt.Failed WireError.Read) }
 {
     match begun {
@@ -88,7 +90,8 @@ fn receive_message<R: Read, T, A: Responder<T>>(
 ) -> Result<Next<A::Course, A::Body>, Halt>
     requires some { 0 < length held.now }
     requires head { HoldsHead held.now head size }
-    ensures { Arrives A.answers A.decides A.Body.kept A.Body.may_be state.now (R.remaining input.old) (R.remaining input.new) held.now held.now result }
+    ensures { Arrives A.answers A.decides A.Body.kept A.Body.may_be state.now (R.remaining input.old) (R.remaining
+        input.new) held.now held.now result }
 {
     match responder.begin(state, held, &head, size) {
         Ok(begun) => receive_rest::<R, T, A>(input, held, state, head, size, begun),
@@ -110,7 +113,8 @@ pub(crate) fn receive_next<R: Read, T, A: Responder<T>>(
     state: &T,
 ) -> Result<Next<A::Course, A::Body>, Halt>
     requires { 0 < length window.old }
-    ensures { Arrives A.answers A.decides A.Body.kept A.Body.may_be state.now (R.remaining input.old) (R.remaining input.new) buffer.old.items buffer.new.items result }
+    ensures { Arrives A.answers A.decides A.Body.kept A.Body.may_be state.now
+        (R.remaining input.old) (R.remaining input.new) buffer.old.items buffer.new.items result }
 {
     match receive_head(input, window, buffer) {
         Ok(Received::Message(head, size)) => {

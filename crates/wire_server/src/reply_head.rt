@@ -30,7 +30,8 @@ fn write_start(out: &mut String, status: StatusCode, kind: &str) -> Result<(), A
 /// The methods of the route, where another was asked for.
 #[tactic(auto, unfolding(crate::specs::ReplyHead::allow_field))]
 fn write_allow(out: &mut String, allow: Option<&str>) -> Result<(), AllocError>
-    ensures { OnOk result (string_bytes out.new ≡ string_bytes out.old ++ allow_field (option_map (λ methods. methods.now) allow.entry)) }
+    ensures { OnOk result (string_bytes out.new
+        ≡ string_bytes out.old ++ allow_field (option_map (λ methods. methods.now) allow.entry)) }
 {
     match allow {
         None => Ok(()),

@@ -65,6 +65,7 @@ pub trait Responder<T> {
         body: Self::Body,
     ) -> Result<Response, AllocError>
         requires { (h : RequestHead) × Holds held.now head.now h × decides state.now h course }
-        ensures { (h : RequestHead) (whole : List ℕ) → Holds held.now head.now h → decides state.now h course → Self.Body.may_be body whole
+        ensures { (h : RequestHead) (whole : List ℕ) → Holds held.now head.now h → decides state.now h course
+            → Self.Body.may_be body whole
             → IfOk result (λ r. answers state.now h whole (replied r) state.now) };
 }

@@ -24,7 +24,9 @@ pub struct Response {
 impl Response {
     /// The head of the reply: it says whether the connection is closed, and how many bytes the text has.
     pub fn head(&self, alloc: Global, close: bool) -> Result<String, AllocError>
-        ensures { IfOk result (λ head. string_bytes head ≡ reply_head self.now.status self.now.kind.now (option_map (λ methods. methods.now) self.now.allow) close (length self.now.text)) }
+        ensures { IfOk result (λ head. string_bytes head
+            ≡ reply_head self.now.status self.now.kind.now (option_map (λ methods. methods.now) self.now.allow) close
+            (length self.now.text)) }
     {
         let mut head = String::new(alloc);
         let front = ReplyHead {

@@ -33,7 +33,8 @@ pub(crate) fn send_reply<W: Write>(
     response: &Response,
     close: bool,
 ) -> Result<(), WireError>
-    ensures { SendsReply (W.contents output.old) (W.contents output.new) (reply_bytes close (replied response.now)) result }
+    ensures { SendsReply (W.contents output.old) (W.contents output.new) (reply_bytes close (replied response.now))
+        result }
 {
     let Ok(head) = response.head(alloc, close) else {
         return Err(WireError::Memory);

@@ -78,7 +78,8 @@ pub fn serve<R: Read, W: Write, T, A: Responder<T>>(
     responder: &A,
     state: &mut T,
 ) -> Result<u64, WireError>
-    ensures { Served A.answers (R.remaining input.old) (W.contents output.old) (W.contents output.new) state.old state.new result }
+    ensures { Served A.answers (R.remaining input.old) (W.contents output.old) (W.contents output.new) state.old
+        state.new result }
 {
     match run(alloc, input, output, responder, state) {
         Ok(count) => Ok(count),

@@ -74,7 +74,8 @@ pub fn serve_connection<R: Read, W: Write, E: Write, T, A: Responder<T>>(
     responder: &A,
     state: &mut T,
 ) -> End
-    ensures served { Served A.answers (R.remaining input.old) (W.contents output.old) (W.contents output.new) state.old state.new (result_of result) }
+    ensures served { Served A.answers (R.remaining input.old) (W.contents output.old) (W.contents output.new) state.old
+        state.new (result_of result) }
     ensures said { Says result (E.contents errors.old) (E.contents errors.new) }
 {
     match serve(alloc, input, output, responder, state) {

@@ -45,8 +45,8 @@ returns-in-Err-BadBodyHead g c = λ h is admits.
     (replies (refused BadBodyHead None)) admits.0 dir (inr (inr (bad.0, bad.1, refl))) in
     replied_at_once g.S.Store c.args.store.now h c.args.body.body (refused BadBodyHead None) c.refused-in-Err-BadBodyHead.result takes c.refused-in-Err-BadBodyHead.ensures
 
-pub returns-in-Err-Memory : goal.returns-in-Err-Memory
-returns-in-Err-Memory g c = λ h is admits.
+pub returns : goal.returns
+returns g c = λ h is admits.
     let dir = c.store_dir-dir.ensures ∙ ap (λ v. v.store_dir) c.config.ensures in
     lost_answered g.S.Store c.args.store.now h c.args.body.body c.args.endpoint.caller c.args.endpoint.kind c.store_dir-dir.result.now c.target_of-target.result.now
     (operation_of c.operation_at-op.result) c.config-in-Err-Memory.result.now c.respond_lost.result admits.0 dir (c.target_of-target.ensures ∙ is.places.path)

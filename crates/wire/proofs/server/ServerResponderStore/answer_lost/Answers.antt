@@ -13,8 +13,8 @@ returns-in-Some g c = λ h whole is admits left.
     (operation_of c.in-Some.op) c.config-in-Some.result.now c.respond_lost.result admits.0 dir (c.target_of-target.ensures ∙ is.places.path)
     (c.in-Some.ensures.some whole left) c.config-in-Some.ensures c.respond_lost.ensures
 
-pub returns-in-None : goal.returns-in-None
-returns-in-None g c = λ h whole is admits left.
+pub returns : goal.returns
+returns g c = λ h whole is admits left.
     let dir = c.store_dir-dir.ensures ∙ ap (λ v. v.store_dir) c.config.ensures in
     let bad = c.operation_left.ensures.none c.in-None.is whole left in
     let takes = admitted_at c.args.store.now.settings h c.args.endpoint.caller c.args.endpoint.kind c.store_dir-dir.result.now c.target_of-target.result.now whole
