@@ -35,7 +35,7 @@ module _ {S : Type 0} (g : Ghosts S) (q : Request) (old new : Kept S) where
   memory_alone s w c (Err (Failed Disk)) next m = let is : Disk ≡ Memory = m.0 in let no : ⊥ = cc in absurd no
 
   -- what isn't read of the disk has a reason
-  pub read_fails : IsTrue (touches_disk q) → (f : Failure) → FailsToAsk {T = Unit {0}} g old new (Err f) → HasCause g q (reply_to (Err (Failed f))) old new
+  pub read_fails : IsTrue (touches_disk q) → (f : Failure) → FailsToAsk g {T = Unit {0}} old new (Err f) → HasCause g q (reply_to (Err (Failed f))) old new
   read_fails touches Memory cause = tt
   read_fails touches Size cause = (touches, λ clean. absurd (cause clean))
   read_fails touches Disk cause = (touches, λ clean. elim (cause clean) [ inl fault ↦ inl fault | inr more ↦ inr (elim more [ inl limited ↦ inl limited | inr none ↦ absurd none ]) ])
