@@ -104,6 +104,6 @@ fn bodies_without_memory(rt: HostRuntime) {
         let found = gives_message(rt.alloc(), &mut input, room);
         let wanted = if room == 10 { Fate::Kept } else { Fate::Lost };
         assert_eq!(rt; found, Ok(Some(wanted)), "{room}");
-        assert!(rt; input.rest == next, "{room}");
+        assert!(rt; input.rest == next.as_slice(), "{room}");
     }
 }
