@@ -6,3 +6,6 @@ returns-in-Port-clause-worlds g c = λ clean w told. rw c.in-Port.is (Keeps-refl
 
 pub returns-in-Port-clause-served : goal.returns-in-Port-clause-served
 returns-in-Port-clause-served g c = rw c.in-Port.is (Keeps-refl (g.W.Write.contents c.args.output.now), c.serve_port.ensures.served)
+
+pub returns-in-Streams-clause-worlds : goal.returns-in-Streams-clause-worlds
+returns-in-Streams-clause-worlds g c = λ clean w told. rw c.in-Streams.is (c.serve_streams.ensures.worlds clean w told)
