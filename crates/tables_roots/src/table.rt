@@ -23,7 +23,7 @@ pub trait RootTable: Sized + Drop {
     // The outline with a row's root.
     ghost put: { Self → OutlineValue → OutlineValue };
 
-    // What has to be there beside the tables of each schema.
+    // What the database needs in addition to the tables that each schema has.
     ghost needs: { Database → Type 0 } = { λ _. ⊤ };
 
     // The outlines that the roots may be put into.

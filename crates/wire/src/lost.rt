@@ -46,7 +46,8 @@ pub(crate) fn operation_at<'t>(kind: Kind, target: &'t str) -> Op<'t>
     }
 }
 
-/// The same by the lines too that are left of the body. Nothing where these are there and ask nothing.
+/// What the rules ask of a request by its kind, its target, and the lines that are left of its body. `None` if lines are left and no
+/// request begins with them.
 pub(crate) fn operation_left<'t>(
     alloc: Global,
     dir: &StoreDir,
@@ -69,7 +70,7 @@ pub(crate) fn operation_left<'t>(
     }
 }
 
-/// The reply to what is lost: the first rule that is known to forbid it, or out of memory.
+/// The reply to a message for whose body memory was refused: the first rule that is known to forbid it, or out of memory.
 fn lost_reply(config: &Config, caller: &Caller, op: &Op<'_>) -> Reply
     ensures { reply_view result ≡ spec.lost_reply config.now caller.now (operation_of op.now) }
 {

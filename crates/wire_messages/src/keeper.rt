@@ -8,7 +8,7 @@ pub trait Keeper {
     /// All bytes that were kept.
     ghost kept: { Self → List ℕ };
 
-    /// A body, for which memory was refused, may be that, by all that is still known of it.
+    /// Whether a body for which memory was refused may be these bytes, by what is still known of it.
     ghost may_be: { Self → List ℕ → Type 0 };
 
     /// Keeps one more piece, or says that memory was refused. Then the body may be whatever begins with all that came.

@@ -22,9 +22,9 @@ pub enum Fate {
 /// What one read brought.
 #[derive(Clone, Copy)]
 pub(crate) enum Piece {
-    /// The count of bytes, which were kept.
+    /// A number of bytes, which were kept.
     Kept(usize),
-    /// The count of bytes, for which memory was refused.
+    /// A number of bytes, for which memory was refused.
     Lost(usize),
     /// Nothing: the input was at its end.
     End,
@@ -105,8 +105,8 @@ fn keep_rest<R: Read, K: Keeper>(
     keep_out(input, left, body)
 }
 
-/// Keeps the body, of a given length, that follows a head: what of it is held, and the rest as it arrives. Where memory is refused for
-/// it, what follows is read all the same and let go. What became of it. Nothing is read beyond it.
+/// Keeps the body, of a given length, that follows a head: what of it is held, and the rest as it arrives. If memory is refused for it,
+/// the rest is read and dropped. Returns what became of the body. Nothing is read beyond it.
 ///
 /// # Errors
 ///
